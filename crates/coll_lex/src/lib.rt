@@ -1,0 +1,14 @@
+//! The lexer of collation tables: physical and logical lines, tokens, and the spellings written back.
+//!
+//! A text's way through this crate: bytes come from a device, are cut into physical lines, are handed to a
+//! `Lexer` one by one, and leave it as logical lines with their tokens. What a part promises stands in its
+//! contracts, in the words that `specs/` defines.
+#![tactic(auto)]
+
+mod buffers;
+mod faults;
+mod tokens;
+
+pub use buffers::{ListBuf, TextBuf};
+pub use faults::{LexFault, ReadStop, WriteStop};
+pub use tokens::{Chars, Line, MOST_LINE_BYTES, MOST_LINES, MOST_NAME_CHARS, Piece, Token};
