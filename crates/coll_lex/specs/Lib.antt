@@ -1,2 +1,9 @@
 pub mod Buffers
+pub mod Category
+pub mod Directives
 pub mod Faults
+pub mod LogicalLines
+pub mod Marked
+pub mod PhysicalLines
+pub mod Tokens
+pub mod Lexer

@@ -6,9 +6,12 @@
 #![tactic(auto)]
 
 mod buffers;
+mod directives;
 mod faults;
+mod lexing;
 mod tokens;
 
 pub use buffers::{ListBuf, TextBuf};
 pub use faults::{LexFault, ReadStop, WriteStop};
+pub use lexing::Lexer;
 pub use tokens::{Chars, Line, MOST_LINE_BYTES, MOST_LINES, MOST_NAME_CHARS, Piece, Token};
