@@ -1,2 +1,3 @@
 pub mod TextLemmas
 pub mod DirectiveLemmas
+pub mod LineSteps
