@@ -1,3 +1,6 @@
 pub mod TextLemmas
 pub mod DirectiveLemmas
 pub mod LineSteps
+pub mod ScanRows
+pub mod ScanLines
+pub mod SymbolLemmas

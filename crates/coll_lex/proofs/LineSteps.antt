@@ -130,7 +130,7 @@ fed_left s line =
     let d = directive_where s.line (directive s.special text) in
     joined_left s line (nat_lt MOST_LINE_BYTES (bytes_before s + length line)) (Err LineTooLong) _ (leaves_none _ _ _ refl)
     (joined_left s line (s.count == MOST_LINES) (Err TooManyLines) _ (leaves_none _ _ _ refl)
-      (joined_left s line (is_utf8 text) (fed_as s line d) (Err NotUtf8) (directive_left s line d) (leaves_none _ _ _ refl)))
+    (joined_left s line (is_utf8 text) (fed_as s line d) (Err NotUtf8) (directive_left s line d) (leaves_none _ _ _ refl)))
 
 -- what a line leaves open: nothing, or the line that was open with it at its end
 pub fed-open : (s : LexerState) (line : List ℕ) (answer : Option Line) (after : LexerState) → fed s line ≡ Ok (answer, after) → (after.line ≡ None) ⊎ (after.line ≡ Some (extended s line))

@@ -7,3 +7,4 @@ pub mod Marked
 pub mod PhysicalLines
 pub mod Tokens
 pub mod Lexer
+pub mod Scanning

@@ -9,6 +9,7 @@ mod buffers;
 mod directives;
 mod faults;
 mod lexing;
+mod scanning;
 mod tokens;
 
 pub use buffers::{ListBuf, TextBuf};
