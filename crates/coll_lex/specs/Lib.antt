@@ -1,2 +1,4 @@
 pub mod Buffers
+pub mod Counted
+pub mod Devices
 pub mod Faults

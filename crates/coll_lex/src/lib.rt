@@ -6,9 +6,11 @@
 #![tactic(auto)]
 
 mod buffers;
+mod devices;
 mod faults;
 mod tokens;
 
 pub use buffers::{ListBuf, TextBuf};
+pub use devices::{Counted, Sink, Source};
 pub use faults::{LexFault, ReadStop, WriteStop};
 pub use tokens::{Chars, Line, MOST_LINE_BYTES, MOST_LINES, MOST_NAME_CHARS, Piece, Token};
