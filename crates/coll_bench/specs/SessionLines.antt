@@ -1,0 +1,93 @@
+-- What a logical line of a session is: a command, a line of a delta, or a refused line.
+use Rattle.std.specs.Prelude.{ℕ, Bool, true, false, ◌==◌, ◌||◌, nat_eq, if◌then◌else◌, List, [], ◌∷◌, Result, Ok, Err, codes}
+use Rattle.std.specs.List.{starts_with}
+use Rattle.coll_lex.specs.Directives.{past_blanks}
+use Rattle.coll_lex.specs.LogicalLines.{LogicalLine}
+use Rattle.coll_lex.specs.declared.tokens.Token.{Token}
+use Rattle.coll_lex.specs.declared.tokens.Token.TheVariants as token
+use Rattle.coll_lex.specs.declared.faults.LexFault.{LexFault}
+use Rattle.coll_lex.specs.declared.faults.LexFault.TheVariants as lex
+use Rattle.coll_bench.specs.Identifier.{same_name}
+use Rattle.coll_bench.specs.DeltaLines.{delta_line}
+use Rattle.coll_bench.specs.declared.syntax.delta_lines.DeltaLine.{DeltaLine}
+use Rattle.coll_bench.specs.declared.syntax.delta_lines.DeltaLine.TheVariants as delta_lines
+use Rattle.coll_bench.specs.declared.syntax.syntax_faults.SyntaxFault.{SyntaxFault}
+use Rattle.coll_bench.specs.declared.syntax.syntax_faults.SyntaxFault.TheVariants as syntax
+use Rattle.coll_bench.specs.declared.faults.Fault.{Fault}
+use Rattle.coll_bench.specs.declared.faults.Fault.TheVariants as fault
+use Rattle.coll_bench.specs.declared.session.commands.Command.{Command}
+use Rattle.coll_bench.specs.declared.session.commands.Command.TheVariants as command
+use Rattle.coll_bench.specs.declared.session.hearing.Opening.{Opening}
+use Rattle.coll_bench.specs.declared.session.hearing.Opening.TheVariants as openings
+use Rattle.coll_bench.specs.declared.session.hearing.Heard.{Heard}
+use Rattle.coll_bench.specs.declared.session.hearing.Heard.TheVariants.{Stops, Refused, Asks, Misasks, Opens, Ends, Orders}
+
+-- what a physical line begins with, blanks skipped: the bytes alone decide, without regard to words or escapes
+unfoldable pub opening_of : List ℕ → Opening
+opening_of line =
+    if starts_with nat_eq (past_blanks line) (codes "reorder-after") then openings.ReorderAfter
+    else (if starts_with nat_eq (past_blanks line) (codes "reorder-end") then openings.ReorderEnd else openings.Neither)
+
+-- a command is a line whose first token is a word of more than one character that begins with `:`
+abbrev pub is_command_word : List ℕ → Bool
+is_command_word [] = false
+is_command_word (c ∷ []) = false
+is_command_word (c ∷ d ∷ rest) = c == 58
+
+-- a command without arguments takes none
+abbrev pub alone : Command → List Token → Heard
+alone c [] = Asks c
+alone c (argument ∷ rest) = Misasks (fault.Syntax syntax.ExtraOperand)
+
+-- a command by its word and its arguments: an unknown word comes before wrong arguments
+abbrev pub command_by : List ℕ → List Token → Heard
+command_by word arguments =
+    if same_name word (codes ":undo") then alone command.Undo arguments
+    else (if same_name word (codes ":list") then alone command.List arguments else Misasks fault.UnknownCommand)
+
+-- a line of a delta, or a line that the grammar refuses
+abbrev pub delta_heard : Opening → Result DeltaLine SyntaxFault → Heard
+delta_heard opening (Ok (delta_lines.ReorderAfter target)) = Opens target
+delta_heard opening (Ok delta_lines.ReorderEnd) = Ends
+delta_heard opening (Ok (delta_lines.Order line)) = Orders line
+delta_heard opening (Err f) = Refused opening (fault.Syntax f)
+
+abbrev pub word_heard : Opening → List ℕ → List Token → Heard
+word_heard opening word rest = if is_command_word word then command_by word rest else delta_heard opening (delta_line (token.Word word ∷ rest))
+
+-- what tokens say, under what the first physical line of their logical line begins with
+unfoldable pub tokens_heard : Opening → List Token → Heard
+tokens_heard opening [] = delta_heard opening (delta_line [])
+tokens_heard opening (token.Word word ∷ rest) = word_heard opening word rest
+tokens_heard opening (token.Symbol name ∷ rest) = delta_heard opening (delta_line (token.Symbol name ∷ rest))
+tokens_heard opening (token.Char c ∷ rest) = delta_heard opening (delta_line (token.Char c ∷ rest))
+tokens_heard opening (token.Text pieces ∷ rest) = delta_heard opening (delta_line (token.Text pieces ∷ rest))
+tokens_heard opening (token.Semicolon ∷ rest) = delta_heard opening (delta_line (token.Semicolon ∷ rest))
+tokens_heard opening (token.Comma ∷ rest) = delta_heard opening (delta_line (token.Comma ∷ rest))
+
+-- after a line that is too long, a line too many or a dangling escape no line follows
+abbrev pub ends_session : LexFault → Bool
+ends_session lex.LineTooLong = true
+ends_session lex.TooManyLines = true
+ends_session lex.DanglingEscape = true
+ends_session lex.NotUtf8 = false
+ends_session lex.OpenSymbol = false
+ends_session lex.EmptySymbol = false
+ends_session lex.BadName = false
+ends_session lex.BadCodePoint = false
+ends_session lex.OpenString = false
+ends_session lex.CharacterConstant = false
+ends_session lex.BadCharDirective = false
+ends_session lex.OutOfMemory = false
+
+-- a line that the lexer refuses
+abbrev pub fault_heard : Opening → LexFault → Heard
+fault_heard opening f = if ends_session f then Stops f else Refused opening (fault.Lex f)
+
+abbrev pub line_heard : Opening → Result (List Token) LexFault → Heard
+line_heard opening (Ok tokens) = tokens_heard opening tokens
+line_heard opening (Err f) = fault_heard opening f
+
+-- what a logical line is
+abbrev pub heard : LogicalLine → Heard
+heard line = line_heard (opening_of line.first) line.tokens
