@@ -1,4 +1,11 @@
 pub mod Buffers
+pub mod Category
 pub mod Counted
 pub mod Devices
+pub mod Directives
 pub mod Faults
+pub mod Lexer
+pub mod LogicalLines
+pub mod Marked
+pub mod PhysicalLines
+pub mod Tokens

@@ -7,10 +7,13 @@
 
 mod buffers;
 mod devices;
+mod directives;
 mod faults;
+mod lexing;
 mod tokens;
 
 pub use buffers::{ListBuf, TextBuf};
 pub use devices::{Counted, Sink, Source};
 pub use faults::{LexFault, ReadStop, WriteStop};
+pub use lexing::Lexer;
 pub use tokens::{Chars, Line, MOST_LINE_BYTES, MOST_LINES, MOST_NAME_CHARS, Piece, Token};
