@@ -1,0 +1,11 @@
+pub mod Identifier
+pub mod TableLines
+pub mod DeltaLines
+pub mod SyntaxFaults
+pub mod Table
+pub mod WellFormed
+pub mod Placement
+pub mod Delta
+pub mod Record
+pub mod Refusals
+pub mod Sound
