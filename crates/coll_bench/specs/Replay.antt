@@ -11,10 +11,10 @@ given_or before (Ok table) = table
 given_or before (Err refusal) = before
 
 -- the table after a statement; a refused one leaves it
-abbrev pub rewritten : Collation → Statement → Collation
-rewritten table statement = given_or table (delta table statement)
+abbrev pub after_statement : Collation → Statement → Collation
+after_statement table statement = given_or table (delta table statement)
 
 -- the table after some statements, in order
 unfoldable pub replay : Collation → List Statement → Collation
 replay table [] = table
-replay table (statement ∷ statements) = replay (rewritten table statement) statements
+replay table (statement ∷ statements) = replay (after_statement table statement) statements

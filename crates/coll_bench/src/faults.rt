@@ -5,10 +5,13 @@
 
 ghost use Rattle.std.specs.Prelude.{◌≡◌};
 ghost use Rattle.coll_bench.specs.SessionFaults.{bench_fault_number, bench_fault_name, fault_number, fault_name};
+ghost use Rattle.coll_bench.specs.declared.tables.refusals.Refusal.TheVariants.{OutOfMemory};
+ghost use Rattle.coll_bench.specs.declared.faults.BenchFault.TheVariants.{Table};
 
 use crate::syntax::SyntaxFault;
 use crate::tables::Refusal;
 use coll_lex::{LexFault, ReadStop, WriteStop};
+use std::alloc::AllocError;
 use thiserror::Error;
 
 /// Why a history refused a statement, or had nothing to take back.
@@ -44,6 +47,14 @@ impl BenchFault {
             BenchFault::NothingToUndo => "NothingToUndo",
             BenchFault::HistoryFull => "HistoryFull",
         }
+    }
+}
+
+impl From<AllocError> for BenchFault {
+    ghost from_gives = { λ _ fault. fault ≡ Table OutOfMemory };
+
+    fn from(_error: AllocError) -> BenchFault {
+        BenchFault::Table(Refusal::OutOfMemory)
     }
 }
 

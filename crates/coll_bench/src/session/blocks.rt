@@ -4,7 +4,7 @@
 //! once a line has spoiled it, that line's fault alone. The room for all its lines is made where it opens, so that no
 //! later line of it takes memory. A new kind of line that a block doesn't take is one more case of `inside`.
 
-ghost use Rattle.std.specs.Prelude.{◌≡◌, [], IfOk, Some, None};
+ghost use Rattle.std.specs.Prelude.{◌≡◌, ◌<◌, nat_le, length, [], ◌∷◌, ◌++◌, IfOk};
 ghost use Rattle.coll_bench.specs.Units.{Block};
 ghost use Rattle.coll_bench.specs.OpenBlock.{kept, spoiled, joined, lengthened, begun_spoiled, kept_request, kept_left_open, kept_dropped, TakesLine};
 
@@ -248,7 +248,11 @@ fn refused_outside(opening: Opening, fault: Fault) -> Taken
             block: Some(OpenBlock::begin_spoiled(fault)),
             request: None,
         },
-        Opening::ReorderEnd | Opening::Neither => Taken {
+        Opening::ReorderEnd => Taken {
+            block: None,
+            request: Some(Request::Refused(fault)),
+        },
+        Opening::Neither => Taken {
             block: None,
             request: Some(Request::Refused(fault)),
         },
@@ -265,7 +269,11 @@ pub fn inside(block: OpenBlock, line: Heard) -> Taken
             request: None,
         },
         Heard::Refused(opening, fault) => refused_inside(block, opening, fault),
-        Heard::Asks(_) | Heard::Misasks(_) => Taken {
+        Heard::Asks(_) => Taken {
+            block: Some(block),
+            request: Some(Request::Refused(Fault::BlockOpen)),
+        },
+        Heard::Misasks(_) => Taken {
             block: Some(block),
             request: Some(Request::Refused(Fault::BlockOpen)),
         },

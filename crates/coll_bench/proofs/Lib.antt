@@ -1,0 +1,2 @@
+pub mod BlockLemmas
+pub mod HistoryLemmas
