@@ -1,2 +1,4 @@
 pub mod Counted
 pub mod Devices
+pub mod LineReading
+pub mod PhysicalLines

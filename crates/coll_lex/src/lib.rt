@@ -5,5 +5,11 @@
 #![tactic(auto)]
 
 mod devices;
+mod faults;
+mod line_reading;
+mod tokens;
 
 pub use devices::{Counted, Sink, Source};
+pub use faults::{ReadStop, WriteStop};
+pub use line_reading::LineReader;
+pub use tokens::MOST_LINE_BYTES;

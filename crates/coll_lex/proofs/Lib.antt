@@ -1,0 +1,3 @@
+mod AdvanceLemmas
+mod LineReaderLemmas
+pub mod PhysicalLinesLemmas
