@@ -1,4 +1,12 @@
+pub mod Buffers
+pub mod Category
 pub mod Counted
 pub mod Devices
+pub mod Directives
+pub mod Faults
 pub mod LineReading
+pub mod LogicalLines
+pub mod Marked
 pub mod PhysicalLines
+pub mod Tokens
+pub mod Lexer

@@ -1,17 +1,161 @@
-//! Temporary: the faults of devices.
+//! The faults of lines and of the devices that they come from and go to.
+//!
+//! Each fault has a number and a name, which replies and messages show. A fault type lists the faults that its
+//! calls can answer and no others, so a new fault is a new variant with its number and its name here and in
+//! the definitions that the contracts cite. Want of memory is one fault among the others, by `From`.
+
+ghost use Rattle.std.specs.Prelude.{◌≡◌};
+ghost use Rattle.coll_lex.specs.Faults.{read_stop_number, read_stop_name, write_stop_number, write_stop_name, lex_fault_number, lex_fault_name};
+ghost use Rattle.coll_lex.specs.declared.faults.LexFault.TheVariants.{OutOfMemory};
+
+use std::alloc::{AllocError, AllocFailed};
 use thiserror::Error;
 
-/// Why no physical line could be read.
+/// Why no physical line could be read. A reader that has stopped answers the same stop from then on.
 #[derive(Clone, Copy, Debug, PartialEq, Eq, Error)]
-#[error("stop")]
+#[error("{} {}", self.number(), self.name())]
 pub enum ReadStop {
+    /// More than 65,536 bytes stand before a line feed.
     LineTooLong,
+    /// A read of the device answered an error.
     ReadFault,
+}
+
+impl ReadStop {
+    /// The number that a reply or a message shows.
+    pub fn number(self) -> u8
+        ensures { result ≡ read_stop_number self }
+    {
+        match self {
+            ReadStop::LineTooLong => 10,
+            ReadStop::ReadFault => 67,
+        }
+    }
+
+    /// The name that a reply or a message shows.
+    pub fn name(self) -> &'static str
+        ensures { result.now ≡ read_stop_name self }
+    {
+        match self {
+            ReadStop::LineTooLong => "LineTooLong",
+            ReadStop::ReadFault => "ReadFault",
+        }
+    }
 }
 
 /// Why bytes could not be written.
 #[derive(Clone, Copy, Debug, PartialEq, Eq, Error)]
-#[error("stop")]
+#[error("{} {}", self.number(), self.name())]
 pub enum WriteStop {
+    /// A write or a flush of the device answered an error, or a write took no byte.
     WriteFault,
+}
+
+impl WriteStop {
+    /// The number that a message shows.
+    pub fn number(self) -> u8
+        ensures { result ≡ write_stop_number self }
+    {
+        match self {
+            WriteStop::WriteFault => 68,
+        }
+    }
+
+    /// The name that a message shows.
+    pub fn name(self) -> &'static str
+        ensures { result.now ≡ write_stop_name self }
+    {
+        match self {
+            WriteStop::WriteFault => "WriteFault",
+        }
+    }
+}
+
+/// Why a line could not be lexed.
+#[derive(Clone, Copy, Debug, PartialEq, Eq, Error)]
+#[error("{} {}", self.number(), self.name())]
+pub enum LexFault {
+    /// A physical line isn't UTF-8.
+    NotUtf8,
+    /// The line ends in a symbol that no `>` has closed.
+    OpenSymbol,
+    /// Nothing stands between `<` and `>`.
+    EmptySymbol,
+    /// A name has more than 64 characters, or a blank or a control character.
+    BadName,
+    /// A symbol's digits are those of a surrogate, or of a number above 10FFFF.
+    BadCodePoint,
+    /// The line ends in a string that no `"` has closed.
+    OpenString,
+    /// The escape character stands before `d`, `x` or a digit 0 to 7, outside a symbol. POSIX.1-2017, 7.3, has
+    /// character constants there; this product doesn't read them.
+    CharacterConstant,
+    /// The text ends where a line is continued.
+    DanglingEscape,
+    /// A physical line, or the physical lines of a continued line together, have more than 65,536 bytes.
+    LineTooLong,
+    /// `comment_char` or `escape_char` isn't followed by an allowed character, or by one that the other has.
+    BadCharDirective,
+    /// A text has more than 4,194,304 physical lines.
+    TooManyLines,
+    /// Memory was refused.
+    OutOfMemory,
+}
+
+impl LexFault {
+    /// The number that a reply or a message shows.
+    pub fn number(self) -> u8
+        ensures { result ≡ lex_fault_number self }
+    {
+        match self {
+            LexFault::NotUtf8 => 1,
+            LexFault::OpenSymbol => 2,
+            LexFault::EmptySymbol => 3,
+            LexFault::BadName => 4,
+            LexFault::BadCodePoint => 5,
+            LexFault::OpenString => 6,
+            LexFault::CharacterConstant => 8,
+            LexFault::DanglingEscape => 9,
+            LexFault::LineTooLong => 10,
+            LexFault::BadCharDirective => 11,
+            LexFault::TooManyLines => 12,
+            LexFault::OutOfMemory => 70,
+        }
+    }
+
+    /// The name that a reply or a message shows.
+    pub fn name(self) -> &'static str
+        ensures { result.now ≡ lex_fault_name self }
+    {
+        match self {
+            LexFault::NotUtf8 => "NotUtf8",
+            LexFault::OpenSymbol => "OpenSymbol",
+            LexFault::EmptySymbol => "EmptySymbol",
+            LexFault::BadName => "BadName",
+            LexFault::BadCodePoint => "BadCodePoint",
+            LexFault::OpenString => "OpenString",
+            LexFault::CharacterConstant => "CharacterConstant",
+            LexFault::DanglingEscape => "DanglingEscape",
+            LexFault::LineTooLong => "LineTooLong",
+            LexFault::BadCharDirective => "BadCharDirective",
+            LexFault::TooManyLines => "TooManyLines",
+            LexFault::OutOfMemory => "OutOfMemory",
+        }
+    }
+}
+
+impl From<AllocError> for LexFault {
+    ghost from_gives = { λ _ fault. fault ≡ OutOfMemory };
+
+    fn from(_error: AllocError) -> LexFault {
+        LexFault::OutOfMemory
+    }
+}
+
+impl<T: Drop> From<AllocFailed<T>> for LexFault {
+    ghost from_gives = { λ _ fault. fault ≡ OutOfMemory };
+
+    fn from(_error: AllocFailed<T>) -> LexFault {
+        LexFault::OutOfMemory
+    }
 }

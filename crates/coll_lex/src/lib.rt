@@ -1,15 +1,21 @@
-// Reading the lines of a collation source, and writing its spellings.
-//
-// The way of a text through this crate: a device hands bytes to the line reader, which gives
-// physical lines, which the lexer joins to logical lines and cuts into tokens.
+//! The lexer of collation tables: physical and logical lines, tokens, and the spellings written back.
+//!
+//! A text's way through this crate: bytes come from a device, are cut into physical lines, are handed to a
+//! `Lexer` one by one, and leave it as logical lines with their tokens. What a part promises stands in its
+//! contracts, in the words that `specs/` defines.
 #![tactic(auto)]
 
+mod buffers;
 mod devices;
+mod directives;
 mod faults;
+mod lexing;
 mod line_reading;
 mod tokens;
 
+pub use buffers::{ListBuf, TextBuf};
 pub use devices::{Counted, Sink, Source};
-pub use faults::{ReadStop, WriteStop};
+pub use faults::{LexFault, ReadStop, WriteStop};
+pub use lexing::Lexer;
 pub use line_reading::LineReader;
-pub use tokens::MOST_LINE_BYTES;
+pub use tokens::{Chars, Line, MOST_LINE_BYTES, MOST_LINES, MOST_NAME_CHARS, Piece, Token};

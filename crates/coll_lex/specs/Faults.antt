@@ -1,0 +1,56 @@
+-- The numbers and the names of the faults of lines and devices, as replies and messages show them.
+use Rattle.std.specs.Prelude.{ℕ, List, codes}
+use Rattle.coll_lex.specs.declared.faults.ReadStop.{ReadStop}
+use Rattle.coll_lex.specs.declared.faults.ReadStop.TheVariants as read
+use Rattle.coll_lex.specs.declared.faults.WriteStop.{WriteStop}
+use Rattle.coll_lex.specs.declared.faults.WriteStop.TheVariants as write
+use Rattle.coll_lex.specs.declared.faults.LexFault.{LexFault}
+use Rattle.coll_lex.specs.declared.faults.LexFault.TheVariants as lex
+
+-- the number of a stop of reading
+abbrev pub read_stop_number : ReadStop → ℕ
+read_stop_number read.LineTooLong = 10
+read_stop_number read.ReadFault = 67
+
+-- the name of a stop of reading
+abbrev pub read_stop_name : ReadStop → List ℕ
+read_stop_name read.LineTooLong = codes "LineTooLong"
+read_stop_name read.ReadFault = codes "ReadFault"
+
+-- the number of a stop of writing
+abbrev pub write_stop_number : WriteStop → ℕ
+write_stop_number write.WriteFault = 68
+
+-- the name of a stop of writing
+abbrev pub write_stop_name : WriteStop → List ℕ
+write_stop_name write.WriteFault = codes "WriteFault"
+
+-- the number of a fault of a line
+abbrev pub lex_fault_number : LexFault → ℕ
+lex_fault_number lex.NotUtf8 = 1
+lex_fault_number lex.OpenSymbol = 2
+lex_fault_number lex.EmptySymbol = 3
+lex_fault_number lex.BadName = 4
+lex_fault_number lex.BadCodePoint = 5
+lex_fault_number lex.OpenString = 6
+lex_fault_number lex.CharacterConstant = 8
+lex_fault_number lex.DanglingEscape = 9
+lex_fault_number lex.LineTooLong = 10
+lex_fault_number lex.BadCharDirective = 11
+lex_fault_number lex.TooManyLines = 12
+lex_fault_number lex.OutOfMemory = 70
+
+-- the name of a fault of a line
+abbrev pub lex_fault_name : LexFault → List ℕ
+lex_fault_name lex.NotUtf8 = codes "NotUtf8"
+lex_fault_name lex.OpenSymbol = codes "OpenSymbol"
+lex_fault_name lex.EmptySymbol = codes "EmptySymbol"
+lex_fault_name lex.BadName = codes "BadName"
+lex_fault_name lex.BadCodePoint = codes "BadCodePoint"
+lex_fault_name lex.OpenString = codes "OpenString"
+lex_fault_name lex.CharacterConstant = codes "CharacterConstant"
+lex_fault_name lex.DanglingEscape = codes "DanglingEscape"
+lex_fault_name lex.LineTooLong = codes "LineTooLong"
+lex_fault_name lex.BadCharDirective = codes "BadCharDirective"
+lex_fault_name lex.TooManyLines = codes "TooManyLines"
+lex_fault_name lex.OutOfMemory = codes "OutOfMemory"
