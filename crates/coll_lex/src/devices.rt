@@ -1,9 +1,9 @@
-// The devices that lines are read from and replies are written to, and the count of their errors.
-//
-// A `Source` and a `Sink` are std's readers and writers with one thing more: a stored count of the
-// errors that they answered, by which a caller can tell that a fault came from the device.
-// `Counted` makes both of a std device. Other devices implement the traits themselves; a clause
-// of a trait may be made stronger here, but every function over devices relies on each of them.
+//! The devices that lines are read from and replies are written to, and the count of their errors.
+//!
+//! A `Source` and a `Sink` are std's readers and writers with one thing more: a stored count of the
+//! errors that they answered, by which a caller can tell that a fault came from the device.
+//! `Counted` makes both of a std device. Other devices implement the traits themselves; a clause
+//! of a trait may be made stronger here, but every function over devices relies on each of them.
 ghost use Rattle.std.specs.Prelude.{◌≡◌, ℕ, List, Option};
 ghost use Rattle.std.specs.Io.{ReadsAtMost, WritesAtMost};
 ghost use Rattle.std.specs.Io.KnownBytes.{Keeps, ReadConsumes, WriteAppends};

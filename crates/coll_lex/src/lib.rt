@@ -10,10 +10,12 @@ mod devices;
 mod directives;
 mod faults;
 mod lexing;
+mod line_reading;
 mod tokens;
 
 pub use buffers::{ListBuf, TextBuf};
 pub use devices::{Counted, Sink, Source};
 pub use faults::{LexFault, ReadStop, WriteStop};
 pub use lexing::Lexer;
+pub use line_reading::LineReader;
 pub use tokens::{Chars, Line, MOST_LINE_BYTES, MOST_LINES, MOST_NAME_CHARS, Piece, Token};
