@@ -14,6 +14,7 @@ mod line_reading;
 mod tokens;
 
 pub use buffers::{ListBuf, TextBuf};
+pub use directives::{past_blanks, without_return};
 pub use devices::{Counted, Sink, Source};
 pub use faults::{LexFault, ReadStop, WriteStop};
 pub use lexing::Lexer;

@@ -1,14 +1,20 @@
 //! What a line of a session is.
 //!
 //! A physical line is handed to the lexer; where it ends a logical line, that line is a command, a line of a delta,
-//! or refused. What a line is depends on no table and on no block. A new kind of line is a new variant of `Heard`,
-//! and a case of the definition of session lines.
+//! or refused. What a line is depends on no table and on no block. Memory is taken here alone, for a line's tokens and
+//! names and for the room of a block, so that what comes after can't fail for want of it. A new kind of line is a new
+//! variant of `Heard`, and a case of the definition of session lines.
+
+ghost use Rattle.std.specs.Prelude.{◌≡◌, ◌≢◌, ◌×◌, Bool, IfOk};
+ghost use Rattle.coll_bench.specs.SessionLines.{opening_of, is_command_word, command_by};
 
 use crate::faults::Fault;
 use crate::session::blocks::Opened;
 use crate::session::commands::Command;
-use crate::syntax::OrderLine;
-use coll_lex::LexFault;
+use crate::syntax::{DeltaLine, OrderLine, SyntaxFault, parse_delta_line};
+use coll_lex::{LexFault, Lexer, Line, Token, past_blanks, without_return};
+use std::alloc::{AllocError, Global};
+use std::marker::Model;
 
 /// What the first physical line of a logical line begins with, blanks skipped, without regard to words or escapes.
 #[derive(Clone, Copy, Debug, PartialEq, Eq)]
@@ -38,4 +44,112 @@ pub enum Heard {
     Ends,
     /// An order line.
     Orders(OrderLine),
+}
+
+/// A lexer that hears the lines of a session, and knows what the logical line that is open begins with.
+#[derive(Debug, Drop)]
+pub struct Listener {
+    lexer: Lexer,
+    /// What the logical line that is open begins with, where one is.
+    opening: Opening,
+}
+
+impl Model for Listener {
+    ghost use Rattle.coll_lex.specs.LogicalLines.{LexerState};
+
+    ghost Value = { LexerState };
+
+    ghost use Rattle.coll_bench.specs.Hearing.{OpensAs};
+
+    ghost view = { λ l. l.lexer };
+
+    ghost invariant = { λ l. OpensAs l.lexer l.opening };
+}
+
+impl Listener {
+    ghost use Rattle.coll_lex.specs.LogicalLines.{first_state, number_of};
+    ghost use Rattle.coll_bench.specs.Hearing.{Hears};
+
+    /// A listener at the beginning of a text.
+    pub fn new(alloc: Global) -> Result<Listener, AllocError>
+        ensures { IfOk result (λ listener. listener ≡ first_state) }
+    {
+        let lexer = Lexer::new(alloc)?;
+        Ok(Listener {
+            lexer,
+            opening: Opening::Neither,
+        })
+    }
+
+    /// Takes one more physical line, and answers what the logical line is that it ends, if it ends one with a token.
+    ///
+    /// Where memory is refused, the line is a refused one, and the logical line so far is dropped.
+    pub fn hear(&mut self, alloc: Global, line: &[u8]) -> Option<Heard>
+        ensures { Hears self.old self.new line.now result }
+    {
+        let opening = self.opening_at(line);
+        match self.lexer.feed(line) {
+            Err(fault) => Some(refused_by_lexer(opening, fault)),
+            Ok(None) => {
+                self.opening = opening;
+                None
+            }
+            Ok(Some(line)) => Some(line_heard(alloc, opening, &line)),
+        }
+    }
+
+    /// Ends the text, and answers whether it ends where a line is continued.
+    pub fn finish(&mut self) -> bool
+        ensures { result ≡ is_some (pending self.old) }
+    {
+        self.lexer.finish().is_err()
+    }
+
+    // What the logical line begins with that this physical line belongs to.
+    fn opening_at(&self, line: &[u8]) -> Opening
+        ensures { result ≡ opening_of (first_line self.now line.now) }
+    {
+        match self.lexer.pending() {
+            Some(_) => self.opening,
+            None => opening_of(without_return(line)),
+        }
+    }
+}
+
+// What a physical line begins with.
+fn opening_of(line: &[u8]) -> Opening
+    ensures { result ≡ opening_of line.now }
+{
+    let text = past_blanks(line);
+    if text.starts_with(b"reorder-after") {
+        Opening::ReorderAfter
+    } else if text.starts_with(b"reorder-end") {
+        Opening::ReorderEnd
+    } else {
+        Opening::Neither
+    }
+}
+
+// What a line is that the lexer refuses.
+fn refused_by_lexer(opening: Opening, fault: LexFault) -> Heard
+    ensures { result ≡ fault_heard opening fault }
+{
+    match fault {
+        LexFault::LineTooLong | LexFault::TooManyLines | LexFault::DanglingEscape => {
+            Heard::Stops(fault)
+        }
+        _ => Heard::Refused(opening, Fault::Lex(fault)),
+    }
+}
+
+// What a line with tokens is.
+fn line_heard(alloc: Global, opening: Opening, line: &Line) -> Heard
+    ensures { HearsTokens opening line.now.tokens result }
+{
+    if let Some(Token::Word(word)) = line.tokens.get().first() {
+        if is_command_word(word) {
+            return command_heard(word, line.tokens.get().len() == 1);
+        }
+    }
+    delta_heard(alloc, opening, line)
 }
