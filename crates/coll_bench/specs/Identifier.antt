@@ -2,6 +2,7 @@
 use Rattle.std.specs.Prelude.{ℕ, ◌==◌, Bool, true, false, List, [], ◌∷◌, Option, Some, None}
 use Rattle.std.specs.Str.{bytes_eq}
 use Rattle.std.specs.List.{list_any}
+use Rattle.std.specs.Option.{option_map}
 use Rattle.coll_lex.specs.declared.tokens.Token.{Token}
 use Rattle.coll_lex.specs.declared.tokens.Token.TheVariants as token
 use Rattle.coll_bench.specs.declared.syntax.identifiers.Id.{Id}
@@ -31,16 +32,16 @@ same_id Undefined Undefined = true
 abbrev pub has_id : List Id → Id → Bool
 has_id ids id = list_any (same_id id) ids
 
--- a word of one character spells that character
-abbrev pub id_of_word : List ℕ → Option Id
-id_of_word (c ∷ []) = Some (Char c)
-id_of_word _ = None
+-- the one character of a word that has no other
+abbrev pub only_char : List ℕ → Option ℕ
+only_char (c ∷ []) = Some c
+only_char _ = None
 
 -- the identifier that a token spells: a code point, a symbol, or a word of one character
 abbrev pub id_of : Token → Option Id
 id_of (token.Char c) = Some (Char c)
 id_of (token.Symbol name) = Some (Named name)
-id_of (token.Word word) = id_of_word word
+id_of (token.Word word) = option_map Char (only_char word)
 id_of _ = None
 
 -- a token is a word, spelled so

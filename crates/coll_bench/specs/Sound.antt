@@ -1,9 +1,9 @@
 -- How the parts of a table are seen, and what holds of them.
-use Rattle.std.specs.Prelude.{◌≡◌, ℕ, Bool, if◌then◌else◌, List, [], ◌∷◌, ◌++◌, map, None, chars, string_bytes, encode_utf8_all}
+use Rattle.std.specs.Prelude.{◌≡◌, ℕ, Bool, if◌then◌else◌, List, [], ◌∷◌, ◌++◌, ◌||◌, map, None, chars, string_bytes, encode_utf8_all}
 use Rattle.std.specs.declared.string.String.{String}
-use Rattle.coll_bench.specs.Identifier.{has_id}
+use Rattle.coll_bench.specs.Identifier.{same_name, same_id, has_name, has_id}
 use Rattle.coll_bench.specs.Table.{Collation, ids_of}
-use Rattle.coll_bench.specs.WellFormed.{IsWellFormed}
+use Rattle.coll_bench.specs.WellFormed.{AreDistinct, IsWellFormed}
 use Rattle.coll_bench.specs.declared.syntax.identifiers.Id.{Id}
 use Rattle.coll_bench.specs.declared.syntax.identifiers.Id.TheVariants.{Char, Named, Undefined}
 use Rattle.coll_bench.specs.declared.tables.entries.Entry.{Entry}
@@ -29,6 +29,19 @@ texts_of texts = map text_of texts
 abbrev pub AreTexts : {Y : Type 0} → List (String Y) → Type 0
 AreTexts [] = Unit {0}
 AreTexts (text ∷ texts) = (encode_utf8_all (text_of text) ≡ string_bytes text) × AreTexts texts
+
+-- the texts of a look-up are texts, each once
+pub record AreNames {Y : Type 0} (texts : List (String Y)) : Type 0 where
+  pub texts_are : AreTexts texts
+  pub distinct : AreDistinct same_name (texts_of texts)
+
+-- names with one more, unless it is there
+abbrev pub with_name : List (List ℕ) → List ℕ → List (List ℕ)
+with_name names name = if has_name names name then names else names ++ name ∷ []
+
+-- a look-up has one identifier more, unless it was there
+abbrev pub AddsId : List Id → List Id → Id → Type 0
+AddsId old new id = (other : Id) → has_id new other ≡ (same_id other id || has_id old other)
 
 -- the identifiers of a look-up: its names, its characters, and UNDEFINED where it has that
 abbrev pub places_of : List (List ℕ) → List ℕ → Bool → List Id

@@ -23,10 +23,15 @@ declared_of table = table.declared
 abbrev pub sections_of : Collation → List Section
 sections_of table = table.sections
 
+-- some entries, and after them those of the sections that follow
+abbrev pub followed_by : List Entry → List Section → List Entry
+followed_by entries [] = entries
+followed_by entries (section ∷ sections) = entries ++ followed_by section.entries sections
+
 -- the entries of all sections, joined
 abbrev pub joined_entries : List Section → List Entry
 joined_entries [] = []
-joined_entries (section ∷ sections) = section.entries ++ joined_entries sections
+joined_entries (section ∷ sections) = followed_by section.entries sections
 
 -- the entries of a table, in order
 abbrev pub entries_of : Collation → List Entry
@@ -44,8 +49,12 @@ is_declared table name = has_name table.declared name
 abbrev pub is_placed : Collation → Id → Bool
 is_placed table id = has_id (ids_of (entries_of table)) id
 
--- an identifier may be used: a name has to be declared, characters and UNDEFINED need no declaration
+-- an identifier may be used where these names are declared: characters and UNDEFINED need no declaration
+abbrev pub is_known_among : List (List ℕ) → Id → Bool
+is_known_among declared (Char c) = true
+is_known_among declared (Named name) = has_name declared name
+is_known_among declared Undefined = true
+
+-- an identifier may be used in a table
 abbrev pub is_known : Collation → Id → Bool
-is_known table (Char c) = true
-is_known table (Named name) = is_declared table name
-is_known table Undefined = true
+is_known table id = is_known_among table.declared id

@@ -7,6 +7,7 @@
 
 mod delta_lines;
 mod identifiers;
+mod keywords;
 mod statements;
 mod syntax_faults;
 mod table_lines;
