@@ -1,4 +1,5 @@
 pub mod BlockLemmas
+pub mod HearingLemmas
 pub mod HistoryLemmas
 pub mod LookUps
 pub mod PlaceLookUps

@@ -1,6 +1,7 @@
 pub mod Delta
 pub mod DeltaLines
 pub mod Gathered
+pub mod Hearing
 pub mod History
 pub mod Identifier
 pub mod Kept

@@ -7,7 +7,7 @@ use Rattle.coll_lex.specs.declared.tokens.Token.{Token}
 use Rattle.coll_lex.specs.declared.tokens.Token.TheVariants as token
 use Rattle.coll_lex.specs.declared.faults.LexFault.{LexFault}
 use Rattle.coll_lex.specs.declared.faults.LexFault.TheVariants as lex
-use Rattle.coll_bench.specs.Identifier.{same_name}
+use Rattle.coll_bench.specs.Identifier.{is_word}
 use Rattle.coll_bench.specs.DeltaLines.{delta_line}
 use Rattle.coll_bench.specs.declared.syntax.delta_lines.DeltaLine.{DeltaLine}
 use Rattle.coll_bench.specs.declared.syntax.delta_lines.DeltaLine.TheVariants as delta_lines
@@ -28,22 +28,32 @@ opening_of line =
     if starts_with nat_eq (past_blanks line) (codes "reorder-after") then openings.ReorderAfter
     else (if starts_with nat_eq (past_blanks line) (codes "reorder-end") then openings.ReorderEnd else openings.Neither)
 
--- a command is a line whose first token is a word of more than one character that begins with `:`
+-- a word of more than one character that begins with `:`
 abbrev pub is_command_word : List ℕ → Bool
 is_command_word [] = false
 is_command_word (c ∷ []) = false
 is_command_word (c ∷ d ∷ rest) = c == 58
 
--- a command without arguments takes none
+-- a line is a command by its first token
+abbrev pub is_command : Token → Bool
+is_command (token.Word word) = is_command_word word
+is_command (token.Symbol name) = false
+is_command (token.Char c) = false
+is_command (token.Text pieces) = false
+is_command token.Semicolon = false
+is_command token.Comma = false
+
+-- a command that takes no arguments
 abbrev pub alone : Command → List Token → Heard
 alone c [] = Asks c
 alone c (argument ∷ rest) = Misasks (fault.Syntax syntax.ExtraOperand)
 
 -- a command by its word and its arguments: an unknown word comes before wrong arguments
-abbrev pub command_by : List ℕ → List Token → Heard
-command_by word arguments =
-    if same_name word (codes ":undo") then alone command.Undo arguments
-    else (if same_name word (codes ":list") then alone command.List arguments else Misasks fault.UnknownCommand)
+abbrev pub command_heard : Token → List Token → Heard
+command_heard first arguments =
+    if is_word first (codes ":undo") then alone command.Undo arguments
+    else (if is_word first (codes ":list") then alone command.List arguments
+    else Misasks fault.UnknownCommand)
 
 -- a line of a delta, or a line that the grammar refuses
 abbrev pub delta_heard : Opening → Result DeltaLine SyntaxFault → Heard
@@ -52,18 +62,11 @@ delta_heard opening (Ok delta_lines.ReorderEnd) = Ends
 delta_heard opening (Ok (delta_lines.Order line)) = Orders line
 delta_heard opening (Err f) = Refused opening (fault.Syntax f)
 
-abbrev pub word_heard : Opening → List ℕ → List Token → Heard
-word_heard opening word rest = if is_command_word word then command_by word rest else delta_heard opening (delta_line (token.Word word ∷ rest))
-
 -- what tokens say, under what the first physical line of their logical line begins with
 unfoldable pub tokens_heard : Opening → List Token → Heard
 tokens_heard opening [] = delta_heard opening (delta_line [])
-tokens_heard opening (token.Word word ∷ rest) = word_heard opening word rest
-tokens_heard opening (token.Symbol name ∷ rest) = delta_heard opening (delta_line (token.Symbol name ∷ rest))
-tokens_heard opening (token.Char c ∷ rest) = delta_heard opening (delta_line (token.Char c ∷ rest))
-tokens_heard opening (token.Text pieces ∷ rest) = delta_heard opening (delta_line (token.Text pieces ∷ rest))
-tokens_heard opening (token.Semicolon ∷ rest) = delta_heard opening (delta_line (token.Semicolon ∷ rest))
-tokens_heard opening (token.Comma ∷ rest) = delta_heard opening (delta_line (token.Comma ∷ rest))
+tokens_heard opening (first ∷ rest) =
+    if is_command first then command_heard first rest else delta_heard opening (delta_line (first ∷ rest))
 
 -- after a line that is too long, a line too many or a dangling escape no line follows
 abbrev pub ends_session : LexFault → Bool

@@ -4,3 +4,4 @@ pub mod PhysicalLinesLemmas
 pub mod TextLemmas
 pub mod DirectiveLemmas
 pub mod LineSteps
+pub mod LineEnds

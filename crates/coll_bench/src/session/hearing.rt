@@ -5,13 +5,15 @@
 //! names and for the room of a block, so that what comes after can't fail for want of it. A new kind of line is a new
 //! variant of `Heard`, and a case of the definition of session lines.
 
-ghost use Rattle.std.specs.Prelude.{◌≡◌, ◌≢◌, ◌×◌, Bool, IfOk};
-ghost use Rattle.coll_bench.specs.SessionLines.{opening_of, is_command_word, command_by};
+ghost use Rattle.std.specs.Prelude.{◌≡◌, Bool, IfOk, is_some, chars};
+ghost use Rattle.coll_lex.specs.LogicalLines.{pending, first_line};
+ghost use Rattle.coll_bench.specs.SessionLines.{opening_of, fault_heard, is_command as spells_command, is_command_word as spells_command_word, command_heard as spelled_command, alone as spelled_alone};
+ghost use Rattle.coll_bench.specs.Hearing.{Hears, HearsTokens, HearsDelta};
 
 use crate::faults::Fault;
 use crate::session::blocks::Opened;
 use crate::session::commands::Command;
-use crate::syntax::{DeltaLine, OrderLine, SyntaxFault, parse_delta_line};
+use crate::syntax::{DeltaLine, OrderLine, SyntaxFault, is_word, parse_delta_line};
 use coll_lex::{LexFault, Lexer, Line, Token, past_blanks, without_return};
 use std::alloc::{AllocError, Global};
 use std::marker::Model;
@@ -67,8 +69,7 @@ impl Model for Listener {
 }
 
 impl Listener {
-    ghost use Rattle.coll_lex.specs.LogicalLines.{first_state, number_of};
-    ghost use Rattle.coll_bench.specs.Hearing.{Hears};
+    ghost use Rattle.coll_lex.specs.LogicalLines.{first_state};
 
     /// A listener at the beginning of a text.
     pub fn new(alloc: Global) -> Result<Listener, AllocError>
@@ -85,7 +86,7 @@ impl Listener {
     ///
     /// Where memory is refused, the line is a refused one, and the logical line so far is dropped.
     pub fn hear(&mut self, alloc: Global, line: &[u8]) -> Option<Heard>
-        ensures { Hears self.old self.new line.now result }
+        ensures { (starved : Bool) × Hears starved self.old self.new line.now result }
     {
         let opening = self.opening_at(line);
         match self.lexer.feed(line) {
@@ -117,6 +118,7 @@ impl Listener {
 }
 
 // What a physical line begins with.
+#[tactic(auto, unfolding(crate::specs::SessionLines::opening_of))]
 fn opening_of(line: &[u8]) -> Opening
     ensures { result ≡ opening_of line.now }
 {
@@ -143,13 +145,78 @@ fn refused_by_lexer(opening: Opening, fault: LexFault) -> Heard
 }
 
 // What a line with tokens is.
+#[tactic(auto, unfolding(crate::specs::SessionLines::tokens_heard))]
 fn line_heard(alloc: Global, opening: Opening, line: &Line) -> Heard
     ensures { HearsTokens opening line.now.tokens result }
 {
-    if let Some(Token::Word(word)) = line.tokens.get().first() {
-        if is_command_word(word) {
-            return command_heard(word, line.tokens.get().len() == 1);
+    if let Some((first, arguments)) = line.tokens.get().split_first() {
+        if is_command(first) {
+            return command_heard(first, arguments);
         }
     }
     delta_heard(alloc, opening, line)
+}
+
+// Whether a line is a command, by its first token.
+fn is_command(first: &Token) -> bool
+    ensures { result ≡ spells_command first.now }
+{
+    match first {
+        Token::Word(word) => is_command_word(word.get()),
+        _ => false,
+    }
+}
+
+// Whether a text has more than one character, of which the first is `:`.
+fn is_command_word(text: &str) -> bool
+    ensures { result ≡ spells_command_word (chars text.now) }
+{
+    let mut rest = text.chars();
+    let Some(first) = rest.next() else {
+        return false;
+    };
+    match rest.next() {
+        Some(_) => first == ':',
+        None => false,
+    }
+}
+
+// The command of a line, or why it is none. An unknown word comes before wrong arguments.
+fn command_heard(first: &Token, arguments: &[Token]) -> Heard
+    ensures { result ≡ spelled_command first.now arguments.now }
+{
+    if is_word(first, ":undo") {
+        return alone(Command::Undo, arguments);
+    }
+    if is_word(first, ":list") {
+        return alone(Command::List, arguments);
+    }
+    Heard::Misasks(Fault::UnknownCommand)
+}
+
+// A command that takes no arguments.
+fn alone(command: Command, arguments: &[Token]) -> Heard
+    ensures { result ≡ spelled_alone command arguments.now }
+{
+    if arguments.is_empty() {
+        Heard::Asks(command)
+    } else {
+        Heard::Misasks(Fault::Syntax(SyntaxFault::ExtraOperand))
+    }
+}
+
+// What a line of a delta is, with the room for the block that it may open.
+fn delta_heard(alloc: Global, opening: Opening, line: &Line) -> Heard
+    ensures { HearsDelta opening line.now.tokens result }
+{
+    match parse_delta_line(alloc, line) {
+        Ok(DeltaLine::ReorderAfter(target)) => match Opened::new(alloc, target) {
+            Ok(opened) => Heard::Opens(opened),
+            Err(_) => Heard::Refused(opening, Fault::Lex(LexFault::OutOfMemory)),
+        },
+        Ok(DeltaLine::ReorderEnd) => Heard::Ends,
+        Ok(DeltaLine::Order(line)) => Heard::Orders(line),
+        Err(SyntaxFault::OutOfMemory) => Heard::Refused(opening, Fault::Lex(LexFault::OutOfMemory)),
+        Err(fault) => Heard::Refused(opening, Fault::Syntax(fault)),
+    }
 }
