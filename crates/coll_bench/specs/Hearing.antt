@@ -1,6 +1,6 @@
 -- What is heard of one more physical line, and where the lexer then stands.
-use Rattle.std.specs.Prelude.{◌≡◌, ℕ, Bool, if◌then◌else◌, List, Option, Some, None, IfSome, Result, Ok, Err}
-use Rattle.coll_lex.specs.LogicalLines.{OpenLine, LexerState, first_line, served, state_by}
+use Rattle.std.specs.Prelude.{◌≡◌, ℕ, Bool, true, if◌then◌else◌, List, Option, Some, None, is_some, Result, Ok, Err}
+use Rattle.coll_lex.specs.LogicalLines.{LexerState, first_line, served, state_by}
 use Rattle.coll_lex.specs.declared.tokens.Line.{Line}
 use Rattle.coll_lex.specs.declared.tokens.Token.{Token}
 use Rattle.coll_lex.specs.declared.faults.LexFault.{LexFault}
@@ -13,8 +13,8 @@ use Rattle.coll_bench.specs.declared.session.hearing.Heard.{Heard}
 use Rattle.coll_bench.specs.declared.session.hearing.Heard.TheVariants.{Refused}
 
 -- the logical line that is open, if one is, begins as this says, whatever is handed in next
-abbrev pub OpensAs : LexerState → Opening → Type 0
-OpensAs s opening = IfSome s.line (λ (o : OpenLine). (next : List ℕ) → opening_of (first_line s next) ≡ opening)
+unfoldable pub OpensAs : LexerState → Opening → Type 0
+OpensAs s opening = is_some s.line ≡ true → (next : List ℕ) → opening_of (first_line s next) ≡ opening
 
 -- what the lexer's answer to a physical line is heard as
 abbrev pub heard_by : Opening → Result (Option Line × LexerState) LexFault → Option Heard
