@@ -1,6 +1,8 @@
 mod AdvanceLemmas
 mod LineReaderLemmas
 pub mod PhysicalLinesLemmas
+pub mod SpellingLemmas
 pub mod TextLemmas
+pub mod WritingLemmas
 pub mod DirectiveLemmas
 pub mod LineSteps

@@ -8,5 +8,6 @@ pub mod LineReading
 pub mod LogicalLines
 pub mod Marked
 pub mod PhysicalLines
+pub mod Spelling
 pub mod Tokens
 pub mod Lexer
