@@ -1,6 +1,7 @@
 mod AdvanceLemmas
 mod LineReaderLemmas
 pub mod PhysicalLinesLemmas
+pub mod ReadingBackLemmas
 pub mod SpellingLemmas
 pub mod TextLemmas
 pub mod WritingLemmas

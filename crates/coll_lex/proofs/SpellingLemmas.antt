@@ -153,12 +153,11 @@ hex_digit-ascii : (d : ℕ) → d < 16 → hex_digit d < 128
 hex_digit-ascii d small =
     ⊎_elim (λ low. rw (lt-ltb d 10 low) (omega arith)) (λ high. rw (le-ltb d 10 high) (omega arith)) (cases_lt d 10)
 
--- digits are ASCII
-hex_digits-ascii : (count n : ℕ) → All (λ b. b < 128) (hex_digits count n)
-hex_digits-ascii zero n = let P : ℕ → Type 0 = λ b. b < 128 in subst (All P) (sym (hex_digits-zero n)) (All-nil P)
-hex_digits-ascii (suc count) n =
-    let P : ℕ → Type 0 = λ b. b < 128 in
-    subst (All P) (sym (hex_digits-suc count n)) (All-push P (hex_digits count (n / 16)) (hex_digit (n % 16)) (hex_digits-ascii count (n / 16)) (hex_digit-ascii (n % 16) (omega arith)))
+-- what holds of each digit holds of all digits of a number
+pub hex_digits-all : (P : ℕ → Type 0) → ((d : ℕ) → d < 16 → P (hex_digit d)) → (count n : ℕ) → All P (hex_digits count n)
+hex_digits-all P each zero n = subst (All P) (sym (hex_digits-zero n)) (All-nil P)
+hex_digits-all P each (suc count) n =
+    subst (All P) (sym (hex_digits-suc count n)) (All-push P (hex_digits count (n / 16)) (hex_digit (n % 16)) (hex_digits-all P each count (n / 16)) (each (n % 16) (omega arith)))
 
 -- the bytes of a spelled character
 pub encodes-spelled_code : (c : ℕ) → encodes (spelled_code c []) ≡ 60 ∷ 85 ∷ (hex_digits (digit_count c) c ++ 62 ∷ [])
@@ -167,7 +166,7 @@ encodes-spelled_code c =
     let P : ℕ → Type 0 = λ b. b < 128 in
     let digits = hex_digits (digit_count c) c in
     let close : All P (62 ∷ []) = All-cons P 62 [] (omega arith) (All-nil P) in
-    let inner : All P (digits ++ 62 ∷ []) = All-append P digits (62 ∷ []) (hex_digits-ascii (digit_count c) c) close in
+    let inner : All P (digits ++ 62 ∷ []) = All-append P digits (62 ∷ []) (hex_digits-all P hex_digit-ascii (digit_count c) c) close in
     let whole : All P (60 ∷ 85 ∷ (digits ++ 62 ∷ [])) = All-cons P 60 (85 ∷ (digits ++ 62 ∷ [])) (omega arith) (All-cons P 85 (digits ++ 62 ∷ []) (omega arith) inner) in
     encodes-IsAscii (60 ∷ 85 ∷ (digits ++ 62 ∷ [])) (IsAscii-from_all (60 ∷ 85 ∷ (digits ++ 62 ∷ [])) whole)
 

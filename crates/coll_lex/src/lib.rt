@@ -19,5 +19,5 @@ pub use devices::{Counted, Sink, Source};
 pub use faults::{LexFault, ReadStop, WriteStop};
 pub use lexing::Lexer;
 pub use line_reading::LineReader;
-pub use spelling::{write_bytes, write_char, write_symbol};
+pub use spelling::{spellings_are_read_back, write_bytes, write_char, write_symbol};
 pub use tokens::{Chars, Line, MOST_LINE_BYTES, MOST_LINES, MOST_NAME_CHARS, Piece, Token};

@@ -7,6 +7,7 @@
 //! that it is read back.
 ghost use Rattle.std.specs.Prelude.{◌≡◌, ◌<◌, ◌≤◌, ℕ, [], ◌∷◌, All, length, take, slice_index, chars, encode_utf8_all, IsTrue, IfNone, IfSome, true, false};
 ghost use Rattle.coll_lex.specs.Devices.{CountsErr, Sends};
+ghost use Rattle.coll_lex.specs.ReadingBack.{NamesReadBack, NamesReadBackQuoted, CodesReadBack, CodesReadBackQuoted};
 ghost use Rattle.coll_lex.specs.Spelling.{is_escaped, spelled_name, spelled_symbol, spelled_code, hex_digit, hex_digits};
 
 use crate::{Sink, WriteStop};
@@ -58,6 +59,17 @@ pub fn write_char<W: Sink>(out: &mut W, c: char) -> Result<(), WriteStop>
     write_bytes(out, &digits[leading..])?;
     write_bytes(out, b">")
 }
+
+/// The law of the spellings: under the escape character `/`, and under any comment character, what `write_symbol` and
+/// `write_char` write is read back as the name or the character that was written, whatever follows it.
+///
+/// It does nothing; its contract is the law.
+pub fn spellings_are_read_back()
+    ensures names { NamesReadBack }
+    ensures names_in_strings { NamesReadBackQuoted }
+    ensures codes { CodesReadBack }
+    ensures codes_in_strings { CodesReadBackQuoted }
+{}
 
 // Writes the bytes of a name, with `/` before each `>` and `/`.
 fn write_name<W: Sink>(out: &mut W, name: &[u8]) -> Result<(), WriteStop>
