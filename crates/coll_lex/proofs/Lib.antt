@@ -1,7 +1,10 @@
 mod AdvanceLemmas
 mod LineReaderLemmas
 pub mod PhysicalLinesLemmas
+pub mod ReadingBackLemmas
+pub mod SpellingLemmas
 pub mod TextLemmas
+pub mod WritingLemmas
 pub mod DirectiveLemmas
 pub mod LineSteps
 pub mod LineEnds

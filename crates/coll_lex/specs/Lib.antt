@@ -9,4 +9,6 @@ pub mod LineReading
 pub mod LogicalLines
 pub mod Marked
 pub mod PhysicalLines
+pub mod ReadingBack
+pub mod Spelling
 pub mod Tokens
