@@ -1,0 +1,7 @@
+pub mod BlockLemmas
+pub mod HearingLemmas
+pub mod HistoryLemmas
+pub mod LookUps
+pub mod PlaceLookUps
+pub mod Sameness
+pub mod Spellings
