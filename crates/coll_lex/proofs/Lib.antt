@@ -11,3 +11,4 @@ pub mod ScanRows
 pub mod ScanLines
 pub mod SymbolLemmas
 pub mod LineEnds
+pub mod FeedLemmas
