@@ -8,6 +8,7 @@ mod blocks;
 mod commands;
 mod hearing;
 mod histories;
+mod replies;
 mod requests;
 
 pub use histories::Session;
