@@ -44,7 +44,7 @@ impl Model for Lexer {
 
 impl Lexer {
     ghost use Rattle.std.specs.Prelude.{◌≡◌, ◌≢◌, IfOk, IfErr, OnOk, OnErr, Ok, Err, None, IsSome};
-    ghost use Rattle.coll_lex.specs.LogicalLines.{first_state, pending, dropped, fed, outside};
+    ghost use Rattle.coll_lex.specs.LogicalLines.{first_state, pending, number_of, dropped, fed, outside};
     ghost use Rattle.coll_lex.specs.declared.faults.LexFault.TheVariants.{OutOfMemory, DanglingEscape};
 
     /// A lexer at the beginning of a text, with the comment character `#` and the escape character `\`.
@@ -74,6 +74,17 @@ impl Lexer {
         ensures { result ≡ pending self.now }
     {
         self.open.as_ref().map(|open| open.number)
+    }
+
+    /// The number of the logical line that the next physical line belongs to, which its fault carries: that of the
+    /// line that is open, or else one more than the lines handed in. It takes no memory.
+    pub fn next_number(&self) -> u32
+        ensures { result ≡ number_of self.now }
+    {
+        match &self.open {
+            Some(open) => open.number,
+            None => self.count + 1,
+        }
     }
 
     /// Takes one more physical line, without its line feed, and answers the logical line that it ends, if that
