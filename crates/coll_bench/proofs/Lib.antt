@@ -5,4 +5,5 @@ pub mod LookUps
 pub mod PlaceLookUps
 pub mod ReplyLemmas
 pub mod Sameness
+pub mod ServingLemmas
 pub mod Spellings

@@ -11,6 +11,7 @@ pub mod Record
 pub mod Refusals
 pub mod Replay
 pub mod Replies
+pub mod Serving
 pub mod SessionFaults
 pub mod SessionLines
 pub mod Sound

@@ -10,5 +10,6 @@ mod hearing;
 mod histories;
 mod replies;
 mod requests;
+mod runs;
 
 pub use histories::Session;
