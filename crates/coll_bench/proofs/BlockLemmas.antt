@@ -6,7 +6,7 @@ use Rattle.std.proofs.Math.Dec.{leb-suc-suc, leb-suc-zero}
 use Rattle.coll_lex.specs.declared.faults.LexFault.TheVariants as lex
 use Rattle.coll_bench.specs.Gathered.{Gathered}
 use Rattle.coll_bench.specs.Units.{Block, opened, with_line, is_want_of_memory, wants_memory, some_wants_memory, is_starved, and_line, order_lines, block_of, targeted, statement_of, requested, block_request, left_open, dropped_requests}
-use Rattle.coll_bench.specs.OpenBlock.{gathered, kept, first_fault, spoiled, lengthened, joined, begun_spoiled, kept_request, left_spoiled, kept_left_open, kept_dropped}
+use Rattle.coll_bench.specs.OpenBlock.{gathered, kept, first_fault, spoiled, lengthened, joined, begun_spoiled, kept_request, left_spoiled, kept_left_open, kept_dropped, StandsFor}
 use Rattle.coll_bench.specs.declared.session.blocks.TheConstants.{MOST_BLOCK_LINES}
 use Rattle.coll_bench.specs.declared.syntax.identifiers.Id.{Id}
 use Rattle.coll_bench.specs.declared.syntax.statements.OrderLine.{OrderLine}
@@ -145,3 +145,12 @@ unfolding kept statement_of
 block_request_kept block =
     kept_request_cases (is_starved block) block.target (order_lines MOST_BLOCK_LINES block.lines)
     ∙ ap (λ (r : Result Statement Fault). requested (if is_starved block then Err (fault.Lex lex.OutOfMemory) else r)) (sym (targeted_is block.target block.lines))
+
+-- what stands for an open block, or for none
+pub open_stands : (open_block : OpenBlock) (b : Option Block) (P : Option Block → Type 0) → ((block : Block) → open_block ≡ kept block → P (Some block)) → StandsFor (Some open_block) b → P b
+open_stands open_block (Some block) P each e = each block cc
+open_stands open_block None P each e = absurd cc
+
+pub none_stands : (b : Option Block) (P : Option Block → Type 0) → P None → StandsFor None b → P b
+none_stands (Some block) P each e = absurd cc
+none_stands None P each e = each

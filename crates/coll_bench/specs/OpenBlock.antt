@@ -66,6 +66,10 @@ abbrev pub kept_dropped : OpenBlock → Option Request
 kept_dropped (Gathers g) = None
 kept_dropped (Spoiled f) = if is_want_of_memory f then Some (request.Refused (fault.Lex lex.OutOfMemory)) else None
 
+-- what is kept of a block, if one is open, stands for it
+abbrev pub StandsFor : Option OpenBlock → Option Block → Type 0
+StandsFor open_block block = open_block ≡ option_map kept block
+
 -- a line leaves what is kept of the block after it, and the unit that it completes
 pub record TakesLine (before : Option Block) (line : Heard) (after : Option OpenBlock) (completed : Option Request) : Type 0 where
   pub block : after ≡ option_map kept (block_after before line)

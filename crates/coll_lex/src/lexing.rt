@@ -93,7 +93,7 @@ impl Lexer {
     ghost use Rattle.std.specs.Prelude.{◌≡◌, ◌≢◌, ◌+◌, ◌≤◌, ◌∷◌, [], length, chars, Ok, Err, None, Some, option_map, IsSome, IfSome, IfOk, IfErr, OnOk, OnErr};
     ghost use Rattle.coll_lex.specs.PhysicalLines.{without_return};
     ghost use Rattle.coll_lex.specs.Directives.{directive};
-    ghost use Rattle.coll_lex.specs.LogicalLines.{first_state, pending, dropped, line_fault, answer_in, fed_as, fed, outside};
+    ghost use Rattle.coll_lex.specs.LogicalLines.{first_state, pending, number_of, dropped, line_fault, answer_in, fed_as, fed, outside};
     ghost use Rattle.coll_lex.specs.Lexer.{line_in, added, IsSoundOpen};
     ghost use Rattle.coll_lex.specs.declared.faults.LexFault.TheVariants.{OutOfMemory, DanglingEscape};
 
@@ -124,6 +124,17 @@ impl Lexer {
         ensures { result ≡ pending self.now }
     {
         self.open.as_ref().map(|open| open.number)
+    }
+
+    /// The number of the logical line that the next physical line belongs to, which its fault carries: that of the
+    /// line that is open, or else one more than the lines handed in. It takes no memory.
+    pub fn next_number(&self) -> u32
+        ensures { result ≡ number_of self.now }
+    {
+        match &self.open {
+            Some(open) => open.number,
+            None => self.count + 1,
+        }
     }
 
     /// Takes one more physical line, without its line feed, and answers the logical line that it ends, if that

@@ -4,9 +4,9 @@
 //! once a line has spoiled it, that line's fault alone. The room for all its lines is made where it opens, so that no
 //! later line of it takes memory. A new kind of line that a block doesn't take is one more case of `inside`.
 
-ghost use Rattle.std.specs.Prelude.{◌≡◌, ◌<◌, nat_le, length, [], ◌∷◌, ◌++◌, IfOk};
+ghost use Rattle.std.specs.Prelude.{◌≡◌, ◌<◌, nat_le, length, [], ◌∷◌, ◌++◌, IfOk, Option, Some, None};
 ghost use Rattle.coll_bench.specs.Units.{Block};
-ghost use Rattle.coll_bench.specs.OpenBlock.{kept, spoiled, joined, lengthened, begun_spoiled, kept_request, kept_left_open, kept_dropped, TakesLine};
+ghost use Rattle.coll_bench.specs.OpenBlock.{kept, spoiled, joined, lengthened, begun_spoiled, kept_request, kept_left_open, kept_dropped, StandsFor, TakesLine};
 
 use crate::faults::Fault;
 use crate::session::hearing::{Heard, Opening};
@@ -206,8 +206,18 @@ pub struct Taken {
     pub request: Option<Request>,
 }
 
-/// Takes a line where no block is open.
-pub fn outside(line: Heard) -> Taken
+/// Takes a line: the block that is open after it, and the unit that it completes. It takes no memory.
+pub fn take_line(block: Option<OpenBlock>, line: Heard) -> Taken
+    ensures { (b : Option Block) → StandsFor block b → TakesLine b line result.block result.request }
+{
+    match block {
+        Some(block) => inside(block, line),
+        None => outside(line),
+    }
+}
+
+// Takes a line where no block is open.
+fn outside(line: Heard) -> Taken
     ensures { TakesLine None line result.block result.request }
 {
     match line {
@@ -259,8 +269,8 @@ fn refused_outside(opening: Opening, fault: Fault) -> Taken
     }
 }
 
-/// Takes a line where a block is open.
-pub fn inside(block: OpenBlock, line: Heard) -> Taken
+// Takes a line where a block is open.
+fn inside(block: OpenBlock, line: Heard) -> Taken
     ensures { (b : Block) → block ≡ kept b → TakesLine (Some b) line result.block result.request }
 {
     match line {
