@@ -6,6 +6,9 @@
 ghost use Rattle.std.specs.Prelude.{◌≡◌};
 ghost use Rattle.coll_lex.specs.LogicalLines.{line_of};
 
+#[cfg(test)]
+mod tests;
+
 use crate::directives::{begins_category, directive, without_return};
 use crate::scanning::Scan;
 use crate::{Chars, LexFault, Line, ListBuf, MOST_LINE_BYTES, MOST_LINES, Token};
