@@ -10,5 +10,6 @@ pub mod LogicalLines
 pub mod Marked
 pub mod PhysicalLines
 pub mod ReadingBack
+pub mod Scanning
 pub mod Spelling
 pub mod Tokens

@@ -11,12 +11,13 @@ mod directives;
 mod faults;
 mod lexing;
 mod line_reading;
+mod scanning;
 mod spelling;
 mod tokens;
 
 pub use buffers::{ListBuf, TextBuf};
-pub use directives::{past_blanks, without_return};
 pub use devices::{Counted, Sink, Source};
+pub use directives::{past_blanks, without_return};
 pub use faults::{LexFault, ReadStop, WriteStop};
 pub use lexing::Lexer;
 pub use line_reading::LineReader;
