@@ -129,7 +129,8 @@ impl Lexer {
     /// The number of the logical line that the next physical line belongs to, which its fault carries: that of the
     /// line that is open, or else one more than the lines handed in. It takes no memory.
     pub fn next_number(&self) -> u32
-        ensures { result ≡ number_of self.now }
+        ensures number { result ≡ number_of self.now }
+        ensures counted { self.now.count ≤ MOST_LINES }
     {
         match &self.open {
             Some(open) => open.number,
