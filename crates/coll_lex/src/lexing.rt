@@ -104,10 +104,10 @@ impl Model for Lexer {
 }
 
 impl Lexer {
-    ghost use Rattle.std.specs.Prelude.{◌≡◌, ◌≢◌, ◌+◌, ◌≤◌, ◌∷◌, [], length, chars, Ok, Err, None, Some, option_map, IsSome, IfSome, IfOk, IfErr, OnOk, OnErr};
+    ghost use Rattle.std.specs.Prelude.{◌≡◌, ◌≢◌, ◌+◌, ◌<◌, ◌≤◌, ◌∷◌, [], length, chars, Ok, Err, None, Some, option_map, IsSome, IfSome, IfOk, IfErr, OnOk, OnErr};
     ghost use Rattle.coll_lex.specs.PhysicalLines.{without_return};
     ghost use Rattle.coll_lex.specs.Directives.{directive};
-    ghost use Rattle.coll_lex.specs.LogicalLines.{first_state, pending, number_of, dropped, line_fault, answer_in, fed_as, fed, outside};
+    ghost use Rattle.coll_lex.specs.LogicalLines.{first_state, pending, dropped, line_fault, answer_in, fed_as, fed, outside, number_of};
     ghost use Rattle.coll_lex.specs.Lexer.{line_in, added, IsSoundOpen};
     ghost use Rattle.coll_lex.specs.declared.faults.LexFault.TheVariants.{OutOfMemory, DanglingEscape};
 
@@ -143,7 +143,8 @@ impl Lexer {
     /// The number of the logical line that the next physical line belongs to, which its fault carries: that of the
     /// line that is open, or else one more than the lines handed in. It takes no memory.
     pub fn next_number(&self) -> u32
-        ensures { result ≡ number_of self.now }
+        ensures number { result ≡ number_of self.now }
+        ensures counted { self.now.count ≤ MOST_LINES }
     {
         match &self.open {
             Some(open) => open.number,
@@ -155,10 +156,11 @@ impl Lexer {
     /// has a token.
     ///
     /// A fault drops the logical line so far, and the next line handed in begins another. Want of memory may
-    /// stand in place of any other answer.
+    /// stand in place of any other answer, but not in place of a line too many.
     pub fn feed(&mut self, line: &[u8]) -> Result<Option<Line>, LexFault>
         ensures ok { IfOk result (λ answer. fed self.old line.now ≡ Ok (answer, self.new)) }
         ensures err { IfErr result (λ fault. fault ≢ OutOfMemory → fed self.old line.now ≡ Err fault) }
+        ensures room { IfErr result (λ fault. fault ≡ OutOfMemory → self.old.count < MOST_LINES) }
         ensures dropped { OnErr result (self.new ≡ dropped self.old) }
     {
         match self.take_open() {
@@ -234,6 +236,8 @@ impl Lexer {
         ensures ok { IfOk result (λ bytes. bytes.now ≡ without_return line.now) }
         ensures passes { OnOk result (line_fault self.old.count (before + length line.now) ≡ None) }
         ensures err { IfErr result (λ fault. line_fault self.old.count (before + length line.now) ≡ Some fault) }
+        ensures memory { IfErr result (λ fault. fault ≢ OutOfMemory) }
+        ensures room { OnOk result (self.old.count < MOST_LINES) }
         ensures counted { self.new ≡ dropped self.old }
     {
         let is_last = self.count == MOST_LINES;
