@@ -4,7 +4,7 @@ use Rattle.std.proofs.Math.ListN.{drop_of_length-le}
 use Rattle.std.specs.Prelude.{◌⊎◌, IfOk, IfErr, OnErr}
 use Rattle.std.specs.Io.KnownBytes.{Appends, Keeps}
 use Rattle.std.proofs.KnownBytes.{Appends-kept}
-use Rattle.coll_lex.specs.Devices.{Sends, AppendsFront}
+use Rattle.coll_lex.specs.Devices.{Sends}
 use Rattle.coll_bench.specs.History.{History, judged, taken_back, RefusesStatement}
 use Rattle.coll_bench.specs.Replies.{counted_line, refused_line, listed_line, listed_lines, count_reply, outcome_line, history_or, command_reply, after_command, reply, after, reply_if, after_if}
 use Rattle.coll_bench.specs.declared.syntax.statements.Statement.{Statement}
@@ -105,6 +105,7 @@ pub answered : {T E : Type 0} (old new : Option (List ℕ)) (h h2 : History) (un
     → (starved : Bool) × Answered starved h h2 unit line → Sends old new line r → (starved : Bool) × Sends old new (reply_if starved h unit) r × (h2 ≡ after_if starved h unit)
 answered old new h h2 unit line r a sent = (a.0, subst (λ (l : List ℕ). Sends old new l r) a.1.line_is sent, a.1.state)
 
--- a flush that failed leaves what was sent, a front of it
-pub kept_front : (old mid new : Option (List ℕ)) (line : List ℕ) → Appends old mid line → Keeps mid new → AppendsFront old new line
-kept_front old mid new line sent kept = (line, [], sym (append-nil line), Appends-kept old mid new line sent kept)
+-- a flush leaves what was sent, whether it failed or not
+pub flushed : {T E : Type 0} (old mid new : Option (List ℕ)) (line : List ℕ) (r : Result T E) → Appends old mid line → Keeps mid new → Sends old new line r
+flushed old mid new line (Ok x) sent kept = Appends-kept old mid new line sent kept
+flushed old mid new line (Err e) sent kept = (line, [], sym (append-nil line), Appends-kept old mid new line sent kept)

@@ -36,6 +36,11 @@ counted_line word n = worded word (decimal n)
 unfoldable pub refused_line : Fault → List ℕ
 refused_line f = codes "refused " ++ worded (decimal (fault_number f)) (fault_name f)
 
+-- the replies to faults, one after another
+unfoldable pub refused_lines : List Fault → List ℕ
+refused_lines [] = []
+refused_lines (f ∷ later) = refused_line f ++ refused_lines later
+
 -- one line of a listing: the rank, and the identifier
 unfoldable pub listed_line : ℕ → Entry → List ℕ
 listed_line rank entry = worded (decimal rank) (spelled_id entry.id)

@@ -10,7 +10,8 @@ use Rattle.coll_bench.specs.Table.{Collation}
 use Rattle.coll_bench.specs.History.{History, begun}
 use Rattle.coll_bench.specs.SessionLines.{opening_of}
 use Rattle.coll_bench.specs.Hearing.{heard_by}
-use Rattle.coll_bench.specs.Units.{Block, requests_at, block_after, stop_of, last_requests, requests_at_end}
+use Rattle.coll_bench.specs.SessionFaults.{fault_number}
+use Rattle.coll_bench.specs.Units.{Block, requests_at, block_after, stop_of, refusals, last_faults}
 use Rattle.coll_bench.specs.OpenBlock.{StandsFor}
 use Rattle.coll_bench.specs.Replies.{reply_if, after_if}
 use Rattle.coll_bench.specs.declared.faults.Fault.{Fault}
@@ -40,7 +41,7 @@ stop_at (Some line) = stop_of line
 
 abbrev pub requests_or_last : Option Block → Heard → Option LexFault → List Request
 requests_or_last block line None = requests_at block line
-requests_or_last block line (Some f) = last_requests block f
+requests_or_last block line (Some f) = refusals (last_faults block f)
 
 -- the units that a physical line completes
 unfoldable pub line_requests : Option Block → Option Heard → List Request
@@ -63,18 +64,47 @@ pub record Takes (starved : Bool) (old new : Desk) (line : Heard) (block : Optio
   pub block_is : StandsFor new.block (block_after block line)
   pub session : new.session ≡ history_after starved old.session (requests_at block line)
 
--- a physical line was served, and its replies were written
+-- a physical line was served, and the session goes on
 pub record Served (memory starved : Bool) (old new : Desk) (line : List ℕ) (block : Option Block) : Type 0 where
   pub goes_on : stop_at (heard_at memory old.listener line) ≡ None
   pub listener : new.listener ≡ state_by old.listener (served memory old.listener line)
   pub block_is : StandsFor new.block (line_block block (heard_at memory old.listener line))
   pub session : new.session ≡ history_after starved old.session (line_requests block (heard_at memory old.listener line))
 
--- a physical line at which the session ends
-pub record Stopped (f : LexFault) (old : Desk) (line : List ℕ) (fault : RunFault) : Type 0 where
-  pub stops : stop_at (heard_at false old.listener line) ≡ Some f
-  pub fault_is : fault ≡ record { input = 0; line = number_of old.listener; fault = faults.Lex f }
+-- the session ends with a write that failed
+abbrev pub write_failed : RunFault
+write_failed = record { input = 0; line = 0; fault = faults.Write write.WriteFault }
 
--- a run that ends with a write that failed
-abbrev pub write_fault : RunFault
-write_fault = record { input = 0; line = 0; fault = faults.Write write.WriteFault }
+-- the session ends at a fault of the lexer
+abbrev pub stopped_at : ℕ → LexFault → RunFault
+stopped_at number f = record { input = 0; line = number; fault = faults.Lex f }
+
+-- the session ended at a fault of the lexer, with all replies written, or a write failed and a front of them was
+abbrev pub EndsWith : ℕ → LexFault → Option (List ℕ) → Option (List ℕ) → List ℕ → RunFault → Type 0
+EndsWith number f taken taken_after bytes ended =
+    ((ended ≡ stopped_at number f) × Appends taken taken_after bytes) ⊎ ((ended ≡ write_failed) × AppendsFront taken taken_after bytes)
+
+-- the replies to the units that a physical line completes
+abbrev pub line_replies : (memory starved : Bool) → Desk → List ℕ → Option Block → List ℕ
+line_replies memory starved old line block = replies_to starved old.session (line_requests block (heard_at memory old.listener line))
+
+-- the session ended at this line: at a fault of the lexer, or since a write failed
+abbrev pub EndsAtLine : (memory starved : Bool) → Desk → List ℕ → Option Block → Option (List ℕ) → Option (List ℕ) → RunFault → Type 0
+EndsAtLine memory starved old line block taken taken_after ended =
+    ((f : LexFault) × (stop_at (heard_at memory old.listener line) ≡ Some f) × EndsWith (number_of old.listener) f taken taken_after (line_replies memory starved old line block) ended)
+    ⊎ ((stop_at (heard_at memory old.listener line) ≡ None) × (ended ≡ write_failed) × AppendsFront taken taken_after (line_replies memory starved old line block))
+
+-- what serving a physical line did
+abbrev pub ServesLine : Desk → Desk → List ℕ → Option (List ℕ) → Option (List ℕ) → Result (Unit {0}) RunFault → Type 0
+ServesLine old new line taken taken_after (Ok done) =
+    (memory : Bool) × (starved : Bool) × ((block : Option Block) → StandsFor old.block block → Served memory starved old new line block × Appends taken taken_after (line_replies memory starved old line block))
+ServesLine old new line taken taken_after (Err ended) =
+    (memory : Bool) × (starved : Bool) × ((block : Option Block) → StandsFor old.block block → EndsAtLine memory starved old line block taken taken_after ended)
+
+-- a failed write is counted, and nothing else is
+abbrev pub CountsEnd : ℕ → ℕ → RunFault → Type 0
+CountsEnd old new ended = new ≡ (if fault_number ended.fault == 68 then raised old else old)
+
+abbrev pub CountsWrites : ℕ → ℕ → Result (Unit {0}) RunFault → Type 0
+CountsWrites old new (Ok done) = new ≡ old
+CountsWrites old new (Err ended) = CountsEnd old new ended

@@ -166,32 +166,34 @@ impl OpenBlock {
         }
     }
 
-    /// What is answered for the block where the text ends.
-    pub fn left_open(&self) -> Request
+    /// The fault of the block where the text ends.
+    pub fn left_open(&self) -> Fault
         ensures { result ≡ kept_left_open self.now }
     {
         match self {
-            OpenBlock::Gathers(_) => Request::Refused(Fault::BlockNotEnded),
+            OpenBlock::Gathers(_) => Fault::BlockNotEnded,
             OpenBlock::Spoiled(fault) => {
                 if fault.number() == 70 {
-                    return Request::Refused(Fault::Lex(LexFault::OutOfMemory));
+                    Fault::Lex(LexFault::OutOfMemory)
+                } else {
+                    Fault::BlockNotEnded
                 }
-                Request::Refused(Fault::BlockNotEnded)
             }
         }
     }
 
-    /// What is answered for the block where it is dropped: nothing, unless memory was refused for a line of it.
-    pub fn dropped(&self) -> Option<Request>
+    /// The fault of the block where it is dropped: none, unless memory was refused for a line of it.
+    pub fn dropped(&self) -> Option<Fault>
         ensures { result ≡ kept_dropped self.now }
     {
         match self {
             OpenBlock::Gathers(_) => None,
             OpenBlock::Spoiled(fault) => {
                 if fault.number() == 70 {
-                    return Some(Request::Refused(Fault::Lex(LexFault::OutOfMemory)));
+                    Some(Fault::Lex(LexFault::OutOfMemory))
+                } else {
+                    None
                 }
-                None
             }
         }
     }

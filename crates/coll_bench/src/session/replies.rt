@@ -5,6 +5,7 @@
 //! definition of replies.
 
 ghost use Rattle.std.specs.Prelude.{◌≡◌, ◌++◌, ◌∷◌, [], Bool, length};
+ghost use Rattle.std.specs.Io.KnownBytes.{Keeps};
 ghost use Rattle.coll_lex.specs.Devices.{CountsErr, Sends};
 ghost use Rattle.coll_bench.specs.Table.{entries_of};
 ghost use Rattle.coll_bench.specs.Replies.{spelled_id, worded, counted_line, refused_line, listed_line, listed_lines, listing, outcome_line, command_reply, after_command, reply_if, after_if};
@@ -31,6 +32,23 @@ pub fn answer<W: Sink>(
     ensures errors { CountsErr (W.failed out.old) (W.failed out.new) result }
 {
     respond(session, request, out)?;
+    flush(out)
+}
+
+/// Writes the reply to a fault that ends a session, and flushes it.
+pub fn refuse<W: Sink>(fault: Fault, out: &mut W) -> Result<(), WriteStop>
+    ensures sent { Sends (W.taken out.old) (W.taken out.new) (refused_line fault) result }
+    ensures errors { CountsErr (W.failed out.old) (W.failed out.new) result }
+{
+    write_refused(out, fault)?;
+    flush(out)
+}
+
+// Flushes what was written.
+fn flush<W: Sink>(out: &mut W) -> Result<(), WriteStop>
+    ensures sent { Keeps (W.taken out.old) (W.taken out.new) }
+    ensures errors { CountsErr (W.failed out.old) (W.failed out.new) result }
+{
     match out.flush() {
         Ok(()) => Ok(()),
         Err(_) => Err(WriteStop::WriteFault),
