@@ -12,6 +12,8 @@ mod faults;
 mod lexing;
 mod line_reading;
 mod spelling;
+#[cfg(test)]
+mod test_devices;
 mod tokens;
 
 pub use buffers::{ListBuf, TextBuf};
