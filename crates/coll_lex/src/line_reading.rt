@@ -6,7 +6,7 @@
 //! byte is searched twice. `advance` and `line` are apart so that a loop lends no slice across a turn.
 //! Whoever changes the buffer's size keeps it above the most bytes of a line: a line that is one
 //! byte longer must be seen whole.
-ghost use Rattle.std.specs.Prelude.{◌≡◌, ℕ, ◌+◌, ◌-◌, ◌<◌, ◌≤◌, nat_lt, length, take, drop, slice_index, slice_range, IfOk, IfSome, IfNone, MatchResult, [], ◌++◌, ◌∷◌};
+ghost use Rattle.std.specs.Prelude.{◌≡◌, ℕ, ◌+◌, ◌-◌, ◌<◌, ◌≤◌, nat_lt, length, take, drop, slice_index, slice_range, IfOk, IfSome, IfNone, MatchResult, vec_len, [], ◌++◌, ◌∷◌};
 ghost use Rattle.std.specs.Bool.{OnTrue, OnFalse};
 ghost use Rattle.std.specs.Io.KnownBytes.{Keeps, Consumes, IsAtEnd};
 ghost use Rattle.coll_lex.specs.Devices.{CountsErr};
@@ -59,9 +59,8 @@ impl LineReader {
     pub fn new(alloc: Global) -> Result<Self, AllocError>
         ensures { IfOk result (λ r. r ≡ no_line) }
     {
-        let buffer = vec![in alloc; 0; BUFFER_BYTES]?;
         Ok(LineReader {
-            buffer,
+            buffer: zero_bytes(alloc, BUFFER_BYTES)?,
             line_start: 0,
             line_end: 0,
             start: 0,
@@ -184,6 +183,13 @@ impl LineReader {
         self.stop = Some(stop);
         stop
     }
+}
+
+// So many bytes, for a buffer.
+fn zero_bytes(alloc: Global, count: usize) -> Result<Vec<u8>, AllocError>
+    ensures { IfOk result (λ bytes. vec_len bytes ≡ count) }
+{
+    vec![in alloc; 0; count]
 }
 
 // Where the first line feed stands.
