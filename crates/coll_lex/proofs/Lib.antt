@@ -7,3 +7,8 @@ pub mod TextLemmas
 pub mod WritingLemmas
 pub mod DirectiveLemmas
 pub mod LineSteps
+pub mod ScanRows
+pub mod ScanLines
+pub mod SymbolLemmas
+pub mod LineEnds
+pub mod FeedLemmas

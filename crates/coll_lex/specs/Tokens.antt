@@ -39,6 +39,11 @@ hex_number digits = fold (λ n d. 16 * n + digit_value d) 0 digits
 abbrev pub are_digits : List ℕ → Bool
 are_digits cs = nat_le 4 (length cs) && nat_le (length cs) 8 && list_all is_hex_digit cs
 
+-- the number that `U` and four to eight hexadecimal digits spell
+abbrev pub code_point_of : List ℕ → Option ℕ
+code_point_of [] = None
+code_point_of (c ∷ cs) = if (c == 85) && are_digits cs then Some (hex_number cs) else None
+
 -- the character of a code point
 abbrev pub character_of : ℕ → Result Piece LexFault
 character_of n = if scalar n then Ok (piece.Char n) else Err BadCodePoint
@@ -51,11 +56,16 @@ is_name cs = nat_le (length cs) MOST_NAME_CHARS && list_all (λ c. not (is_blank
 abbrev pub name_of : List ℕ → Result Piece LexFault
 name_of cs = if is_name cs then Ok (piece.Name cs) else Err BadName
 
+-- what a symbol stands for, by the code point that it spells, if it does
+abbrev pub symbol_by : Option ℕ → List ℕ → Result Piece LexFault
+symbol_by None [] = Err EmptySymbol
+symbol_by None (c ∷ cs) = name_of (c ∷ cs)
+symbol_by (Some n) cs = character_of n
+
 -- what a symbol stands for, by what is between its brackets: `U` and digits are the character of that code
 -- point, and all else is a name
 unfoldable pub symbol_of : List ℕ → Result Piece LexFault
-symbol_of [] = Err EmptySymbol
-symbol_of (c ∷ cs) = if (c == 85) && are_digits cs then character_of (hex_number cs) else name_of (c ∷ cs)
+symbol_of cs = symbol_by (code_point_of cs) cs
 
 -- the token of a symbol outside strings
 abbrev pub token_of : Piece → Token

@@ -27,7 +27,7 @@ fn is_blank(byte: u8) -> bool
 
 /// The line without the carriage return at its end, if it has one.
 #[tactic(auto, unfolding(crate::specs::PhysicalLines::without_return))]
-pub(crate) fn without_return(line: &[u8]) -> &[u8]
+pub fn without_return(line: &[u8]) -> &[u8]
     ensures { result.now ≡ without_return line.now }
 {
     if !line.is_empty() && line[line.len() - 1] == b'\r' {
@@ -37,8 +37,8 @@ pub(crate) fn without_return(line: &[u8]) -> &[u8]
     }
 }
 
-// The line without the blanks that it begins with.
-fn past_blanks(line: &[u8]) -> &[u8]
+/// The line without the blanks, spaces and tabs, that it begins with.
+pub fn past_blanks(line: &[u8]) -> &[u8]
     ensures { result.now ≡ past_blanks line.now }
 {
     for (start, byte) in line.iter().enumerate() {

@@ -11,6 +11,7 @@ mod directives;
 mod faults;
 mod lexing;
 mod line_reading;
+mod scanning;
 mod spelling;
 #[cfg(test)]
 mod test_devices;
@@ -18,6 +19,7 @@ mod tokens;
 
 pub use buffers::{ListBuf, TextBuf};
 pub use devices::{Counted, Sink, Source};
+pub use directives::{past_blanks, without_return};
 pub use faults::{LexFault, ReadStop, WriteStop};
 pub use lexing::Lexer;
 pub use line_reading::LineReader;

@@ -1,0 +1,9 @@
+pub mod BlockLemmas
+pub mod HearingLemmas
+pub mod HistoryLemmas
+pub mod LookUps
+pub mod PlaceLookUps
+pub mod ReplyLemmas
+pub mod Sameness
+pub mod ServingLemmas
+pub mod Spellings

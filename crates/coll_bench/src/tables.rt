@@ -1,0 +1,77 @@
+//! Tables of a collation order, and the statements that rewrite them.
+//!
+//! A `Table` is what `Collation` of `specs/Table.antt` says: the names that it declares and its sections of entries. Every
+//! table is well formed (`specs/WellFormed.antt`). It is read by `load`, and rewritten by `apply`, which gives a `Record`
+//! that `flip` turns back. In `Table` the entries stand in one list, and look-ups by hash say what is declared and
+//! what is placed: whoever changes one of the three changes the others with it.
+
+ghost use Rattle.std.specs.Prelude.{◌≡◌, ◌≢◌, Ok, Err, IfOk, IfErr, OnErr, length};
+
+mod deltas;
+mod entries;
+mod limits;
+mod names;
+mod places;
+mod records;
+mod refusals;
+
+pub use entries::Entry;
+pub use limits::{MOST_DECLARATIONS, MOST_ENTRIES};
+use names::Names;
+use places::Places;
+pub use records::Record;
+pub use refusals::Refusal;
+use std::alloc::{AllocError, Global};
+use std::marker::Model;
+
+/// A table of a collation order.
+#[derive(Debug, Drop)]
+pub struct Table {
+    /// The names declared, in order.
+    declared: Names,
+    /// The entries, in order.
+    entries: Vec<Entry>,
+    /// The identifiers that have an entry.
+    placed: Places,
+    alloc: Global,
+}
+
+impl Model for Table {
+    ghost use Rattle.coll_bench.specs.Table.{Collation};
+
+    ghost Value = { Collation };
+
+    ghost use Rattle.std.specs.Prelude.{None, [], ◌∷◌};
+    ghost use Rattle.coll_bench.specs.Sound.{IsSoundTable, collation_of};
+
+    ghost view = { λ t. collation_of t.declared t.entries.items };
+
+    ghost invariant = { λ t. IsSoundTable t.declared t.entries.items t.placed };
+}
+
+impl Table {
+    ghost use Rattle.coll_bench.specs.Table.{entries_of};
+    ghost use Rattle.coll_bench.specs.WellFormed.{IsWellFormed};
+
+    /// The number of entries, in all sections together.
+    pub fn len(&self) -> usize
+        ensures { result ≡ length (entries_of self.now) }
+    {
+        self.entries.len()
+    }
+
+    /// The entries of all sections, in order.
+    pub fn entries(&self) -> &[Entry]
+        ensures entries { result.now ≡ entries_of self.now }
+        ensures well_formed { IsWellFormed self.now }
+    {
+        self.entries.as_slice()
+    }
+
+    /// A copy of the table, in new memory.
+    pub fn try_copy(&self) -> Result<Table, AllocError>
+        ensures { IfOk result (λ copy. copy ≡ self.now) }
+    {
+        Err(AllocError)
+    }
+}
