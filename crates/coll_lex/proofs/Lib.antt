@@ -12,3 +12,4 @@ pub mod ScanLines
 pub mod SymbolLemmas
 pub mod LineEnds
 pub mod FeedLemmas
+pub mod LineFaults

@@ -3,7 +3,7 @@
 //! A `Lexer` stores its two characters, the count of the lines handed in, and the logical line that is open.
 //! Contracts see these as a `LexerState`.
 
-ghost use Rattle.std.specs.Prelude.{◌≡◌};
+ghost use Rattle.std.specs.Prelude.{◌≡◌, IsUtf8, IfOk, IfErr};
 ghost use Rattle.coll_lex.specs.LogicalLines.{line_of};
 
 #[cfg(test)]
@@ -61,6 +61,17 @@ impl Open {
     }
 }
 
+// The bytes as a text.
+fn text_of(bytes: &[u8]) -> Result<&str, LexFault>
+    ensures ok { IfOk result (λ text. (text.now ≡ bytes.now) × IsUtf8 bytes.now) }
+    ensures err { IfErr result (λ fault. (fault ≡ LexFault.NotUtf8) × ¬ (IsUtf8 bytes.now)) }
+{
+    match str::from_utf8(bytes) {
+        Ok(text) => Ok(text),
+        Err(_) => Err(LexFault::NotUtf8),
+    }
+}
+
 // The line that these tokens make, unless there is none.
 fn line_of(number: u32, tokens: ListBuf<Token>) -> Option<Line>
     ensures { result ≡ line_of number tokens }
@@ -93,10 +104,10 @@ impl Model for Lexer {
 }
 
 impl Lexer {
-    ghost use Rattle.std.specs.Prelude.{◌≡◌, ◌≢◌, ◌+◌, ◌≤◌, ◌∷◌, [], length, chars, Ok, Err, None, Some, option_map, IsSome, IfSome, IfOk, IfErr, OnOk, OnErr};
+    ghost use Rattle.std.specs.Prelude.{◌≡◌, ◌≢◌, ◌+◌, ◌<◌, ◌≤◌, ◌∷◌, [], length, chars, Ok, Err, None, Some, option_map, IsSome, IfSome, IfOk, IfErr, OnOk, OnErr};
     ghost use Rattle.coll_lex.specs.PhysicalLines.{without_return};
     ghost use Rattle.coll_lex.specs.Directives.{directive};
-    ghost use Rattle.coll_lex.specs.LogicalLines.{first_state, pending, number_of, dropped, line_fault, answer_in, fed_as, fed, outside};
+    ghost use Rattle.coll_lex.specs.LogicalLines.{first_state, pending, dropped, line_fault, answer_in, fed_as, fed, outside, number_of};
     ghost use Rattle.coll_lex.specs.Lexer.{line_in, added, IsSoundOpen};
     ghost use Rattle.coll_lex.specs.declared.faults.LexFault.TheVariants.{OutOfMemory, DanglingEscape};
 
@@ -132,7 +143,8 @@ impl Lexer {
     /// The number of the logical line that the next physical line belongs to, which its fault carries: that of the
     /// line that is open, or else one more than the lines handed in. It takes no memory.
     pub fn next_number(&self) -> u32
-        ensures { result ≡ number_of self.now }
+        ensures number { result ≡ number_of self.now }
+        ensures counted { self.now.count ≤ MOST_LINES }
     {
         match &self.open {
             Some(open) => open.number,
@@ -144,20 +156,23 @@ impl Lexer {
     /// has a token.
     ///
     /// A fault drops the logical line so far, and the next line handed in begins another. Want of memory may
-    /// stand in place of any other answer.
+    /// stand in place of any other answer, but not in place of a line too many.
     pub fn feed(&mut self, line: &[u8]) -> Result<Option<Line>, LexFault>
         ensures ok { IfOk result (λ answer. fed self.old line.now ≡ Ok (answer, self.new)) }
         ensures err { IfErr result (λ fault. fault ≢ OutOfMemory → fed self.old line.now ≡ Err fault) }
+        ensures room { IfErr result (λ fault. fault ≡ OutOfMemory → self.old.count < MOST_LINES) }
         ensures dropped { OnErr result (self.new ≡ dropped self.old) }
     {
         match self.take_open() {
             Some(open) => {
-                let text = self.count_line(open.bytes, line)?;
+                let bytes = self.count_line(open.bytes, line)?;
+                let text = text_of(bytes)?;
                 self.feed_text(open, line.len(), text)
             }
             None => {
                 let open = Open::new(self.alloc, self.count + 1);
-                let text = self.count_line(0, line)?;
+                let bytes = self.count_line(0, line)?;
+                let text = text_of(bytes)?;
                 self.feed_first(open, line.len(), text)
             }
         }
@@ -172,15 +187,7 @@ impl Lexer {
         ensures err { IfErr result (λ fault. outside self.old line.now ≡ Err fault) }
         ensures dropped { OnErr result (self.new ≡ dropped self.old) }
     {
-        let is_last = self.count == MOST_LINES;
-        self.drop_line();
-        if line.len() > MOST_LINE_BYTES {
-            return Err(LexFault::LineTooLong);
-        }
-        if is_last {
-            return Err(LexFault::TooManyLines);
-        }
-        let text = without_return(line);
+        let text = self.count_line(0, line)?;
         match directive(self.special, text) {
             Some(Ok(special)) => {
                 self.special = special;
@@ -197,7 +204,7 @@ impl Lexer {
         ensures err { IfErr result (λ fault. (fault ≡ DanglingEscape) × IsSome (pending self.old)) }
         ensures after { self.new ≡ record self.old { line = None } }
     {
-        match self.open.take() {
+        match self.take_open() {
             Some(_) => Err(LexFault::DanglingEscape),
             None => Ok(()),
         }
@@ -222,14 +229,15 @@ impl Lexer {
         }
     }
 
-    // Counts a line, and lends its text, unless it is too long with the bytes before it, one too many, or no text.
-    fn count_line<'a>(&mut self, before: usize, line: &'a [u8]) -> Result<&'a str, LexFault>
+    // Counts a line that leaves no logical line open, and lends it without its carriage return, unless it is too
+    // long with the bytes before it, or one too many.
+    fn count_line<'a>(&mut self, before: usize, line: &'a [u8]) -> Result<&'a [u8], LexFault>
         requires { before ≤ MOST_LINE_BYTES }
-        ensures ok { IfOk result (λ text. text.now ≡ without_return line.now) }
-        ensures passes { OnOk result
-            (line_fault self.old.count (before + length line.now) (without_return line.now) ≡ None) }
-        ensures err { IfErr result
-            (λ fault. line_fault self.old.count (before + length line.now) (without_return line.now) ≡ Some fault) }
+        ensures ok { IfOk result (λ bytes. bytes.now ≡ without_return line.now) }
+        ensures passes { OnOk result (line_fault self.old.count (before + length line.now) ≡ None) }
+        ensures err { IfErr result (λ fault. line_fault self.old.count (before + length line.now) ≡ Some fault) }
+        ensures memory { IfErr result (λ fault. fault ≢ OutOfMemory) }
+        ensures room { OnOk result (self.old.count < MOST_LINES) }
         ensures counted { self.new ≡ dropped self.old }
     {
         let is_last = self.count == MOST_LINES;
@@ -240,10 +248,7 @@ impl Lexer {
         if is_last {
             return Err(LexFault::TooManyLines);
         }
-        match str::from_utf8(without_return(line)) {
-            Ok(text) => Ok(text),
-            Err(_) => Err(LexFault::NotUtf8),
-        }
+        Ok(without_return(line))
     }
 
     // Takes the first physical line of a logical line, or a directive.
@@ -272,7 +277,7 @@ impl Lexer {
         }
     }
 
-    // Takes one more physical line of a logical line.
+    // Reads one more physical line of a logical line.
     fn feed_text(
         &mut self,
         mut logical: Open,
