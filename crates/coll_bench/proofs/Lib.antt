@@ -4,6 +4,9 @@ pub mod HistoryLemmas
 pub mod LookUps
 pub mod PlaceLookUps
 pub mod ReplyLemmas
+pub mod RunEnds
+pub mod RunLemmas
+pub mod RunSteps
 pub mod Sameness
 pub mod ServingLemmas
 pub mod Spellings
