@@ -5,6 +5,7 @@ pub mod LookUps
 pub mod PlaceLookUps
 pub mod ReplyLemmas
 pub mod RunEnds
+pub mod RunExits
 pub mod RunLemmas
 pub mod RunSteps
 pub mod Sameness
