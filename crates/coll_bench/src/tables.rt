@@ -5,7 +5,7 @@
 //! that `flip` turns back. In `Table` the entries stand in one list, and look-ups by hash say what is declared and
 //! what is placed: whoever changes one of the three changes the others with it.
 
-ghost use Rattle.std.specs.Prelude.{◌≡◌, ◌≢◌, Ok, Err, IfOk, IfErr, OnErr, length};
+ghost use Rattle.std.specs.Prelude.{◌≡◌, ◌≢◌, Ok, Err, IfOk, IfErr, OnOk, OnErr, IsTrue, length, ◌<◌, false};
 
 mod deltas;
 mod entries;
@@ -15,6 +15,7 @@ mod places;
 mod records;
 mod refusals;
 
+use crate::Id;
 pub use entries::Entry;
 pub use limits::{MOST_DECLARATIONS, MOST_ENTRIES};
 use names::Names;
@@ -50,7 +51,8 @@ impl Model for Table {
 }
 
 impl Table {
-    ghost use Rattle.coll_bench.specs.Table.{entries_of};
+    ghost use Rattle.coll_bench.specs.Table.{entries_of, is_known, is_placed};
+    ghost use Rattle.coll_bench.specs.Sound.{with_last};
     ghost use Rattle.coll_bench.specs.WellFormed.{IsWellFormed};
 
     /// The number of entries, in all sections together.
@@ -72,6 +74,48 @@ impl Table {
     pub fn try_copy(&self) -> Result<Table, AllocError>
         ensures { IfOk result (λ copy. copy ≡ self.now) }
     {
-        Err(AllocError)
+        let declared = self.declared.try_copy()?;
+        let mut copy = Table {
+            declared,
+            entries: Vec::new(self.alloc),
+            placed: Places::new(self.alloc),
+            alloc: self.alloc,
+        };
+        for entry in &self.entries {
+            let id = entry.id.try_copy(self.alloc)?;
+            copy.place_last(id)?;
+        }
+        Ok(copy)
+    }
+
+    /// Whether an identifier stands in the table.
+    pub(crate) fn is_placed(&self, id: &Id) -> bool
+        ensures { result ≡ is_placed self.now id.now }
+    {
+        self.placed.contains(id)
+    }
+
+    /// Whether an identifier may be used: a name has to be declared.
+    pub(crate) fn is_known(&self, id: &Id) -> bool
+        ensures { result ≡ is_known self.now id.now }
+    {
+        match id {
+            Id::Named(name) => self.declared.contains(name),
+            _ => true,
+        }
+    }
+
+    /// Places an identifier after all entries.
+    pub(crate) fn place_last(&mut self, id: Id) -> Result<(), AllocError>
+        requires known { IsTrue (is_known self.old id) }
+        requires new { is_placed self.old id ≡ false }
+        requires room { length (entries_of self.old) < MOST_ENTRIES }
+        ensures ok { OnOk result (self.new ≡ with_last self.old id) }
+        ensures err { OnErr result (self.new ≡ self.old) }
+    {
+        self.entries.reserve(1)?;
+        self.placed.insert(&id)?;
+        self.entries.push_reserved(Entry { id });
+        Ok(())
     }
 }
