@@ -7,7 +7,7 @@ use Rattle.std.proofs.lemmas.List.Folds.{list_any-append}
 use Rattle.coll_bench.proofs.Sameness.{same_id_decides, same_id_symmetric, same_id_itself, distinct_push, distinct_at}
 use Rattle.coll_bench.proofs.EntryLemmas.{by_bool, turned, taken_out, others_without, distinct_without, known_without, none_without, length_without, distinct_after, known_after, length_after, has_after}
 use Rattle.coll_bench.specs.Identifier.{same_id, has_id}
-use Rattle.coll_bench.specs.Table.{ids_of, is_known_among}
+use Rattle.coll_bench.specs.Table.{Collation, ids_of, is_known, is_known_among, is_placed}
 use Rattle.coll_bench.specs.WellFormed.{AreDistinct, AreKnown, IsWellFormed}
 use Rattle.coll_bench.specs.Placement.{entries_after, entries_without}
 use Rattle.coll_bench.specs.Sound.{collation_of, AddsId, IsSoundTable}
@@ -76,6 +76,17 @@ has_moved entries after id other apart p =
         (λ _. λ _. refl)
         (λ _. λ e. others_without entries id other (same_id_symmetric id other ∙ e)) refl
 
+-- the one moved is there
+pub here_moved : (entries : List Entry) (after id : Id) → same_id id after ≡ false → has_id (ids_of entries) after ≡ true → has_id (ids_of (moved_entries entries after id)) id ≡ true
+here_moved entries after id apart p = has_moved entries after id id apart p ∙ ap (λ b. b || has_id (ids_of entries) id) (same_id_itself id)
+
+-- what isn't there is apart from what is
+pub apart_when_new : (ids : List Id) (after id : Id) → has_id ids after ≡ true → has_id ids id ≡ false → same_id id after ≡ false
+apart_when_new ids after id p q =
+    by_bool (same_id id after) (λ b. same_id id after ≡ b → b ≡ false)
+    (λ _. λ e. absurd (false≢true (sym q ∙ (ap (has_id ids) ((same_id_decides id after).0 e) ∙ p))))
+    (λ _. λ _. refl) refl
+
 -- the well-formed part of what follows
 moved_well_formed : (declared : List (List ℕ)) (entries : List Entry) (after id : Id) → IsWellFormed (collation_of declared entries) → IsTrue (is_known_among declared id) → length (moved_entries entries after id) ≤ MOST_ENTRIES → IsWellFormed (collation_of declared (moved_entries entries after id))
 moved_well_formed declared entries after id w known few = record {
@@ -111,12 +122,22 @@ sound_moved declared entries placed after id s apart p q = record {
 -- a sound table with a new entry after another
 pub sound_placed : (declared : List (List ℕ)) (entries : List Entry) (old new : List Id) (after id : Id) → IsSoundTable declared entries old → IsTrue (is_known_among declared id) → has_id (ids_of entries) after ≡ true → has_id (ids_of entries) id ≡ false → length entries < MOST_ENTRIES → AddsId old new id → IsSoundTable declared (moved_entries entries after id) new
 sound_placed declared entries old new after id s known p q room adds =
-    let apart : same_id id after ≡ false =
-        by_bool (same_id id after) (λ b. same_id id after ≡ b → b ≡ false)
-        (λ _. λ e. absurd (false≢true (sym q ∙ (ap (has_id (ids_of entries)) ((same_id_decides id after).0 e) ∙ p))))
-        (λ _. λ _. refl) refl in
+    let apart = apart_when_new (ids_of entries) after id p q in
     record {
       well_formed = moved_well_formed declared entries after id s.well_formed known
           (let e = length_placed entries after id p q in omega arith);
       placed_are = λ other. adds other ∙ (ap (λ b. same_id other id || b) (s.placed_are other) ∙ sym (has_moved entries after id other apart p))
     }
+
+-- the next identifier to be copied may be used in the copy
+pub copied_known : (declared : List (List ℕ)) (entries : List Entry) (copy : Collation) (i : ℕ) (item : Entry) (id : Id) → AreKnown declared (ids_of entries) → copy ≡ collation_of declared (take i entries) → i < length entries → item ≡ get_or entries i item → id ≡ item.id → IsTrue (is_known copy id)
+copied_known declared entries copy i item id known copied below at same =
+    subst (λ (t : Collation). IsTrue (is_known t id)) (sym copied)
+        (subst (λ x. IsTrue (is_known_among declared x)) (sym (same ∙ ap (λ (e : Entry). e.id) at)) (known_at declared entries i item known below))
+
+-- and isn't there yet
+pub copied_new : (declared : List (List ℕ)) (entries : List Entry) (copy : Collation) (i : ℕ) (item : Entry) (id : Id) → AreDistinct same_id (ids_of entries) → copy ≡ collation_of declared (take i entries) → i < length entries → item ≡ get_or entries i item → id ≡ item.id → is_placed copy id ≡ false
+copied_new declared entries copy i item id distinct copied below at same =
+    ap (λ (t : Collation). is_placed t id) copied
+        ∙ (ap (has_id (ids_of (take i entries))) (same ∙ ap (λ (e : Entry). e.id) at)
+        ∙ distinct_at same_id same_id_symmetric (λ (e : Entry). e.id) entries i item distinct below)

@@ -72,7 +72,8 @@ impl Table {
 
     /// A copy of the table, in new memory.
     pub fn try_copy(&self) -> Result<Table, AllocError>
-        ensures { IfOk result (λ copy. copy ≡ self.now) }
+        ensures same { IfOk result (λ copy. copy ≡ self.now) }
+        ensures well_formed { IfOk result (λ copy. IsWellFormed copy) }
     {
         let declared = self.declared.try_copy()?;
         let mut copy = Table {

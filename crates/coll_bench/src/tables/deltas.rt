@@ -6,7 +6,7 @@
 ghost use Rattle.std.specs.Prelude.{◌≡◌, ◌≢◌, ◌<◌, ◌∷◌, [], length, true, false, None, Some, Ok, Err, IsTrue, IfOk, IfErr, OnOk, OnErr, position, vec_len, vec_capacity};
 ghost use Rattle.coll_bench.specs.Identifier.{same_id, has_id};
 ghost use Rattle.coll_bench.specs.Table.{ids_of, entries_of, is_known, is_placed};
-ghost use Rattle.coll_bench.specs.WellFormed.{AreDistinct};
+ghost use Rattle.coll_bench.specs.WellFormed.{AreDistinct, IsWellFormed};
 ghost use Rattle.coll_bench.specs.Placement.{entries_after, entries_without};
 ghost use Rattle.coll_bench.specs.Delta.{delta, block_delta, lines_refusal, reweight_refusal, moved, rewritten, within_limit};
 ghost use Rattle.coll_bench.specs.Record.{fits, turn};
@@ -89,6 +89,7 @@ impl Table {
     ///
     /// After a refusal the table is any that is well formed.
     fn rewrite(&mut self, target: &Id, lines: &[OrderLine]) -> Result<(), Refusal>
+        requires well_formed { IsWellFormed self.old }
         requires placed { IsTrue (is_placed self.old target.now) }
         requires judged { lines_refusal self.old (target.now ∷ []) lines.now ≡ None }
         ensures ok { OnOk result (within_limit (with_sections self.old (rewritten self.old.sections target.now lines.now)) ≡ Ok self.new) }
@@ -108,6 +109,8 @@ impl Table {
         requires placed { IsTrue (is_placed self.old after.now) }
         requires apart { same_id id.now after.now ≡ false }
         ensures ok { OnOk result (self.new ≡ with_sections self.old (moved self.old.sections after.now (record { id = id.now }))) }
+        ensures here { OnOk result (IsTrue (is_placed self.new id.now)) }
+        ensures well_formed { IsWellFormed self.new }
         ensures err { IfErr result (λ refusal. refusal ≢ OutOfMemory → IsFullAt self.old id.now refusal) }
     {
         if self.is_placed(id) {
@@ -123,10 +126,12 @@ impl Table {
 
     /// Moves an entry directly after another.
     fn move_after(&mut self, id: &Id, after: &Id) -> Result<(), AllocError>
-        requires known { IsTrue (is_placed self.old id.now) }
+        requires here { IsTrue (is_placed self.old id.now) }
         requires placed { IsTrue (is_placed self.old after.now) }
         requires apart { same_id id.now after.now ≡ false }
         ensures ok { OnOk result (self.new ≡ with_sections self.old (moved self.old.sections after.now (record { id = id.now }))) }
+        ensures here { OnOk result (IsTrue (is_placed self.new id.now)) }
+        ensures well_formed { IsWellFormed self.new }
         ensures err { OnErr result (self.new ≡ self.old) }
     {
         self.entries.reserve(1)?;
@@ -142,6 +147,8 @@ impl Table {
         requires placed { IsTrue (is_placed self.old after.now) }
         requires room { length (entries_of self.old) < MOST_ENTRIES }
         ensures ok { OnOk result (self.new ≡ with_sections self.old (moved self.old.sections after.now (record { id = id.now }))) }
+        ensures here { OnOk result (IsTrue (is_placed self.new id.now)) }
+        ensures well_formed { IsWellFormed self.new }
         ensures err { OnErr result (self.new ≡ self.old) }
     {
         let copy = id.try_copy(self.alloc)?;
