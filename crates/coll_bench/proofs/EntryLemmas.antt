@@ -1,9 +1,9 @@
 -- Entries taken out of a list and put in: what stands there afterwards, and how it is done by places.
-use Rattle.std.proofs.Common.{◌≡◌, ℕ, zero, suc, ◌+◌, ◌<◌, ◌≤◌, Bool, true, false, ◌||◌, ◌&&◌, not, cond, IsTrue, List, [], ◌∷◌, ◌++◌, Some, None, length, get_or, take, drop, map, sym, ap, subst, ◌∙◌, refl, arith}
-use Rattle.std.specs.List.{list_any, position, position_or_len, insert, remove}
+use Rattle.std.proofs.Common.{◌≡◌, ℕ, zero, suc, ◌+◌, ◌<◌, Bool, true, false, ◌||◌, not, cond, IsTrue, List, [], ◌∷◌, Some, None, length, get_or, sym, ap, ◌∙◌, refl, arith}
+use Rattle.std.specs.List.{position, position_or_len, insert, remove}
 use Rattle.std.proofs.lemmas.Bool.{false≢true, lt-ltb}
 use Rattle.std.proofs.lemmas.List.Quantifiers.{position-Some}
-use Rattle.coll_bench.proofs.Sameness.{same_id_decides, same_id_symmetric, same_id_itself, neither, nor}
+use Rattle.coll_bench.proofs.Sameness.{same_id_decides, same_id_symmetric, neither, nor}
 use Rattle.coll_bench.specs.Identifier.{same_id, has_id}
 use Rattle.coll_bench.specs.Table.{ids_of, is_known_among}
 use Rattle.coll_bench.specs.WellFormed.{AreDistinct, AreKnown}
@@ -43,8 +43,8 @@ pub others_without : (entries : List Entry) (id other : Id) → same_id id other
 others_without [] id other apart = refl
 others_without (entry ∷ entries) id other apart = by_bool (same_id id entry.id) (λ b. has_id (ids_of (cond (not b) (entry ∷ entries_without entries id) (entries_without entries id))) other ≡ (same_id other entry.id || has_id (ids_of entries) other))
     (λ e. let it : id ≡ entry.id = (same_id_decides id entry.id).0 e in
-      let off : same_id other entry.id ≡ false = ap (same_id other) (sym it) ∙ (same_id_symmetric other id ∙ apart) in
-      others_without entries id other apart ∙ ap (λ b. b || has_id (ids_of entries) other) (sym off))
+    let off : same_id other entry.id ≡ false = ap (same_id other) (sym it) ∙ (same_id_symmetric other id ∙ apart) in
+    others_without entries id other apart ∙ ap (λ b. b || has_id (ids_of entries) other) (sym off))
     (λ e. ap (λ b. same_id other entry.id || b) (others_without entries id other apart))
 
 -- each still stands once
@@ -73,7 +73,7 @@ pub length_without : (entries : List Entry) (id : Id) → AreDistinct same_id (i
 length_without [] id d p = absurd (false≢true p)
 length_without (entry ∷ entries) id d p = by_bool (same_id id entry.id) (λ b. suc (length (cond (not b) (entry ∷ entries_without entries id) (entries_without entries id))) ≡ suc (length entries))
     (λ e. let it : id ≡ entry.id = (same_id_decides id entry.id).0 e in
-      ap (λ es. suc (length es)) (none_without entries id (ap (has_id (ids_of entries)) it ∙ d.0)))
+    ap (λ es. suc (length es)) (none_without entries id (ap (has_id (ids_of entries)) it ∙ d.0)))
     (λ e. ap suc (length_without entries id d.1 (ap (λ b. b || has_id (ids_of entries) id) (sym e) ∙ p)))
 
 -- what is apart from all entries and from the new one stays apart when that is put in
@@ -115,7 +115,7 @@ has_after [] target entry other p = absurd (false≢true p)
 has_after (first ∷ entries) target entry other p = by_bool (same_id target first.id) (λ b. has_id (ids_of (cond b (first ∷ entry ∷ entries) (first ∷ entries_after entries target entry))) other ≡ (same_id other entry.id || (same_id other first.id || has_id (ids_of entries) other)))
     (λ e. turned (same_id other first.id) (same_id other entry.id) _)
     (λ e. ap (λ b. same_id other first.id || b) (has_after entries target entry other (ap (λ b. b || has_id (ids_of entries) target) (sym e) ∙ p))
-          ∙ turned (same_id other first.id) (same_id other entry.id) _)
+    ∙ turned (same_id other first.id) (same_id other entry.id) _)
 
 -- an identifier's first place in a list
 pub record IsFirstPlace (entries : List Entry) (id : Id) (at : ℕ) : Type 0 where
@@ -128,7 +128,7 @@ place_later : (entry : Entry) (entries : List Entry) (id : Id) (at : ℕ) → Is
 place_later entry entries id at h = record {
   within = let w = h.within in omega arith;
   there = λ d. h.there d;
-  before = λ k d below. h.before (suc k) d (omega (arith, below))
+  before = λ k d below. h.before (suc k) d (omega (arith, below));
 }
 
 -- taken out by its place
@@ -140,7 +140,7 @@ removed (entry ∷ entries) id zero d h =
     sym (ap (λ b. cond (not b) (entry ∷ entries_without entries id) (entries_without entries id)) (h.there entry) ∙ off)
 removed (entry ∷ entries) id (suc at) d h =
     ap (λ es. entry ∷ es) (removed entries id at d.1 (place_later entry entries id at h))
-        ∙ sym (ap (λ b. cond (not b) (entry ∷ entries_without entries id) (entries_without entries id)) (h.before 0 entry (omega arith)))
+    ∙ sym (ap (λ b. cond (not b) (entry ∷ entries_without entries id) (entries_without entries id)) (h.before 0 entry (omega arith)))
 
 -- put in by its place
 pub inserted : (entries : List Entry) (target : Id) (at : ℕ) (entry : Entry) → IsFirstPlace entries target at → insert entries (suc at) entry ≡ entries_after entries target entry
@@ -149,7 +149,7 @@ inserted (first ∷ entries) target zero entry h =
     sym (ap (λ b. cond b (first ∷ entry ∷ entries) (first ∷ entries_after entries target entry)) (h.there first))
 inserted (first ∷ entries) target (suc at) entry h =
     ap (λ es. first ∷ es) (inserted entries target at entry (place_later first entries target at h))
-        ∙ sym (ap (λ b. cond b (first ∷ entry ∷ entries) (first ∷ entries_after entries target entry)) (h.before 0 first (omega arith)))
+    ∙ sym (ap (λ b. cond b (first ∷ entry ∷ entries) (first ∷ entries_after entries target entry)) (h.before 0 first (omega arith)))
 
 -- what a search by position says
 pub found_at : (entries : List Entry) (id : Id) (at : ℕ) → position (λ (entry : Entry). same_id id entry.id) entries ≡ Some at → IsFirstPlace entries id at
@@ -164,7 +164,7 @@ place_within [] id p = absurd (false≢true p)
 place_within (entry ∷ entries) id p = by_bool (same_id id entry.id) (λ b. cond (not b) (1 + position_or_len (λ (entry : Entry). same_id id entry.id) entries) 0 < suc (length entries))
     (λ e. omega arith)
     (λ e. let later = place_within entries id (ap (λ b. b || has_id (ids_of entries) id) (sym e) ∙ p) in
-      omega (arith, later))
+    omega (arith, later))
 
 -- one that is there is found
 pub not_lost : (entries : List Entry) (id : Id) → has_id (ids_of entries) id ≡ true → position (λ (entry : Entry). same_id id entry.id) entries ≡ None → ⊥

@@ -1,5 +1,5 @@
 -- Names and identifiers in look-ups by hash: what is found there, and what one more does.
-use Rattle.std.proofs.Common.{◌≡◌, ℕ, Bool, true, false, ◌||◌, cond, List, [], ◌∷◌, ◌++◌, ◌+◌, ◌<◌, length, get_or, take, map, sym, ap, ◌∙◌, refl}
+use Rattle.std.proofs.Common.{◌≡◌, ℕ, Bool, true, false, ◌||◌, cond, List, [], ◌∷◌, ◌++◌, ◌+◌, ◌<◌, length, get_or, take, sym, ap, ◌∙◌, refl}
 use Rattle.std.specs.Prelude.{chars, string_bytes, encode_utf8_all}
 use Rattle.std.specs.Str.{bytes_eq}
 use Rattle.std.specs.List.{list_any}
@@ -8,7 +8,6 @@ use Rattle.std.proofs.lemmas.List.{map-append, take_more}
 use Rattle.coll_bench.proofs.Spellings.{same_spelling}
 use Rattle.coll_bench.proofs.Sameness.{same_name_symmetric, distinct_push, distinct_at}
 use Rattle.coll_bench.specs.Identifier.{same_name, has_name}
-use Rattle.coll_bench.specs.WellFormed.{AreDistinct}
 use Rattle.coll_bench.specs.Sound.{text_of, texts_of, AreTexts, AreNames, with_name}
 
 module _ {Y : Type 0} where

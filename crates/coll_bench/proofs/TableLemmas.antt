@@ -1,9 +1,7 @@
 -- What keeps a table sound: an entry placed last, moved, or placed after another.
-use Rattle.std.proofs.Common.{◌≡◌, ℕ, zero, suc, ◌+◌, ◌<◌, ◌≤◌, Bool, true, false, ◌||◌, IsTrue, List, [], ◌∷◌, ◌++◌, length, get_or, take, map, sym, ap, subst, ◌∙◌, refl, arith, length-append}
-use Rattle.std.specs.List.{list_any}
+use Rattle.std.proofs.Common.{◌≡◌, ℕ, zero, suc, ◌<◌, ◌≤◌, true, false, ◌||◌, IsTrue, List, [], ◌∷◌, ◌++◌, length, get_or, take, sym, ap, subst, ◌∙◌, refl, arith, length-append}
 use Rattle.std.proofs.lemmas.Bool.{false≢true}
-use Rattle.std.proofs.lemmas.List.{map-append, take_more}
-use Rattle.std.proofs.lemmas.List.Folds.{list_any-append}
+use Rattle.std.proofs.lemmas.List.{map-append}
 use Rattle.coll_bench.proofs.Sameness.{same_id_decides, same_id_symmetric, same_id_itself, distinct_push, distinct_at}
 use Rattle.coll_bench.proofs.EntryLemmas.{by_bool, turned, taken_out, others_without, distinct_without, known_without, none_without, length_without, distinct_after, known_after, length_after, has_after}
 use Rattle.coll_bench.specs.Identifier.{same_id, has_id}
@@ -43,7 +41,7 @@ ids_push : (entries : List Entry) (id : Id) → ids_of (entries ++ entry_of id �
 ids_push entries id = map-append (λ (entry : Entry). entry.id) entries (entry_of id ∷ [])
 
 -- an identifier is among those, or is the one more
-has_push : (ids : List Id) (id other : Id) → has_id (ids ++ id ∷ []) other ≡ (same_id other id || has_id ids other)
+pub has_push : (ids : List Id) (id other : Id) → has_id (ids ++ id ∷ []) other ≡ (same_id other id || has_id ids other)
 has_push [] id other = refl
 has_push (first ∷ ids) id other = ap (λ b. same_id other first || b) (has_push ids id other) ∙ turned (same_id other first) (same_id other id) _
 
@@ -55,9 +53,9 @@ sound_last declared entries old new id s known absent room adds = record {
     distinct_entries = subst (AreDistinct same_id) (sym (ids_push entries id)) (distinct_push same_id same_id_symmetric (ids_of entries) id s.well_formed.distinct_entries absent);
     known = subst (AreKnown declared) (sym (ids_push entries id)) (known_push declared (ids_of entries) id s.well_formed.known known);
     few_entries = let e = length-append entries (entry_of id ∷ []) in omega arith;
-    few_declarations = s.well_formed.few_declarations
+    few_declarations = s.well_formed.few_declarations;
   };
-  placed_are = λ other. adds other ∙ (ap (λ b. same_id other id || b) (s.placed_are other) ∙ (sym (has_push (ids_of entries) id other) ∙ ap (λ ids. has_id ids other) (sym (ids_push entries id))))
+  placed_are = λ other. adds other ∙ (ap (λ b. same_id other id || b) (s.placed_are other) ∙ (sym (has_push (ids_of entries) id other) ∙ ap (λ ids. has_id ids other) (sym (ids_push entries id))));
 }
 
 -- the entries of a table with one moved, or newly placed, directly after another
@@ -72,9 +70,9 @@ target_stays entries id after apart p = others_without entries id after apart �
 pub has_moved : (entries : List Entry) (after id other : Id) → same_id id after ≡ false → has_id (ids_of entries) after ≡ true → has_id (ids_of (moved_entries entries after id)) other ≡ (same_id other id || has_id (ids_of entries) other)
 has_moved entries after id other apart p =
     has_after (entries_without entries id) after (entry_of id) other (target_stays entries id after apart p)
-        ∙ by_bool (same_id other id) (λ b. same_id other id ≡ b → (b || has_id (ids_of (entries_without entries id)) other) ≡ (b || has_id (ids_of entries) other))
-        (λ _. λ _. refl)
-        (λ _. λ e. others_without entries id other (same_id_symmetric id other ∙ e)) refl
+    ∙ by_bool (same_id other id) (λ b. same_id other id ≡ b → (b || has_id (ids_of (entries_without entries id)) other) ≡ (b || has_id (ids_of entries) other))
+    (λ _. λ _. refl)
+    (λ _. λ e. others_without entries id other (same_id_symmetric id other ∙ e)) refl
 
 -- the one moved is there
 pub here_moved : (entries : List Entry) (after id : Id) → same_id id after ≡ false → has_id (ids_of entries) after ≡ true → has_id (ids_of (moved_entries entries after id)) id ≡ true
@@ -94,7 +92,7 @@ moved_well_formed declared entries after id w known few = record {
   distinct_entries = distinct_after (entries_without entries id) after (entry_of id) (distinct_without entries id w.distinct_entries) (taken_out entries id);
   known = known_after declared (entries_without entries id) after (entry_of id) (known_without declared entries id w.known) known;
   few_entries = few;
-  few_declarations = w.few_declarations
+  few_declarations = w.few_declarations;
 }
 
 -- an entry that is moved leaves their number
@@ -115,8 +113,8 @@ sound_moved declared entries placed after id s apart p q = record {
   placed_are = λ other.
       s.placed_are other ∙ sym (has_moved entries after id other apart p
       ∙ by_bool (same_id other id) (λ b. same_id other id ≡ b → (b || has_id (ids_of entries) other) ≡ has_id (ids_of entries) other)
-        (λ _. λ e. sym (ap (has_id (ids_of entries)) ((same_id_decides other id).0 e) ∙ q))
-        (λ _. λ _. refl) refl)
+      (λ _. λ e. sym (ap (has_id (ids_of entries)) ((same_id_decides other id).0 e) ∙ q))
+      (λ _. λ _. refl) refl);
 }
 
 -- a sound table with a new entry after another
@@ -126,18 +124,18 @@ sound_placed declared entries old new after id s known p q room adds =
     record {
       well_formed = moved_well_formed declared entries after id s.well_formed known
           (let e = length_placed entries after id p q in omega arith);
-      placed_are = λ other. adds other ∙ (ap (λ b. same_id other id || b) (s.placed_are other) ∙ sym (has_moved entries after id other apart p))
+      placed_are = λ other. adds other ∙ (ap (λ b. same_id other id || b) (s.placed_are other) ∙ sym (has_moved entries after id other apart p));
     }
 
 -- the next identifier to be copied may be used in the copy
 pub copied_known : (declared : List (List ℕ)) (entries : List Entry) (copy : Collation) (i : ℕ) (item : Entry) (id : Id) → AreKnown declared (ids_of entries) → copy ≡ collation_of declared (take i entries) → i < length entries → item ≡ get_or entries i item → id ≡ item.id → IsTrue (is_known copy id)
 copied_known declared entries copy i item id known copied below at same =
     subst (λ (t : Collation). IsTrue (is_known t id)) (sym copied)
-        (subst (λ x. IsTrue (is_known_among declared x)) (sym (same ∙ ap (λ (e : Entry). e.id) at)) (known_at declared entries i item known below))
+    (subst (λ x. IsTrue (is_known_among declared x)) (sym (same ∙ ap (λ (e : Entry). e.id) at)) (known_at declared entries i item known below))
 
 -- and isn't there yet
 pub copied_new : (declared : List (List ℕ)) (entries : List Entry) (copy : Collation) (i : ℕ) (item : Entry) (id : Id) → AreDistinct same_id (ids_of entries) → copy ≡ collation_of declared (take i entries) → i < length entries → item ≡ get_or entries i item → id ≡ item.id → is_placed copy id ≡ false
 copied_new declared entries copy i item id distinct copied below at same =
     ap (λ (t : Collation). is_placed t id) copied
-        ∙ (ap (has_id (ids_of (take i entries))) (same ∙ ap (λ (e : Entry). e.id) at)
-        ∙ distinct_at same_id same_id_symmetric (λ (e : Entry). e.id) entries i item distinct below)
+    ∙ (ap (has_id (ids_of (take i entries))) (same ∙ ap (λ (e : Entry). e.id) at)
+    ∙ distinct_at same_id same_id_symmetric (λ (e : Entry). e.id) entries i item distinct below)

@@ -22,6 +22,7 @@ impl Table {
     /// Rewrites the table by a statement. The answer is the record that undoes it.
     ///
     /// A statement is accepted whole or refused whole: after a refusal the table is as it was.
+    #[tactic(auto, unfolding(crate::specs::Delta::delta))]
     pub fn apply(&mut self, statement: &Statement) -> Result<Record, Refusal>
         ensures ok { IfOk result (λ kept. delta self.old statement.now ≡ Ok self.new) }
         ensures fits { IfOk result (λ kept. fits self.new kept) }

@@ -1,7 +1,6 @@
 -- The table with a new entry after another is sound, and is what the definition says.
 use Rattle.std.proofs.Common.{◌≡◌, ◌<◌, false, IsTrue, length, sym, ap, subst, ◌∙◌}
 use Rattle.coll_bench.specs.Delta.{moved}
-use Rattle.coll_bench.specs.Placement.{entries_after, entries_without}
 use Rattle.coll_bench.specs.Sound.{collation_of, with_sections, IsSoundTable}
 use Rattle.coll_bench.specs.Table.{Collation, ids_of, entries_of, is_known, is_placed}
 use Rattle.coll_bench.specs.declared.tables.limits.TheConstants.{MOST_ENTRIES}
@@ -23,7 +22,7 @@ sound_now c =
     let after = subst (λ (t : Collation). IsTrue (is_placed t c.args.after.now)) opened c.requires.placed in
     let room = subst (λ (t : Collation). length (entries_of t) < MOST_ENTRIES) opened c.requires.room in
     rw (placed_entries c)
-        (sound_placed c.self.inside.declared c.self.inside.entries.items c.self.inside.placed c.insert.new.self c.args.after.now c.args.id.now c.self.invariant known after absent room c.in_ok-insert.ensures.ok)
+    (sound_placed c.self.inside.declared c.self.inside.entries.items c.self.inside.placed c.insert.new.self c.args.after.now c.args.id.now c.self.invariant known after absent room c.in_ok-insert.ensures.ok)
 
 pub invariant_of-self-2 : goal.invariant_of-self-2
 invariant_of-self-2 c = sound_now c
@@ -42,4 +41,4 @@ returns-clause-well_formed c = (sound_now c).well_formed
 pub returns-clause-ok : goal.returns-clause-ok
 returns-clause-ok c =
     ap (collation_of c.self.inside.declared) (placed_entries c)
-        ∙ ap (λ (t : Collation). with_sections t (moved t.sections c.args.after.now (record { id = c.args.id.now }))) c.self.view_is
+    ∙ ap (λ (t : Collation). with_sections t (moved t.sections c.args.after.now (record { id = c.args.id.now }))) c.self.view_is

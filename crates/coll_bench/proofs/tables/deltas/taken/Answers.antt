@@ -1,8 +1,6 @@
 -- The entry at the first place of the identifier is the one taken out.
-use Rattle.std.proofs.Common.{◌≡◌, sym, ap, ◌∙◌, true, Some, None, position}
-use Rattle.std.proofs.lemmas.Bool.{true≢false}
-use Rattle.coll_bench.specs.Identifier.{same_id, has_id}
-use Rattle.coll_bench.specs.Table.{ids_of}
+use Rattle.std.proofs.Common.{sym, ap, ◌∙◌, position}
+use Rattle.coll_bench.specs.Identifier.{same_id}
 use Rattle.coll_bench.specs.declared.tables.entries.Entry.{Entry}
 use Rattle.coll_bench.proofs.Sameness.{same_id_decides}
 use Rattle.coll_bench.proofs.EntryLemmas.{IsFirstPlace, found_at, not_lost, removed}
@@ -11,12 +9,12 @@ use Rattle.coll_bench.proofs.tables.deltas.taken.Goals as goal
 pub unreachable-requires : goal.unreachable-requires
 unreachable-requires c =
     not_lost c.args.entries.now.items c.args.id.now c.requires.placed
-        (ap (position (λ (entry : Entry). same_id c.args.id.now entry.id)) (sym c.as_slice.ensures.value) ∙ sym c.in_default.ensures)
+    (ap (position (λ (entry : Entry). same_id c.args.id.now entry.id)) (sym c.as_slice.ensures.value) ∙ sym c.in_default.ensures)
 
 first_place : (c : goal.After-remove) → IsFirstPlace c.args.entries.now.items c.args.id.now c.in-Some.at
 first_place c =
     found_at c.args.entries.now.items c.args.id.now c.in-Some.at
-        (ap (position (λ (entry : Entry). same_id c.args.id.now entry.id)) (sym c.as_slice.ensures.value) ∙ sym c.in-Some.ensures)
+    (ap (position (λ (entry : Entry). same_id c.args.id.now entry.id)) (sym c.as_slice.ensures.value) ∙ sym c.in-Some.ensures)
 
 pub returns-clause-entry : goal.returns-clause-entry
 returns-clause-entry c =

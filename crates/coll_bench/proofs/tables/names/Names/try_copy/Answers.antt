@@ -1,5 +1,5 @@
 -- One name more is copied.
-use Rattle.std.proofs.Common.{sym, ap, ◌∙◌, ◌<◌, length, take, chars}
+use Rattle.std.proofs.Common.{ap, ◌∙◌, take, chars}
 use Rattle.coll_bench.specs.Sound.{AreNames, texts_of, with_name}
 use Rattle.coll_bench.proofs.LookUps.{copied_more}
 use Rattle.coll_bench.proofs.tables.names.Names.try_copy.Goals as goal
