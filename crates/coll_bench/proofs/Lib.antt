@@ -1,7 +1,10 @@
 pub mod BlockLemmas
 pub mod EntryLemmas
+pub mod HearingLemmas
+pub mod HistoryLemmas
 pub mod LookUps
 pub mod PlaceLookUps
+pub mod PlacingLemmas
 pub mod Sameness
 pub mod SectionLemmas
 pub mod Spellings

@@ -1,12 +1,16 @@
 //! A workbench for collation tables in LC_COLLATE source form.
 //!
 //! A text's way through this crate: its lines, as tokens, are read by a grammar (`syntax`), judged one after another
-//! and made into a table (`tables`), which statements then change.
+//! and made into a table (`tables`), which statements then change (`session`).
 #![tactic(auto)]
 
+mod faults;
+mod session;
 mod syntax;
 mod tables;
 
+pub use faults::{BenchFault, Fault};
+pub use session::Session;
 pub use syntax::{
     DeltaLine, Id, OrderLine, Statement, SyntaxFault, TableLine, parse_delta_line, parse_table_line,
 };

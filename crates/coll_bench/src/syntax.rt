@@ -14,6 +14,7 @@ mod table_lines;
 
 pub use delta_lines::{DeltaLine, parse_delta_line};
 pub use identifiers::Id;
+pub(crate) use keywords::is_word;
 pub use statements::{OrderLine, Statement};
 pub use syntax_faults::SyntaxFault;
 pub use table_lines::{TableLine, parse_table_line};

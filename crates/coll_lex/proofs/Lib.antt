@@ -1,1 +1,13 @@
+mod AdvanceLemmas
+mod LineReaderLemmas
+pub mod PhysicalLinesLemmas
+pub mod ReadingBackLemmas
+pub mod SpellingLemmas
 pub mod TextLemmas
+pub mod WritingLemmas
+pub mod DirectiveLemmas
+pub mod LineSteps
+pub mod ScanRows
+pub mod ScanLines
+pub mod SymbolLemmas
+pub mod LineEnds

@@ -1,2 +1,15 @@
 pub mod Buffers
+pub mod Category
+pub mod Counted
+pub mod Devices
+pub mod Directives
 pub mod Faults
+pub mod Lexer
+pub mod LineReading
+pub mod LogicalLines
+pub mod Marked
+pub mod PhysicalLines
+pub mod ReadingBack
+pub mod Scanning
+pub mod Spelling
+pub mod Tokens

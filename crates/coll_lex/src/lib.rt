@@ -6,9 +6,20 @@
 #![tactic(auto)]
 
 mod buffers;
+mod devices;
+mod directives;
 mod faults;
+mod lexing;
+mod line_reading;
+mod scanning;
+mod spelling;
 mod tokens;
 
 pub use buffers::{ListBuf, TextBuf};
+pub use directives::{past_blanks, without_return};
+pub use devices::{Counted, Sink, Source};
 pub use faults::{LexFault, ReadStop, WriteStop};
+pub use lexing::Lexer;
+pub use line_reading::LineReader;
+pub use spelling::{spellings_are_read_back, write_bytes, write_char, write_symbol};
 pub use tokens::{Chars, Line, MOST_LINE_BYTES, MOST_LINES, MOST_NAME_CHARS, Piece, Token};

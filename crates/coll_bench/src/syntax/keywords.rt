@@ -14,7 +14,7 @@ use coll_lex::{TextBuf, Token};
 use std::alloc::{AllocError, Global};
 
 /// Whether a token is the word that is spelled so, in ASCII.
-pub(super) fn is_word(token: &Token, spelling: &str) -> bool
+pub(crate) fn is_word(token: &Token, spelling: &str) -> bool
     requires { IsTrue (list_all (λ c. nat_lt c 128) spelling.now) }
     ensures { result ≡ spells_word token.now spelling.now }
 {

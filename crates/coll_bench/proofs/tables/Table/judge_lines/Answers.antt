@@ -1,6 +1,6 @@
 -- A line more is judged.
 use Rattle.std.proofs.Common.{sym, ◌∙◌}
-use Rattle.coll_bench.proofs.BlockLemmas.{judged_more}
+use Rattle.coll_bench.proofs.PlacingLemmas.{judged_more}
 use Rattle.coll_bench.proofs.tables.Table.judge_lines.Goals as goal
 
 pub loop-line-preserved : goal.loop-line-preserved

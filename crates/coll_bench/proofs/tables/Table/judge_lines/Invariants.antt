@@ -1,5 +1,5 @@
 -- The lines so far are judged, and what came before is known.
-use Rattle.coll_bench.proofs.BlockLemmas.{Judging}
+use Rattle.coll_bench.proofs.PlacingLemmas.{Judging}
 use Rattle.coll_bench.proofs.tables.Table.judge_lines.Given as goal
 
 abbrev pub invariant-loop-line : goal.invariant-loop-line

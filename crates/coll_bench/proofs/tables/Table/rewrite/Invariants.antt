@@ -1,5 +1,5 @@
 -- The lines so far are placed.
-use Rattle.coll_bench.proofs.BlockLemmas.{Rewriting}
+use Rattle.coll_bench.proofs.PlacingLemmas.{Rewriting}
 use Rattle.coll_bench.proofs.tables.Table.rewrite.Given as goal
 
 abbrev pub invariant-loop-line : goal.invariant-loop-line

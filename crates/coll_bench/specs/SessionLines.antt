@@ -1,0 +1,96 @@
+-- What a logical line of a session is: a command, a line of a delta, or a refused line.
+use Rattle.std.specs.Prelude.{ℕ, Bool, true, false, ◌==◌, ◌||◌, nat_eq, if◌then◌else◌, List, [], ◌∷◌, Result, Ok, Err, codes}
+use Rattle.std.specs.List.{starts_with}
+use Rattle.coll_lex.specs.Directives.{past_blanks}
+use Rattle.coll_lex.specs.LogicalLines.{LogicalLine}
+use Rattle.coll_lex.specs.declared.tokens.Token.{Token}
+use Rattle.coll_lex.specs.declared.tokens.Token.TheVariants as token
+use Rattle.coll_lex.specs.declared.faults.LexFault.{LexFault}
+use Rattle.coll_lex.specs.declared.faults.LexFault.TheVariants as lex
+use Rattle.coll_bench.specs.Identifier.{is_word}
+use Rattle.coll_bench.specs.DeltaLines.{delta_line}
+use Rattle.coll_bench.specs.declared.syntax.delta_lines.DeltaLine.{DeltaLine}
+use Rattle.coll_bench.specs.declared.syntax.delta_lines.DeltaLine.TheVariants as delta_lines
+use Rattle.coll_bench.specs.declared.syntax.syntax_faults.SyntaxFault.{SyntaxFault}
+use Rattle.coll_bench.specs.declared.syntax.syntax_faults.SyntaxFault.TheVariants as syntax
+use Rattle.coll_bench.specs.declared.faults.Fault.{Fault}
+use Rattle.coll_bench.specs.declared.faults.Fault.TheVariants as fault
+use Rattle.coll_bench.specs.declared.session.commands.Command.{Command}
+use Rattle.coll_bench.specs.declared.session.commands.Command.TheVariants as command
+use Rattle.coll_bench.specs.declared.session.hearing.Opening.{Opening}
+use Rattle.coll_bench.specs.declared.session.hearing.Opening.TheVariants as openings
+use Rattle.coll_bench.specs.declared.session.hearing.Heard.{Heard}
+use Rattle.coll_bench.specs.declared.session.hearing.Heard.TheVariants.{Stops, Refused, Asks, Misasks, Opens, Ends, Orders}
+
+-- what a physical line begins with, blanks skipped: the bytes alone decide, without regard to words or escapes
+unfoldable pub opening_of : List ℕ → Opening
+opening_of line =
+    if starts_with nat_eq (past_blanks line) (codes "reorder-after") then openings.ReorderAfter
+    else (if starts_with nat_eq (past_blanks line) (codes "reorder-end") then openings.ReorderEnd else openings.Neither)
+
+-- a word of more than one character that begins with `:`
+abbrev pub is_command_word : List ℕ → Bool
+is_command_word [] = false
+is_command_word (c ∷ []) = false
+is_command_word (c ∷ d ∷ rest) = c == 58
+
+-- a line is a command by its first token
+abbrev pub is_command : Token → Bool
+is_command (token.Word word) = is_command_word word
+is_command (token.Symbol name) = false
+is_command (token.Char c) = false
+is_command (token.Text pieces) = false
+is_command token.Semicolon = false
+is_command token.Comma = false
+
+-- a command that takes no arguments
+abbrev pub alone : Command → List Token → Heard
+alone c [] = Asks c
+alone c (argument ∷ rest) = Misasks (fault.Syntax syntax.ExtraOperand)
+
+-- a command by its word and its arguments: an unknown word comes before wrong arguments
+abbrev pub command_heard : Token → List Token → Heard
+command_heard first arguments =
+    if is_word first (codes ":undo") then alone command.Undo arguments
+    else (if is_word first (codes ":list") then alone command.List arguments
+    else Misasks fault.UnknownCommand)
+
+-- a line of a delta, or a line that the grammar refuses
+abbrev pub delta_heard : Opening → Result DeltaLine SyntaxFault → Heard
+delta_heard opening (Ok (delta_lines.ReorderAfter target)) = Opens target
+delta_heard opening (Ok delta_lines.ReorderEnd) = Ends
+delta_heard opening (Ok (delta_lines.Order line)) = Orders line
+delta_heard opening (Err f) = Refused opening (fault.Syntax f)
+
+-- what tokens say, under what the first physical line of their logical line begins with
+unfoldable pub tokens_heard : Opening → List Token → Heard
+tokens_heard opening [] = delta_heard opening (delta_line [])
+tokens_heard opening (first ∷ rest) =
+    if is_command first then command_heard first rest else delta_heard opening (delta_line (first ∷ rest))
+
+-- after a line that is too long, a line too many or a dangling escape no line follows
+abbrev pub ends_session : LexFault → Bool
+ends_session lex.LineTooLong = true
+ends_session lex.TooManyLines = true
+ends_session lex.DanglingEscape = true
+ends_session lex.NotUtf8 = false
+ends_session lex.OpenSymbol = false
+ends_session lex.EmptySymbol = false
+ends_session lex.BadName = false
+ends_session lex.BadCodePoint = false
+ends_session lex.OpenString = false
+ends_session lex.CharacterConstant = false
+ends_session lex.BadCharDirective = false
+ends_session lex.OutOfMemory = false
+
+-- a line that the lexer refuses
+abbrev pub fault_heard : Opening → LexFault → Heard
+fault_heard opening f = if ends_session f then Stops f else Refused opening (fault.Lex f)
+
+abbrev pub line_heard : Opening → Result (List Token) LexFault → Heard
+line_heard opening (Ok tokens) = tokens_heard opening tokens
+line_heard opening (Err f) = fault_heard opening f
+
+-- what a logical line is
+abbrev pub heard : LogicalLine → Heard
+heard line = line_heard (opening_of line.first) line.tokens

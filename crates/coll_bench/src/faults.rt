@@ -1,0 +1,131 @@
+//! The faults that a session answers, and the one that ends a run.
+//!
+//! A fault of a lower part is kept as it came, so that it has one number and one name everywhere. A new kind of
+//! fault is a new variant with its number and its name here and in `specs/SessionFaults.antt`.
+
+ghost use Rattle.std.specs.Prelude.{◌≡◌};
+ghost use Rattle.coll_bench.specs.SessionFaults.{bench_fault_number, bench_fault_name, fault_number, fault_name};
+ghost use Rattle.coll_bench.specs.declared.tables.refusals.Refusal.TheVariants.{OutOfMemory};
+ghost use Rattle.coll_bench.specs.declared.faults.BenchFault.TheVariants.{Table};
+
+use crate::syntax::SyntaxFault;
+use crate::tables::Refusal;
+use coll_lex::{LexFault, ReadStop, WriteStop};
+use std::alloc::AllocError;
+use thiserror::Error;
+
+/// Why a history refused a statement, or had nothing to take back.
+#[derive(Clone, Copy, Debug, PartialEq, Eq, Error)]
+#[error("{} {}", self.number(), self.name())]
+pub enum BenchFault {
+    /// The table refused the statement.
+    Table(Refusal),
+    /// No statement remains to be taken back.
+    NothingToUndo,
+    /// 65,535 statements remain, which is the most.
+    HistoryFull,
+}
+
+impl BenchFault {
+    /// The number that a reply shows.
+    pub fn number(self) -> u8
+        ensures { result ≡ bench_fault_number self }
+    {
+        match self {
+            BenchFault::Table(refusal) => refusal.number(),
+            BenchFault::NothingToUndo => 60,
+            BenchFault::HistoryFull => 66,
+        }
+    }
+
+    /// The name that a reply shows.
+    pub fn name(self) -> &'static str
+        ensures { result.now ≡ bench_fault_name self }
+    {
+        match self {
+            BenchFault::Table(refusal) => refusal.name(),
+            BenchFault::NothingToUndo => "NothingToUndo",
+            BenchFault::HistoryFull => "HistoryFull",
+        }
+    }
+}
+
+impl From<AllocError> for BenchFault {
+    ghost from_gives = { λ _ fault. fault ≡ Table OutOfMemory };
+
+    fn from(_error: AllocError) -> BenchFault {
+        BenchFault::Table(Refusal::OutOfMemory)
+    }
+}
+
+/// Why a line, a block or a statement of a session was refused, or why a run ended.
+#[derive(Clone, Copy, Debug, PartialEq, Eq, Error)]
+#[error("{} {}", self.number(), self.name())]
+pub enum Fault {
+    /// No further line could be read.
+    Read(ReadStop),
+    /// A reply could not be written.
+    Write(WriteStop),
+    /// The lexer refused a line.
+    Lex(LexFault),
+    /// The grammar refused a line, or the arguments of a command.
+    Syntax(SyntaxFault),
+    /// The history refused a statement, or had nothing to take back.
+    Bench(BenchFault),
+    /// A block is open, and what the line asks for isn't taken there.
+    BlockOpen,
+    /// The text ended in an open block.
+    BlockNotEnded,
+    /// The line begins with `:` and is no command.
+    UnknownCommand,
+    /// `reorder-end` stands where no block is open.
+    NoBlock,
+}
+
+impl Fault {
+    /// The number that a reply or a message shows.
+    pub fn number(self) -> u8
+        ensures { result ≡ fault_number self }
+    {
+        match self {
+            Fault::Read(stop) => stop.number(),
+            Fault::Write(stop) => stop.number(),
+            Fault::Lex(fault) => fault.number(),
+            Fault::Syntax(fault) => fault.number(),
+            Fault::Bench(fault) => fault.number(),
+            Fault::BlockOpen => 62,
+            Fault::BlockNotEnded => 63,
+            Fault::UnknownCommand => 64,
+            Fault::NoBlock => 69,
+        }
+    }
+
+    /// The name that a reply or a message shows.
+    pub fn name(self) -> &'static str
+        ensures { result.now ≡ fault_name self }
+    {
+        match self {
+            Fault::Read(stop) => stop.name(),
+            Fault::Write(stop) => stop.name(),
+            Fault::Lex(fault) => fault.name(),
+            Fault::Syntax(fault) => fault.name(),
+            Fault::Bench(fault) => fault.name(),
+            Fault::BlockOpen => "BlockOpen",
+            Fault::BlockNotEnded => "BlockNotEnded",
+            Fault::UnknownCommand => "UnknownCommand",
+            Fault::NoBlock => "NoBlock",
+        }
+    }
+}
+
+/// The fault that ended a run.
+#[derive(Clone, Copy, Debug, PartialEq, Eq, Error)]
+#[error("{line}: {fault}")]
+pub struct RunFault {
+    /// Which input it comes from. A session has one, which is 0.
+    pub input: usize,
+    /// The number of the line that it comes from, from 1, or 0 where it comes from none.
+    pub line: u32,
+    /// What it is.
+    pub fault: Fault,
+}

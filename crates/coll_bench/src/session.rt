@@ -1,0 +1,13 @@
+//! Sessions: a table with its history, and the run that serves the lines of a text.
+//!
+//! The way of a line: a physical line is heard (`hearing`) as what its logical line is, once that is whole; a block
+//! takes it (`blocks`), which may complete a unit of the session (`requests`); the unit is judged by the history
+//! (`histories`) and answered (`replies`). `runs` does this line by line.
+
+mod blocks;
+mod commands;
+mod hearing;
+mod histories;
+mod requests;
+
+pub use histories::Session;

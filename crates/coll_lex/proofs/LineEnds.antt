@@ -1,0 +1,99 @@
+-- Where a lexer stands after an answer: past a whole line nothing is open, and each line is counted.
+use Rattle.std.proofs.Common.{◌≡◌, ℕ, ◌+◌, ◌<◌, ◌≤◌, Bool, true, false, List, [], ◌∷◌, length, min, Option, Some, None, Result, Ok, Err, refl, sym, ap, ◌∙◌, subst, arith, eq-eqb}
+use Rattle.std.specs.Prelude.{nat_lt, ◌==◌, if◌then◌else◌, chars}
+use Rattle.std.specs.Str.{is_utf8}
+use Rattle.std.proofs.lemmas.Bool.{lt-ltb}
+use Rattle.coll_lex.specs.PhysicalLines.{without_return}
+use Rattle.coll_lex.specs.Tokens.{Stop, AtFault, AtComment, AtEnd, InSymbol, InString}
+use Rattle.coll_lex.specs.Directives.{directive}
+use Rattle.coll_lex.specs.LogicalLines.{LexerState, bytes_before, extended, dropped, line_of, whole, answer_at, directive_where, fed_as, fed}
+use Rattle.coll_lex.specs.declared.tokens.Chars.{Chars}
+use Rattle.coll_lex.specs.declared.tokens.Line.{Line}
+use Rattle.coll_lex.specs.declared.tokens.Token.{Token}
+use Rattle.coll_lex.specs.declared.tokens.TheConstants.{MOST_LINES, MOST_LINE_BYTES}
+use Rattle.coll_lex.specs.declared.faults.LexFault.{LexFault}
+use Rattle.coll_lex.specs.declared.faults.LexFault.TheVariants.{NotUtf8, LineTooLong, TooManyLines}
+
+abbrev Answer : Type 0
+Answer = Result (Option Line × LexerState) LexFault
+
+-- past a whole line nothing is open
+Stands : LexerState → Answer → Type 0
+Stands s (Ok (Some line, after)) = after ≡ dropped s
+Stands s (Ok (None, after)) = Unit {0}
+Stands s (Err fault) = Unit {0}
+
+-- each line that isn't at fault is counted
+Counts : LexerState → Answer → Type 0
+Counts s (Ok (line, after)) = after.count ≡ min (s.count + 1) MOST_LINES
+Counts s (Err fault) = Unit {0}
+
+record StandsAfter (s : LexerState) (answer : Answer) : Type 0 where
+  stands : Stands s answer
+  counts : Counts s answer
+
+at_fault : (s : LexerState) (fault : LexFault) → StandsAfter s (Err fault)
+unfolding Stands Counts
+at_fault s fault = record { stands = tt; counts = tt }
+
+no_line : (s after : LexerState) → after.count ≡ min (s.count + 1) MOST_LINES → StandsAfter s (Ok (None, after))
+unfolding Stands Counts
+no_line s after e = record { stands = tt; counts = e }
+
+whole_line : (s : LexerState) (number : ℕ) (tokens : List Token) → StandsAfter s (whole s number tokens)
+unfolding Stands Counts
+whole_line s number [] = record { stands = tt; counts = refl }
+whole_line s number (t ∷ ts) = record { stands = refl; counts = refl }
+
+chosen : (s : LexerState) (b : Bool) (x y : Answer) → StandsAfter s x → StandsAfter s y → StandsAfter s (if b then x else y)
+chosen s true x y h k = h
+chosen s false x y h k = k
+
+answer_stands : (s : LexerState) (line : List ℕ) (joined : Bool) (tokens : List Token) (stop : Stop) → StandsAfter s (answer_at s (extended s line) joined tokens stop)
+answer_stands s line joined tokens (AtFault fault) = at_fault s fault
+answer_stands s line joined tokens AtComment = whole_line s _ tokens
+answer_stands s line joined tokens AtEnd = chosen s joined _ _ (no_line s _ refl) (whole_line s _ tokens)
+answer_stands s line joined tokens InSymbol = chosen s joined _ _ (no_line s _ refl) (at_fault s _)
+answer_stands s line joined tokens InString = chosen s joined _ _ (no_line s _ refl) (at_fault s _)
+
+fed_as_stands : (s : LexerState) (line : List ℕ) (d : Option (Result Chars LexFault)) → StandsAfter s (fed_as s line d)
+fed_as_stands s line (Some (Ok special)) = no_line s _ refl
+fed_as_stands s line (Some (Err fault)) = at_fault s fault
+fed_as_stands s line None = answer_stands s line _ _ _
+
+fed_stands : (s : LexerState) (line : List ℕ) → StandsAfter s (fed s line)
+unfolding fed
+fed_stands s line =
+    let text = without_return line in
+    let d = directive_where s.line (directive s.special text) in
+    chosen s (nat_lt MOST_LINE_BYTES (bytes_before s + length line)) (Err LineTooLong) _ (at_fault s _)
+    (chosen s (s.count == MOST_LINES) (Err TooManyLines) _ (at_fault s _)
+      (chosen s (is_utf8 text) (fed_as s line d) (Err NotUtf8) (fed_as_stands s line d) (at_fault s _)))
+
+-- past a whole line nothing is open
+pub fed-whole : (s : LexerState) (line : List ℕ) (given : Line) (after : LexerState) → fed s line ≡ Ok (Some given, after) → after ≡ dropped s
+unfolding Stands
+fed-whole s line given after e = (subst (StandsAfter s) e (fed_stands s line)).stands
+
+-- a line that isn't at fault is counted
+pub fed-count : (s : LexerState) (line : List ℕ) (answer : Option Line) (after : LexerState) → fed s line ≡ Ok (answer, after) → after.count ≡ min (s.count + 1) MOST_LINES
+unfolding Counts
+fed-count s line answer after e = (subst (StandsAfter s) e (fed_stands s line)).counts
+
+-- a line longer than a line may be is at fault, whatever was handed in before
+pub fed-too_long : (s : LexerState) (line : List ℕ) → MOST_LINE_BYTES < length line → fed s line ≡ Err LineTooLong
+unfolding fed
+fed-too_long s line long =
+    let longer : MOST_LINE_BYTES < bytes_before s + length line = omega arith in
+    let test = lt-ltb MOST_LINE_BYTES (bytes_before s + length line) longer in
+    rw test refl
+
+no_answer : (long last : Bool) (other answer : Answer) (o : Option Line × LexerState) → last ≡ true → (if long then Err LineTooLong else (if last then Err TooManyLines else other)) ≡ Ok o → ⊥
+no_answer true last other answer o is e = cc
+no_answer false true other answer o is e = cc
+no_answer false false other answer o is e = cc
+
+-- past the most lines each line is at fault
+pub fed-room : (s : LexerState) (line : List ℕ) (answer : Option Line) (after : LexerState) → fed s line ≡ Ok (answer, after) → s.count ≡ MOST_LINES → ⊥
+unfolding fed
+fed-room s line answer after e full = no_answer _ (s.count == MOST_LINES) _ (Ok (answer, after)) (answer, after) (eq-eqb s.count MOST_LINES full) e

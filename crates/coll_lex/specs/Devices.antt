@@ -1,0 +1,27 @@
+-- What a device counts, and what a function that writes does to the bytes that a device took.
+use Rattle.std.specs.Prelude.{◌≡◌, ℕ, ◌+◌, ◌%◌, ◌^◌, Bool, ◌&&◌, ◌==◌, nat_lt, if◌then◌else◌, List, ◌++◌, length, Option, Result, MatchResult}
+use Rattle.std.specs.Io.KnownBytes.{Appends}
+
+-- a count of 64 bits, one higher; after the highest comes 0
+abbrev pub raised : ℕ → ℕ
+raised n = (n + 1) % 2 ^ 64
+
+-- the count goes up by one at an error, and else stays
+abbrev pub CountsErr : {T E : Type 0} → ℕ → ℕ → Result T E → Type 0
+CountsErr old new r = MatchResult r (λ _. new ≡ old) (λ _. new ≡ raised old)
+
+-- a write of some bytes that took none
+abbrev pub took_none : ℕ → List ℕ → Bool
+took_none n bytes = (n == 0) && nat_lt 0 (length bytes)
+
+-- the count goes up by one at an error and where a write of some bytes took none, and else stays
+abbrev pub CountsWrite : {E : Type 0} → ℕ → ℕ → Result ℕ E → List ℕ → Type 0
+CountsWrite old new r bytes = MatchResult r (λ n. new ≡ (if took_none n bytes then raised old else old)) (λ _. new ≡ raised old)
+
+-- the device took a front of these bytes
+abbrev pub AppendsFront : Option (List ℕ) → Option (List ℕ) → List ℕ → Type 0
+AppendsFront old new bytes = (front : List ℕ) × (back : List ℕ) × (bytes ≡ front ++ back) × Appends old new front
+
+-- the device took all of these bytes, or at an error a front of them
+abbrev pub Sends : {T E : Type 0} → Option (List ℕ) → Option (List ℕ) → List ℕ → Result T E → Type 0
+Sends old new bytes r = MatchResult r (λ _. Appends old new bytes) (λ _. AppendsFront old new bytes)

@@ -1,0 +1,169 @@
+-- Logical lines: what a lexer has been handed, its answer to one more physical line, and the logical lines of a
+-- list of physical lines (POSIX.1-2017, 7.3).
+use Rattle.std.specs.Prelude.{ℕ, ◌+◌, min, Bool, true, false, if◌then◌else◌, ◌==◌, nat_lt, List, [], ◌∷◌, ◌++◌, map, length, chars, Option, Some, None, option_map, unwrap_or, Result, Ok, Err}
+use Rattle.std.specs.Str.{is_utf8}
+use Rattle.coll_lex.specs.PhysicalLines.{without_return}
+use Rattle.coll_lex.specs.Marked.{is_joined, joined_marks}
+use Rattle.coll_lex.specs.Tokens.{Reading, Stop, AtFault, AtComment, AtEnd, InSymbol, InString, reading_of}
+use Rattle.coll_lex.specs.Directives.{directive}
+use Rattle.coll_lex.specs.Category.{begins_category}
+use Rattle.coll_lex.specs.declared.tokens.Chars.{Chars}
+use Rattle.coll_lex.specs.declared.tokens.Line.{Line}
+use Rattle.coll_lex.specs.declared.tokens.Token.{Token}
+use Rattle.coll_lex.specs.declared.tokens.TheConstants.{MOST_LINES, MOST_LINE_BYTES}
+use Rattle.coll_lex.specs.declared.faults.LexFault.{LexFault}
+use Rattle.coll_lex.specs.declared.faults.LexFault.TheVariants.{NotUtf8, OpenSymbol, OpenString, DanglingEscape, LineTooLong, TooManyLines, OutOfMemory}
+
+-- a logical line that goes on in the next physical line: its number, its physical lines so far without their
+-- carriage returns, and the sum of the lengths handed in
+pub record OpenLine : Type 0 where
+  pub number : ℕ
+  pub lines : List (List ℕ)
+  pub bytes : ℕ
+
+-- where a lexer stands: its two characters, how many lines it has been handed, and the logical line that is open
+pub record LexerState : Type 0 where
+  pub special : Chars
+  pub count : ℕ
+  pub line : Option OpenLine
+
+-- at first the comment character is `#` and the escape character `\`
+abbrev pub first_state : LexerState
+first_state = record { special = record { comment = 35; escape = 92 }; count = 0; line = None }
+
+-- the number of the logical line that is open
+abbrev pub pending : LexerState → Option ℕ
+pending s = option_map (λ (o : OpenLine). o.number) s.line
+
+-- the number of the logical line that the next physical line belongs to
+abbrev pub number_of : LexerState → ℕ
+number_of s = unwrap_or (pending s) (s.count + 1)
+
+-- the physical lines of the logical line that is open
+abbrev pub lines_before : LexerState → List (List ℕ)
+lines_before s = unwrap_or (option_map (λ (o : OpenLine). o.lines) s.line) []
+
+-- how many bytes were handed in of the logical line that is open
+abbrev pub bytes_before : LexerState → ℕ
+bytes_before s = unwrap_or (option_map (λ (o : OpenLine). o.bytes) s.line) 0
+
+-- the logical line that this physical line belongs to, up to it
+abbrev pub extended : LexerState → List ℕ → OpenLine
+extended s line = record { number = number_of s; lines = lines_before s ++ without_return line ∷ []; bytes = bytes_before s + length line }
+
+-- the first of some lines
+abbrev pub first_of : List (List ℕ) → List ℕ
+first_of [] = []
+first_of (line ∷ lines) = line
+
+-- the first physical line of the logical line that this physical line belongs to
+unfoldable pub first_line : LexerState → List ℕ → List ℕ
+first_line s line = first_of (extended s line).lines
+
+-- where a lexer stands after a line that leaves none open, be it whole or at fault
+abbrev pub dropped : LexerState → LexerState
+dropped s = record { special = s.special; count = min (s.count + 1) MOST_LINES; line = None }
+
+-- the line that these tokens make, unless there is none
+abbrev pub line_of : ℕ → List Token → Option Line
+line_of number [] = None
+line_of number (t ∷ ts) = Some (record { number = number; tokens = t ∷ ts })
+
+-- the answer to a line that ends its logical line
+abbrev pub whole : LexerState → ℕ → List Token → Result (Option Line × LexerState) LexFault
+whole s number tokens = Ok (line_of number tokens, dropped s)
+
+-- the answer to a line that joins the next one
+abbrev pub continued : LexerState → OpenLine → Result (Option Line × LexerState) LexFault
+continued s open_line = Ok (None, record (dropped s) { line = Some open_line })
+
+-- the answer by where the reading stopped: a comment isn't continued, and all else goes on where the line is joined
+abbrev pub answer_at : LexerState → OpenLine → (joined : Bool) → List Token → Stop → Result (Option Line × LexerState) LexFault
+answer_at s o joined tokens (AtFault fault) = Err fault
+answer_at s o joined tokens AtComment = whole s o.number tokens
+answer_at s o joined tokens AtEnd = if joined then continued s o else whole s o.number tokens
+answer_at s o joined tokens InSymbol = if joined then continued s o else Err OpenSymbol
+answer_at s o joined tokens InString = if joined then continued s o else Err OpenString
+
+-- the answer to a line that is no directive, by the reading of its logical line
+abbrev pub answer_to : LexerState → OpenLine → (joined : Bool) → Reading → Result (Option Line × LexerState) LexFault
+answer_to s o joined r = answer_at s o joined r.tokens r.stop
+
+-- the reading of physical lines that are joined
+unfoldable pub reading_in : Chars → List (List ℕ) → Reading
+reading_in special lines = reading_of special.comment (joined_marks special.escape (map chars lines))
+
+-- the directive that a line is, which it can be only where no logical line is open
+abbrev pub directive_where : Option OpenLine → Option (Result Chars LexFault) → Option (Result Chars LexFault)
+directive_where None asked = asked
+directive_where (Some o) asked = None
+
+-- the answer to a line of UTF-8, by the directive that it is
+abbrev pub fed_as : LexerState → List ℕ → Option (Result Chars LexFault) → Result (Option Line × LexerState) LexFault
+fed_as s line (Some (Ok special)) = Ok (None, record (dropped s) { special = special })
+fed_as s line (Some (Err fault)) = Err fault
+fed_as s line None = answer_to s (extended s line) (is_joined s.special.escape (chars (without_return line))) (reading_in s.special (extended s line).lines)
+
+-- the answer to one more physical line: the logical line that it ends, or its fault; else none, and where the
+-- lexer then stands
+unfoldable pub fed : LexerState → List ℕ → Result (Option Line × LexerState) LexFault
+fed s line = if nat_lt MOST_LINE_BYTES (bytes_before s + length line) then Err LineTooLong else (if s.count == MOST_LINES then Err TooManyLines else (if is_utf8 (without_return line) then fed_as s line (directive_where s.line (directive s.special (without_return line))) else Err NotUtf8))
+
+-- the answer to a line before the category, by the directive that it is
+abbrev pub outside_as : LexerState → List ℕ → Option (Result Chars LexFault) → Result (Bool × LexerState) LexFault
+outside_as s line (Some (Ok special)) = Ok (false, record (dropped s) { special = special })
+outside_as s line (Some (Err fault)) = Err fault
+outside_as s line None = Ok (begins_category s.special.comment (without_return line), dropped s)
+
+-- the answer to a line before the category: whether the category begins with it, whatever bytes it has; it
+-- belongs to no logical line, so an open one is dropped
+unfoldable pub outside : LexerState → List ℕ → Result (Bool × LexerState) LexFault
+outside s line = if nat_lt MOST_LINE_BYTES (length line) then Err LineTooLong else (if s.count == MOST_LINES then Err TooManyLines else outside_as s line (directive s.special (without_return line)))
+
+-- a logical line: its number, its first physical line, and its tokens or its fault
+pub record LogicalLine : Type 0 where
+  pub number : ℕ
+  pub first : List ℕ
+  pub tokens : Result (List Token) LexFault
+
+-- whether memory is refused to the first line: where no choice is left, it is not
+abbrev pub first_choice : List Bool → Bool
+first_choice [] = false
+first_choice (c ∷ cs) = c
+
+-- the choices for the lines after the first
+abbrev pub later_choices : List Bool → List Bool
+later_choices [] = []
+later_choices (c ∷ cs) = cs
+
+-- the answer to a line, which is refused for want of memory where the choice says so
+unfoldable pub served : (starved : Bool) → LexerState → List ℕ → Result (Option Line × LexerState) LexFault
+served true s line = Err OutOfMemory
+served false s line = fed s line
+
+-- where the lexer stands after this answer
+abbrev pub state_by : LexerState → Result (Option Line × LexerState) LexFault → LexerState
+state_by s (Ok answer) = answer.1
+state_by s (Err fault) = dropped s
+
+-- the logical line that this answer gives
+abbrev pub lines_by : LexerState → List ℕ → Result (Option Line × LexerState) LexFault → List LogicalLine
+lines_by s line (Ok (None, _)) = []
+lines_by s line (Ok (Some whole_line, _)) = record { number = whole_line.number; first = first_line s line; tokens = Ok whole_line.tokens } ∷ []
+lines_by s line (Err fault) = record { number = number_of s; first = first_line s line; tokens = Err fault } ∷ []
+
+-- a line that is open where the text ends is at fault
+abbrev pub left_open : Option OpenLine → List LogicalLine
+left_open None = []
+left_open (Some o) = record { number = o.number; first = first_of o.lines; tokens = Err DanglingEscape } ∷ []
+
+-- the logical lines of these physical lines, with those that memory was refused to; the test says whether the
+-- text ends with them
+unfoldable pub logical_lines : (starved : List Bool) → (ends : Bool) → LexerState → List (List ℕ) → List LogicalLine
+logical_lines starved ends s [] = if ends then left_open s.line else []
+logical_lines starved ends s (line ∷ lines) = lines_by s line (served (first_choice starved) s line) ++ logical_lines (later_choices starved) ends (state_by s (served (first_choice starved) s line)) lines
+
+-- where the lexer stands after these lines
+unfoldable pub state_after : (starved : List Bool) → LexerState → List (List ℕ) → LexerState
+state_after starved s [] = s
+state_after starved s (line ∷ lines) = state_after (later_choices starved) (state_by s (served (first_choice starved) s line)) lines

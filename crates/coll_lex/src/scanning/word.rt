@@ -1,0 +1,108 @@
+//! The moves outside symbols and strings: words, separators, and what begins a symbol, a string or a comment.
+//!
+//! The tests stand in the order of the definition of tokens, so that nothing need be known of the comment
+//! character.
+
+ghost use Rattle.std.specs.Prelude.{◌≡◌, ◌≢◌, ℕ, [], ◌∷◌, ◌++◌, OnOk, IfErr};
+ghost use Rattle.coll_lex.specs.Marked.{Plain, Literal};
+ghost use Rattle.coll_lex.specs.Tokens.{is_blank};
+ghost use Rattle.coll_lex.specs.declared.faults.LexFault.TheVariants.{OutOfMemory};
+
+use super::{Mode, Scan, is_constant};
+use crate::{LexFault, ListBuf, TextBuf, Token};
+use std::alloc::AllocError;
+use std::mem;
+
+// A space or a tab.
+fn is_blank(c: char) -> bool
+    ensures { result ≡ is_blank c }
+{
+    c == ' ' || c == '\t'
+}
+
+impl Scan {
+    ghost use Rattle.coll_lex.specs.Scanning.{Takes, Refuses, word_token};
+
+    // Reads a character outside symbols and strings that is not escaped.
+    pub(super) fn take_outside(&mut self, comment: char, c: char) -> Result<(), AllocError>
+        requires { self.old.mode ≡ Mode.Plain }
+        ensures { OnOk result (Takes comment self.old (Plain c) self.new) }
+    {
+        if c == '<' {
+            self.end_word()?;
+            self.enter(Mode::Symbol);
+            return Ok(());
+        }
+        if is_blank(c) {
+            self.end_word()?;
+            return Ok(());
+        }
+        if c == ';' {
+            self.separate(Token::Semicolon)?;
+            return Ok(());
+        }
+        if c == ',' {
+            self.separate(Token::Comma)?;
+            return Ok(());
+        }
+        if c == comment {
+            self.end_word()?;
+            self.enter(Mode::Comment);
+            return Ok(());
+        }
+        if c == '"' {
+            self.begin_text()?;
+            return Ok(());
+        }
+        self.partial.push(c)?;
+        Ok(())
+    }
+
+    // Reads an escaped character outside symbols and strings.
+    pub(super) fn take_literal_outside(&mut self, c: char) -> Result<(), LexFault>
+        requires { self.old.mode ≡ Mode.Plain }
+        ensures ok { OnOk result ((comment : ℕ) → Takes comment self.old (Literal c) self.new) }
+        ensures err { IfErr result
+            (λ fault. fault ≢ OutOfMemory → (comment : ℕ) → Refuses comment self.old (Literal c) fault) }
+    {
+        if is_constant(c) {
+            return Err(LexFault::CharacterConstant);
+        }
+        self.partial.push(c)?;
+        Ok(())
+    }
+
+    // Makes a token of the word so far, if one has begun.
+    pub(super) fn end_word(&mut self) -> Result<(), AllocError>
+        ensures { OnOk result
+            (self.new ≡ record self.old { partial = []; tokens = self.old.tokens ++ word_token self.old.partial }) }
+    {
+        if self.partial.is_empty() {
+            return Ok(());
+        }
+        let word = mem::replace(&mut self.partial, TextBuf::empty(self.alloc));
+        self.tokens.push(Token::Word(word))?;
+        Ok(())
+    }
+
+    // Ends the word so far, and puts a separator after it.
+    fn separate(&mut self, separator: Token) -> Result<(), AllocError>
+        ensures { OnOk result
+            (self.new ≡ record self.old { partial = []; tokens = (self.old.tokens ++ word_token self.old.partial) ++ separator ∷ [] }) }
+    {
+        self.end_word()?;
+        self.tokens.push(separator)?;
+        Ok(())
+    }
+
+    // Ends the word so far, and begins a string after it.
+    fn begin_text(&mut self) -> Result<(), AllocError>
+        ensures { OnOk result
+            (self.new ≡ record self.old { mode = Mode.Text; partial = []; pieces = []; tokens = self.old.tokens ++ word_token self.old.partial }) }
+    {
+        self.end_word()?;
+        self.pieces = ListBuf::empty(self.alloc);
+        self.enter(Mode::Text);
+        Ok(())
+    }
+}

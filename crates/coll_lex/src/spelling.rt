@@ -1,0 +1,122 @@
+//! The canonical spellings, written to a device.
+//!
+//! A name stands between `<` and `>`, with `/` before each `>` and `/` in it; a character stands as `<U`, its code
+//! point in upper-case hexadecimal, and `>`. Under the comment character `%` and the escape character `/` the
+//! lexer reads both back as what was written. All output goes through `write_bytes`, the only loop over `write`.
+//! None of this takes memory. A change of a spelling is a change of its definition in `specs/`, and of the law
+//! that it is read back.
+ghost use Rattle.std.specs.Prelude.{◌≡◌, ◌<◌, ◌≤◌, ℕ, [], ◌∷◌, All, length, take, slice_index, chars, encode_utf8_all, IsTrue, IfNone, IfSome, true, false};
+ghost use Rattle.coll_lex.specs.Devices.{CountsErr, Sends};
+ghost use Rattle.coll_lex.specs.ReadingBack.{NamesReadBack, NamesReadBackQuoted, CodesReadBack, CodesReadBackQuoted};
+ghost use Rattle.coll_lex.specs.Spelling.{is_escaped, spelled_name, spelled_symbol, spelled_code, hex_digit, hex_digits};
+
+use crate::{Sink, WriteStop};
+
+/// Writes all bytes, in as many writes as the device takes them in.
+///
+/// It stops where a write answers an error or takes no byte; then the device has taken a front of the bytes.
+pub fn write_bytes<W: Sink>(out: &mut W, bytes: &[u8]) -> Result<(), WriteStop>
+    ensures sent { Sends (W.taken out.old) (W.taken out.new) bytes.now result }
+    ensures errors { CountsErr (W.failed out.old) (W.failed out.new) result }
+{
+    let mut rest = bytes;
+    'writes: while !rest.is_empty() {
+        match out.write(rest) {
+            Ok(0) => return Err(WriteStop::WriteFault),
+            Ok(count) => rest = &rest[count..],
+            Err(_) => return Err(WriteStop::WriteFault),
+        }
+    }
+    Ok(())
+}
+
+/// Writes a name between `<` and `>`, with `/` before each `>` and `/` in it.
+///
+/// Where it stops, the device has taken a front of this.
+pub fn write_symbol<W: Sink>(out: &mut W, name: &str) -> Result<(), WriteStop>
+    ensures sent { Sends (W.taken out.old) (W.taken out.new)
+        (encode_utf8_all (spelled_symbol (chars name.now) [])) result }
+    ensures errors { CountsErr (W.failed out.old) (W.failed out.new) result }
+{
+    write_bytes(out, b"<")?;
+    write_name(out, name.as_bytes())?;
+    write_bytes(out, b">")
+}
+
+/// Writes a character as `<U`, its code point in upper-case hexadecimal, and `>`. There are four
+/// digits up to FFFF, and eight above.
+///
+/// Where it stops, the device has taken a front of this.
+pub fn write_char<W: Sink>(out: &mut W, c: char) -> Result<(), WriteStop>
+    ensures sent { Sends (W.taken out.old) (W.taken out.new)
+        (encode_utf8_all (spelled_code c [])) result }
+    ensures errors { CountsErr (W.failed out.old) (W.failed out.new) result }
+{
+    let code = c as u32;
+    let digits = upper_hex(code);
+    let leading = if code < 0x1_0000 { 4 } else { 0 };
+    write_bytes(out, b"<U")?;
+    write_bytes(out, &digits[leading..])?;
+    write_bytes(out, b">")
+}
+
+/// The law of the spellings: under the escape character `/`, and under any comment character, what `write_symbol` and
+/// `write_char` write is read back as the name or the character that was written, whatever follows it.
+///
+/// It does nothing; its contract is the law.
+pub fn spellings_are_read_back()
+    ensures names { NamesReadBack }
+    ensures names_in_strings { NamesReadBackQuoted }
+    ensures codes { CodesReadBack }
+    ensures codes_in_strings { CodesReadBackQuoted }
+{}
+
+// Writes the bytes of a name, with `/` before each `>` and `/`.
+fn write_name<W: Sink>(out: &mut W, name: &[u8]) -> Result<(), WriteStop>
+    ensures sent { Sends (W.taken out.old) (W.taken out.new) (spelled_name name.now []) result }
+    ensures errors { CountsErr (W.failed out.old) (W.failed out.new) result }
+{
+    let mut rest = name;
+    'escapes: while let Some(at) = find_escaped(rest) {
+        let (run, escaped) = rest.split_at(at);
+        write_bytes(out, run)?;
+        write_bytes(out, &[b'/', escaped[0]])?;
+        rest = &escaped[1..];
+    }
+    write_bytes(out, rest)
+}
+
+// Where the first byte stands that has `/` before it in a name.
+fn find_escaped(bytes: &[u8]) -> Option<usize>
+    ensures none { IfNone result (All (λ b. is_escaped b ≡ false) bytes.now) }
+    ensures within { IfSome result (λ at. at < length bytes.now) }
+    ensures found { IfSome result (λ at. is_escaped (slice_index bytes.now at) ≡ true) }
+    ensures first { IfSome result (λ at. All (λ b. is_escaped b ≡ false) (take at bytes.now)) }
+{
+    bytes.iter().position(|b| *b == b'>' || *b == b'/')
+}
+
+// The eight digits of a number in upper-case hexadecimal.
+fn upper_hex(number: u32) -> [u8; 8]
+    ensures { result ≡ hex_digits 8 number }
+{
+    let mut digits = [b'0'; 8];
+    let mut rest = number;
+    for at in (0..8).rev() {
+        digits[at] = upper_hex_digit(rest % 16);
+        rest /= 16;
+    }
+    digits
+}
+
+// A hexadecimal digit in upper case.
+fn upper_hex_digit(digit: u32) -> u8
+    requires { digit < 16 }
+    ensures { result ≡ hex_digit digit }
+{
+    if digit < 10 {
+        b'0' + digit as u8
+    } else {
+        b'A' - 10 + digit as u8
+    }
+}
