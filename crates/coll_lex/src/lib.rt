@@ -13,6 +13,8 @@ mod lexing;
 mod line_reading;
 mod scanning;
 mod spelling;
+#[cfg(test)]
+mod test_devices;
 mod tokens;
 
 pub use buffers::{ListBuf, TextBuf};

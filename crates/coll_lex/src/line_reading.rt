@@ -225,3 +225,6 @@ fn read_at<R: Source>(input: &mut R, buffer: &mut [u8], at: usize) -> io::Result
 {
     input.read(&mut buffer[at..])
 }
+
+#[cfg(test)]
+mod tests;
