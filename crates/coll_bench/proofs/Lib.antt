@@ -9,3 +9,4 @@ pub mod Sameness
 pub mod SectionLemmas
 pub mod Spellings
 pub mod TableLemmas
+pub mod TextSteps

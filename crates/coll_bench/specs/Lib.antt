@@ -18,3 +18,8 @@ pub mod Table
 pub mod TableLines
 pub mod Units
 pub mod WellFormed
+pub mod Reading
+pub mod Loads
+pub mod LoadFaults
+pub mod TextLines
+pub mod Drafts

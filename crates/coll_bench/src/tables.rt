@@ -10,14 +10,18 @@ ghost use Rattle.std.specs.Prelude.{◌≡◌, ◌≢◌, Ok, Err, IfOk, IfErr, 
 mod deltas;
 mod entries;
 mod limits;
+mod load_faults;
 mod names;
 mod places;
 mod records;
 mod refusals;
+mod taken;
+mod text_lines;
 
 use crate::Id;
 pub use entries::Entry;
 pub use limits::{MOST_DECLARATIONS, MOST_ENTRIES};
+pub use load_faults::{LoadCause, LoadFault};
 use names::Names;
 use places::Places;
 pub use records::Record;

@@ -1,0 +1,95 @@
+//! The lines of a table text, taken from a device one after another.
+//!
+//! `TextLines` joins a reader of physical lines and a lexer, and counts the physical lines. Its contracts
+//! speak of the text that is ahead: which of its lines were taken, and what the definition of reading says of them
+//! (`specs/TextLines.antt`). Each call takes lines up to the next one that matters: the one at which the category
+//! begins, or the next logical line.
+
+ghost use Rattle.std.specs.Prelude.{◌≡◌, ◌≢◌, ◌≤◌, ◌+◌, ◌<◌, None, min, IfOk, OnOk};
+ghost use Rattle.coll_lex.specs.LineReading.{no_line};
+ghost use Rattle.coll_lex.specs.LogicalLines.{first_state, number_of};
+ghost use Rattle.coll_bench.specs.Loads.{CountsFault};
+
+use super::taken::Taken;
+use crate::{LoadCause, LoadFault};
+use coll_lex::{LexFault, Lexer, Line, LineReader, MOST_LINES, ReadStop, Source};
+use std::alloc::{AllocError, Global};
+use std::marker::Model;
+
+/// The lines of a text, taken one after another.
+#[derive(Debug, Drop)]
+pub struct TextLines {
+    reader: LineReader,
+    lexer: Lexer,
+    // The number of physical lines handed to the lexer.
+    count: u32,
+}
+
+impl Model for TextLines {
+    ghost use Rattle.std.specs.Prelude.{◌≡◌, ◌≤◌};
+    ghost use Rattle.coll_lex.specs.declared.tokens.TheConstants.{MOST_LINES};
+    ghost use Rattle.coll_bench.specs.TextLines.{TextState};
+
+    ghost Value = { TextState };
+
+    ghost view = { λ t. record { reader = t.reader; lexer = t.lexer } };
+
+    ghost invariant = { λ t. (t.count ≡ t.lexer.count) × (t.count ≤ MOST_LINES) };
+}
+
+impl TextLines {
+    ghost use Rattle.coll_bench.specs.TextLines.{Advances, Takes, TakesOutside, Finds, Nexts};
+
+    /// The lines of a text from its first on.
+    pub fn new(alloc: Global) -> Result<TextLines, AllocError>
+        ensures { IfOk result (λ t. t ≡ record { reader = no_line; lexer = first_state }) }
+    {
+        let reader = LineReader::new(alloc)?;
+        let lexer = Lexer::new(alloc)?;
+        Ok(TextLines {
+            reader,
+            lexer,
+            count: 0,
+        })
+    }
+
+    /// The number of physical lines taken so far.
+    pub fn count(&self) -> u32
+        ensures count { result ≡ self.now.lexer.count }
+        ensures limit { result ≤ MOST_LINES }
+    {
+        self.count
+    }
+
+    /// The number that a fault of the next physical line carries.
+    fn next_number(&self) -> u32
+        ensures { result ≡ number_of self.now.lexer }
+    {
+        match self.lexer.pending() {
+            Some(number) => number,
+            None => self.count + 1,
+        }
+    }
+
+    /// Counts one more physical line. The lexer counts up to `MOST_LINES` too.
+    fn read_line<R: Source>(&mut self, input: &mut R) -> Result<bool, LoadFault>
+        requires { self.old.reader.stop ≡ None }
+        ensures line { Advances self.old self.new (R.left input.old) (R.left input.new) result }
+        ensures lexer { self.new.lexer ≡ self.old.lexer }
+        ensures errors { CountsFault (R.failed input.old) (R.failed input.new) result }
+        ensures goes_on { OnOk result (self.new.reader.stop ≡ None) }
+    {
+        let number = self.next_number();
+        match self.reader.advance(input) {
+            Ok(is_line) => return Ok(is_line),
+            Err(ReadStop::LineTooLong) => return Err(LoadFault {
+                line: number,
+                cause: LoadCause::Lex(LexFault::LineTooLong),
+            }),
+            Err(ReadStop::ReadFault) => return Err(LoadFault {
+                line: 0,
+                cause: LoadCause::ReadFault,
+            }),
+        }
+    }
+}
