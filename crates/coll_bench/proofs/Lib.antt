@@ -1,7 +1,9 @@
 pub mod BlockLemmas
 pub mod EntryLemmas
+pub mod FindSteps
 pub mod HearingLemmas
 pub mod HistoryLemmas
+pub mod LineCounts
 pub mod LookUps
 pub mod PlaceLookUps
 pub mod PlacingLemmas
@@ -9,4 +11,5 @@ pub mod Sameness
 pub mod SectionLemmas
 pub mod Spellings
 pub mod TableLemmas
+pub mod TakeLemmas
 pub mod TextSteps

@@ -4,7 +4,7 @@ use Rattle.coll_lex.specs.LineReading as reading
 use Rattle.coll_lex.specs.LogicalLines.{LexerState, LogicalLine, number_of, fed, outside, logical_lines}
 use Rattle.coll_lex.specs.PhysicalLines.{lines_of, IsInLine}
 use Rattle.coll_lex.specs.declared.tokens.Line.{Line}
-use Rattle.coll_lex.specs.declared.tokens.TheConstants.{MOST_LINE_BYTES}
+use Rattle.coll_lex.specs.declared.tokens.TheConstants.{MOST_LINE_BYTES, MOST_LINES}
 use Rattle.coll_lex.specs.declared.faults.LexFault.{LexFault}
 use Rattle.coll_lex.specs.declared.faults.LexFault.TheVariants as lex
 use Rattle.coll_bench.specs.Reading.{Undecided, outcome_before, outcome_within, at_fault}
@@ -73,6 +73,21 @@ FailsOutside s line fault = outside s line ≡ Err fault
 -- the lexer refuses a line of the category
 abbrev pub FailsFed : LexerState → List ℕ → LexFault → Type 0
 FailsFed s line fault = fed s line ≡ Err fault
+
+-- one physical line more was handed to the lexer, which takes no more than the most lines of a text
+abbrev pub CountsOne : LexerState → LexerState → Type 0
+CountsOne old new = (old.count < MOST_LINES) × (new.count ≡ old.count + 1)
+
+-- a physical line before the category that was taken is counted
+abbrev pub CountsOutside : TextState → TextState → Option Bool → Type 0
+CountsOutside old new (Some begins) = CountsOne old.lexer new.lexer
+CountsOutside old new None = Unit {0}
+
+-- a physical line of the category that was taken is counted
+abbrev pub CountsTaken : TextState → TextState → Taken → Type 0
+CountsTaken old new (Whole line) = CountsOne old.lexer new.lexer
+CountsTaken old new NoLine = CountsOne old.lexer new.lexer
+CountsTaken old new End = Unit {0}
 
 -- one physical line before the category was taken, or none was ahead
 abbrev pub TakesOutside : TextState → TextState → Option (List ℕ) → Option (List ℕ) → Result (Option Bool) LoadFault → Type 0

@@ -38,7 +38,7 @@ impl Model for TextLines {
 }
 
 impl TextLines {
-    ghost use Rattle.coll_bench.specs.TextLines.{Advances, Takes, TakesOutside, Finds, Nexts};
+    ghost use Rattle.coll_bench.specs.TextLines.{Advances, Takes, CountsTaken, TakesOutside, CountsOutside, Finds, Nexts};
 
     /// The lines of a text from its first on.
     pub fn new(alloc: Global) -> Result<TextLines, AllocError>
@@ -61,6 +61,28 @@ impl TextLines {
         self.count
     }
 
+    /// Takes the lines up to the one at which the category begins.
+    ///
+    /// A text without such a line is `NoCategory`.
+    pub fn find_category<R: Source>(&mut self, input: &mut R) -> Result<(), LoadFault>
+        requires { self.old.reader.stop ≡ None }
+        ensures found { Finds self.old self.new (R.left input.old) (R.left input.new) result }
+        ensures errors { CountsFault (R.failed input.old) (R.failed input.new) result }
+        ensures goes_on { OnOk result (self.new.reader.stop ≡ None) }
+    {
+        'lines: loop {
+            let Some(begins) = self.take_outside(input)? else {
+                return Err(LoadFault {
+                    line: self.count,
+                    cause: LoadCause::NoCategory,
+                });
+            };
+            if begins {
+                return Ok(());
+            }
+        }
+    }
+
     /// The number that a fault of the next physical line carries.
     fn next_number(&self) -> u32
         ensures { result ≡ number_of self.now.lexer }
@@ -71,7 +93,7 @@ impl TextLines {
         }
     }
 
-    /// Counts one more physical line. The lexer counts up to `MOST_LINES` too.
+    /// Reads one physical line, if there is one.
     fn read_line<R: Source>(&mut self, input: &mut R) -> Result<bool, LoadFault>
         requires { self.old.reader.stop ≡ None }
         ensures line { Advances self.old self.new (R.left input.old) (R.left input.new) result }
@@ -92,4 +114,59 @@ impl TextLines {
             }),
         }
     }
+
+    /// Takes one physical line before the category: whether the category begins with it.
+    fn take_outside<R: Source>(&mut self, input: &mut R) -> Result<Option<bool>, LoadFault>
+        requires { self.old.reader.stop ≡ None }
+        ensures line { TakesOutside self.old self.new (R.left input.old) (R.left input.new) result }
+        ensures counts { IfOk result (CountsOutside self.old self.new) }
+        ensures errors { CountsFault (R.failed input.old) (R.failed input.new) result }
+        ensures goes_on { OnOk result (self.new.reader.stop ≡ None) }
+    {
+        if !self.read_line(input)? {
+            return Ok(None);
+        }
+        let number = self.next_number();
+        let answer = self.lexer.outside(self.reader.line());
+        self.count = one_more(self.count);
+        match answer {
+            Ok(begins) => return Ok(Some(begins)),
+            Err(fault) => return Err(LoadFault {
+                line: number,
+                cause: LoadCause::Lex(fault),
+            }),
+        }
+    }
+
+    /// Takes one physical line of the category.
+    fn take_line<R: Source>(&mut self, input: &mut R) -> Result<Taken, LoadFault>
+        requires { self.old.reader.stop ≡ None }
+        ensures line { Takes self.old self.new (R.left input.old) (R.left input.new) result }
+        ensures counts { IfOk result (CountsTaken self.old self.new) }
+        ensures errors { CountsFault (R.failed input.old) (R.failed input.new) result }
+        ensures goes_on { OnOk result (self.new.reader.stop ≡ None) }
+    {
+        if !self.read_line(input)? {
+            return Ok(Taken::End);
+        }
+        let number = self.next_number();
+        let answer = self.lexer.feed(self.reader.line());
+        self.count = one_more(self.count);
+        match answer {
+            Ok(Some(line)) => return Ok(Taken::Whole(line)),
+            Ok(None) => return Ok(Taken::NoLine),
+            Err(fault) => return Err(LoadFault {
+                line: number,
+                cause: LoadCause::Lex(fault),
+            }),
+        }
+    }
+}
+
+/// The count of physical lines, one higher; the lexer counts no further than `MOST_LINES`.
+fn one_more(count: u32) -> u32
+    requires { count ≤ MOST_LINES }
+    ensures { result ≡ min (count + 1) MOST_LINES }
+{
+    (count + 1).min(MOST_LINES)
 }
