@@ -30,15 +30,16 @@ unfolding outcome_before
 outcome_before-fault ends s line lines fault e = rw e refl
 
 -- lines and one more, and those behind it
-one_behind : (whole : List (List ℕ)) (line : List ℕ) (more : List (List ℕ)) → (whole ++ line ∷ []) ++ more ≡ whole ++ line ∷ more
+pub one_behind : (whole : List (List ℕ)) (line : List ℕ) (more : List (List ℕ)) → (whole ++ line ∷ []) ++ more ≡ whole ++ line ∷ more
 one_behind whole line more = append_assoc whole (line ∷ []) more
 
 -- one line more was taken
 pub takes_more : (start now next : TextState) (left_now left_next : Option (List ℕ)) (text : List ℕ) (whole : List (List ℕ)) (rest : List ℕ) (later : List ℕ) → TakesLines start now left_now text whole rest → ahead_of next left_next ≡ Some later → lines_of rest ≡ next.reader.line ∷ lines_of later → CountsOne now.lexer next.lexer → TakesLines start next left_next text (whole ++ next.reader.line ∷ []) later
-takes_more start now next left_now left_next text whole rest later h known given one =
-    (known,
-     h.1 ∙ (ap (λ lines. whole ++ lines) given ∙ sym (one_behind whole next.reader.line (lines_of later))),
-     omega (arith, h.2, one.1, length-append whole (next.reader.line ∷ [])))
+takes_more start now next left_now left_next text whole rest later h known given one = (
+  known,
+  h.1 ∙ (ap (λ lines. whole ++ lines) given ∙ sym (one_behind whole next.reader.line (lines_of later))),
+  omega (arith, h.2, one.1, length-append whole (next.reader.line ∷ [])),
+)
 
 -- the lines taken so far decide nothing, and leave it to the later ones
 abbrev pub Finding : TextState → TextState → Option (List ℕ) → Option (List ℕ) → Type 0
@@ -56,43 +57,52 @@ module _ (start now : TextState) (left left_now : Option (List ℕ)) (h : Findin
   pub finding_more : (next : TextState) (left_next : Option (List ℕ)) → GivesFirst now next left_now left_next → outside now.lexer next.reader.line ≡ Ok (false, next.lexer) → CountsOne now.lexer next.lexer → Finding start next left left_next
   finding_more next left_next gives past one = λ text e.
       let at = h text e in
-      let line = gives at.1 at.2.0 in
-      (at.0 ++ next.reader.line ∷ [], line.0,
-       takes_more start now next left_now left_next text at.0 at.1 line.0 at.2 line.1 line.2 one,
-       λ ends more. ap (outcome_before ends start.lexer) (one_behind at.0 next.reader.line more) ∙ (at.3 ends (next.reader.line ∷ more) ∙ outcome_before-past ends now.lexer next.lexer next.reader.line more past))
+      let line = gives at.1 at.2.0 in (
+        at.0 ++ next.reader.line ∷ [],
+        line.0,
+        takes_more start now next left_now left_next text at.0 at.1 line.0 at.2 line.1 line.2 one,
+        λ ends more. ap (outcome_before ends start.lexer) (one_behind at.0 next.reader.line more) ∙ (at.3 ends (next.reader.line ∷ more) ∙ outcome_before-past ends now.lexer next.lexer next.reader.line more past),
+      )
 
   -- the line at which it begins
   pub found : (next : TextState) (left_next : Option (List ℕ)) → GivesFirst now next left_now left_next → outside now.lexer next.reader.line ≡ Ok (true, next.lexer) → CountsOne now.lexer next.lexer → Finds start next left left_next (Ok tt)
   found next left_next gives begins one = λ text e.
       let at = h text e in
-      let line = gives at.1 at.2.0 in
-      (at.0 ++ next.reader.line ∷ [], line.0,
-       takes_more start now next left_now left_next text at.0 at.1 line.0 at.2 line.1 line.2 one,
-       λ ends more. ap (outcome_before ends start.lexer) (one_behind at.0 next.reader.line more) ∙ (at.3 ends (next.reader.line ∷ more) ∙ outcome_before-found ends now.lexer next.lexer next.reader.line more begins))
+      let line = gives at.1 at.2.0 in (
+        at.0 ++ next.reader.line ∷ [],
+        line.0,
+        takes_more start now next left_now left_next text at.0 at.1 line.0 at.2 line.1 line.2 one,
+        λ ends more. ap (outcome_before ends start.lexer) (one_behind at.0 next.reader.line more) ∙ (at.3 ends (next.reader.line ∷ more) ∙ outcome_before-found ends now.lexer next.lexer next.reader.line more begins),
+      )
 
   -- no line more
   pub none_found : (count : ℕ) (left_next : Option (List ℕ)) → WasLast now left_now → count ≡ now.lexer.count → FindFails start left left_next count NoCategory
   none_found count left_next last counted = λ text e.
       let at = h text e in
-      let all : lines_of text ≡ at.0 ++ [] = at.2.1 ∙ ap (λ lines. at.0 ++ lines) (last at.1 at.2.0) in
-      (ap (outcome_before true start.lexer) all ∙ (at.3 true [] ∙ outcome_before-nil true now.lexer),
-       counted ∙ (at.2.2 ∙ ap (λ lines. start.lexer.count + length lines) (sym (all ∙ append-nil at.0))))
+      let all : lines_of text ≡ at.0 ++ [] = at.2.1 ∙ ap (λ lines. at.0 ++ lines) (last at.1 at.2.0) in (
+        ap (outcome_before true start.lexer) all ∙ (at.3 true [] ∙ outcome_before-nil true now.lexer),
+        counted ∙ (at.2.2 ∙ ap (λ lines. start.lexer.count + length lines) (sym (all ∙ append-nil at.0))),
+      )
 
   at_fault_here : (left_next : Option (List ℕ)) (line : ℕ) (fault : LexFault) → (line ≡ number_of now.lexer) → ((text : List ℕ) → ahead_of now left_now ≡ Some text → (first : List ℕ) × (later : List (List ℕ)) × (lines_of text ≡ first ∷ later) × FailsOutside now.lexer first fault) → (text : List ℕ) → ahead_of start left ≡ Some text → outcome_before true start.lexer (lines_of text) ≡ at_fault line (Lex fault)
   at_fault_here left_next line fault number fails text e =
       let at = h text e in
       let first = fails at.1 at.2.0 in
       ap (outcome_before true start.lexer) (at.2.1 ∙ ap (λ lines. at.0 ++ lines) first.2)
-          ∙ (at.3 true (first.0 ∷ first.1) ∙ (outcome_before-fault true now.lexer first.0 first.1 fault first.3 ∙ ap (λ n. at_fault n (Lex fault)) (sym number)))
+      ∙ (at.3 true (first.0 ∷ first.1) ∙ (outcome_before-fault true now.lexer first.0 first.1 fault first.3 ∙ ap (λ n. at_fault n (Lex fault)) (sym number)))
 
   -- a line at fault
   pub find_fails : (left_next : Option (List ℕ)) (line : ℕ) (cause : LoadCause) → TakeFails FailsOutside now left_now left_next line cause → FindFails start left left_next line cause
   find_fails left_next line (Lex lex.OutOfMemory) f = tt
   find_fails left_next line (Lex fault) f = at_fault_here left_next line fault f.0 f.1
-  find_fails left_next line ReadFault f =
-      (f.0, λ text e.
-          let at = h text e in
-          let cut = f.1 at.1 at.2.0 in
-          (at.0, (cut.0, cut.1, cut.2, at.2.1 ∙ ap (λ rest. at.0 ++ lines_of rest) cut.3, cut.4),
-           ap (outcome_before false start.lexer) (sym (append-nil at.0)) ∙ (at.3 false [] ∙ outcome_before-nil false now.lexer)))
+  find_fails left_next line ReadFault f = (
+    f.0,
+    λ text e.
+        let at = h text e in
+        let cut = f.1 at.1 at.2.0 in (
+          at.0,
+          (cut.0, cut.1, cut.2, at.2.1 ∙ ap (λ rest. at.0 ++ lines_of rest) cut.3, cut.4),
+          ap (outcome_before false start.lexer) (sym (append-nil at.0)) ∙ (at.3 false [] ∙ outcome_before-nil false now.lexer),
+        ),
+  )
   find_fails left_next line _ f = absurd f

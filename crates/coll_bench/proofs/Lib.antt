@@ -5,6 +5,7 @@ pub mod HearingLemmas
 pub mod HistoryLemmas
 pub mod LineCounts
 pub mod LookUps
+pub mod NextSteps
 pub mod PlaceLookUps
 pub mod PlacingLemmas
 pub mod Sameness

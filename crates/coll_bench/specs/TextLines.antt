@@ -1,7 +1,7 @@
 -- The lines of a text, taken one after another: physical ones by a reader, and logical ones by a lexer.
 use Rattle.std.specs.Prelude.{◌≡◌, ℕ, ◌+◌, ◌<◌, Bool, true, false, List, [], ◌∷◌, ◌++◌, length, Option, Some, None, Result, Ok, Err}
 use Rattle.coll_lex.specs.LineReading as reading
-use Rattle.coll_lex.specs.LogicalLines.{LexerState, LogicalLine, number_of, fed, outside, logical_lines}
+use Rattle.coll_lex.specs.LogicalLines.{LexerState, LogicalLine, number_of, fed, outside, left_open, logical_lines}
 use Rattle.coll_lex.specs.PhysicalLines.{lines_of, IsInLine}
 use Rattle.coll_lex.specs.declared.tokens.Line.{Line}
 use Rattle.coll_lex.specs.declared.tokens.TheConstants.{MOST_LINE_BYTES, MOST_LINES}
@@ -157,3 +157,9 @@ Nexts old new left left_after (Ok None) =
     (text : List ℕ) → ahead_of old left ≡ Some text →
     (logical_lines [] true old.lexer (lines_of text) ≡ []) × (new.lexer.count ≡ old.lexer.count + length (lines_of text))
 Nexts old new left left_after (Err fault) = NextFails old left left_after fault.line fault.cause
+
+-- a text that ends leaves a line open, which is at fault
+abbrev pub LeavesOpen : LexerState → LoadFault → Type 0
+LeavesOpen s fault =
+    (fault.cause ≡ Lex lex.DanglingEscape)
+    × (first : List ℕ) × (left_open s.line ≡ record { number = fault.line; first = first; tokens = Err lex.DanglingEscape } ∷ [])

@@ -5,9 +5,9 @@
 //! (`specs/TextLines.antt`). Each call takes lines up to the next one that matters: the one at which the category
 //! begins, or the next logical line.
 
-ghost use Rattle.std.specs.Prelude.{◌≡◌, ◌≢◌, ◌≤◌, ◌+◌, ◌<◌, None, min, IfOk, OnOk};
+ghost use Rattle.std.specs.Prelude.{◌≡◌, ◌≢◌, ◌≤◌, ◌+◌, ◌<◌, [], None, min, IsSome, IfOk, IfErr, OnOk};
 ghost use Rattle.coll_lex.specs.LineReading.{no_line};
-ghost use Rattle.coll_lex.specs.LogicalLines.{first_state, number_of};
+ghost use Rattle.coll_lex.specs.LogicalLines.{first_state, number_of, left_open};
 ghost use Rattle.coll_bench.specs.Loads.{CountsFault};
 
 use super::taken::Taken;
@@ -38,7 +38,7 @@ impl Model for TextLines {
 }
 
 impl TextLines {
-    ghost use Rattle.coll_bench.specs.TextLines.{Advances, Takes, CountsTaken, TakesOutside, CountsOutside, Finds, Nexts};
+    ghost use Rattle.coll_bench.specs.TextLines.{Advances, Takes, CountsTaken, TakesOutside, CountsOutside, Finds, LeavesOpen, Nexts};
 
     /// The lines of a text from its first on.
     pub fn new(alloc: Global) -> Result<TextLines, AllocError>
@@ -83,6 +83,26 @@ impl TextLines {
         }
     }
 
+    /// Takes the lines up to the end of the next logical line that has a token, and answers it; none at the end of the text.
+    pub fn next_line<R: Source>(&mut self, input: &mut R) -> Result<Option<Line>, LoadFault>
+        requires { self.old.reader.stop ≡ None }
+        ensures line { Nexts self.old self.new (R.left input.old) (R.left input.new) result }
+        ensures counts { IfOk result (λ line. IsSome line → self.old.lexer.count < MOST_LINES × (self.old.lexer.count < self.new.lexer.count)) }
+        ensures errors { CountsFault (R.failed input.old) (R.failed input.new) result }
+        ensures goes_on { OnOk result (self.new.reader.stop ≡ None) }
+    {
+        'lines: loop {
+            match self.take_line(input)? {
+                Taken::Whole(line) => return Ok(Some(line)),
+                Taken::NoLine => {}
+                Taken::End => {
+                    self.end()?;
+                    return Ok(None);
+                }
+            }
+        }
+    }
+
     /// The number that a fault of the next physical line carries.
     fn next_number(&self) -> u32
         ensures { result ≡ number_of self.now.lexer }
@@ -90,6 +110,25 @@ impl TextLines {
         match self.lexer.pending() {
             Some(number) => number,
             None => self.count + 1,
+        }
+    }
+
+    /// Ends the text: a line that a continuation keeps open is at fault.
+    fn end(&mut self) -> Result<(), LoadFault>
+        ensures ok { OnOk result (left_open self.old.lexer.line ≡ []) }
+        ensures err { IfErr result (LeavesOpen self.old.lexer) }
+        ensures count { self.new.lexer.count ≡ self.old.lexer.count }
+        ensures reader { self.new.reader ≡ self.old.reader }
+    {
+        let number = self.next_number();
+        match self.lexer.finish() {
+            Ok(()) => return Ok(()),
+            Err(fault) => {
+                return Err(LoadFault {
+                    line: number,
+                    cause: LoadCause::Lex(fault),
+                });
+            }
         }
     }
 

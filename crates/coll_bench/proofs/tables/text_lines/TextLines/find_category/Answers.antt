@@ -10,7 +10,7 @@ pub lines-init : goal.lines-init
 lines-init g c = record {
   found = finding_starts c.args.self.now (g.R.Source.left c.args.input.now);
   errors = refl;
-  goes_on = c.requires
+  goes_on = c.requires;
 }
 
 pub returns-in_err-begins-clause-found : goal.returns-in_err-begins-clause-found
@@ -23,7 +23,7 @@ returns-in_default-clause-found g c =
     let left = g.R.Source.left in
     let line = subst (λ (o : Option Bool). TakesOutside c.lines.self c.take_outside.new.self (left c.lines.input) (left c.take_outside.new.input) (Ok o)) c.in_default.is c.in_ok-begins.ensures.line in
     none_found c.args.self.now c.lines.self (left c.args.input.now) (left c.lines.input) c.lines.invariant.found c.self.inside.count (left c.take_outside.new.input) line.0
-        (c.self.invariant.0 ∙ (ap (λ (t : TextState). t.lexer.count) c.self.view_is ∙ ap (λ s. s.count) line.1))
+    (c.self.invariant.0 ∙ (ap (λ (t : TextState). t.lexer.count) c.self.view_is ∙ ap (λ s. s.count) line.1))
 
 pub returns-then-begins-clause-found : goal.returns-then-begins-clause-found
 returns-then-begins-clause-found g c =
@@ -42,5 +42,5 @@ lines-preserved g c =
     record {
       found = finding_more c.args.self.now c.lines.self (left c.args.input.now) (left c.lines.input) c.lines.invariant.found c.take_outside.new.self (left c.take_outside.new.input) line.0 line.1 counts;
       errors = c.in_ok-begins.ensures.errors ∙ c.lines.invariant.errors;
-      goes_on = c.in_ok-begins.ensures.goes_on
+      goes_on = c.in_ok-begins.ensures.goes_on;
     }

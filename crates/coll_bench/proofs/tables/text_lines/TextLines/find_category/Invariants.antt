@@ -8,7 +8,7 @@ abbrev pub invariant-lines : goal.invariant-lines
 invariant-lines g l = record {
   found : Finding l.initial.self l.self (g.R.Source.left l.initial.input) (g.R.Source.left l.input);
   errors : g.R.Source.failed l.input ≡ g.R.Source.failed l.initial.input;
-  goes_on : l.self.reader.stop ≡ None
+  goes_on : l.self.reader.stop ≡ None;
 }
 
 abbrev pub decreases-lines : goal.decreases-lines

@@ -14,21 +14,21 @@ returns-in_err-read_line-clause-line g c =
 pub invariant_of-self : goal.invariant_of-self
 invariant_of-self g c =
     count_kept c.self.inside.count c.self.inside.lexer.count c.feed-answer.new.self.count c.one_more-self-inside.result c.self.invariant.0 c.one_more-self-inside.ensures
-        (fed-count c.self.inside.lexer c.line.result.now c.in-Ok-Some.field-0 c.feed-answer.new.self c.in-Ok-Some.ensures.ok)
+    (fed-count c.self.inside.lexer c.line.result.now c.in-Ok-Some.field-0 c.feed-answer.new.self c.in-Ok-Some.ensures.ok)
 
 pub invariant_of-self-in-Ok-None : goal.invariant_of-self-in-Ok-None
 invariant_of-self-in-Ok-None g c =
     count_kept c.self.inside.count c.self.inside.lexer.count c.feed-answer.new.self.count c.one_more-self-inside.result c.self.invariant.0 c.one_more-self-inside.ensures
-        (fed-count c.self.inside.lexer c.line.result.now c.in-Ok-None.field-0 c.feed-answer.new.self c.in-Ok-None.ensures.ok)
+    (fed-count c.self.inside.lexer c.line.result.now c.in-Ok-None.field-0 c.feed-answer.new.self c.in-Ok-None.ensures.ok)
 
 pub returns-in-Ok-Some-clause-counts : goal.returns-in-Ok-Some-clause-counts
 returns-in-Ok-Some-clause-counts g c =
     let one = counts_one c.self.inside.count c.self.inside.lexer c.feed-answer.new.self c.self.invariant.0 c.self.invariant.1
-        (fed-count c.self.inside.lexer c.line.result.now c.in-Ok-Some.field-0 c.feed-answer.new.self c.in-Ok-Some.ensures.ok) (fed-room c.self.inside.lexer c.line.result.now c.in-Ok-Some.field-0 c.feed-answer.new.self c.in-Ok-Some.ensures.ok) in
+    (fed-count c.self.inside.lexer c.line.result.now c.in-Ok-Some.field-0 c.feed-answer.new.self c.in-Ok-Some.ensures.ok) (fed-room c.self.inside.lexer c.line.result.now c.in-Ok-Some.field-0 c.feed-answer.new.self c.in-Ok-Some.ensures.ok) in
     subst (λ s. CountsOne s c.feed-answer.new.self) (ap (λ (t : TextState). t.lexer) c.self.view_is ∙ c.read_line.ensures.lexer) one
 
 pub returns-in-Ok-None-clause-counts : goal.returns-in-Ok-None-clause-counts
 returns-in-Ok-None-clause-counts g c =
     let one = counts_one c.self.inside.count c.self.inside.lexer c.feed-answer.new.self c.self.invariant.0 c.self.invariant.1
-        (fed-count c.self.inside.lexer c.line.result.now c.in-Ok-None.field-0 c.feed-answer.new.self c.in-Ok-None.ensures.ok) (fed-room c.self.inside.lexer c.line.result.now c.in-Ok-None.field-0 c.feed-answer.new.self c.in-Ok-None.ensures.ok) in
+    (fed-count c.self.inside.lexer c.line.result.now c.in-Ok-None.field-0 c.feed-answer.new.self c.in-Ok-None.ensures.ok) (fed-room c.self.inside.lexer c.line.result.now c.in-Ok-None.field-0 c.feed-answer.new.self c.in-Ok-None.ensures.ok) in
     subst (λ s. CountsOne s c.feed-answer.new.self) (ap (λ (t : TextState). t.lexer) c.self.view_is ∙ c.read_line.ensures.lexer) one

@@ -14,10 +14,10 @@ returns-in_err-read_line-clause-line g c =
 pub invariant_of-self : goal.invariant_of-self
 invariant_of-self g c =
     count_kept c.self.inside.count c.self.inside.lexer.count c.outside-answer.new.self.count c.one_more-self-inside.result c.self.invariant.0 c.one_more-self-inside.ensures
-        (outside_count c.self.inside.lexer c.outside-answer.new.self c.line.result.now c.in-Ok.begins c.in-Ok.ensures.ok)
+    (outside_count c.self.inside.lexer c.outside-answer.new.self c.line.result.now c.in-Ok.begins c.in-Ok.ensures.ok)
 
 pub returns-in-Ok-clause-counts : goal.returns-in-Ok-clause-counts
 returns-in-Ok-clause-counts g c =
     let one = counts_one c.self.inside.count c.self.inside.lexer c.outside-answer.new.self c.self.invariant.0 c.self.invariant.1
-        (outside_count c.self.inside.lexer c.outside-answer.new.self c.line.result.now c.in-Ok.begins c.in-Ok.ensures.ok) (outside_room c.self.inside.lexer c.outside-answer.new.self c.line.result.now c.in-Ok.begins c.in-Ok.ensures.ok) in
+    (outside_count c.self.inside.lexer c.outside-answer.new.self c.line.result.now c.in-Ok.begins c.in-Ok.ensures.ok) (outside_room c.self.inside.lexer c.outside-answer.new.self c.line.result.now c.in-Ok.begins c.in-Ok.ensures.ok) in
     subst (λ s. CountsOne s c.outside-answer.new.self) (ap (λ (t : TextState). t.lexer) c.self.view_is ∙ c.read_line.ensures.lexer) one
