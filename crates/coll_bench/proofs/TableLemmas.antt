@@ -2,16 +2,18 @@
 use Rattle.std.proofs.Common.{◌≡◌, ℕ, zero, suc, ◌<◌, ◌≤◌, true, false, ◌||◌, IsTrue, List, [], ◌∷◌, ◌++◌, length, get_or, take, sym, ap, subst, ◌∙◌, refl, arith, length-append}
 use Rattle.std.proofs.lemmas.Bool.{false≢true}
 use Rattle.std.proofs.lemmas.List.{map-append}
-use Rattle.coll_bench.proofs.Sameness.{same_id_decides, same_id_symmetric, same_id_itself, distinct_push, distinct_at}
+use Rattle.std.proofs.lemmas.List.Folds.{list_any-append}
+use Rattle.coll_bench.proofs.Sameness.{same_name_symmetric, same_id_decides, same_id_symmetric, same_id_itself, distinct_push, distinct_at}
 use Rattle.coll_bench.proofs.EntryLemmas.{by_bool, turned, taken_out, others_without, distinct_without, known_without, none_without, length_without, distinct_after, known_after, length_after, has_after}
-use Rattle.coll_bench.specs.Identifier.{same_id, has_id}
+use Rattle.coll_bench.specs.Identifier.{same_name, same_id, has_name, has_id}
 use Rattle.coll_bench.specs.Table.{Collation, ids_of, is_known, is_known_among, is_placed}
 use Rattle.coll_bench.specs.WellFormed.{AreDistinct, AreKnown, IsWellFormed}
 use Rattle.coll_bench.specs.Placement.{entries_after, entries_without}
 use Rattle.coll_bench.specs.Sound.{collation_of, AddsId, IsSoundTable}
 use Rattle.coll_bench.specs.declared.syntax.identifiers.Id.{Id}
+use Rattle.coll_bench.specs.declared.syntax.identifiers.Id.TheVariants.{Char, Named, Undefined}
 use Rattle.coll_bench.specs.declared.tables.entries.Entry.{Entry}
-use Rattle.coll_bench.specs.declared.tables.limits.TheConstants.{MOST_ENTRIES}
+use Rattle.coll_bench.specs.declared.tables.limits.TheConstants.{MOST_ENTRIES, MOST_DECLARATIONS}
 
 -- an entry of an identifier
 abbrev pub entry_of : Id → Entry
@@ -139,3 +141,25 @@ copied_new declared entries copy i item id distinct copied below at same =
     ap (λ (t : Collation). is_placed t id) copied
     ∙ (ap (has_id (ids_of (take i entries))) (same ∙ ap (λ (e : Entry). e.id) at)
     ∙ distinct_at same_id same_id_symmetric (λ (e : Entry). e.id) entries i item distinct below)
+
+-- what may be used may still be used where one more name is declared
+known_wider : (declared : List (List ℕ)) (name : List ℕ) (ids : List Id) → AreKnown declared ids → AreKnown (declared ++ name ∷ []) ids
+known_wider declared name [] k = tt
+known_wider declared name (id ∷ ids) k = (wider id k.0, known_wider declared name ids k.1) where
+  wider : (id : Id) → IsTrue (is_known_among declared id) → IsTrue (is_known_among (declared ++ name ∷ []) id)
+  wider (Char c) h = refl
+  wider (Named n) h = list_any-append (same_name n) declared (name ∷ []) ∙ ap (λ b. b || (same_name n name || false)) h
+  wider Undefined h = refl
+
+-- a sound table with one more name
+pub sound_declared : (declared : List (List ℕ)) (entries : List Entry) (placed : List Id) (name : List ℕ) → IsSoundTable declared entries placed → has_name declared name ≡ false → length declared < MOST_DECLARATIONS → IsSoundTable (declared ++ name ∷ []) entries placed
+sound_declared declared entries placed name s new room = record {
+  well_formed = record {
+    distinct_names = distinct_push same_name same_name_symmetric declared name s.well_formed.distinct_names new;
+    distinct_entries = s.well_formed.distinct_entries;
+    known = known_wider declared name (ids_of entries) s.well_formed.known;
+    few_entries = s.well_formed.few_entries;
+    few_declarations = omega (arith, length-append declared (name ∷ []));
+  };
+  placed_are = s.placed_are;
+}

@@ -23,3 +23,4 @@ pub mod Loads
 pub mod LoadFaults
 pub mod TextLines
 pub mod Drafts
+pub mod CategoryReading

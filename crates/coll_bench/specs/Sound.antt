@@ -20,6 +20,10 @@ pub record IsSoundTable (declared : List (List ℕ)) (entries : List Entry) (pla
   pub well_formed : IsWellFormed (collation_of declared entries)
   pub placed_are : (id : Id) → has_id placed id ≡ has_id (ids_of entries) id
 
+-- the table with one more name
+abbrev pub with_declared : Collation → List ℕ → Collation
+with_declared table name = record table { declared = table.declared ++ name ∷ [] }
+
 -- the table with one more entry, after all others
 abbrev pub with_last : Collation → Id → Collation
 with_last table id = collation_of table.declared (entries_of table ++ record { id = id } ∷ [])

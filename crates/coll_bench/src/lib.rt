@@ -15,5 +15,5 @@ pub use syntax::{
     DeltaLine, Id, OrderLine, Statement, SyntaxFault, TableLine, parse_delta_line, parse_table_line,
 };
 pub use tables::{
-    Entry, LoadCause, LoadFault, MOST_DECLARATIONS, MOST_ENTRIES, Record, Refusal, Table,
+    Entry, LoadCause, LoadFault, MOST_DECLARATIONS, MOST_ENTRIES, Record, Refusal, Table, load,
 };

@@ -17,7 +17,7 @@ lines-init g c = record {
   next = nexting_starts c.args.self.now (g.R.Source.left c.args.input.now);
   counts = search rules;
   errors = refl;
-  goes_on = c.requires
+  goes_on = c.requires;
 }
 
 pub returns-in_err-line-clause-line : goal.returns-in_err-line-clause-line
@@ -41,7 +41,7 @@ lines-preserved g c =
       next = nexting_more c.args.self.now c.lines.self (left c.args.input.now) (left c.lines.input) c.lines.invariant.next c.take_line.new.self (left c.take_line.new.input) line.0 line.1 counts;
       counts = omega (arith, c.lines.invariant.counts, counts.1);
       errors = c.in_ok-line.ensures.errors ∙ c.lines.invariant.errors;
-      goes_on = c.in_ok-line.ensures.goes_on
+      goes_on = c.in_ok-line.ensures.goes_on;
     }
 
 pub returns-in_err-end-in-End-clause-line : goal.returns-in_err-end-in-End-clause-line
@@ -52,7 +52,7 @@ returns-in_err-end-in-End-clause-line g c =
     let fault = c.in_err-end-in-End.field-0.0 in
     let open_line = subst (λ (s : LexerState). LeavesOpen s fault) line.1 c.in_err-end-in-End.ensures.err in
     rw (p.1, p.2) (subst (λ (cause : LoadCause). NextFails c.args.self.now (left c.args.input.now) (left c.take_line.new.input) fault.line cause) (sym open_line.0)
-        (left_behind c.args.self.now c.lines.self (left c.args.input.now) (left c.lines.input) c.lines.invariant.next (left c.take_line.new.input) fault.line line.0 (open_line.1, open_line.2)))
+    (left_behind c.args.self.now c.lines.self (left c.args.input.now) (left c.lines.input) c.lines.invariant.next (left c.take_line.new.input) fault.line line.0 (open_line.1, open_line.2)))
 
 pub returns-in-End-clause-line : goal.returns-in-End-clause-line
 returns-in-End-clause-line g c =
@@ -60,4 +60,4 @@ returns-in-End-clause-line g c =
     let line = subst (λ (t : Taken). Takes c.lines.self c.take_line.new.self (left c.lines.input) (left c.take_line.new.input) (Ok t)) c.in-End.is c.in_ok-line.ensures.line in
     let none = subst (λ (s : LexerState). left_open s.line ≡ []) line.1 c.in_ok-end-in-End.ensures.ok in
     none_next c.args.self.now c.lines.self (left c.args.input.now) (left c.lines.input) c.lines.invariant.next c.end.new.self (left c.take_line.new.input) line.0 none
-        (c.end.ensures.count ∙ ap (λ (s : LexerState). s.count) line.1)
+    (c.end.ensures.count ∙ ap (λ (s : LexerState). s.count) line.1)
