@@ -1,5 +1,5 @@
 -- The lines before the category, one after another: what is known after some of them, and what one more adds.
-use Rattle.std.proofs.Common.{◌≡◌, ℕ, ◌+◌, Bool, true, false, List, [], ◌∷◌, ◌++◌, length, Option, Some, None, Result, Ok, Err, sym, ap, subst, ◌∙◌, refl, arith, append_assoc, append-nil, length-append}
+use Rattle.std.proofs.Common.{◌≡◌, ℕ, ◌+◌, Bool, true, false, List, [], ◌∷◌, ◌++◌, length, Option, Some, Ok, Err, sym, ap, ◌∙◌, refl, arith, append_assoc, append-nil, length-append}
 use Rattle.coll_lex.specs.PhysicalLines.{lines_of}
 use Rattle.coll_lex.specs.LogicalLines.{LexerState, number_of, outside, logical_lines}
 use Rattle.coll_lex.specs.declared.faults.LexFault.{LexFault}

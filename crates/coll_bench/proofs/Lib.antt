@@ -1,9 +1,11 @@
 pub mod BlockLemmas
+pub mod CategorySteps
 pub mod EntryLemmas
 pub mod FindSteps
 pub mod HearingLemmas
 pub mod HistoryLemmas
 pub mod LineCounts
+pub mod LoadLemmas
 pub mod LookUps
 pub mod NextSteps
 pub mod PlaceLookUps

@@ -1,12 +1,11 @@
 -- Where a line could not be read, it could not be taken.
-use Rattle.std.proofs.Common.{◌≡◌, ◌≢◌, ℕ, ◌+◌, ◌<◌, ◌≤◌, Bool, List, ◌∷◌, length, min, Option, Some, Ok, Err, sym, ap, ◌∙◌, arith}
-use Rattle.coll_lex.specs.PhysicalLines.{lines_of}
+use Rattle.std.proofs.Common.{◌≡◌, ◌≢◌, ℕ, ◌+◌, ◌<◌, ◌≤◌, List, length, min, Option, sym, ap, ◌∙◌, arith}
 use Rattle.coll_lex.specs.declared.tokens.TheConstants.{MOST_LINE_BYTES, MOST_LINES}
 use Rattle.coll_lex.specs.declared.faults.LexFault.TheVariants as lex
 use Rattle.coll_lex.specs.LogicalLines.{LexerState}
 use Rattle.coll_lex.proofs.LineEnds.{fed-too_long}
 use Rattle.coll_bench.proofs.LineCounts.{outside_too_long}
-use Rattle.coll_bench.specs.TextLines.{TextState, ahead_of, FirstFails, AdvanceFails, TakeFails, FailsOutside, FailsFed, CountsOne}
+use Rattle.coll_bench.specs.TextLines.{TextState, FirstFails, AdvanceFails, TakeFails, FailsOutside, FailsFed, CountsOne}
 use Rattle.coll_bench.specs.declared.tables.load_faults.LoadCause.{LoadCause}
 use Rattle.coll_bench.specs.declared.tables.load_faults.LoadCause.TheVariants.{Lex, ReadFault}
 

@@ -1,5 +1,5 @@
 -- The lines of a category, read one after another: what an answer says of the text that was ahead.
-use Rattle.std.specs.Prelude.{◌≡◌, ℕ, ◌+◌, Bool, true, false, List, [], ◌++◌, length, Option, Some, Result, Ok, Err}
+use Rattle.std.specs.Prelude.{◌≡◌, ℕ, ◌+◌, Bool, true, false, List, [], length, Option, Some, Result, Ok, Err}
 use Rattle.coll_lex.specs.LogicalLines.{logical_lines}
 use Rattle.coll_lex.specs.PhysicalLines.{lines_of}
 use Rattle.coll_lex.specs.declared.tokens.Line.{Line}

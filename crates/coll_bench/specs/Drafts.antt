@@ -1,7 +1,7 @@
 -- What is kept of the lines of a category while it is read, and what one more line does to it.
 use Rattle.std.specs.Prelude.{◌≡◌, Bool, List, [], ◌∷◌, ◌++◌, Some, None}
 use Rattle.coll_bench.specs.Table.{Collation}
-use Rattle.coll_bench.specs.Reading.{is_open, has_start, is_end, table_of, line_cause}
+use Rattle.coll_bench.specs.Reading.{is_open, has_start, table_of, line_cause}
 use Rattle.coll_bench.specs.declared.syntax.table_lines.TableLine.{TableLine}
 use Rattle.coll_bench.specs.declared.tables.load_faults.LoadCause.{LoadCause}
 use Rattle.coll_bench.specs.declared.tables.load_faults.LoadCause.TheVariants.{NoRules, DeclaredTwice, NotDeclared, PlacedTwice, OutsideOrder, Full, OutOfMemory}

@@ -1,9 +1,7 @@
 -- The numbers and the names of the causes of a refused load, as messages show them.
 use Rattle.std.specs.Prelude.{ℕ, List, codes}
 use Rattle.coll_lex.specs.Faults.{lex_fault_number, lex_fault_name}
-use Rattle.coll_lex.specs.declared.faults.LexFault.TheVariants as lex
 use Rattle.coll_bench.specs.SyntaxFaults.{syntax_fault_number, syntax_fault_name}
-use Rattle.coll_bench.specs.declared.syntax.syntax_faults.SyntaxFault.TheVariants as syntax
 use Rattle.coll_bench.specs.declared.tables.load_faults.LoadCause.{LoadCause}
 use Rattle.coll_bench.specs.declared.tables.load_faults.LoadCause.TheVariants.{Lex, Syntax, NoCategory, NoRules, DeclaredTwice, NotDeclared, PlacedTwice, OutsideOrder, Full, NoEnd, ReadFault, OutOfMemory}
 

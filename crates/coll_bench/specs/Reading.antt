@@ -9,7 +9,6 @@ use Rattle.coll_bench.specs.Identifier.{has_name, has_id}
 use Rattle.coll_bench.specs.TableLines.{table_line}
 use Rattle.coll_bench.specs.Table.{Collation, ids_of, is_known_among}
 use Rattle.coll_bench.specs.Sound.{collation_of}
-use Rattle.coll_bench.specs.declared.syntax.statements.OrderLine.{OrderLine}
 use Rattle.coll_bench.specs.declared.syntax.table_lines.TableLine.{TableLine}
 use Rattle.coll_bench.specs.declared.syntax.table_lines.TableLine.TheVariants.{Symbol, OrderStart, OrderEnd, Order, EndCategory}
 use Rattle.coll_bench.specs.declared.syntax.syntax_faults.SyntaxFault.{SyntaxFault}

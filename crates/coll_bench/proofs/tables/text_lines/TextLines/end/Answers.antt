@@ -1,6 +1,6 @@
 -- The line that is open where the text ends.
-use Rattle.std.proofs.Common.{◌≡◌, IsSome, sym, ap, subst, ◌∙◌}
-use Rattle.coll_lex.specs.LogicalLines.{LexerState, pending, number_of}
+use Rattle.std.proofs.Common.{IsSome, ap, subst}
+use Rattle.coll_lex.specs.LogicalLines.{pending}
 use Rattle.coll_bench.specs.TextLines.{TextState}
 use Rattle.coll_bench.specs.declared.tables.load_faults.LoadCause.TheVariants.{Lex}
 use Rattle.coll_bench.proofs.NextSteps.{leaves_open}

@@ -1,7 +1,6 @@
 -- One line before the category more, or the end of the search.
-use Rattle.std.proofs.Common.{Bool, false, true, Option, Some, None, Ok, refl, sym, ap, subst, ◌∙◌, ◌≡◌}
+use Rattle.std.proofs.Common.{Bool, false, true, Option, Some, Ok, refl, ap, subst, ◌∙◌, ◌≡◌}
 use Rattle.std.proofs.lemmas.Result.{err_from_is_err_and}
-use Rattle.coll_lex.specs.LogicalLines.{outside}
 use Rattle.coll_bench.specs.TextLines.{TextState, TakesOutside, CountsOutside}
 use Rattle.coll_bench.proofs.FindSteps.{finding_starts, finding_more, found, none_found, find_fails}
 use Rattle.coll_bench.proofs.tables.text_lines.TextLines.find_category.Goals as goal

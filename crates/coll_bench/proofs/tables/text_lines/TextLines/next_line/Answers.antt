@@ -3,12 +3,9 @@ use Rattle.std.proofs.Common.{◌≡◌, [], refl, sym, ap, subst, ◌∙◌, ar
 use Rattle.std.specs.Prelude.{Ok}
 use Rattle.std.proofs.lemmas.Result.{err_from_is_err_and}
 use Rattle.coll_lex.specs.LogicalLines.{LexerState, left_open}
-use Rattle.coll_lex.specs.declared.faults.LexFault.TheVariants.{DanglingEscape}
-use Rattle.coll_bench.specs.TextLines.{TextState, Takes, CountsTaken, NextFails, LeavesOpen}
+use Rattle.coll_bench.specs.TextLines.{Takes, CountsTaken, NextFails, LeavesOpen}
 use Rattle.coll_bench.specs.declared.tables.load_faults.LoadCause.{LoadCause}
-use Rattle.coll_bench.specs.declared.tables.load_faults.LoadCause.TheVariants.{Lex}
 use Rattle.coll_bench.specs.declared.tables.taken.Taken.{Taken}
-use Rattle.coll_bench.specs.declared.tables.taken.Taken.TheVariants.{Whole, NoLine, End}
 use Rattle.coll_bench.proofs.NextSteps.{nexting_starts, nexting_more, next_given, none_next, left_behind, next_fails}
 use Rattle.coll_bench.proofs.tables.text_lines.TextLines.next_line.Goals as goal
 

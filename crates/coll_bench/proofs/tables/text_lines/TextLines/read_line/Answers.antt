@@ -1,8 +1,8 @@
 -- What the reader answers, said of the lines of the text.
 use Rattle.std.proofs.Common.{◌≡◌, ◌<◌, None, sym, subst, length, Ok}
 use Rattle.coll_lex.specs.declared.tokens.TheConstants.{MOST_LINE_BYTES}
-use Rattle.coll_bench.specs.TextLines.{TextState, Advances, FirstFails, CutShort}
-use Rattle.coll_bench.proofs.TextSteps.{advanced, stops_long, stops_short}
+use Rattle.coll_bench.specs.TextLines.{TextState, Advances, FirstFails}
+use Rattle.coll_bench.proofs.TextSteps.{advanced, stops_long}
 use Rattle.coll_bench.proofs.tables.text_lines.TextLines.read_line.Goals as goal
 
 pub returns-in-Ok-clause-line : goal.returns-in-Ok-clause-line
