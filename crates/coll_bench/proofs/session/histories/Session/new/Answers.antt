@@ -1,5 +1,6 @@
 -- A session that has just begun keeps nothing.
-use Rattle.std.proofs.Common.{arith}
+use Rattle.std.proofs.Common.{ap, ◌∙◌, subst, sym, arith}
+use Rattle.coll_bench.specs.Kept.{turned_back, Leads}
 use Rattle.coll_bench.proofs.HistoryLemmas.{LeadsOn_none, Leads_none, history_begun}
 use Rattle.coll_bench.proofs.session.histories.Session.new.Goals as goal
 
@@ -8,7 +9,7 @@ invariant_of-result c = record {
   leads = Leads_none c.args.table _ c.new.ensures.items;
   leads_on = LeadsOn_none c.args.table _ c.new-2.ensures.items;
   few = omega (arith, c.new.ensures.len);
-  room = omega (arith, c.new.ensures.len, c.new-2.ensures.len);
+  room = omega (arith, c.new.ensures.len, c.new-2.ensures.len)
 }
 
 pub returns : goal.returns
