@@ -5,8 +5,8 @@ use Rattle.std.specs.Option.{option_map}
 use Rattle.std.proofs.Math.Dec.{leb-suc-suc, leb-suc-zero}
 use Rattle.coll_lex.specs.declared.faults.LexFault.TheVariants as lex
 use Rattle.coll_bench.specs.Gathered.{Gathered}
-use Rattle.coll_bench.specs.Units.{Block, opened, with_line, is_want_of_memory, wants_memory, some_wants_memory, is_starved, and_line, order_lines, block_of, targeted, statement_of, requested, block_request, left_open, dropped_requests}
-use Rattle.coll_bench.specs.OpenBlock.{gathered, kept, first_fault, spoiled, lengthened, joined, begun_spoiled, kept_request, left_spoiled, kept_left_open, kept_dropped}
+use Rattle.coll_bench.specs.Units.{Block, opened, with_line, is_want_of_memory, wants_memory, some_wants_memory, is_starved, and_line, order_lines, block_of, targeted, statement_of, requested, block_request, left_open, dropped_faults, end_faults, is_end_of_text, last_faults}
+use Rattle.coll_bench.specs.OpenBlock.{gathered, kept, first_fault, spoiled, lengthened, joined, begun_spoiled, kept_request, left_spoiled, kept_left_open, kept_dropped, StandsFor}
 use Rattle.coll_bench.specs.declared.session.blocks.TheConstants.{MOST_BLOCK_LINES}
 use Rattle.coll_bench.specs.declared.syntax.identifiers.Id.{Id}
 use Rattle.coll_bench.specs.declared.syntax.statements.OrderLine.{OrderLine}
@@ -145,3 +145,66 @@ unfolding kept statement_of
 block_request_kept block =
     kept_request_cases (is_starved block) block.target (order_lines MOST_BLOCK_LINES block.lines)
     ∙ ap (λ (r : Result Statement Fault). requested (if is_starved block then Err (fault.Lex lex.OutOfMemory) else r)) (sym (targeted_is block.target block.lines))
+
+-- what stands for an open block, or for none
+pub open_stands : (open_block : OpenBlock) (b : Option Block) (P : Option Block → Type 0) → ((block : Block) → open_block ≡ kept block → P (Some block)) → StandsFor (Some open_block) b → P b
+open_stands open_block (Some block) P each e = each block cc
+open_stands open_block None P each e = absurd cc
+
+pub none_stands : (b : Option Block) (P : Option Block → Type 0) → P None → StandsFor None b → P b
+none_stands (Some block) P each e = absurd cc
+none_stands None P each e = each
+
+left_open_cases : (starved : Bool) (target : Result Id Fault) (read : Result (List OrderLine) Fault) → (wants_memory target ≡ false → starved ≡ false → (f : Fault) → read ≡ Err f → is_want_of_memory f ≡ false) → (starved ≡ false → wants_memory target ≡ false)
+    → kept_left_open (if starved then no_memory else gathered target read) ≡ (if starved then fault.Lex lex.OutOfMemory else fault.BlockNotEnded)
+left_open_cases true target read sane fine = refl
+left_open_cases false (Ok target) (Ok lines) sane fine = refl
+left_open_cases false (Ok target) (Err f) sane fine = ap (λ (b : Bool). if b then fault.Lex lex.OutOfMemory else fault.BlockNotEnded) (sane refl refl f refl)
+left_open_cases false (Err f) read sane fine = ap (λ (b : Bool). if b then fault.Lex lex.OutOfMemory else fault.BlockNotEnded) (fine refl)
+
+dropped_cases : (starved : Bool) (target : Result Id Fault) (read : Result (List OrderLine) Fault) → (wants_memory target ≡ false → starved ≡ false → (f : Fault) → read ≡ Err f → is_want_of_memory f ≡ false) → (starved ≡ false → wants_memory target ≡ false)
+    → option_to_list (kept_dropped (if starved then no_memory else gathered target read)) ≡ (if starved then fault.Lex lex.OutOfMemory ∷ [] else [])
+dropped_cases true target read sane fine = refl
+dropped_cases false (Ok target) (Ok lines) sane fine = refl
+dropped_cases false (Ok target) (Err f) sane fine = ap (λ (b : Bool). option_to_list (if b then Some (fault.Lex lex.OutOfMemory) else None)) (sane refl refl f refl)
+dropped_cases false (Err f) read sane fine = ap (λ (b : Bool). option_to_list (if b then Some (fault.Lex lex.OutOfMemory) else None)) (fine refl)
+
+first_false : (a b : Bool) → (a || b) ≡ false → a ≡ false
+first_false true b e = cc
+first_false false b e = refl
+
+second_false : (a b : Bool) → (a || b) ≡ false → b ≡ false
+second_false true b e = cc
+second_false false b e = e
+
+and_line_err : (line : OrderLine) (read : Result (List OrderLine) Fault) (f : Fault) → and_line line read ≡ Err f → read ≡ Err f
+and_line_err line (Ok lines) f e = cc
+and_line_err line (Err g) f e = e
+
+-- the fault of a block's lines is no want of memory where no line has one
+order_lines_want : (room : ℕ) (lines : List (Result OrderLine Fault)) (f : Fault) → some_wants_memory lines ≡ false → order_lines room lines ≡ Err f → is_want_of_memory f ≡ false
+order_lines_want zero [] f none e = cc
+order_lines_want (suc room) [] f none e = cc
+order_lines_want zero (Err g ∷ lines) f none e = let same : f ≡ g = cc in ap is_want_of_memory same ∙ first_false (is_want_of_memory g) (some_wants_memory lines) none
+order_lines_want (suc room) (Err g ∷ lines) f none e = let same : f ≡ g = cc in ap is_want_of_memory same ∙ first_false (is_want_of_memory g) (some_wants_memory lines) none
+order_lines_want zero (Ok line ∷ lines) f none e = let same : f ≡ fault.Syntax syntax.BlockTooLong = cc in ap is_want_of_memory same
+order_lines_want (suc room) (Ok line ∷ lines) f none e = order_lines_want room lines f none (and_line_err line (order_lines room lines) f e)
+
+-- the fault of a block where the text ends, and where it is dropped, are those of what is kept of it
+pub left_open_kept : (block : Block) → kept_left_open (kept block) ≡ left_open block
+unfolding kept
+left_open_kept block =
+    left_open_cases (is_starved block) block.target (order_lines MOST_BLOCK_LINES block.lines)
+        (λ sane starved f e. order_lines_want MOST_BLOCK_LINES block.lines f (second_false (wants_memory block.target) (some_wants_memory block.lines) starved) e)
+        (λ starved. first_false (wants_memory block.target) (some_wants_memory block.lines) starved)
+
+pub dropped_kept : (block : Block) → option_to_list (kept_dropped (kept block)) ≡ dropped_faults (Some block)
+unfolding kept
+dropped_kept block =
+    dropped_cases (is_starved block) block.target (order_lines MOST_BLOCK_LINES block.lines)
+        (λ sane starved f e. order_lines_want MOST_BLOCK_LINES block.lines f (second_false (wants_memory block.target) (some_wants_memory block.lines) starved) e)
+        (λ starved. first_false (wants_memory block.target) (some_wants_memory block.lines) starved)
+
+pub end_faults-open : (continued : Bool) (block : Block) → end_faults continued (Some block) ≡ left_open block ∷ []
+end_faults-open true block = refl
+end_faults-open false block = refl

@@ -1,5 +1,5 @@
 -- What is heard of a line, by its characters and by the lexer's answer.
-use Rattle.std.proofs.Common.{◌≡◌, ℕ, ◌==◌, Bool, true, false, List, [], ◌∷◌, ◌++◌, length, Some, None, Option, Ok, Err, Result, refl, sym, ap, ◌∙◌, arith}
+use Rattle.std.proofs.Common.{◌≡◌, ℕ, ◌<◌, ◌==◌, Bool, true, false, List, [], ◌∷◌, ◌++◌, length, Some, None, Option, Ok, Err, Result, refl, sym, ap, ◌∙◌, arith}
 use Rattle.std.specs.Prelude.{chars, encode_utf8}
 use Rattle.std.specs.Str.{IsUtf8}
 use Rattle.std.proofs.lemmas.Str.{chars-nil, chars_past_char, IsUtf8-past_char}
@@ -8,11 +8,12 @@ use Rattle.std.proofs.Common.{◌≢◌, inl, inr, ⊎_elim}
 use Rattle.std.specs.Prelude.{◌⊎◌, if◌then◌else◌, option_map, is_some}
 use Rattle.coll_lex.specs.PhysicalLines.{without_return}
 use Rattle.coll_lex.specs.LogicalLines.{OpenLine, LexerState, pending, extended, first_line, dropped, fed, served, state_by}
+use Rattle.coll_lex.specs.declared.tokens.TheConstants.{MOST_LINES}
 use Rattle.coll_lex.specs.declared.tokens.Line.{Line}
 use Rattle.coll_lex.specs.declared.faults.LexFault.{LexFault}
 use Rattle.coll_lex.specs.declared.faults.LexFault.TheVariants as lex
 use Rattle.coll_lex.proofs.LineSteps.{first_line-fresh, first_line-continued, fed-open}
-use Rattle.coll_lex.proofs.LineEnds.{fed-whole}
+use Rattle.coll_lex.proofs.LineEnds.{fed-whole, fed-room}
 use Rattle.coll_bench.specs.SessionLines.{opening_of, is_command_word, tokens_heard, fault_heard, line_heard}
 use Rattle.coll_bench.specs.Hearing.{OpensAs, heard_by, Hears, no_memory, HearsTokens}
 use Rattle.coll_bench.specs.declared.session.hearing.Opening.{Opening}
@@ -74,40 +75,45 @@ want_or_not lex.BadCharDirective = inr (λ e. cc)
 want_or_not lex.TooManyLines = inr (λ e. cc)
 want_or_not lex.OutOfMemory = inl refl
 
-heard_starved : (s after : LexerState) (line : List ℕ) (opening : Opening) (heard : Heard) → opening ≡ opening_of (first_line s line) → after ≡ dropped s → heard ≡ line_heard opening (Err lex.OutOfMemory) → Hears true s after line (Some heard)
+not_starved : (s : LexerState) → false ≡ true → s.count ≡ MOST_LINES → ⊥
+not_starved s e full = false≢true e
+
+heard_starved : (s after : LexerState) (line : List ℕ) (opening : Opening) (heard : Heard) → opening ≡ opening_of (first_line s line) → after ≡ dropped s → heard ≡ line_heard opening (Err lex.OutOfMemory) → (s.count ≡ MOST_LINES → ⊥) → Hears true s after line (Some heard)
 unfolding served
-heard_starved s after line opening heard is stands was = record { heard_is = ap Some was ∙ ap (λ (o : Opening). Some (line_heard o (Err lex.OutOfMemory))) is; stands = stands }
+heard_starved s after line opening heard is stands was room = record { room = λ _. room; heard_is = ap Some was ∙ ap (λ (o : Opening). Some (line_heard o (Err lex.OutOfMemory))) is; stands = stands }
 
 heard_fault : (s after : LexerState) (line : List ℕ) (opening : Opening) (f : LexFault) (heard : Heard) → opening ≡ opening_of (first_line s line) → after ≡ dropped s → fed s line ≡ Err f → heard ≡ fault_heard opening f → Hears false s after line (Some heard)
 unfolding served
 heard_fault s after line opening f heard is stands e was = record {
+  room = not_starved s;
   heard_is = ap Some was ∙ ap (λ (o : Opening). Some (fault_heard o f)) is ∙ ap (heard_by (opening_of (first_line s line))) (sym e);
   stands = stands ∙ ap (state_by s) (sym e)
 }
 
 -- a line at fault
 pub hears_fault : (s after : LexerState) (line : List ℕ) (opening : Opening) (f : LexFault) (heard : Heard) → opening ≡ opening_of (first_line s line) → after ≡ dropped s
-    → (f ≢ lex.OutOfMemory → fed s line ≡ Err f) → heard ≡ fault_heard opening f → (starved : Bool) × Hears starved s after line (Some heard)
-hears_fault s after line opening f heard is stands e was =
-    ⊎_elim (λ (want : f ≡ lex.OutOfMemory). (true, heard_starved s after line opening heard is stands (was ∙ ap (fault_heard opening) want)))
+    → (f ≢ lex.OutOfMemory → fed s line ≡ Err f) → (f ≡ lex.OutOfMemory → s.count < MOST_LINES) → heard ≡ fault_heard opening f → (starved : Bool) × Hears starved s after line (Some heard)
+hears_fault s after line opening f heard is stands e room was =
+    ⊎_elim (λ (want : f ≡ lex.OutOfMemory). (true, heard_starved s after line opening heard is stands (was ∙ ap (fault_heard opening) want) (λ full. omega (arith, room want, full))))
         (λ (not_want : f ≢ lex.OutOfMemory). (false, heard_fault s after line opening f heard is stands (e not_want) was))
         (want_or_not f)
 
 -- a line that ends no logical line with a token
 pub hears_none : (s after : LexerState) (line : List ℕ) → fed s line ≡ Ok (None, after) → (starved : Bool) × Hears starved s after line None
 unfolding served
-hears_none s after line e = (false, record { heard_is = ap (heard_by (opening_of (first_line s line))) (sym e); stands = ap (state_by s) (sym e) })
+hears_none s after line e = (false, record { room = not_starved s; heard_is = ap (heard_by (opening_of (first_line s line))) (sym e); stands = ap (state_by s) (sym e) })
 
 heard_whole : (s after : LexerState) (line : List ℕ) (opening : Opening) (given : Line) (heard : Heard) → opening ≡ opening_of (first_line s line) → fed s line ≡ Ok (Some given, after) → heard ≡ tokens_heard opening given.tokens → Hears false s after line (Some heard)
 unfolding served
 heard_whole s after line opening given heard is e was = record {
+  room = not_starved s;
   heard_is = ap Some was ∙ ap (λ (o : Opening). Some (tokens_heard o given.tokens)) is ∙ ap (heard_by (opening_of (first_line s line))) (sym e);
   stands = ap (state_by s) (sym e)
 }
 
 whole_cases : (starved : Bool) (s after : LexerState) (line : List ℕ) (opening : Opening) (given : Line) (heard : Heard) → opening ≡ opening_of (first_line s line) → fed s line ≡ Ok (Some given, after)
     → heard ≡ (if starved then no_memory opening else tokens_heard opening given.tokens) → Hears starved s after line (Some heard)
-whole_cases true s after line opening given heard is e was = heard_starved s after line opening heard is (fed-whole s line given after e) was
+whole_cases true s after line opening given heard is e was = heard_starved s after line opening heard is (fed-whole s line given after e) was (fed-room s line (Some given) after e)
 whole_cases false s after line opening given heard is e was = heard_whole s after line opening given heard is e was
 
 -- a line that ends a logical line

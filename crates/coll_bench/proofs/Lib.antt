@@ -12,6 +12,8 @@ pub mod PlaceLookUps
 pub mod PlacingLemmas
 pub mod Sameness
 pub mod SectionLemmas
+pub mod ReplyLemmas
+pub mod ServingLemmas
 pub mod Spellings
 pub mod TableLemmas
 pub mod TakeLemmas

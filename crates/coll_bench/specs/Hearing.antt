@@ -1,6 +1,7 @@
 -- What is heard of one more physical line, and where the lexer then stands.
 use Rattle.std.specs.Prelude.{◌≡◌, ℕ, Bool, true, if◌then◌else◌, List, Option, Some, None, is_some, Result, Ok, Err}
 use Rattle.coll_lex.specs.LogicalLines.{LexerState, first_line, served, state_by}
+use Rattle.coll_lex.specs.declared.tokens.TheConstants.{MOST_LINES}
 use Rattle.coll_lex.specs.declared.tokens.Line.{Line}
 use Rattle.coll_lex.specs.declared.tokens.Token.{Token}
 use Rattle.coll_lex.specs.declared.faults.LexFault.{LexFault}
@@ -22,10 +23,11 @@ heard_by opening (Ok (None, after)) = None
 heard_by opening (Ok (Some line, after)) = Some (line_heard opening (Ok line.tokens))
 heard_by opening (Err f) = Some (line_heard opening (Err f))
 
--- what was heard of a physical line, which memory may have been refused to
+-- what was heard of a physical line, which memory may have been refused to, though not to a line too many
 pub record Hears (starved : Bool) (old new : LexerState) (line : List ℕ) (heard : Option Heard) : Type 0 where
   pub heard_is : heard ≡ heard_by (opening_of (first_line old line)) (served starved old line)
   pub stands : new ≡ state_by old (served starved old line)
+  pub room : starved ≡ true → old.count ≡ MOST_LINES → ⊥
 
 -- a line for which memory was refused
 abbrev pub no_memory : Opening → Heard

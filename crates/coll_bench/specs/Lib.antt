@@ -10,6 +10,8 @@ pub mod Placement
 pub mod Record
 pub mod Refusals
 pub mod Replay
+pub mod Replies
+pub mod Serving
 pub mod SessionFaults
 pub mod SessionLines
 pub mod Sound

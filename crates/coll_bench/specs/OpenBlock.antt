@@ -53,18 +53,22 @@ abbrev pub kept_request : OpenBlock → Request
 kept_request (Gathers g) = request.States (statement.Block g.target g.lines)
 kept_request (Spoiled f) = request.Refused f
 
-abbrev pub left_spoiled : Fault → Request
-left_spoiled f = if is_want_of_memory f then request.Refused (fault.Lex lex.OutOfMemory) else request.Refused fault.BlockNotEnded
+abbrev pub left_spoiled : Fault → Fault
+left_spoiled f = if is_want_of_memory f then fault.Lex lex.OutOfMemory else fault.BlockNotEnded
 
--- the unit of what is kept, where the text ends
-abbrev pub kept_left_open : OpenBlock → Request
-kept_left_open (Gathers g) = request.Refused fault.BlockNotEnded
+-- the fault of what is kept, where the text ends
+abbrev pub kept_left_open : OpenBlock → Fault
+kept_left_open (Gathers g) = fault.BlockNotEnded
 kept_left_open (Spoiled f) = left_spoiled f
 
--- the unit of what is kept, if it has one where the block is dropped
-abbrev pub kept_dropped : OpenBlock → Option Request
+-- the fault of what is kept, if it has one where the block is dropped
+abbrev pub kept_dropped : OpenBlock → Option Fault
 kept_dropped (Gathers g) = None
-kept_dropped (Spoiled f) = if is_want_of_memory f then Some (request.Refused (fault.Lex lex.OutOfMemory)) else None
+kept_dropped (Spoiled f) = if is_want_of_memory f then Some (fault.Lex lex.OutOfMemory) else None
+
+-- what is kept of a block, if one is open, stands for it
+abbrev pub StandsFor : Option OpenBlock → Option Block → Type 0
+StandsFor open_block block = open_block ≡ option_map kept block
 
 -- a line leaves what is kept of the block after it, and the unit that it completes
 pub record TakesLine (before : Option Block) (line : Heard) (after : Option OpenBlock) (completed : Option Request) : Type 0 where

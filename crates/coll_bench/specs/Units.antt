@@ -3,7 +3,7 @@
 -- A block begins at an accepted `reorder-after`, or at a refused line whose first physical line begins with that
 -- text, and ends at the next `reorder-end` or `reorder-after`, or refused line that begins with either. Its one
 -- answer comes where it ends.
-use Rattle.std.specs.Prelude.{ℕ, zero, suc, ◌==◌, Bool, true, false, ◌||◌, if◌then◌else◌, List, [], ◌∷◌, ◌++◌, Option, Some, None, Result, Ok, Err}
+use Rattle.std.specs.Prelude.{ℕ, zero, suc, ◌==◌, Bool, true, false, ◌||◌, if◌then◌else◌, List, [], ◌∷◌, ◌++◌, map, Option, Some, None, Result, Ok, Err}
 use Rattle.coll_lex.specs.declared.faults.LexFault.{LexFault}
 use Rattle.coll_lex.specs.declared.faults.LexFault.TheVariants as lex
 use Rattle.coll_lex.specs.Faults.{lex_fault_number}
@@ -141,33 +141,40 @@ block_after block (heard.Opens target) = Some (opened (Ok target))
 block_after block heard.Ends = None
 block_after block (heard.Orders line) = order_block block line
 
--- the unit of a block that the end of the text leaves open
-abbrev pub left_open : Block → Request
-left_open block = if is_starved block then request.Refused (fault.Lex lex.OutOfMemory) else request.Refused fault.BlockNotEnded
+-- the fault of a block that the end of the text leaves open
+abbrev pub left_open : Block → Fault
+left_open block = if is_starved block then fault.Lex lex.OutOfMemory else fault.BlockNotEnded
 
--- the units at the end of the text, where it is seen
-abbrev pub requests_at_end : Bool → Option Block → List Request
-requests_at_end false block = []
-requests_at_end true None = []
-requests_at_end true (Some block) = left_open block ∷ []
+-- the faults at the end of the text: that of the block that is open, or else of a line that is continued
+abbrev pub end_faults : (continued : Bool) → Option Block → List Fault
+end_faults true None = fault.Lex lex.DanglingEscape ∷ []
+end_faults false None = []
+end_faults continued (Some block) = left_open block ∷ []
 
--- a block that is dropped has no unit, but for a want of memory in it
-abbrev pub dropped_requests : Option Block → List Request
-dropped_requests None = []
-dropped_requests (Some block) = if is_starved block then request.Refused (fault.Lex lex.OutOfMemory) ∷ [] else []
+-- a block that is dropped has no fault, but for a want of memory in it
+abbrev pub dropped_faults : Option Block → List Fault
+dropped_faults None = []
+dropped_faults (Some block) = if is_starved block then fault.Lex lex.OutOfMemory ∷ [] else []
 
 -- a dangling escape is met at the end of the text alone
 abbrev pub is_end_of_text : LexFault → Bool
 is_end_of_text f = lex_fault_number f == 9
 
--- the last units, at a dangling escape, or at a line too long or too many
-abbrev pub last_requests : Option Block → LexFault → List Request
-last_requests None f = request.Refused (fault.Lex f) ∷ []
-last_requests (Some block) f = if is_end_of_text f then left_open block ∷ [] else dropped_requests (Some block) ++ request.Refused (fault.Lex f) ∷ []
+-- the last faults: at a dangling escape those of the end, and at a line too long or too many its own, where a block
+-- that is open is dropped
+abbrev pub last_faults : Option Block → LexFault → List Fault
+last_faults block f = if is_end_of_text f then end_faults true block else dropped_faults block ++ fault.Lex f ∷ []
+
+abbrev pub refusals : List Fault → List Request
+refusals faults = map request.Refused faults
+
+abbrev pub requests_at_end : Bool → Option Block → List Request
+requests_at_end false block = []
+requests_at_end true block = refusals (end_faults false block)
 
 abbrev pub or_last : Option LexFault → Option Block → List Request → List Request
 or_last None block more = more
-or_last (Some f) block more = last_requests block f
+or_last (Some f) block more = refusals (last_faults block f)
 
 -- the fault at which the text ends, if the line has one
 abbrev pub stop_of : Heard → Option LexFault
@@ -179,7 +186,7 @@ stop_of (heard.Opens target) = None
 stop_of heard.Ends = None
 stop_of (heard.Orders line) = None
 
--- the units of lines, under the block that is open before them
+-- the units of lines, under the block that is open before them; the test says whether the text's end is seen
 unfoldable pub units : Bool → Option Block → List Heard → List Request
 units ends block [] = requests_at_end ends block
 units ends block (line ∷ lines) = or_last (stop_of line) block (requests_at block line ++ units ends (block_after block line) lines)

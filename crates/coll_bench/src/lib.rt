@@ -9,7 +9,7 @@ mod session;
 mod syntax;
 mod tables;
 
-pub use faults::{BenchFault, Fault};
+pub use faults::{BenchFault, Fault, RunFault};
 pub use session::Session;
 pub use syntax::{
     DeltaLine, Id, OrderLine, Statement, SyntaxFault, TableLine, parse_delta_line, parse_table_line,

@@ -8,6 +8,8 @@ mod blocks;
 mod commands;
 mod hearing;
 mod histories;
+mod replies;
 mod requests;
+mod runs;
 
 pub use histories::Session;

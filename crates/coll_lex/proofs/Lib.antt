@@ -11,3 +11,5 @@ pub mod ScanRows
 pub mod ScanLines
 pub mod SymbolLemmas
 pub mod LineEnds
+pub mod FeedLemmas
+pub mod LineFaults

@@ -1,12 +1,12 @@
 -- Where a lexer stands after an answer: past a whole line nothing is open, and each line is counted.
-use Rattle.std.proofs.Common.{◌≡◌, ℕ, ◌+◌, ◌<◌, ◌≤◌, Bool, true, false, List, [], ◌∷◌, length, min, Option, Some, None, Result, Ok, Err, refl, sym, ap, ◌∙◌, subst, arith, eq-eqb}
-use Rattle.std.specs.Prelude.{nat_lt, ◌==◌, if◌then◌else◌, chars}
+use Rattle.std.proofs.Common.{◌≡◌, ℕ, ◌+◌, ◌<◌, Bool, true, false, List, [], ◌∷◌, length, min, Option, Some, None, Result, Ok, Err, refl, subst, arith, eq-eqb}
+use Rattle.std.specs.Prelude.{nat_lt, if◌then◌else◌}
 use Rattle.std.specs.Str.{is_utf8}
 use Rattle.std.proofs.lemmas.Bool.{lt-ltb}
 use Rattle.coll_lex.specs.PhysicalLines.{without_return}
 use Rattle.coll_lex.specs.Tokens.{Stop, AtFault, AtComment, AtEnd, InSymbol, InString}
 use Rattle.coll_lex.specs.Directives.{directive}
-use Rattle.coll_lex.specs.LogicalLines.{LexerState, bytes_before, extended, dropped, line_of, whole, answer_at, directive_where, fed_as, fed}
+use Rattle.coll_lex.specs.LogicalLines.{LexerState, bytes_before, extended, dropped, whole, answer_at, directive_where, fed_as, line_fault, fed_unless, fed}
 use Rattle.coll_lex.specs.declared.tokens.Chars.{Chars}
 use Rattle.coll_lex.specs.declared.tokens.Line.{Line}
 use Rattle.coll_lex.specs.declared.tokens.Token.{Token}
@@ -40,7 +40,7 @@ no_line : (s after : LexerState) → after.count ≡ min (s.count + 1) MOST_LINE
 unfolding Stands Counts
 no_line s after e = record { stands = tt; counts = e }
 
-whole_line : (s : LexerState) (number : ℕ) (tokens : List Token) → StandsAfter s (whole s number tokens)
+whole_line : (s : LexerState) (number : ℕ) (tokens : List Token) → StandsAfter s (whole (dropped s) number tokens)
 unfolding Stands Counts
 whole_line s number [] = record { stands = tt; counts = refl }
 whole_line s number (t ∷ ts) = record { stands = refl; counts = refl }
@@ -49,26 +49,27 @@ chosen : (s : LexerState) (b : Bool) (x y : Answer) → StandsAfter s x → Stan
 chosen s true x y h k = h
 chosen s false x y h k = k
 
-answer_stands : (s : LexerState) (line : List ℕ) (joined : Bool) (tokens : List Token) (stop : Stop) → StandsAfter s (answer_at s (extended s line) joined tokens stop)
+answer_stands : (s : LexerState) (line : List ℕ) (joined : Bool) (tokens : List Token) (stop : Stop) → StandsAfter s (answer_at (dropped s) (extended s line) joined tokens stop)
 answer_stands s line joined tokens (AtFault fault) = at_fault s fault
 answer_stands s line joined tokens AtComment = whole_line s _ tokens
 answer_stands s line joined tokens AtEnd = chosen s joined _ _ (no_line s _ refl) (whole_line s _ tokens)
 answer_stands s line joined tokens InSymbol = chosen s joined _ _ (no_line s _ refl) (at_fault s _)
 answer_stands s line joined tokens InString = chosen s joined _ _ (no_line s _ refl) (at_fault s _)
 
-fed_as_stands : (s : LexerState) (line : List ℕ) (d : Option (Result Chars LexFault)) → StandsAfter s (fed_as s line d)
+fed_as_stands : (s : LexerState) (line : List ℕ) (d : Option (Result Chars LexFault)) → StandsAfter s (fed_as (dropped s) (extended s line) (without_return line) d)
 fed_as_stands s line (Some (Ok special)) = no_line s _ refl
 fed_as_stands s line (Some (Err fault)) = at_fault s fault
 fed_as_stands s line None = answer_stands s line _ _ _
 
+unless_stands : (s : LexerState) (fault : Option LexFault) (answer : Answer) → StandsAfter s answer → StandsAfter s (fed_unless fault answer)
+unless_stands s None answer h = h
+unless_stands s (Some fault) answer h = at_fault s fault
+
 fed_stands : (s : LexerState) (line : List ℕ) → StandsAfter s (fed s line)
 unfolding fed
 fed_stands s line =
-    let text = without_return line in
-    let d = directive_where s.line (directive s.special text) in
-    chosen s (nat_lt MOST_LINE_BYTES (bytes_before s + length line)) (Err LineTooLong) _ (at_fault s _)
-    (chosen s (s.count == MOST_LINES) (Err TooManyLines) _ (at_fault s _)
-      (chosen s (is_utf8 text) (fed_as s line d) (Err NotUtf8) (fed_as_stands s line d) (at_fault s _)))
+    unless_stands s (line_fault s.count (extended s line).bytes (without_return line)) _
+    (fed_as_stands s line (directive_where s.line (directive s.special (without_return line))))
 
 -- past a whole line nothing is open
 pub fed-whole : (s : LexerState) (line : List ℕ) (given : Line) (after : LexerState) → fed s line ≡ Ok (Some given, after) → after ≡ dropped s
@@ -88,12 +89,21 @@ fed-too_long s line long =
     let test = lt-ltb MOST_LINE_BYTES (bytes_before s + length line) longer in
     rw test refl
 
-no_answer : (long last : Bool) (other answer : Answer) (o : Option Line × LexerState) → last ≡ true → (if long then Err LineTooLong else (if last then Err TooManyLines else other)) ≡ Ok o → ⊥
-no_answer true last other answer o is e = cc
-no_answer false true other answer o is e = cc
-no_answer false false other answer o is e = cc
+fault_when_full : (long text : Bool) → (if long then Some LineTooLong else (if true then Some TooManyLines else (if text then None else Some NotUtf8))) ≡ None → ⊥
+fault_when_full true text e = cc
+fault_when_full false text e = cc
+
+full_fault : (count bytes : ℕ) (line : List ℕ) → count ≡ MOST_LINES → line_fault count bytes line ≡ None → ⊥
+full_fault count bytes line full e =
+    let test = eq-eqb count MOST_LINES full in
+    fault_when_full (nat_lt MOST_LINE_BYTES bytes) (is_utf8 line) (rw test at e)
+
+no_answer : (fault : Option LexFault) (answer : Answer) (o : Option Line × LexerState) → (fault ≡ None → ⊥) → fed_unless fault answer ≡ Ok o → ⊥
+no_answer None answer o h e = h refl
+no_answer (Some fault) answer o h e = cc
 
 -- past the most lines each line is at fault
 pub fed-room : (s : LexerState) (line : List ℕ) (answer : Option Line) (after : LexerState) → fed s line ≡ Ok (answer, after) → s.count ≡ MOST_LINES → ⊥
 unfolding fed
-fed-room s line answer after e full = no_answer _ (s.count == MOST_LINES) _ (Ok (answer, after)) (answer, after) (eq-eqb s.count MOST_LINES full) e
+fed-room s line answer after e full =
+    no_answer (line_fault s.count (extended s line).bytes (without_return line)) _ (answer, after) (full_fault s.count (extended s line).bytes (without_return line) full) e

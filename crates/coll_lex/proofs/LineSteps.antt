@@ -1,17 +1,15 @@
 -- What one more physical line does to the logical lines, to where the lexer stands, and to the first physical line
 -- of a logical line.
-use Rattle.std.proofs.Common.{◌≡◌, ℕ, ◌+◌, Bool, true, false, if◌then◌else◌, List, [], ◌∷◌, ◌++◌, length, Option, Some, None, Result, Ok, Err, ◌⊎◌, inl, inr, refl, subst, nat_lt, ◌==◌}
-use Rattle.std.specs.Str.{is_utf8}
+use Rattle.std.proofs.Common.{◌≡◌, ℕ, Bool, true, false, if◌then◌else◌, List, [], ◌∷◌, ◌++◌, Option, Some, None, Result, Ok, Err, ◌⊎◌, inl, inr, refl, subst}
 use Rattle.coll_lex.specs.PhysicalLines.{without_return}
 use Rattle.coll_lex.specs.Directives.{directive}
-use Rattle.coll_lex.specs.LogicalLines.{OpenLine, LexerState, number_of, lines_before, bytes_before, extended, directive_where, answer_at, fed_as, first_of, first_line, dropped, fed, served, left_open, first_choice, later_choices, logical_lines, state_after}
+use Rattle.coll_lex.specs.LogicalLines.{OpenLine, LexerState, number_of, lines_before, extended, directive_where, answer_at, fed_as, line_fault, fed_unless, first_of, first_line, dropped, fed, served, left_open, first_choice, later_choices, logical_lines, state_after}
 use Rattle.coll_lex.specs.Tokens.{Stop, AtFault, AtComment, AtEnd, InSymbol, InString}
 use Rattle.coll_lex.specs.declared.tokens.Line.{Line}
 use Rattle.coll_lex.specs.declared.tokens.Token.{Token}
 use Rattle.coll_lex.specs.declared.tokens.Chars.{Chars}
-use Rattle.coll_lex.specs.declared.tokens.TheConstants.{MOST_LINES, MOST_LINE_BYTES}
 use Rattle.coll_lex.specs.declared.faults.LexFault.{LexFault}
-use Rattle.coll_lex.specs.declared.faults.LexFault.TheVariants.{OutOfMemory, LineTooLong, TooManyLines, NotUtf8}
+use Rattle.coll_lex.specs.declared.faults.LexFault.TheVariants.{OutOfMemory}
 
 -- at the end a line that is open is at fault, if the text ends there
 pub logical_lines-nil : (starved : List Bool) (ends : Bool) (s : LexerState) → logical_lines starved ends s [] ≡ (if ends then left_open s.line else [])
@@ -109,7 +107,7 @@ joined_left : (s : LexerState) (line : List ℕ) (joined : Bool) (go stay : Resu
 joined_left s line true go stay h k = h
 joined_left s line false go stay h k = k
 
-answer_left : (s : LexerState) (line : List ℕ) (joined : Bool) (tokens : List Token) (stop : Stop) → LeavesOpen s line (answer_at s (extended s line) joined tokens stop)
+answer_left : (s : LexerState) (line : List ℕ) (joined : Bool) (tokens : List Token) (stop : Stop) → LeavesOpen s line (answer_at (dropped s) (extended s line) joined tokens stop)
 unfolding line_left
 answer_left s line joined tokens (AtFault fault) = leaves_none _ _ _ refl
 answer_left s line joined tokens AtComment = leaves_none _ _ _ refl
@@ -117,20 +115,22 @@ answer_left s line joined tokens AtEnd = joined_left s line joined _ _ (leaves_s
 answer_left s line joined tokens InSymbol = joined_left s line joined _ _ (leaves_some _ _ _ refl) (leaves_none _ _ _ refl)
 answer_left s line joined tokens InString = joined_left s line joined _ _ (leaves_some _ _ _ refl) (leaves_none _ _ _ refl)
 
-directive_left : (s : LexerState) (line : List ℕ) (d : Option (Result Chars LexFault)) → LeavesOpen s line (fed_as s line d)
+directive_left : (s : LexerState) (line : List ℕ) (d : Option (Result Chars LexFault)) → LeavesOpen s line (fed_as (dropped s) (extended s line) (without_return line) d)
 unfolding line_left
 directive_left s line (Some (Ok special)) = leaves_none _ _ _ refl
 directive_left s line (Some (Err fault)) = leaves_none _ _ _ refl
 directive_left s line None = answer_left s line _ _ _
 
+unless_left : (s : LexerState) (line : List ℕ) (o : Option LexFault) (answer : Result (Option Line × LexerState) LexFault) → LeavesOpen s line answer → LeavesOpen s line (fed_unless o answer)
+unfolding line_left
+unless_left s line None answer h = h
+unless_left s line (Some fault) answer h = leaves_none _ _ _ refl
+
 fed_left : (s : LexerState) (line : List ℕ) → LeavesOpen s line (fed s line)
-unfolding fed line_left
+unfolding fed
 fed_left s line =
-    let text = without_return line in
-    let d = directive_where s.line (directive s.special text) in
-    joined_left s line (nat_lt MOST_LINE_BYTES (bytes_before s + length line)) (Err LineTooLong) _ (leaves_none _ _ _ refl)
-    (joined_left s line (s.count == MOST_LINES) (Err TooManyLines) _ (leaves_none _ _ _ refl)
-    (joined_left s line (is_utf8 text) (fed_as s line d) (Err NotUtf8) (directive_left s line d) (leaves_none _ _ _ refl)))
+    unless_left s line (line_fault s.count (extended s line).bytes (without_return line)) _
+    (directive_left s line (directive_where s.line (directive s.special (without_return line))))
 
 -- what a line leaves open: nothing, or the line that was open with it at its end
 pub fed-open : (s : LexerState) (line : List ℕ) (answer : Option Line) (after : LexerState) → fed s line ≡ Ok (answer, after) → (after.line ≡ None) ⊎ (after.line ≡ Some (extended s line))

@@ -1,19 +1,39 @@
--- How a lexer's fields show where it stands.
-use Rattle.std.specs.Prelude.{ℕ, ◌≤◌, map, Vec, option_map}
+-- How a lexer's fields show where it stands, and what its open line keeps.
+use Rattle.std.specs.Prelude.{◌≡◌, ℕ, ◌+◌, ◌≤◌, false, List, [], ◌∷◌, ◌++◌, map, chars, Vec}
+use Rattle.std.specs.Option.{option_map, ForSome}
 use Rattle.std.specs.declared.alloc.Global.{Global}
+use Rattle.coll_lex.specs.Marked.{Mark, joined_marks}
+use Rattle.coll_lex.specs.Tokens.{reading_of}
+use Rattle.coll_lex.specs.Scanning.{after}
 use Rattle.coll_lex.specs.LogicalLines.{OpenLine, LexerState}
 use Rattle.coll_lex.specs.declared.lexing.Open.{Open}
 use Rattle.coll_lex.specs.declared.lexing.Lexer.TheInside.{Inside}
-use Rattle.coll_lex.specs.declared.tokens.TheConstants.{MOST_LINES}
+use Rattle.coll_lex.specs.declared.tokens.Chars.{Chars}
+use Rattle.coll_lex.specs.declared.tokens.TheConstants.{MOST_LINES, MOST_LINE_BYTES}
+
+-- the physical lines that are stored
+abbrev pub lines_in : List (Vec ℕ Global) → List (List ℕ)
+lines_in stored = map (λ (line : Vec ℕ Global). line.items) stored
 
 -- the logical line that is open, without the scan's own state
 abbrev pub line_in : Open → OpenLine
-line_in o = record { number = o.number; lines = map (λ (line : Vec ℕ Global). line.items) o.lines.items; bytes = o.bytes }
+line_in o = record { number = o.number; lines = lines_in o.lines.items; bytes = o.bytes }
+
+-- the open line with one more physical line, of which this many bytes were handed in
+abbrev pub added : OpenLine → (line : List ℕ) → (bytes : ℕ) → OpenLine
+added o line bytes = record { number = o.number; lines = o.lines ++ line ∷ []; bytes = o.bytes + bytes }
 
 -- the state that the fields show
 abbrev pub state_of : Inside → LexerState
 state_of l = record { special = l.special; count = l.count; line = option_map line_in l.open }
 
--- the count is within the limit of lines
+-- the scan of an open line has read its physical lines, and stands at the beginning of the next one
+pub record IsSoundOpen (special : Chars) (o : Open) : Type 0 where
+  pub reads : (ms : List Mark) → reading_of special.comment (joined_marks special.escape (map chars (lines_in o.lines.items)) ++ ms) ≡ after special.comment o.scan ms
+  pub unescaped : o.scan.escaped ≡ false
+  pub short : o.bytes ≤ MOST_LINE_BYTES
+
+-- the count is within the limit of lines, and an open line is sound
 pub record IsSound (l : Inside) : Type 0 where
   pub counted : l.count ≤ MOST_LINES
+  pub opened : ForSome l.open (IsSoundOpen l.special)

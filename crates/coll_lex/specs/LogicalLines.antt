@@ -69,45 +69,60 @@ abbrev pub line_of : ℕ → List Token → Option Line
 line_of number [] = None
 line_of number (t ∷ ts) = Some (record { number = number; tokens = t ∷ ts })
 
--- the answer to a line that ends its logical line
-abbrev pub whole : LexerState → ℕ → List Token → Result (Option Line × LexerState) LexFault
-whole s number tokens = Ok (line_of number tokens, dropped s)
+-- the answer to a line that ends its logical line: its tokens; `next` is where the lexer stands with no line open
+abbrev pub whole : (next : LexerState) → ℕ → List Token → Result (Option Line × LexerState) LexFault
+whole next number tokens = Ok (line_of number tokens, next)
 
 -- the answer to a line that joins the next one
-abbrev pub continued : LexerState → OpenLine → Result (Option Line × LexerState) LexFault
-continued s open_line = Ok (None, record (dropped s) { line = Some open_line })
+abbrev pub continued : (next : LexerState) → OpenLine → Result (Option Line × LexerState) LexFault
+continued next o = Ok (None, record next { line = Some o })
 
 -- the answer by where the reading stopped: a comment isn't continued, and all else goes on where the line is joined
-abbrev pub answer_at : LexerState → OpenLine → (joined : Bool) → List Token → Stop → Result (Option Line × LexerState) LexFault
-answer_at s o joined tokens (AtFault fault) = Err fault
-answer_at s o joined tokens AtComment = whole s o.number tokens
-answer_at s o joined tokens AtEnd = if joined then continued s o else whole s o.number tokens
-answer_at s o joined tokens InSymbol = if joined then continued s o else Err OpenSymbol
-answer_at s o joined tokens InString = if joined then continued s o else Err OpenString
+abbrev pub answer_at : (next : LexerState) → OpenLine → (joined : Bool) → List Token → Stop → Result (Option Line × LexerState) LexFault
+answer_at next o joined tokens (AtFault fault) = Err fault
+answer_at next o joined tokens AtComment = whole next o.number tokens
+answer_at next o joined tokens AtEnd = if joined then continued next o else whole next o.number tokens
+answer_at next o joined tokens InSymbol = if joined then continued next o else Err OpenSymbol
+answer_at next o joined tokens InString = if joined then continued next o else Err OpenString
 
--- the answer to a line that is no directive, by the reading of its logical line
-abbrev pub answer_to : LexerState → OpenLine → (joined : Bool) → Reading → Result (Option Line × LexerState) LexFault
-answer_to s o joined r = answer_at s o joined r.tokens r.stop
+-- the answer to a line by the reading of its logical line
+abbrev pub answer_to : (next : LexerState) → OpenLine → (joined : Bool) → Reading → Result (Option Line × LexerState) LexFault
+answer_to next o joined r = answer_at next o joined r.tokens r.stop
 
 -- the reading of physical lines that are joined
 unfoldable pub reading_in : Chars → List (List ℕ) → Reading
 reading_in special lines = reading_of special.comment (joined_marks special.escape (map chars lines))
+
+-- the answer to a line of a logical line, which up to it is this
+abbrev pub answer_in : (next : LexerState) → OpenLine → (line : List ℕ) → Result (Option Line × LexerState) LexFault
+answer_in next o line = answer_to next o (is_joined next.special.escape (chars line)) (reading_in next.special o.lines)
 
 -- the directive that a line is, which it can be only where no logical line is open
 abbrev pub directive_where : Option OpenLine → Option (Result Chars LexFault) → Option (Result Chars LexFault)
 directive_where None asked = asked
 directive_where (Some o) asked = None
 
--- the answer to a line of UTF-8, by the directive that it is
-abbrev pub fed_as : LexerState → List ℕ → Option (Result Chars LexFault) → Result (Option Line × LexerState) LexFault
-fed_as s line (Some (Ok special)) = Ok (None, record (dropped s) { special = special })
-fed_as s line (Some (Err fault)) = Err fault
-fed_as s line None = answer_to s (extended s line) (is_joined s.special.escape (chars (without_return line))) (reading_in s.special (extended s line).lines)
+-- the answer to a line, by the directive that it is
+abbrev pub fed_as : (next : LexerState) → OpenLine → (line : List ℕ) → Option (Result Chars LexFault) → Result (Option Line × LexerState) LexFault
+fed_as next o line (Some (Ok special)) = Ok (None, record next { special = special })
+fed_as next o line (Some (Err fault)) = Err fault
+fed_as next o line None = answer_in next o line
+
+-- the fault of a line by the sum of the lengths up to it, by the count of the lines before, or by its bytes
+abbrev pub line_fault : (count bytes : ℕ) → (line : List ℕ) → Option LexFault
+line_fault count bytes line = if nat_lt MOST_LINE_BYTES bytes then Some LineTooLong else (if count == MOST_LINES then Some TooManyLines else (if is_utf8 line then None else Some NotUtf8))
+
+-- the answer to a line, unless it is at fault
+abbrev pub fed_unless : Option LexFault → Result (Option Line × LexerState) LexFault → Result (Option Line × LexerState) LexFault
+fed_unless None answer = answer
+fed_unless (Some fault) answer = Err fault
 
 -- the answer to one more physical line: the logical line that it ends, or its fault; else none, and where the
 -- lexer then stands
 unfoldable pub fed : LexerState → List ℕ → Result (Option Line × LexerState) LexFault
-fed s line = if nat_lt MOST_LINE_BYTES (bytes_before s + length line) then Err LineTooLong else (if s.count == MOST_LINES then Err TooManyLines else (if is_utf8 (without_return line) then fed_as s line (directive_where s.line (directive s.special (without_return line))) else Err NotUtf8))
+fed s line =
+    fed_unless (line_fault s.count (extended s line).bytes (without_return line))
+    (fed_as (dropped s) (extended s line) (without_return line) (directive_where s.line (directive s.special (without_return line))))
 
 -- the answer to a line before the category, by the directive that it is
 abbrev pub outside_as : LexerState → List ℕ → Option (Result Chars LexFault) → Result (Bool × LexerState) LexFault

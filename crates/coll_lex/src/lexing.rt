@@ -3,12 +3,15 @@
 //! A `Lexer` stores its two characters, the count of the lines handed in, and the logical line that is open.
 //! Contracts see these as a `LexerState`.
 
-ghost use Rattle.std.specs.Prelude.{◌≡◌, ◌≢◌, IfOk, IfErr, OnOk, OnErr, Ok, Err, None, IsSome, option_map};
+ghost use Rattle.std.specs.Prelude.{◌≡◌};
+ghost use Rattle.coll_lex.specs.LogicalLines.{line_of};
 
 use crate::directives::{begins_category, directive, without_return};
-use crate::{Chars, LexFault, Line, MOST_LINE_BYTES, MOST_LINES};
+use crate::scanning::Scan;
+use crate::{Chars, LexFault, Line, ListBuf, MOST_LINE_BYTES, MOST_LINES, Token};
 use std::alloc::{AllocError, Global};
 use std::marker::Model;
+use std::str;
 
 // A logical line that goes on in the next physical line.
 #[derive(Debug, Drop)]
@@ -19,6 +22,50 @@ struct Open {
     lines: Vec<Vec<u8>>,
     // The sum of the lengths handed in, carriage returns included.
     bytes: usize,
+    // The scan of these lines.
+    scan: Scan,
+}
+
+impl Open {
+    ghost use Rattle.std.specs.Prelude.{◌≡◌, ◌+◌, ◌≤◌, [], false, OnOk};
+    ghost use Rattle.coll_lex.specs.Scanning.{fresh};
+    ghost use Rattle.coll_lex.specs.Lexer.{line_in, added};
+
+    // A logical line with no physical line yet. It takes no memory.
+    fn new(alloc: Global, number: u32) -> Open
+        ensures line { line_in result ≡ record { number = number; lines = []; bytes = 0 } }
+        ensures scan { result.scan ≡ fresh alloc }
+    {
+        Open {
+            number,
+            lines: Vec::new(alloc),
+            bytes: 0,
+            scan: Scan::new(alloc),
+        }
+    }
+
+    // Keeps a copy of a physical line that is continued, of which this many bytes were handed in.
+    fn keep(&mut self, alloc: Global, bytes: usize, line: &[u8]) -> Result<(), AllocError>
+        requires { self.old.bytes + bytes ≤ MOST_LINE_BYTES }
+        ensures line { OnOk result (line_in self.new ≡ added (line_in self.old) line.now bytes) }
+        ensures scan { OnOk result (self.new.scan ≡ record self.old.scan { escaped = false }) }
+    {
+        let copy = Vec::from_slice(alloc, line)?;
+        self.lines.push(copy)?;
+        self.bytes += bytes;
+        self.scan.join();
+        Ok(())
+    }
+}
+
+// The line that these tokens make, unless there is none.
+fn line_of(number: u32, tokens: ListBuf<Token>) -> Option<Line>
+    ensures { result ≡ line_of number tokens }
+{
+    if tokens.is_empty() {
+        return None;
+    }
+    Some(Line { number, tokens })
 }
 
 /// Cuts physical lines into logical lines, and these into tokens.
@@ -43,8 +90,11 @@ impl Model for Lexer {
 }
 
 impl Lexer {
-    ghost use Rattle.std.specs.Prelude.{◌≡◌, ◌≢◌, IfOk, IfErr, OnOk, OnErr, Ok, Err, None, IsSome};
-    ghost use Rattle.coll_lex.specs.LogicalLines.{first_state, pending, dropped, fed, outside};
+    ghost use Rattle.std.specs.Prelude.{◌≡◌, ◌≢◌, ◌+◌, ◌<◌, ◌≤◌, ◌∷◌, [], length, chars, Ok, Err, None, Some, option_map, IsSome, IfSome, IfOk, IfErr, OnOk, OnErr};
+    ghost use Rattle.coll_lex.specs.PhysicalLines.{without_return};
+    ghost use Rattle.coll_lex.specs.Directives.{directive};
+    ghost use Rattle.coll_lex.specs.LogicalLines.{first_state, pending, dropped, line_fault, answer_in, fed_as, fed, outside, number_of};
+    ghost use Rattle.coll_lex.specs.Lexer.{line_in, added, IsSoundOpen};
     ghost use Rattle.coll_lex.specs.declared.faults.LexFault.TheVariants.{OutOfMemory, DanglingEscape};
 
     /// A lexer at the beginning of a text, with the comment character `#` and the escape character `\`.
@@ -76,19 +126,40 @@ impl Lexer {
         self.open.as_ref().map(|open| open.number)
     }
 
+    /// The number of the logical line that the next physical line belongs to, which its fault carries: that of the
+    /// line that is open, or else one more than the lines handed in. It takes no memory.
+    pub fn next_number(&self) -> u32
+        ensures number { result ≡ number_of self.now }
+        ensures counted { self.now.count ≤ MOST_LINES }
+    {
+        match &self.open {
+            Some(open) => open.number,
+            None => self.count + 1,
+        }
+    }
+
     /// Takes one more physical line, without its line feed, and answers the logical line that it ends, if that
     /// has a token.
     ///
     /// A fault drops the logical line so far, and the next line handed in begins another. Want of memory may
-    /// stand in place of any other answer.
+    /// stand in place of any other answer, but not in place of a line too many.
     pub fn feed(&mut self, line: &[u8]) -> Result<Option<Line>, LexFault>
         ensures ok { IfOk result (λ answer. fed self.old line.now ≡ Ok (answer, self.new)) }
         ensures err { IfErr result (λ fault. fault ≢ OutOfMemory → fed self.old line.now ≡ Err fault) }
+        ensures room { IfErr result (λ fault. fault ≡ OutOfMemory → self.old.count < MOST_LINES) }
         ensures dropped { OnErr result (self.new ≡ dropped self.old) }
     {
-        let _ = line;
-        self.drop_line();
-        Err(LexFault::OutOfMemory)
+        match self.take_open() {
+            Some(open) => {
+                let text = self.count_line(open.bytes, line)?;
+                self.feed_text(open, line.len(), text)
+            }
+            None => {
+                let open = Open::new(self.alloc, self.count + 1);
+                let text = self.count_line(0, line)?;
+                self.feed_first(open, line.len(), text)
+            }
+        }
     }
 
     /// Takes one physical line before the category, and answers whether the category begins with it. Directives
@@ -131,6 +202,15 @@ impl Lexer {
         }
     }
 
+    // Takes the open line out.
+    fn take_open(&mut self) -> Option<Open>
+        ensures line { option_map line_in result ≡ self.old.line }
+        ensures sound { IfSome result (λ line. IsSoundOpen self.old.special line) }
+        ensures after { self.new ≡ record self.old { line = None } }
+    {
+        self.open.take()
+    }
+
     // Counts a line that leaves no logical line open.
     fn drop_line(&mut self)
         ensures { self.new ≡ dropped self.old }
@@ -139,5 +219,82 @@ impl Lexer {
         if self.count < MOST_LINES {
             self.count += 1;
         }
+    }
+
+    // Counts a line, and lends its text, unless it is too long with the bytes before it, one too many, or no text.
+    fn count_line<'a>(&mut self, before: usize, line: &'a [u8]) -> Result<&'a str, LexFault>
+        requires { before ≤ MOST_LINE_BYTES }
+        ensures ok { IfOk result (λ text. text.now ≡ without_return line.now) }
+        ensures passes { OnOk result
+            (line_fault self.old.count (before + length line.now) (without_return line.now) ≡ None) }
+        ensures err { IfErr result
+            (λ fault. line_fault self.old.count (before + length line.now) (without_return line.now) ≡ Some fault) }
+        ensures memory { IfErr result (λ fault. fault ≢ OutOfMemory) }
+        ensures room { OnOk result (self.old.count < MOST_LINES) }
+        ensures counted { self.new ≡ dropped self.old }
+    {
+        let is_last = self.count == MOST_LINES;
+        self.drop_line();
+        if line.len() > MOST_LINE_BYTES - before {
+            return Err(LexFault::LineTooLong);
+        }
+        if is_last {
+            return Err(LexFault::TooManyLines);
+        }
+        match str::from_utf8(without_return(line)) {
+            Ok(text) => Ok(text),
+            Err(_) => Err(LexFault::NotUtf8),
+        }
+    }
+
+    // Takes the first physical line of a logical line, or a directive.
+    fn feed_first(
+        &mut self,
+        logical: Open,
+        bytes: usize,
+        line: &str,
+    ) -> Result<Option<Line>, LexFault>
+        requires alone { self.old.line ≡ None }
+        requires sound { IsSoundOpen self.old.special logical }
+        requires short { logical.bytes + bytes ≤ MOST_LINE_BYTES }
+        ensures ok { IfOk result (λ answer. fed_as self.old (added (line_in logical) line.now bytes) line.now (directive self.old.special line.now)
+            ≡ Ok (answer, self.new)) }
+        ensures err { IfErr result (λ fault. fault ≢ OutOfMemory
+            → fed_as self.old (added (line_in logical) line.now bytes) line.now (directive self.old.special line.now) ≡ Err fault) }
+        ensures kept { OnErr result (self.new ≡ self.old) }
+    {
+        match directive(self.special, line.as_bytes()) {
+            Some(Ok(special)) => {
+                self.special = special;
+                Ok(None)
+            }
+            Some(Err(fault)) => Err(fault),
+            None => self.feed_text(logical, bytes, line),
+        }
+    }
+
+    // Takes one more physical line of a logical line.
+    fn feed_text(
+        &mut self,
+        mut logical: Open,
+        bytes: usize,
+        line: &str,
+    ) -> Result<Option<Line>, LexFault>
+        requires sound { IsSoundOpen self.old.special logical }
+        requires short { logical.bytes + bytes ≤ MOST_LINE_BYTES }
+        ensures ok { IfOk result (λ answer. answer_in self.old (added (line_in logical) line.now bytes) line.now ≡ Ok (answer, self.new)) }
+        ensures err { IfErr result (λ fault. fault ≢ OutOfMemory
+            → answer_in self.old (added (line_in logical) line.now bytes) line.now ≡ Err fault) }
+        ensures kept { OnErr result (self.new ≡ self.old) }
+    {
+        logical.scan.take_line(self.special, line)?;
+        if !logical.scan.goes_on() {
+            let number = logical.number;
+            let tokens = logical.scan.into_tokens()?;
+            return Ok(line_of(number, tokens));
+        }
+        logical.keep(self.alloc, bytes, line.as_bytes())?;
+        self.open = Some(logical);
+        Ok(None)
     }
 }

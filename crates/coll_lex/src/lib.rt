@@ -18,8 +18,8 @@ mod test_devices;
 mod tokens;
 
 pub use buffers::{ListBuf, TextBuf};
-pub use directives::{past_blanks, without_return};
 pub use devices::{Counted, Sink, Source};
+pub use directives::{past_blanks, without_return};
 pub use faults::{LexFault, ReadStop, WriteStop};
 pub use lexing::Lexer;
 pub use line_reading::LineReader;

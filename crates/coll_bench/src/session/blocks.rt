@@ -4,9 +4,9 @@
 //! once a line has spoiled it, that line's fault alone. The room for all its lines is made where it opens, so that no
 //! later line of it takes memory. A new kind of line that a block doesn't take is one more case of `inside`.
 
-ghost use Rattle.std.specs.Prelude.{◌≡◌, ◌<◌, nat_le, length, [], ◌∷◌, ◌++◌, IfOk};
+ghost use Rattle.std.specs.Prelude.{◌≡◌, ◌<◌, nat_le, length, [], ◌∷◌, ◌++◌, IfOk, Option, Some, None};
 ghost use Rattle.coll_bench.specs.Units.{Block};
-ghost use Rattle.coll_bench.specs.OpenBlock.{kept, spoiled, joined, lengthened, begun_spoiled, kept_request, kept_left_open, kept_dropped, TakesLine};
+ghost use Rattle.coll_bench.specs.OpenBlock.{kept, spoiled, joined, lengthened, begun_spoiled, kept_request, kept_left_open, kept_dropped, StandsFor, TakesLine};
 
 use crate::faults::Fault;
 use crate::session::hearing::{Heard, Opening};
@@ -166,32 +166,34 @@ impl OpenBlock {
         }
     }
 
-    /// What is answered for the block where the text ends.
-    pub fn left_open(&self) -> Request
+    /// The fault of the block where the text ends.
+    pub fn left_open(&self) -> Fault
         ensures { result ≡ kept_left_open self.now }
     {
         match self {
-            OpenBlock::Gathers(_) => Request::Refused(Fault::BlockNotEnded),
+            OpenBlock::Gathers(_) => Fault::BlockNotEnded,
             OpenBlock::Spoiled(fault) => {
                 if fault.number() == 70 {
-                    return Request::Refused(Fault::Lex(LexFault::OutOfMemory));
+                    Fault::Lex(LexFault::OutOfMemory)
+                } else {
+                    Fault::BlockNotEnded
                 }
-                Request::Refused(Fault::BlockNotEnded)
             }
         }
     }
 
-    /// What is answered for the block where it is dropped: nothing, unless memory was refused for a line of it.
-    pub fn dropped(&self) -> Option<Request>
+    /// The fault of the block where it is dropped: none, unless memory was refused for a line of it.
+    pub fn dropped(&self) -> Option<Fault>
         ensures { result ≡ kept_dropped self.now }
     {
         match self {
             OpenBlock::Gathers(_) => None,
             OpenBlock::Spoiled(fault) => {
                 if fault.number() == 70 {
-                    return Some(Request::Refused(Fault::Lex(LexFault::OutOfMemory)));
+                    Some(Fault::Lex(LexFault::OutOfMemory))
+                } else {
+                    None
                 }
-                None
             }
         }
     }
@@ -206,8 +208,18 @@ pub struct Taken {
     pub request: Option<Request>,
 }
 
-/// Takes a line where no block is open.
-pub fn outside(line: Heard) -> Taken
+/// Takes a line: the block that is open after it, and the unit that it completes. It takes no memory.
+pub fn take_line(block: Option<OpenBlock>, line: Heard) -> Taken
+    ensures { (b : Option Block) → StandsFor block b → TakesLine b line result.block result.request }
+{
+    match block {
+        Some(block) => inside(block, line),
+        None => outside(line),
+    }
+}
+
+// Takes a line where no block is open.
+fn outside(line: Heard) -> Taken
     ensures { TakesLine None line result.block result.request }
 {
     match line {
@@ -259,8 +271,8 @@ fn refused_outside(opening: Opening, fault: Fault) -> Taken
     }
 }
 
-/// Takes a line where a block is open.
-pub fn inside(block: OpenBlock, line: Heard) -> Taken
+// Takes a line where a block is open.
+fn inside(block: OpenBlock, line: Heard) -> Taken
     ensures { (b : Block) → block ≡ kept b → TakesLine (Some b) line result.block result.request }
 {
     match line {

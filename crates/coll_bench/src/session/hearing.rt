@@ -5,8 +5,9 @@
 //! names and for the room of a block, so that what comes after can't fail for want of it. A new kind of line is a new
 //! variant of `Heard`, and a case of the definition of session lines.
 
-ghost use Rattle.std.specs.Prelude.{◌≡◌, Bool, IfOk, is_some, chars};
-ghost use Rattle.coll_lex.specs.LogicalLines.{pending, first_line};
+ghost use Rattle.std.specs.Prelude.{◌≡◌, ◌≤◌, Bool, IfOk, is_some, chars};
+ghost use Rattle.coll_lex.specs.LogicalLines.{pending, number_of, first_line};
+ghost use Rattle.coll_lex.specs.declared.tokens.TheConstants.{MOST_LINES};
 ghost use Rattle.coll_bench.specs.SessionLines.{opening_of, fault_heard, is_command as spells_command, is_command_word as spells_command_word, command_heard as spelled_command, alone as spelled_alone};
 ghost use Rattle.coll_bench.specs.Hearing.{Hears, HearsTokens, HearsDelta};
 
@@ -97,6 +98,14 @@ impl Listener {
             }
             Ok(Some(line)) => Some(line_heard(alloc, opening, &line)),
         }
+    }
+
+    /// The number of the logical line that the next physical line belongs to, which its fault carries.
+    pub fn next_number(&self) -> u32
+        ensures number { result ≡ number_of self.now }
+        ensures counted { self.now.count ≤ MOST_LINES }
+    {
+        self.lexer.next_number()
     }
 
     /// Ends the text, and answers whether it ends where a line is continued.

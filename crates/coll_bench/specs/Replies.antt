@@ -1,0 +1,113 @@
+-- The replies of a session: what is written for each unit, from the history before it.
+use Rattle.std.specs.Prelude.{ℕ, suc, Bool, true, false, ◌&&◌, if◌then◌else◌, List, [], ◌∷◌, ◌++◌, length, Result, Ok, Err, codes, decimal, encode_utf8_all}
+use Rattle.coll_lex.specs.LogicalLines.{first_choice, later_choices}
+use Rattle.coll_lex.specs.Spelling.{spelled_symbol, spelled_code}
+use Rattle.coll_lex.specs.declared.faults.LexFault.TheVariants as lex
+use Rattle.coll_bench.specs.Table.{Collation, entries_of}
+use Rattle.coll_bench.specs.History.{History, table_of, judged, taken_back}
+use Rattle.coll_bench.specs.SessionFaults.{fault_number, fault_name}
+use Rattle.coll_bench.specs.declared.syntax.identifiers.Id.{Id}
+use Rattle.coll_bench.specs.declared.syntax.identifiers.Id.TheVariants as id
+use Rattle.coll_bench.specs.declared.syntax.statements.Statement.{Statement}
+use Rattle.coll_bench.specs.declared.tables.entries.Entry.{Entry}
+use Rattle.coll_bench.specs.declared.faults.BenchFault.{BenchFault}
+use Rattle.coll_bench.specs.declared.faults.Fault.{Fault}
+use Rattle.coll_bench.specs.declared.faults.Fault.TheVariants as fault
+use Rattle.coll_bench.specs.declared.session.commands.Command.{Command}
+use Rattle.coll_bench.specs.declared.session.commands.Command.TheVariants as command
+use Rattle.coll_bench.specs.declared.session.requests.Request.{Request}
+use Rattle.coll_bench.specs.declared.session.requests.Request.TheVariants as request
+
+-- an identifier, spelled
+unfoldable pub spelled_id : Id → List ℕ
+spelled_id (id.Char c) = encode_utf8_all (spelled_code c [])
+spelled_id (id.Named name) = encode_utf8_all (spelled_symbol name [])
+spelled_id id.Undefined = codes "UNDEFINED"
+
+-- two words with a space between them, and the line's end
+abbrev pub worded : List ℕ → List ℕ → List ℕ
+worded first second = (first ++ 32 ∷ []) ++ (second ++ 10 ∷ [])
+
+-- a word and a number
+unfoldable pub counted_line : List ℕ → ℕ → List ℕ
+counted_line word n = worded word (decimal n)
+
+-- the reply to what is refused
+unfoldable pub refused_line : Fault → List ℕ
+refused_line f = codes "refused " ++ worded (decimal (fault_number f)) (fault_name f)
+
+-- the replies to faults, one after another
+unfoldable pub refused_lines : List Fault → List ℕ
+refused_lines [] = []
+refused_lines (f ∷ later) = refused_line f ++ refused_lines later
+
+-- one line of a listing: the rank, and the identifier
+unfoldable pub listed_line : ℕ → Entry → List ℕ
+listed_line rank entry = worded (decimal rank) (spelled_id entry.id)
+
+-- the lines of a listing, from a rank on
+unfoldable pub listed_lines : ℕ → List Entry → List ℕ
+listed_lines rank [] = []
+listed_lines rank (entry ∷ entries) = listed_line rank entry ++ listed_lines (suc rank) entries
+
+-- the reply to `:list`
+unfoldable pub listing : Collation → List ℕ
+listing table = listed_lines 1 (entries_of table) ++ counted_line (codes "listed") (length (entries_of table))
+
+-- a reply that counts what remains, or a refusal
+abbrev pub count_reply : List ℕ → Result History BenchFault → List ℕ
+count_reply word (Ok h) = counted_line word (length h.remaining)
+count_reply word (Err f) = refused_line (fault.Bench f)
+
+abbrev pub command_reply : History → Command → List ℕ
+command_reply h command.Undo = count_reply (codes "undone") (taken_back h)
+command_reply h command.List = listing (table_of h)
+
+-- the reply to a unit
+unfoldable pub reply : History → Request → List ℕ
+reply h (request.Asks c) = command_reply h c
+reply h (request.States s) = count_reply (codes "ok") (judged h s)
+reply h (request.Refused f) = refused_line f
+
+-- the history where a call gave one, or the one from before
+abbrev pub history_or : History → Result History BenchFault → History
+history_or before (Ok h) = h
+history_or before (Err f) = before
+
+abbrev pub after_command : History → Command → History
+after_command h command.Undo = history_or h (taken_back h)
+after_command h command.List = h
+
+-- the history after a unit: one that is refused, and a listing, leave it
+unfoldable pub after : History → Request → History
+after h (request.Asks c) = after_command h c
+after h (request.States s) = history_or h (judged h s)
+after h (request.Refused f) = h
+
+-- what takes memory to answer may be refused for want of it
+abbrev pub may_starve : Request → Bool
+may_starve (request.Asks c) = false
+may_starve (request.States s) = true
+may_starve (request.Refused f) = false
+
+-- the reply to want of memory
+abbrev pub starved_line : List ℕ
+starved_line = refused_line (fault.Lex lex.OutOfMemory)
+
+-- a unit that was starved has that reply and leaves the history
+abbrev pub reply_if : Bool → History → Request → List ℕ
+reply_if starved h unit = if starved && may_starve unit then starved_line else reply h unit
+
+abbrev pub after_if : Bool → History → Request → History
+after_if starved h unit = if starved && may_starve unit then h else after h unit
+
+-- what is written for what a call of the history answered
+abbrev pub outcome_line : List ℕ → Result ℕ BenchFault → List ℕ
+outcome_line word (Ok n) = counted_line word n
+outcome_line word (Err f) = refused_line (fault.Bench f)
+
+-- the replies to units, joined. A choice that is true stands for a unit that memory was refused for; where no choice
+-- is left, memory was there
+unfoldable pub answers : History → List Request → List Bool → List ℕ
+answers h [] starved = []
+answers h (unit ∷ later) starved = reply_if (first_choice starved) h unit ++ answers (after_if (first_choice starved) h unit) later (later_choices starved)

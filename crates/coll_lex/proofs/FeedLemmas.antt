@@ -1,0 +1,230 @@
+-- The answer to one more physical line, by the scan of its logical line.
+use Rattle.std.proofs.Common.{◌≡◌, ◌≢◌, ℕ, ◌+◌, ◌≤◌, ◌&&◌, nat_lt, Bool, true, false, if◌then◌else◌, List, [], ◌∷◌, ◌++◌, map, length, chars, IsUtf8, Option, Some, None, option_map, Ok, Err, refl, ap, sym, ◌∙◌, subst, append_assoc, arith}
+use Rattle.std.specs.Option.{ForSome}
+use Rattle.std.specs.Str.{is_utf8}
+use Rattle.std.specs.declared.alloc.Global.{Global}
+use Rattle.std.proofs.lemmas.List.{append-nil}
+use Rattle.std.proofs.lemmas.Bool.Decides.{nat_tests}
+use Rattle.std.proofs.lemmas.Str.{is_utf8-from_IsUtf8, IsUtf8-from_is_utf8}
+use Rattle.coll_lex.specs.PhysicalLines.{without_return}
+use Rattle.coll_lex.specs.Marked.{Mark, marks, joined_marks}
+use Rattle.coll_lex.specs.Tokens.{before_close, atoms, Stop, AtFault, AtComment, AtEnd, InSymbol, InString, Reading, quoted, word_run, reading, reading_of}
+use Rattle.coll_lex.specs.Directives.{directive}
+use Rattle.coll_lex.specs.LogicalLines.{OpenLine, LexerState, dropped, line_of, continued, answer_to, reading_in, answer_in, line_fault, fed_as, fed, bytes_before}
+use Rattle.coll_lex.specs.Scanning.{fresh, after, left, TakesLine, RefusesLine, is_continued, goes_on, word_token, ending_in, ending}
+use Rattle.coll_lex.specs.Lexer.{lines_in, line_in, added, IsSoundOpen}
+use Rattle.coll_lex.specs.declared.tokens.Chars.{Chars}
+use Rattle.coll_lex.specs.declared.tokens.Piece.{Piece}
+use Rattle.coll_lex.specs.declared.tokens.Token.{Token}
+use Rattle.coll_lex.specs.declared.tokens.TheConstants.{MOST_LINES, MOST_LINE_BYTES}
+use Rattle.coll_lex.specs.declared.faults.LexFault.{LexFault}
+use Rattle.coll_lex.specs.declared.faults.LexFault.TheVariants.{NotUtf8, OpenSymbol, OpenString, LineTooLong}
+use Rattle.coll_lex.specs.declared.scanning.Scan.{Scan}
+use Rattle.coll_lex.specs.declared.scanning.Mode.{Mode}
+use Rattle.coll_lex.specs.declared.scanning.Mode.TheVariants as mode
+use Rattle.coll_lex.specs.declared.lexing.Open.{Open}
+use Rattle.coll_lex.proofs.ScanRows.{differs}
+
+-- the tests before a line is read
+
+pub line_passes : (count bytes : ℕ) (line : List ℕ) → bytes ≤ MOST_LINE_BYTES → count ≢ MOST_LINES → IsUtf8 line → line_fault count bytes line ≡ None
+line_passes count bytes line short more text =
+    let within : nat_lt MOST_LINE_BYTES bytes ≡ false = grind (arith, nat_tests) in
+    rw (within, differs count MOST_LINES more, is_utf8-from_IsUtf8 line text) refl
+
+not_text : (t : Bool) (line : List ℕ) → is_utf8 line ≡ t → (IsUtf8 line → ⊥) → is_utf8 line ≡ false
+not_text true line e h = absurd (h (IsUtf8-from_is_utf8 line e))
+not_text false line e h = e
+
+pub line_not_text : (count bytes : ℕ) (line : List ℕ) → bytes ≤ MOST_LINE_BYTES → count ≢ MOST_LINES → (IsUtf8 line → ⊥) → line_fault count bytes line ≡ Some NotUtf8
+line_not_text count bytes line short more wrong =
+    let within : nat_lt MOST_LINE_BYTES bytes ≡ false = grind (arith, nat_tests) in
+    rw (within, differs count MOST_LINES more, not_text (is_utf8 line) line refl wrong) refl
+
+long_fails : (t : Bool) (rest : Option LexFault) → (if t then Some LineTooLong else rest) ≡ None → t ≡ false
+long_fails true rest e = cc
+long_fails false rest e = refl
+
+-- a line that passes the tests is short enough
+pub passes_short : (count bytes : ℕ) (line : List ℕ) → line_fault count bytes line ≡ None → bytes ≤ MOST_LINE_BYTES
+passes_short count bytes line e =
+    let t = long_fails (nat_lt MOST_LINE_BYTES bytes) _ e in
+    grind (arith, nat_tests)
+
+pub fed_faulty : (s : LexerState) (line : List ℕ) (bytes : ℕ) (fault : LexFault) → bytes ≡ bytes_before s + length line → line_fault s.count bytes (without_return line) ≡ Some fault → fed s line ≡ Err fault
+unfolding fed
+fed_faulty s line bytes fault e f = rw (← e, f) refl
+
+-- the reading of the physical lines of an open line, and of one more
+
+joined_marks-push : (escape : ℕ) (lines : List (List ℕ)) (line : List ℕ) → joined_marks escape (map chars (lines ++ line ∷ [])) ≡ joined_marks escape (map chars lines) ++ marks escape false (chars line)
+unfolding joined_marks
+joined_marks-push escape [] line = append-nil (marks escape false (chars line))
+joined_marks-push escape (l ∷ ls) line = ap (λ ms. marks escape false (chars l) ++ ms) (joined_marks-push escape ls line) ∙ sym (append_assoc (marks escape false (chars l)) (joined_marks escape (map chars ls)) (marks escape false (chars line)))
+
+-- the marked text of one more physical line, and what follows it
+marks_more : (special : Chars) (o : Open) (line : List ℕ) (ms : List Mark) → IsSoundOpen special o
+    → reading_of special.comment (joined_marks special.escape (map chars (lines_in o.lines.items ++ line ∷ [])) ++ ms) ≡ after special.comment o.scan (marks special.escape false (chars line) ++ ms)
+marks_more special o line ms h =
+    rw (joined_marks-push special.escape (lines_in o.lines.items) line, append_assoc (joined_marks special.escape (map chars (lines_in o.lines.items))) (marks special.escape false (chars line)) ms)
+    (h.reads (marks special.escape false (chars line) ++ ms))
+
+reading_more : (special : Chars) (o : Open) (line : List ℕ) → IsSoundOpen special o
+    → reading_in special (lines_in o.lines.items ++ line ∷ []) ≡ after special.comment o.scan (marks special.escape false (chars line) ++ [])
+unfolding reading_in
+reading_more special o line h =
+    ap (reading_of special.comment) (sym (append-nil (joined_marks special.escape (map chars (lines_in o.lines.items ++ line ∷ []))))) ∙ marks_more special o line [] h
+
+-- a fault in this physical line
+
+fault_answered : (next : LexerState) (o : OpenLine) (joined : Bool) (r : Reading) (fault : LexFault) → r.stop ≡ AtFault fault → answer_to next o joined r ≡ Err fault
+fault_answered next o joined r fault e = rw e refl
+
+pub text_refused : (next : LexerState) (o : Open) (line : List ℕ) (bytes : ℕ) (fault : LexFault) → IsSoundOpen next.special o → RefusesLine next.special o.scan (chars line) fault
+    → answer_in next (added (line_in o) line bytes) line ≡ Err fault
+text_refused next o line bytes fault h t =
+    fault_answered next (added (line_in o) line bytes) _ _ fault (rw (reading_more next.special o line h) (t.stops []))
+
+-- the end of the physical line
+
+-- where a mode ends
+abbrev stop_in : Mode → Stop
+stop_in mode.Plain = AtEnd
+stop_in mode.Symbol = InSymbol
+stop_in mode.Text = InString
+stop_in mode.SymbolInText = InSymbol
+stop_in mode.Comment = AtComment
+
+-- the tokens that a mode leaves at the end
+abbrev tokens_in : Mode → List ℕ → List Token
+tokens_in mode.Plain partial = word_token partial
+tokens_in mode.Symbol partial = []
+tokens_in mode.Text partial = []
+tokens_in mode.SymbolInText partial = []
+tokens_in mode.Comment partial = []
+
+left_at_end : (comment : ℕ) (m : Mode) (partial : List ℕ) (pieces : List Piece) → left comment m partial pieces [] ≡ record { tokens = tokens_in m partial; stop = stop_in m }
+unfolding reading atoms word_run quoted before_close
+left_at_end comment mode.Plain [] pieces = refl
+left_at_end comment mode.Plain (c ∷ cs) pieces = rw (append-nil cs) refl
+left_at_end comment mode.Symbol partial pieces = refl
+left_at_end comment mode.Text partial pieces = refl
+left_at_end comment mode.SymbolInText partial pieces = refl
+left_at_end comment mode.Comment partial pieces = refl
+
+after_at_end : (comment : ℕ) (s : Scan) → after comment s [] ≡ record { tokens = s.tokens ++ tokens_in s.mode s.partial; stop = stop_in s.mode }
+unfolding after
+after_at_end comment s = rw (left_at_end comment s.mode s.partial s.pieces) refl
+
+text_read : (special : Chars) (o : Open) (line : List ℕ) (scan : Scan) → IsSoundOpen special o → TakesLine special o.scan (chars line) scan
+    → reading_in special (lines_in o.lines.items ++ line ∷ []) ≡ record { tokens = scan.tokens ++ tokens_in scan.mode scan.partial; stop = stop_in scan.mode }
+text_read special o line scan h t = reading_more special o line h ∙ (t.reads [] ∙ after_at_end special.comment scan)
+
+-- the reading of a line that ends in a mode
+abbrev ended : Mode → (partial : List ℕ) → List Token → Reading
+ended m partial tokens = record { tokens = tokens ++ tokens_in m partial; stop = stop_in m }
+
+given : (next : LexerState) (o : OpenLine) (m : Mode) (joined : Bool) (partial : List ℕ) (tokens ts : List Token)
+    → (joined && is_continued m) ≡ false → ending_in m partial tokens ≡ Ok ts → answer_to next o joined (ended m partial tokens) ≡ Ok (line_of o.number ts, next)
+given next o mode.Plain true partial tokens ts f e = cc
+given next o mode.Plain false partial tokens ts f e = let same : tokens ++ word_token partial ≡ ts = cc in rw same refl
+given next o mode.Symbol joined partial tokens ts f e = cc
+given next o mode.Text joined partial tokens ts f e = cc
+given next o mode.SymbolInText joined partial tokens ts f e = cc
+given next o mode.Comment joined partial tokens ts f e = let same : tokens ≡ ts = cc in rw (append-nil tokens, same) refl
+
+refused : (next : LexerState) (o : OpenLine) (m : Mode) (joined : Bool) (partial : List ℕ) (tokens : List Token) (fault : LexFault)
+    → (joined && is_continued m) ≡ false → ending_in m partial tokens ≡ Err fault → answer_to next o joined (ended m partial tokens) ≡ Err fault
+refused next o mode.Plain joined partial tokens fault f e = cc
+refused next o mode.Symbol true partial tokens fault f e = cc
+refused next o mode.Symbol false partial tokens fault f e = let same : OpenSymbol ≡ fault = cc in rw same refl
+refused next o mode.Text true partial tokens fault f e = cc
+refused next o mode.Text false partial tokens fault f e = let same : OpenString ≡ fault = cc in rw same refl
+refused next o mode.SymbolInText true partial tokens fault f e = cc
+refused next o mode.SymbolInText false partial tokens fault f e = let same : OpenSymbol ≡ fault = cc in rw same refl
+refused next o mode.Comment joined partial tokens fault f e = cc
+
+kept : (next : LexerState) (o : OpenLine) (m : Mode) (joined : Bool) (partial : List ℕ) (tokens : List Token)
+    → (joined && is_continued m) ≡ true → answer_to next o joined (ended m partial tokens) ≡ continued next o
+kept next o mode.Plain true partial tokens f = refl
+kept next o mode.Plain false partial tokens f = cc
+kept next o mode.Symbol true partial tokens f = refl
+kept next o mode.Symbol false partial tokens f = cc
+kept next o mode.Text true partial tokens f = refl
+kept next o mode.Text false partial tokens f = cc
+kept next o mode.SymbolInText true partial tokens f = refl
+kept next o mode.SymbolInText false partial tokens f = cc
+kept next o mode.Comment true partial tokens f = cc
+kept next o mode.Comment false partial tokens f = cc
+
+-- the answer by the scan after the line
+answer_by : (next : LexerState) (o : Open) (line : List ℕ) (bytes : ℕ) (scan : Scan) → IsSoundOpen next.special o → TakesLine next.special o.scan (chars line) scan
+    → answer_in next (added (line_in o) line bytes) line ≡ answer_to next (added (line_in o) line bytes) scan.escaped (ended scan.mode scan.partial scan.tokens)
+answer_by next o line bytes scan h t =
+    rw (text_read next.special o line scan h t, ← t.ends) refl
+
+-- a line that ends its logical line
+pub text_ends : (next : LexerState) (o : Open) (line : List ℕ) (bytes : ℕ) (scan : Scan) (tokens : List Token) → IsSoundOpen next.special o → TakesLine next.special o.scan (chars line) scan
+    → goes_on scan ≡ false → ending scan ≡ Ok tokens → answer_in next (added (line_in o) line bytes) line ≡ Ok (line_of o.number tokens, next)
+text_ends next o line bytes scan tokens h t f e =
+    answer_by next o line bytes scan h t ∙ given next (added (line_in o) line bytes) scan.mode scan.escaped scan.partial scan.tokens tokens f e
+
+-- a line that ends with a symbol or a string open
+pub text_ends_open : (next : LexerState) (o : Open) (line : List ℕ) (bytes : ℕ) (scan : Scan) (fault : LexFault) → IsSoundOpen next.special o → TakesLine next.special o.scan (chars line) scan
+    → goes_on scan ≡ false → ending scan ≡ Err fault → answer_in next (added (line_in o) line bytes) line ≡ Err fault
+text_ends_open next o line bytes scan fault h t f e =
+    answer_by next o line bytes scan h t ∙ refused next (added (line_in o) line bytes) scan.mode scan.escaped scan.partial scan.tokens fault f e
+
+-- a line that is joined
+pub text_goes_on : (next : LexerState) (o : Open) (line : List ℕ) (bytes : ℕ) (scan : Scan) → IsSoundOpen next.special o → TakesLine next.special o.scan (chars line) scan
+    → goes_on scan ≡ true → answer_in next (added (line_in o) line bytes) line ≡ continued next (added (line_in o) line bytes)
+text_goes_on next o line bytes scan h t f =
+    answer_by next o line bytes scan h t ∙ kept next (added (line_in o) line bytes) scan.mode scan.escaped scan.partial scan.tokens f
+
+-- an open line stays sound
+
+pub sound_new : (special : Chars) (o : Open) (alloc : Global) (number : ℕ) → line_in o ≡ record { number = number; lines = []; bytes = 0 } → o.scan ≡ fresh alloc → IsSoundOpen special o
+unfolding joined_marks after
+sound_new special o alloc number e f =
+    let none : lines_in o.lines.items ≡ [] = ap (λ (l : OpenLine). l.lines) e in
+    let bytes : o.bytes ≡ 0 = ap (λ (l : OpenLine). l.bytes) e in
+    record { reads = λ ms. rw (none, f) refl; unescaped = rw f refl; short = omega arith }
+
+after_unescaped : (comment : ℕ) (s : Scan) (ms : List Mark) → after comment s ms ≡ after comment (record s { escaped = false }) ms
+unfolding after
+after_unescaped comment s ms = refl
+
+pub sound_more : (special : Chars) (old new : Open) (line : List ℕ) (bytes : ℕ) (scan : Scan) → IsSoundOpen special old → TakesLine special old.scan (chars line) scan
+    → line_in new ≡ added (line_in old) line bytes → new.scan ≡ record scan { escaped = false } → old.bytes + bytes ≤ MOST_LINE_BYTES → IsSoundOpen special new
+sound_more special old new line bytes scan h t e f short =
+    let lines : lines_in new.lines.items ≡ lines_in old.lines.items ++ line ∷ [] = ap (λ (l : OpenLine). l.lines) e in
+    let sum : new.bytes ≡ old.bytes + bytes = ap (λ (l : OpenLine). l.bytes) e in
+    record {
+      reads = λ ms. rw (lines, f) (marks_more special old line ms h ∙ (t.reads ms ∙ after_unescaped special.comment scan ms));
+      unescaped = rw f refl;
+      short = omega arith;
+    }
+
+pub none_open : (o : Option Open) (P : Open → Type 0) → option_map line_in o ≡ None → ForSome o P
+none_open None P e = λ x is. absurd (cc)
+none_open (Some o) P e = absurd (cc)
+
+pub some_open : (o : Open) (P : Open → Type 0) → P o → ForSome (Some o) P
+some_open o P h = λ x is. subst P (same x is) h
+  where
+    same : (x : Open) → Some o ≡ Some x → o ≡ x
+    same x is = cc
+
+-- the answer to the next physical line of an open line, and to the first one of a logical line
+
+pub fed_next : (s : LexerState) (line : List ℕ) (o : Open) → Some (line_in o) ≡ s.line → line_fault s.count (o.bytes + length line) (without_return line) ≡ None
+    → fed s line ≡ answer_in (dropped s) (added (line_in o) (without_return line) (length line)) (without_return line)
+unfolding fed
+fed_next s line o e f = rw (← e, f) refl
+
+pub fed_first : (s : LexerState) (line : List ℕ) (o : Open) → None ≡ s.line → line_in o ≡ record { number = s.count + 1; lines = []; bytes = 0 } → line_fault s.count (0 + length line) (without_return line) ≡ None
+    → fed s line ≡ fed_as (dropped s) (added (line_in o) (without_return line) (length line)) (without_return line) (directive s.special (without_return line))
+unfolding fed
+fed_first s line o e g f =
+    let text = without_return line in
+    rw (← e, f) (ap (λ (l : OpenLine). fed_as (dropped s) (added l text (length line)) text (directive s.special text)) (sym g))
