@@ -1,5 +1,5 @@
 -- The answer to one more physical line, by the scan of its logical line.
-use Rattle.std.proofs.Common.{◌≡◌, ◌≢◌, ℕ, ◌+◌, ◌≤◌, ◌&&◌, nat_lt, Bool, true, false, if◌then◌else◌, List, [], ◌∷◌, ◌++◌, map, length, chars, IsUtf8, Option, Some, None, option_map, Ok, Err, refl, ap, sym, ◌∙◌, subst, append_assoc, arith}
+use Rattle.std.proofs.Common.{Result, ◌≡◌, ◌≢◌, ℕ, ◌+◌, ◌≤◌, ◌&&◌, nat_lt, Bool, true, false, if◌then◌else◌, List, [], ◌∷◌, ◌++◌, map, length, chars, IsUtf8, Option, Some, None, option_map, Ok, Err, refl, ap, sym, ◌∙◌, subst, append_assoc, arith}
 use Rattle.std.specs.Option.{ForSome}
 use Rattle.std.specs.Str.{is_utf8}
 use Rattle.std.specs.declared.alloc.Global.{Global}
@@ -10,12 +10,13 @@ use Rattle.coll_lex.specs.PhysicalLines.{without_return}
 use Rattle.coll_lex.specs.Marked.{Mark, marks, joined_marks}
 use Rattle.coll_lex.specs.Tokens.{before_close, atoms, Stop, AtFault, AtComment, AtEnd, InSymbol, InString, Reading, quoted, word_run, reading, reading_of}
 use Rattle.coll_lex.specs.Directives.{directive}
-use Rattle.coll_lex.specs.LogicalLines.{OpenLine, LexerState, dropped, line_of, continued, answer_to, reading_in, answer_in, line_fault, fed_as, fed, bytes_before}
+use Rattle.coll_lex.specs.LogicalLines.{OpenLine, LexerState, dropped, line_of, continued, answer_to, reading_in, answer_in, line_fault, fed_as, fed_text, fed, bytes_before}
 use Rattle.coll_lex.specs.Scanning.{fresh, after, left, TakesLine, RefusesLine, is_continued, goes_on, word_token, ending_in, ending}
 use Rattle.coll_lex.specs.Lexer.{lines_in, line_in, added, IsSoundOpen}
 use Rattle.coll_lex.specs.declared.tokens.Chars.{Chars}
 use Rattle.coll_lex.specs.declared.tokens.Piece.{Piece}
 use Rattle.coll_lex.specs.declared.tokens.Token.{Token}
+use Rattle.coll_lex.specs.declared.tokens.Line.{Line}
 use Rattle.coll_lex.specs.declared.tokens.TheConstants.{MOST_LINES, MOST_LINE_BYTES}
 use Rattle.coll_lex.specs.declared.faults.LexFault.{LexFault}
 use Rattle.coll_lex.specs.declared.faults.LexFault.TheVariants.{NotUtf8, OpenSymbol, OpenString, LineTooLong}
@@ -27,31 +28,26 @@ use Rattle.coll_lex.proofs.ScanRows.{differs}
 
 -- the tests before a line is read
 
-pub line_passes : (count bytes : ℕ) (line : List ℕ) → bytes ≤ MOST_LINE_BYTES → count ≢ MOST_LINES → IsUtf8 line → line_fault count bytes line ≡ None
-line_passes count bytes line short more text =
+pub line_passes : (count bytes : ℕ) → bytes ≤ MOST_LINE_BYTES → count ≢ MOST_LINES → line_fault count bytes ≡ None
+line_passes count bytes short more =
     let within : nat_lt MOST_LINE_BYTES bytes ≡ false = grind (arith, nat_tests) in
-    rw (within, differs count MOST_LINES more, is_utf8-from_IsUtf8 line text) refl
-
-not_text : (t : Bool) (line : List ℕ) → is_utf8 line ≡ t → (IsUtf8 line → ⊥) → is_utf8 line ≡ false
-not_text true line e h = absurd (h (IsUtf8-from_is_utf8 line e))
-not_text false line e h = e
-
-pub line_not_text : (count bytes : ℕ) (line : List ℕ) → bytes ≤ MOST_LINE_BYTES → count ≢ MOST_LINES → (IsUtf8 line → ⊥) → line_fault count bytes line ≡ Some NotUtf8
-line_not_text count bytes line short more wrong =
-    let within : nat_lt MOST_LINE_BYTES bytes ≡ false = grind (arith, nat_tests) in
-    rw (within, differs count MOST_LINES more, not_text (is_utf8 line) line refl wrong) refl
+    rw (within, differs count MOST_LINES more) refl
 
 long_fails : (t : Bool) (rest : Option LexFault) → (if t then Some LineTooLong else rest) ≡ None → t ≡ false
 long_fails true rest e = cc
 long_fails false rest e = refl
 
 -- a line that passes the tests is short enough
-pub passes_short : (count bytes : ℕ) (line : List ℕ) → line_fault count bytes line ≡ None → bytes ≤ MOST_LINE_BYTES
-passes_short count bytes line e =
+pub passes_short : (count bytes : ℕ) → line_fault count bytes ≡ None → bytes ≤ MOST_LINE_BYTES
+passes_short count bytes e =
     let t = long_fails (nat_lt MOST_LINE_BYTES bytes) _ e in
     grind (arith, nat_tests)
 
-pub fed_faulty : (s : LexerState) (line : List ℕ) (bytes : ℕ) (fault : LexFault) → bytes ≡ bytes_before s + length line → line_fault s.count bytes (without_return line) ≡ Some fault → fed s line ≡ Err fault
+not_text : (t : Bool) (line : List ℕ) → is_utf8 line ≡ t → (IsUtf8 line → ⊥) → is_utf8 line ≡ false
+not_text true line e h = absurd (h (IsUtf8-from_is_utf8 line e))
+not_text false line e h = e
+
+pub fed_faulty : (s : LexerState) (line : List ℕ) (bytes : ℕ) (fault : LexFault) → bytes ≡ bytes_before s + length line → line_fault s.count bytes ≡ Some fault → fed s line ≡ Err fault
 unfolding fed
 fed_faulty s line bytes fault e f = rw (← e, f) refl
 
@@ -217,14 +213,35 @@ some_open o P h = λ x is. subst P (same x is) h
 
 -- the answer to the next physical line of an open line, and to the first one of a logical line
 
-pub fed_next : (s : LexerState) (line : List ℕ) (o : Open) → Some (line_in o) ≡ s.line → line_fault s.count (o.bytes + length line) (without_return line) ≡ None
-    → fed s line ≡ answer_in (dropped s) (added (line_in o) (without_return line) (length line)) (without_return line)
-unfolding fed
-fed_next s line o e f = rw (← e, f) refl
+-- the answer to a line that passes the first tests
+abbrev passed : LexerState → OpenLine → List ℕ → Option (Result Chars LexFault) → Result (Option Line × LexerState) LexFault
+passed s o line asked = fed_text (dropped s) (added o (without_return line) (length line)) (without_return line) asked
 
-pub fed_first : (s : LexerState) (line : List ℕ) (o : Open) → None ≡ s.line → line_in o ≡ record { number = s.count + 1; lines = []; bytes = 0 } → line_fault s.count (0 + length line) (without_return line) ≡ None
-    → fed s line ≡ fed_as (dropped s) (added (line_in o) (without_return line) (length line)) (without_return line) (directive s.special (without_return line))
+passed_next : (s : LexerState) (line : List ℕ) (o : Open) → Some (line_in o) ≡ s.line → line_fault s.count (o.bytes + length line) ≡ None → fed s line ≡ passed s (line_in o) line None
 unfolding fed
-fed_first s line o e g f =
-    let text = without_return line in
-    rw (← e, f) (ap (λ (l : OpenLine). fed_as (dropped s) (added l text (length line)) text (directive s.special text)) (sym g))
+passed_next s line o e f = rw (← e, f) refl
+
+passed_first : (s : LexerState) (line : List ℕ) (o : Open) → None ≡ s.line → line_in o ≡ record { number = s.count + 1; lines = []; bytes = 0 } → line_fault s.count (0 + length line) ≡ None
+    → fed s line ≡ passed s (line_in o) line (directive s.special (without_return line))
+unfolding fed
+passed_first s line o e g f =
+    rw (← e, f) (ap (λ (l : OpenLine). passed s l line (directive s.special (without_return line))) (sym g))
+
+-- bytes that are no text
+
+pub fed_next_no_text : (s : LexerState) (line : List ℕ) (o : Open) → Some (line_in o) ≡ s.line → line_fault s.count (o.bytes + length line) ≡ None → (IsUtf8 (without_return line) → ⊥) → fed s line ≡ Err NotUtf8
+fed_next_no_text s line o e f wrong = passed_next s line o e f ∙ rw (not_text (is_utf8 (without_return line)) (without_return line) refl wrong) refl
+
+pub fed_first_no_text : (s : LexerState) (line : List ℕ) (o : Open) → None ≡ s.line → line_in o ≡ record { number = s.count + 1; lines = []; bytes = 0 } → line_fault s.count (0 + length line) ≡ None
+    → (IsUtf8 (without_return line) → ⊥) → fed s line ≡ Err NotUtf8
+fed_first_no_text s line o e g f wrong = passed_first s line o e g f ∙ rw (not_text (is_utf8 (without_return line)) (without_return line) refl wrong) refl
+
+-- bytes that are text
+
+pub fed_next : (s : LexerState) (line : List ℕ) (o : Open) → Some (line_in o) ≡ s.line → line_fault s.count (o.bytes + length line) ≡ None → IsUtf8 (without_return line)
+    → fed s line ≡ answer_in (dropped s) (added (line_in o) (without_return line) (length line)) (without_return line)
+fed_next s line o e f text = passed_next s line o e f ∙ rw (is_utf8-from_IsUtf8 (without_return line) text) refl
+
+pub fed_first : (s : LexerState) (line : List ℕ) (o : Open) → None ≡ s.line → line_in o ≡ record { number = s.count + 1; lines = []; bytes = 0 } → line_fault s.count (0 + length line) ≡ None → IsUtf8 (without_return line)
+    → fed s line ≡ fed_as (dropped s) (added (line_in o) (without_return line) (length line)) (without_return line) (directive s.special (without_return line))
+fed_first s line o e g f text = passed_first s line o e g f ∙ rw (is_utf8-from_IsUtf8 (without_return line) text) refl

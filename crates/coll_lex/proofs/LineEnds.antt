@@ -1,12 +1,12 @@
 -- Where a lexer stands after an answer: past a whole line nothing is open, and each line is counted.
 use Rattle.std.proofs.Common.{◌≡◌, ℕ, ◌+◌, ◌<◌, Bool, true, false, List, [], ◌∷◌, length, min, Option, Some, None, Result, Ok, Err, refl, subst, arith, eq-eqb}
-use Rattle.std.specs.Prelude.{nat_lt, if◌then◌else◌}
+use Rattle.std.specs.Prelude.{nat_lt, ◌==◌, if◌then◌else◌}
 use Rattle.std.specs.Str.{is_utf8}
 use Rattle.std.proofs.lemmas.Bool.{lt-ltb}
 use Rattle.coll_lex.specs.PhysicalLines.{without_return}
 use Rattle.coll_lex.specs.Tokens.{Stop, AtFault, AtComment, AtEnd, InSymbol, InString}
 use Rattle.coll_lex.specs.Directives.{directive}
-use Rattle.coll_lex.specs.LogicalLines.{LexerState, bytes_before, extended, dropped, whole, answer_at, directive_where, fed_as, line_fault, fed_unless, fed}
+use Rattle.coll_lex.specs.LogicalLines.{LexerState, bytes_before, extended, dropped, whole, answer_at, directive_where, fed_as, line_fault, unless_fault, fed}
 use Rattle.coll_lex.specs.declared.tokens.Chars.{Chars}
 use Rattle.coll_lex.specs.declared.tokens.Line.{Line}
 use Rattle.coll_lex.specs.declared.tokens.Token.{Token}
@@ -61,15 +61,16 @@ fed_as_stands s line (Some (Ok special)) = no_line s _ refl
 fed_as_stands s line (Some (Err fault)) = at_fault s fault
 fed_as_stands s line None = answer_stands s line _ _ _
 
-unless_stands : (s : LexerState) (fault : Option LexFault) (answer : Answer) → StandsAfter s answer → StandsAfter s (fed_unless fault answer)
+unless_stands : (s : LexerState) (fault : Option LexFault) (answer : Answer) → StandsAfter s answer → StandsAfter s (unless_fault fault answer)
 unless_stands s None answer h = h
 unless_stands s (Some fault) answer h = at_fault s fault
 
 fed_stands : (s : LexerState) (line : List ℕ) → StandsAfter s (fed s line)
 unfolding fed
 fed_stands s line =
-    unless_stands s (line_fault s.count (extended s line).bytes (without_return line)) _
-    (fed_as_stands s line (directive_where s.line (directive s.special (without_return line))))
+    let text = without_return line in
+    unless_stands s (line_fault s.count (extended s line).bytes) _
+    (chosen s (is_utf8 text) _ (Err NotUtf8) (fed_as_stands s line (directive_where s.line (directive s.special text))) (at_fault s _))
 
 -- past a whole line nothing is open
 pub fed-whole : (s : LexerState) (line : List ℕ) (given : Line) (after : LexerState) → fed s line ≡ Ok (Some given, after) → after ≡ dropped s
@@ -89,16 +90,12 @@ fed-too_long s line long =
     let test = lt-ltb MOST_LINE_BYTES (bytes_before s + length line) longer in
     rw test refl
 
-fault_when_full : (long text : Bool) → (if long then Some LineTooLong else (if true then Some TooManyLines else (if text then None else Some NotUtf8))) ≡ None → ⊥
-fault_when_full true text e = cc
-fault_when_full false text e = cc
+fault_when_full : (long last : Bool) → last ≡ true → (if long then Some LineTooLong else (if last then Some TooManyLines else None)) ≡ None → ⊥
+fault_when_full true last is e = cc
+fault_when_full false true is e = cc
+fault_when_full false false is e = cc
 
-full_fault : (count bytes : ℕ) (line : List ℕ) → count ≡ MOST_LINES → line_fault count bytes line ≡ None → ⊥
-full_fault count bytes line full e =
-    let test = eq-eqb count MOST_LINES full in
-    fault_when_full (nat_lt MOST_LINE_BYTES bytes) (is_utf8 line) (rw test at e)
-
-no_answer : (fault : Option LexFault) (answer : Answer) (o : Option Line × LexerState) → (fault ≡ None → ⊥) → fed_unless fault answer ≡ Ok o → ⊥
+no_answer : (fault : Option LexFault) (answer : Answer) (o : Option Line × LexerState) → (fault ≡ None → ⊥) → unless_fault fault answer ≡ Ok o → ⊥
 no_answer None answer o h e = h refl
 no_answer (Some fault) answer o h e = cc
 
@@ -106,4 +103,4 @@ no_answer (Some fault) answer o h e = cc
 pub fed-room : (s : LexerState) (line : List ℕ) (answer : Option Line) (after : LexerState) → fed s line ≡ Ok (answer, after) → s.count ≡ MOST_LINES → ⊥
 unfolding fed
 fed-room s line answer after e full =
-    no_answer (line_fault s.count (extended s line).bytes (without_return line)) _ (answer, after) (full_fault s.count (extended s line).bytes (without_return line) full) e
+    no_answer (line_fault s.count (extended s line).bytes) _ (answer, after) (fault_when_full (nat_lt MOST_LINE_BYTES (extended s line).bytes) (s.count == MOST_LINES) (eq-eqb s.count MOST_LINES full)) e

@@ -7,7 +7,7 @@ use Rattle.coll_lex.specs.PhysicalLines.{without_return}
 use Rattle.coll_lex.specs.Marked.{Plain, Literal, is_joined, joined_marks}
 use Rattle.coll_lex.specs.Tokens.{Atom, Bracketed, Unclosed, Bare, Stop, AtFault, AtComment, AtEnd, InSymbol, InString, Reading, Quoted, Closed, Stops, is_blank, is_constant, is_name, code_point_of, symbol_by, symbol_of, ahead, after_symbol, with_piece, with_symbol, quoted, after_string, ends_word, with_letter, word_run, after_word, atoms, reading, stopped}
 use Rattle.coll_lex.specs.Directives.{with_comment, with_escape, asked, directive}
-use Rattle.coll_lex.specs.LogicalLines.{OpenLine, LexerState, extended, dropped, whole, answer_at, answer_in, reading_in, directive_where, fed_as, line_fault, fed_unless, fed}
+use Rattle.coll_lex.specs.LogicalLines.{OpenLine, LexerState, extended, dropped, whole, answer_at, answer_in, reading_in, directive_where, fed_as, line_fault, fed_text, unless_fault, fed}
 use Rattle.coll_lex.specs.declared.tokens.Chars.{Chars}
 use Rattle.coll_lex.specs.declared.tokens.Line.{Line}
 use Rattle.coll_lex.specs.declared.tokens.Piece.{Piece}
@@ -16,7 +16,7 @@ use Rattle.coll_lex.specs.declared.tokens.Token.{Token}
 use Rattle.coll_lex.specs.declared.tokens.Token.TheVariants as token
 use Rattle.coll_lex.specs.declared.tokens.TheConstants.{MOST_LINES, MOST_LINE_BYTES}
 use Rattle.coll_lex.specs.declared.faults.LexFault.{LexFault}
-use Rattle.coll_lex.specs.declared.faults.LexFault.TheVariants.{NotUtf8, BadName, BadCodePoint, BadCharDirective, OpenSymbol, OpenString, CharacterConstant, DanglingEscape, LineTooLong, TooManyLines}
+use Rattle.coll_lex.specs.declared.faults.LexFault.TheVariants.{NotUtf8, BadName, BadCodePoint, BadCharDirective, OpenSymbol, OpenString, CharacterConstant, LineTooLong, TooManyLines}
 
 -- the fault of a text that ends where a line is continued
 abbrev dangles : LexFault → Bool
@@ -106,9 +106,9 @@ reading_faults comment zero (Bare (Plain c) ∷ xs) =
     let word = after_word_faults c (word_run comment xs) (λ skip. reading comment skip xs) (word_faults comment xs) (λ skip. reading_faults comment skip xs) in
     chosen reading_dangles (is_blank c) (reading comment zero xs) _ rest
     (chosen reading_dangles (c == 59) (ahead token.Semicolon (reading comment zero xs)) _ rest
-      (chosen reading_dangles (c == 44) (ahead token.Comma (reading comment zero xs)) _ rest
-        (chosen reading_dangles (c == comment) (stopped AtComment) _ refl
-          (chosen reading_dangles (c == 34) (after_string (quoted xs) (λ skip. reading comment skip xs)) (after_word c (word_run comment xs) (λ skip. reading comment skip xs)) string word))))
+    (chosen reading_dangles (c == 44) (ahead token.Comma (reading comment zero xs)) _ rest
+    (chosen reading_dangles (c == comment) (stopped AtComment) _ refl
+    (chosen reading_dangles (c == 34) (after_string (quoted xs) (λ skip. reading comment skip xs)) (after_word c (word_run comment xs) (λ skip. reading comment skip xs)) string word))))
 reading_faults comment zero (Bare (Literal c) ∷ xs) =
     chosen reading_dangles (is_constant c) (stopped (AtFault CharacterConstant)) (after_word c (word_run comment xs) (λ skip. reading comment skip xs)) refl
     (after_word_faults c (word_run comment xs) (λ skip. reading comment skip xs) (word_faults comment xs) (λ skip. reading_faults comment skip xs))
@@ -163,14 +163,16 @@ abbrev fault_dangles : Option LexFault → Bool
 fault_dangles None = false
 fault_dangles (Some fault) = dangles fault
 
-unless_faults : (fault : Option LexFault) (answer : Result (Option Line × LexerState) LexFault) → fault_dangles fault ≡ false → answer_dangles answer ≡ false → answer_dangles (fed_unless fault answer) ≡ false
+unless_faults : (fault : Option LexFault) (answer : Result (Option Line × LexerState) LexFault) → fault_dangles fault ≡ false → answer_dangles answer ≡ false → answer_dangles (unless_fault fault answer) ≡ false
 unless_faults None answer f e = e
 unless_faults (Some fault) answer f e = f
 
-line_faults : (count bytes : ℕ) (line : List ℕ) → fault_dangles (line_fault count bytes line) ≡ false
-line_faults count bytes line =
-    chosen fault_dangles (nat_lt MOST_LINE_BYTES bytes) (Some LineTooLong) _ refl
-    (chosen fault_dangles (count == MOST_LINES) (Some TooManyLines) _ refl (chosen fault_dangles (is_utf8 line) None (Some NotUtf8) refl refl))
+line_faults : (count bytes : ℕ) → fault_dangles (line_fault count bytes) ≡ false
+line_faults count bytes =
+    chosen fault_dangles (nat_lt MOST_LINE_BYTES bytes) (Some LineTooLong) _ refl (chosen fault_dangles (count == MOST_LINES) (Some TooManyLines) None refl refl)
+
+fed_text_faults : (next : LexerState) (o : OpenLine) (line : List ℕ) (d : Option (Result Chars LexFault)) → asked_dangles d ≡ false → answer_dangles (fed_text next o line d) ≡ false
+fed_text_faults next o line d e = chosen answer_dangles (is_utf8 line) (fed_as next o line d) (Err NotUtf8) (fed_as_faults next o line d e) refl
 
 -- a line that is handed in has never the fault of a text's end
 pub fed-not_dangling : (s : LexerState) (line : List ℕ) (fault : LexFault) → fed s line ≡ Err fault → (lex_fault_number fault == 9) ≡ false
@@ -179,17 +181,17 @@ fed-not_dangling s line fault e =
     let text = without_return line in
     let d = directive_where s.line (directive s.special text) in
     sym (ap (λ (answer : Result (Option Line × LexerState) LexFault). answer_dangles answer) e)
-    ∙ unless_faults (line_fault s.count (extended s line).bytes text) (fed_as (dropped s) (extended s line) text d) (line_faults s.count (extended s line).bytes text)
-        (fed_as_faults (dropped s) (extended s line) text d (where_faults s.line (directive s.special text) (directive_faults s.special text)))
+    ∙ unless_faults (line_fault s.count (extended s line).bytes) (fed_text (dropped s) (extended s line) text d) (line_faults s.count (extended s line).bytes)
+    (fed_text_faults (dropped s) (extended s line) text d (where_faults s.line (directive s.special text) (directive_faults s.special text)))
 
-full_cases : (long text : Bool) (answer : Result (Option Line × LexerState) LexFault) (fault : LexFault)
-    → fed_unless (if long then Some LineTooLong else (if true then Some TooManyLines else (if text then None else Some NotUtf8))) answer ≡ Err fault → (fault ≡ LineTooLong) ⊎ (fault ≡ TooManyLines)
-full_cases true text answer fault e = inl cc
-full_cases false text answer fault e = inr cc
+full_cases : (long : Bool) (answer : Result (Option Line × LexerState) LexFault) (fault : LexFault)
+    → unless_fault (if long then Some LineTooLong else (if true then Some TooManyLines else None)) answer ≡ Err fault → (fault ≡ LineTooLong) ⊎ (fault ≡ TooManyLines)
+full_cases true answer fault e = inl cc
+full_cases false answer fault e = inr cc
 
 -- past the most lines each line has this fault, if it isn't too long
 pub fed-full : (s : LexerState) (line : List ℕ) (fault : LexFault) → fed s line ≡ Err fault → s.count ≡ MOST_LINES → (fault ≡ LineTooLong) ⊎ (fault ≡ TooManyLines)
 unfolding fed
 fed-full s line fault e full =
     let test = eq-eqb s.count MOST_LINES full in
-    full_cases (nat_lt MOST_LINE_BYTES (extended s line).bytes) (is_utf8 (without_return line)) _ fault (rw test at e)
+    full_cases (nat_lt MOST_LINE_BYTES (extended s line).bytes) _ fault (rw test at e)

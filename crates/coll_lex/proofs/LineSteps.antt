@@ -1,15 +1,16 @@
 -- What one more physical line does to the logical lines, to where the lexer stands, and to the first physical line
 -- of a logical line.
 use Rattle.std.proofs.Common.{◌≡◌, ℕ, Bool, true, false, if◌then◌else◌, List, [], ◌∷◌, ◌++◌, Option, Some, None, Result, Ok, Err, ◌⊎◌, inl, inr, refl, subst}
+use Rattle.std.specs.Str.{is_utf8}
 use Rattle.coll_lex.specs.PhysicalLines.{without_return}
 use Rattle.coll_lex.specs.Directives.{directive}
-use Rattle.coll_lex.specs.LogicalLines.{OpenLine, LexerState, number_of, lines_before, extended, directive_where, answer_at, fed_as, line_fault, fed_unless, first_of, first_line, dropped, fed, served, left_open, first_choice, later_choices, logical_lines, state_after}
+use Rattle.coll_lex.specs.LogicalLines.{OpenLine, LexerState, number_of, lines_before, extended, directive_where, answer_at, fed_as, line_fault, unless_fault, first_of, first_line, dropped, fed, served, left_open, first_choice, later_choices, logical_lines, state_after}
 use Rattle.coll_lex.specs.Tokens.{Stop, AtFault, AtComment, AtEnd, InSymbol, InString}
 use Rattle.coll_lex.specs.declared.tokens.Line.{Line}
 use Rattle.coll_lex.specs.declared.tokens.Token.{Token}
 use Rattle.coll_lex.specs.declared.tokens.Chars.{Chars}
 use Rattle.coll_lex.specs.declared.faults.LexFault.{LexFault}
-use Rattle.coll_lex.specs.declared.faults.LexFault.TheVariants.{OutOfMemory}
+use Rattle.coll_lex.specs.declared.faults.LexFault.TheVariants.{OutOfMemory, NotUtf8}
 
 -- at the end a line that is open is at fault, if the text ends there
 pub logical_lines-nil : (starved : List Bool) (ends : Bool) (s : LexerState) → logical_lines starved ends s [] ≡ (if ends then left_open s.line else [])
@@ -121,7 +122,11 @@ directive_left s line (Some (Ok special)) = leaves_none _ _ _ refl
 directive_left s line (Some (Err fault)) = leaves_none _ _ _ refl
 directive_left s line None = answer_left s line _ _ _
 
-unless_left : (s : LexerState) (line : List ℕ) (o : Option LexFault) (answer : Result (Option Line × LexerState) LexFault) → LeavesOpen s line answer → LeavesOpen s line (fed_unless o answer)
+text_left : (s : LexerState) (line : List ℕ) (is_text : Bool) (answer : Result (Option Line × LexerState) LexFault) → LeavesOpen s line answer → LeavesOpen s line (if is_text then answer else Err NotUtf8)
+unfolding line_left
+text_left s line is_text answer h = joined_left s line is_text answer (Err NotUtf8) h (leaves_none _ _ _ refl)
+
+unless_left : (s : LexerState) (line : List ℕ) (fault : Option LexFault) (answer : Result (Option Line × LexerState) LexFault) → LeavesOpen s line answer → LeavesOpen s line (unless_fault fault answer)
 unfolding line_left
 unless_left s line None answer h = h
 unless_left s line (Some fault) answer h = leaves_none _ _ _ refl
@@ -129,8 +134,9 @@ unless_left s line (Some fault) answer h = leaves_none _ _ _ refl
 fed_left : (s : LexerState) (line : List ℕ) → LeavesOpen s line (fed s line)
 unfolding fed
 fed_left s line =
-    unless_left s line (line_fault s.count (extended s line).bytes (without_return line)) _
-    (directive_left s line (directive_where s.line (directive s.special (without_return line))))
+    let text = without_return line in
+    unless_left s line (line_fault s.count (extended s line).bytes) _
+    (text_left s line (is_utf8 text) _ (directive_left s line (directive_where s.line (directive s.special text))))
 
 -- what a line leaves open: nothing, or the line that was open with it at its end
 pub fed-open : (s : LexerState) (line : List ℕ) (answer : Option Line) (after : LexerState) → fed s line ≡ Ok (answer, after) → (after.line ≡ None) ⊎ (after.line ≡ Some (extended s line))

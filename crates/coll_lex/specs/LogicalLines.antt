@@ -108,32 +108,37 @@ fed_as next o line (Some (Ok special)) = Ok (None, record next { special = speci
 fed_as next o line (Some (Err fault)) = Err fault
 fed_as next o line None = answer_in next o line
 
--- the fault of a line by the sum of the lengths up to it, by the count of the lines before, or by its bytes
-abbrev pub line_fault : (count bytes : ℕ) → (line : List ℕ) → Option LexFault
-line_fault count bytes line = if nat_lt MOST_LINE_BYTES bytes then Some LineTooLong else (if count == MOST_LINES then Some TooManyLines else (if is_utf8 line then None else Some NotUtf8))
+-- the answer to a line of UTF-8, or that it is none
+abbrev pub fed_text : (next : LexerState) → OpenLine → (line : List ℕ) → Option (Result Chars LexFault) → Result (Option Line × LexerState) LexFault
+fed_text next o line asked = if is_utf8 line then fed_as next o line asked else Err NotUtf8
+
+-- the fault of a line by the sum of the lengths up to it, or by the count of the lines before it
+abbrev pub line_fault : (count bytes : ℕ) → Option LexFault
+line_fault count bytes = if nat_lt MOST_LINE_BYTES bytes then Some LineTooLong else (if count == MOST_LINES then Some TooManyLines else None)
 
 -- the answer to a line, unless it is at fault
-abbrev pub fed_unless : Option LexFault → Result (Option Line × LexerState) LexFault → Result (Option Line × LexerState) LexFault
-fed_unless None answer = answer
-fed_unless (Some fault) answer = Err fault
+abbrev pub unless_fault : {A : Type 0} → Option LexFault → Result A LexFault → Result A LexFault
+unless_fault None answer = answer
+unless_fault (Some fault) answer = Err fault
 
 -- the answer to one more physical line: the logical line that it ends, or its fault; else none, and where the
 -- lexer then stands
 unfoldable pub fed : LexerState → List ℕ → Result (Option Line × LexerState) LexFault
 fed s line =
-    fed_unless (line_fault s.count (extended s line).bytes (without_return line))
-    (fed_as (dropped s) (extended s line) (without_return line) (directive_where s.line (directive s.special (without_return line))))
+    unless_fault (line_fault s.count (extended s line).bytes)
+    (fed_text (dropped s) (extended s line) (without_return line) (directive_where s.line (directive s.special (without_return line))))
 
 -- the answer to a line before the category, by the directive that it is
-abbrev pub outside_as : LexerState → List ℕ → Option (Result Chars LexFault) → Result (Bool × LexerState) LexFault
-outside_as s line (Some (Ok special)) = Ok (false, record (dropped s) { special = special })
-outside_as s line (Some (Err fault)) = Err fault
-outside_as s line None = Ok (begins_category s.special.comment (without_return line), dropped s)
+abbrev pub outside_as : (next : LexerState) → (line : List ℕ) → Option (Result Chars LexFault) → Result (Bool × LexerState) LexFault
+outside_as next line (Some (Ok special)) = Ok (false, record next { special = special })
+outside_as next line (Some (Err fault)) = Err fault
+outside_as next line None = Ok (begins_category next.special.comment line, next)
 
 -- the answer to a line before the category: whether the category begins with it, whatever bytes it has; it
 -- belongs to no logical line, so an open one is dropped
 unfoldable pub outside : LexerState → List ℕ → Result (Bool × LexerState) LexFault
-outside s line = if nat_lt MOST_LINE_BYTES (length line) then Err LineTooLong else (if s.count == MOST_LINES then Err TooManyLines else outside_as s line (directive s.special (without_return line)))
+outside s line =
+    unless_fault (line_fault s.count (length line)) (outside_as (dropped s) (without_return line) (directive s.special (without_return line)))
 
 -- a logical line: its number, its first physical line, and its tokens or its fault
 pub record LogicalLine : Type 0 where

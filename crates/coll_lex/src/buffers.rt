@@ -63,7 +63,7 @@ impl TextBuf {
     pub(crate) fn is_empty(&self) -> bool
         ensures { result ≡ (length self.now == 0) }
     {
-        self.text.as_str().is_empty()
+        self.get().is_empty()
     }
 
     /// Puts a character at the end. A refused growth leaves the text as it was.

@@ -3,8 +3,11 @@
 //! A `Lexer` stores its two characters, the count of the lines handed in, and the logical line that is open.
 //! Contracts see these as a `LexerState`.
 
-ghost use Rattle.std.specs.Prelude.{◌≡◌};
+ghost use Rattle.std.specs.Prelude.{◌≡◌, IsUtf8, IfOk, IfErr};
 ghost use Rattle.coll_lex.specs.LogicalLines.{line_of};
+
+#[cfg(test)]
+mod tests;
 
 use crate::directives::{begins_category, directive, without_return};
 use crate::scanning::Scan;
@@ -55,6 +58,17 @@ impl Open {
         self.bytes += bytes;
         self.scan.join();
         Ok(())
+    }
+}
+
+// The bytes as a text.
+fn text_of(bytes: &[u8]) -> Result<&str, LexFault>
+    ensures ok { IfOk result (λ text. (text.now ≡ bytes.now) × IsUtf8 bytes.now) }
+    ensures err { IfErr result (λ fault. (fault ≡ LexFault.NotUtf8) × ¬ (IsUtf8 bytes.now)) }
+{
+    match str::from_utf8(bytes) {
+        Ok(text) => Ok(text),
+        Err(_) => Err(LexFault::NotUtf8),
     }
 }
 
@@ -151,12 +165,14 @@ impl Lexer {
     {
         match self.take_open() {
             Some(open) => {
-                let text = self.count_line(open.bytes, line)?;
+                let bytes = self.count_line(open.bytes, line)?;
+                let text = text_of(bytes)?;
                 self.feed_text(open, line.len(), text)
             }
             None => {
                 let open = Open::new(self.alloc, self.count + 1);
-                let text = self.count_line(0, line)?;
+                let bytes = self.count_line(0, line)?;
+                let text = text_of(bytes)?;
                 self.feed_first(open, line.len(), text)
             }
         }
@@ -171,15 +187,7 @@ impl Lexer {
         ensures err { IfErr result (λ fault. outside self.old line.now ≡ Err fault) }
         ensures dropped { OnErr result (self.new ≡ dropped self.old) }
     {
-        let is_last = self.count == MOST_LINES;
-        self.drop_line();
-        if line.len() > MOST_LINE_BYTES {
-            return Err(LexFault::LineTooLong);
-        }
-        if is_last {
-            return Err(LexFault::TooManyLines);
-        }
-        let text = without_return(line);
+        let text = self.count_line(0, line)?;
         match directive(self.special, text) {
             Some(Ok(special)) => {
                 self.special = special;
@@ -196,7 +204,7 @@ impl Lexer {
         ensures err { IfErr result (λ fault. (fault ≡ DanglingEscape) × IsSome (pending self.old)) }
         ensures after { self.new ≡ record self.old { line = None } }
     {
-        match self.open.take() {
+        match self.take_open() {
             Some(_) => Err(LexFault::DanglingEscape),
             None => Ok(()),
         }
@@ -221,14 +229,13 @@ impl Lexer {
         }
     }
 
-    // Counts a line, and lends its text, unless it is too long with the bytes before it, one too many, or no text.
-    fn count_line<'a>(&mut self, before: usize, line: &'a [u8]) -> Result<&'a str, LexFault>
+    // Counts a line that leaves no logical line open, and lends it without its carriage return, unless it is too
+    // long with the bytes before it, or one too many.
+    fn count_line<'a>(&mut self, before: usize, line: &'a [u8]) -> Result<&'a [u8], LexFault>
         requires { before ≤ MOST_LINE_BYTES }
-        ensures ok { IfOk result (λ text. text.now ≡ without_return line.now) }
-        ensures passes { OnOk result
-            (line_fault self.old.count (before + length line.now) (without_return line.now) ≡ None) }
-        ensures err { IfErr result
-            (λ fault. line_fault self.old.count (before + length line.now) (without_return line.now) ≡ Some fault) }
+        ensures ok { IfOk result (λ bytes. bytes.now ≡ without_return line.now) }
+        ensures passes { OnOk result (line_fault self.old.count (before + length line.now) ≡ None) }
+        ensures err { IfErr result (λ fault. line_fault self.old.count (before + length line.now) ≡ Some fault) }
         ensures memory { IfErr result (λ fault. fault ≢ OutOfMemory) }
         ensures room { OnOk result (self.old.count < MOST_LINES) }
         ensures counted { self.new ≡ dropped self.old }
@@ -241,10 +248,7 @@ impl Lexer {
         if is_last {
             return Err(LexFault::TooManyLines);
         }
-        match str::from_utf8(without_return(line)) {
-            Ok(text) => Ok(text),
-            Err(_) => Err(LexFault::NotUtf8),
-        }
+        Ok(without_return(line))
     }
 
     // Takes the first physical line of a logical line, or a directive.
@@ -273,7 +277,7 @@ impl Lexer {
         }
     }
 
-    // Takes one more physical line of a logical line.
+    // Reads one more physical line of a logical line.
     fn feed_text(
         &mut self,
         mut logical: Open,
