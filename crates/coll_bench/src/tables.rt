@@ -18,6 +18,8 @@ mod places;
 mod records;
 mod refusals;
 mod taken;
+#[cfg(test)]
+mod test_tables;
 mod text_lines;
 
 use crate::Id;

@@ -13,6 +13,9 @@ ghost use Rattle.coll_bench.specs.Record.{fits, turn};
 ghost use Rattle.coll_bench.specs.Sound.{with_sections, IsFullAt};
 ghost use Rattle.coll_bench.specs.declared.tables.refusals.Refusal.TheVariants.{OutOfMemory};
 
+#[cfg(test)]
+mod tests;
+
 use super::places::Places;
 use crate::{Entry, Id, MOST_ENTRIES, OrderLine, Record, Refusal, Statement, Table};
 use std::alloc::AllocError;

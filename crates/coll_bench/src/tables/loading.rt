@@ -9,6 +9,9 @@ ghost use Rattle.coll_bench.specs.Loads.{Loads, CountsFault};
 ghost use Rattle.coll_bench.specs.CategoryReading.{LineAccepted, LineRefused, ReadsCategory};
 ghost use Rattle.coll_bench.specs.Drafts.{DraftState};
 
+#[cfg(test)]
+mod tests;
+
 use super::drafts::Draft;
 use super::text_lines::TextLines;
 use crate::{LoadCause, LoadFault, Table, parse_table_line};
