@@ -10,9 +10,12 @@ pub mod LookUps
 pub mod NextSteps
 pub mod PlaceLookUps
 pub mod PlacingLemmas
+pub mod ReplyLemmas
+pub mod RunEnds
+pub mod RunLemmas
+pub mod RunSteps
 pub mod Sameness
 pub mod SectionLemmas
-pub mod ReplyLemmas
 pub mod ServingLemmas
 pub mod Spellings
 pub mod TableLemmas

@@ -11,6 +11,7 @@ pub mod Record
 pub mod Refusals
 pub mod Replay
 pub mod Replies
+pub mod Run
 pub mod Serving
 pub mod SessionFaults
 pub mod SessionLines
@@ -18,6 +19,7 @@ pub mod Sound
 pub mod SyntaxFaults
 pub mod Table
 pub mod TableLines
+pub mod Underway
 pub mod Units
 pub mod WellFormed
 pub mod Reading

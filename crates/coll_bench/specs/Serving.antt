@@ -5,6 +5,8 @@ use Rattle.coll_lex.specs.Devices.{AppendsFront, raised}
 use Rattle.coll_lex.specs.LogicalLines.{LexerState, first_state, pending, number_of, first_line, served, state_by}
 use Rattle.coll_lex.specs.declared.faults.LexFault.{LexFault}
 use Rattle.coll_lex.specs.declared.faults.LexFault.TheVariants as lex
+use Rattle.coll_lex.specs.declared.faults.ReadStop.{ReadStop}
+use Rattle.coll_lex.specs.declared.faults.ReadStop.TheVariants as read
 use Rattle.coll_lex.specs.declared.faults.WriteStop.TheVariants as write
 use Rattle.coll_bench.specs.Table.{Collation}
 use Rattle.coll_bench.specs.History.{History, begun}
@@ -108,3 +110,24 @@ CountsEnd old new ended = new ≡ (if fault_number ended.fault == 68 then raised
 abbrev pub CountsWrites : ℕ → ℕ → Result (Unit {0}) RunFault → Type 0
 CountsWrites old new (Ok done) = new ≡ old
 CountsWrites old new (Err ended) = CountsEnd old new ended
+
+-- the session ended with its text: all replies were written, or a write failed and a front of them was
+abbrev pub FinishesWith : Option (List ℕ) → Option (List ℕ) → List ℕ → Result (Unit {0}) RunFault → Type 0
+FinishesWith taken taken_after bytes (Ok done) = Appends taken taken_after bytes
+FinishesWith taken taken_after bytes (Err ended) = (ended ≡ write_failed) × AppendsFront taken taken_after bytes
+
+-- a run for which memory was refused before it began
+abbrev pub never_ran : RunFault
+never_ran = record { input = 0; line = 0; fault = faults.Lex lex.OutOfMemory }
+
+-- a run of which a read failed
+abbrev pub read_failed : RunFault
+read_failed = record { input = 0; line = 0; fault = faults.Read read.ReadFault }
+
+abbrev pub too_long : LexFault
+too_long = lex.LineTooLong
+
+-- the session ended where no further line could be read: with the reply to a line too long, or without one
+abbrev pub IsCutOff : ReadStop → ℕ → Option (List ℕ) → Option (List ℕ) → List ℕ → RunFault → Type 0
+IsCutOff read.LineTooLong number taken taken_after bytes ended = EndsWith number too_long taken taken_after bytes ended
+IsCutOff read.ReadFault number taken taken_after bytes ended = (ended ≡ read_failed) × (taken_after ≡ taken)

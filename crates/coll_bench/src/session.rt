@@ -13,3 +13,4 @@ mod requests;
 mod runs;
 
 pub use histories::Session;
+pub use runs::run_session;

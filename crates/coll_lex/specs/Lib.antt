@@ -5,6 +5,7 @@ pub mod Devices
 pub mod Directives
 pub mod Faults
 pub mod Lexer
+pub mod LineBuffer
 pub mod LineReading
 pub mod LogicalLines
 pub mod Marked

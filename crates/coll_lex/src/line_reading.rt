@@ -6,7 +6,7 @@
 //! byte is searched twice. `advance` and `line` are apart so that a loop lends no slice across a turn.
 //! Whoever changes the buffer's size keeps it above the most bytes of a line: a line that is one
 //! byte longer must be seen whole.
-ghost use Rattle.std.specs.Prelude.{◌≡◌, ℕ, ◌+◌, ◌-◌, ◌<◌, ◌≤◌, nat_lt, length, take, drop, slice_index, slice_range, IfOk, IfSome, IfNone, MatchResult, [], ◌++◌, ◌∷◌};
+ghost use Rattle.std.specs.Prelude.{◌≡◌, ℕ, ◌+◌, ◌-◌, ◌<◌, ◌≤◌, nat_lt, length, take, drop, slice_index, slice_range, IfOk, IfSome, IfNone, MatchResult, vec_len, [], ◌++◌, ◌∷◌};
 ghost use Rattle.std.specs.Bool.{OnTrue, OnFalse};
 ghost use Rattle.std.specs.Io.KnownBytes.{Keeps, Consumes, IsAtEnd};
 ghost use Rattle.coll_lex.specs.Devices.{CountsErr};
@@ -18,7 +18,7 @@ use std::io;
 use std::marker::Model;
 
 /// Bytes of the buffer: room for a line of the most bytes, and for as many read ahead.
-const BUFFER_BYTES: usize = 131_072;
+const BUFFER_BYTES: usize = 2 * MOST_LINE_BYTES;
 
 /// A reader of physical lines, with one buffer of its own.
 ///
@@ -38,15 +38,15 @@ pub struct LineReader {
 }
 
 impl Model for LineReader {
-    ghost use Rattle.std.specs.Prelude.{◌≤◌, ◌≡◌, vec_len, slice_range};
     ghost use Rattle.coll_lex.specs.LineReading.{Reading};
-    ghost use Rattle.coll_lex.specs.declared.line_reading.TheConstants.{BUFFER_BYTES};
 
     ghost Value = { Reading };
 
-    ghost view = { λ r. record { line = slice_range r.buffer.items r.line_start r.line_end; held = slice_range r.buffer.items r.start r.end; stop = r.stop } };
+    ghost use Rattle.coll_lex.specs.LineBuffer.{reading_of, IsSound};
 
-    ghost invariant = { λ r. (vec_len r.buffer ≡ BUFFER_BYTES) × (r.line_start ≤ r.line_end) × (r.line_end ≤ BUFFER_BYTES) × (r.start ≤ r.end) × (r.end ≤ BUFFER_BYTES) };
+    ghost view = { reading_of };
+
+    ghost invariant = { IsSound };
 }
 
 impl LineReader {
@@ -59,9 +59,8 @@ impl LineReader {
     pub fn new(alloc: Global) -> Result<Self, AllocError>
         ensures { IfOk result (λ r. r ≡ no_line) }
     {
-        let buffer = vec![in alloc; 0; BUFFER_BYTES]?;
         Ok(LineReader {
-            buffer,
+            buffer: zero_bytes(alloc, BUFFER_BYTES)?,
             line_start: 0,
             line_end: 0,
             start: 0,
@@ -80,7 +79,8 @@ impl LineReader {
     /// Goes to the next physical line: true where there is one, false at the end of the input.
     /// At the end it reads again at each call.
     pub fn advance<R: Source>(&mut self, input: &mut R) -> Result<bool, ReadStop>
-        ensures { Advances self.old self.new (R.left input.old) (R.left input.new) (R.failed input.old) (R.failed input.new) result }
+        ensures { Advances self.old self.new (R.left input.old) (R.left input.new)
+            (R.failed input.old) (R.failed input.new) result }
     {
         if let Some(stop) = self.stop {
             return Err(stop);
@@ -105,7 +105,8 @@ impl LineReader {
     /// The next physical line, or none at the end of the input: `advance`, and then `line`.
     pub fn next<R: Source>(&mut self, input: &mut R) -> Result<Option<&[u8]>, ReadStop>
         ensures* after { sem 𝓛 (Rests the_row self.entry (λ new.
-            Nexts self.old new (R.left input.old) (R.left input.new) (R.failed input.old) (R.failed input.new) result)) }
+            Nexts self.old new (R.left input.old) (R.left input.new)
+            (R.failed input.old) (R.failed input.new) result)) }
     {
         if self.advance(input)? {
             Ok(Some(self.line()))
@@ -184,6 +185,13 @@ impl LineReader {
         self.stop = Some(stop);
         stop
     }
+}
+
+// So many bytes, for a buffer.
+fn zero_bytes(alloc: Global, count: usize) -> Result<Vec<u8>, AllocError>
+    ensures { IfOk result (λ bytes. vec_len bytes ≡ count) }
+{
+    vec![in alloc; 0; count]
 }
 
 // Where the first line feed stands.

@@ -5,13 +5,15 @@
 //! heard, taken by the block that is open, and the unit that it completes is answered; each of these is a function with
 //! an exact clause, and the lemmas of `RunLemmas` put them together over all that may come later.
 
-ghost use Rattle.std.specs.Prelude.{◌≡◌, ◌≢◌, ◌≤◌, Bool, IfOk, OnOk, Option, option_to_list};
+ghost use Rattle.std.specs.Prelude.{◌≡◌, ◌≢◌, ◌≤◌, Bool, IfOk, OnOk, Option, option_to_list, is_some};
 ghost use Rattle.coll_lex.specs.Devices.{CountsErr, Sends};
 ghost use Rattle.coll_lex.specs.declared.tokens.TheConstants.{MOST_LINES};
 ghost use Rattle.coll_bench.specs.Units.{Block, last_faults, end_faults, dropped_faults, requests_at};
 ghost use Rattle.coll_bench.specs.OpenBlock.{StandsFor};
 ghost use Rattle.coll_bench.specs.Replies.{refused_lines};
-ghost use Rattle.coll_bench.specs.Serving.{EndsWith, CountsEnd, CountsWrites, write_failed as failed_write};
+ghost use Rattle.coll_bench.specs.Serving.{EndsWith, FinishesWith, IsCutOff, CountsEnd, CountsWrites, write_failed as failed_write, never_ran, too_long};
+ghost use Rattle.coll_bench.specs.Run.{Runs, CountsReads};
+ghost use Rattle.coll_lex.specs.LogicalLines.{pending, number_of};
 
 use crate::faults::{Fault, RunFault};
 use crate::session::blocks::{OpenBlock, Taken, take_line};
@@ -19,8 +21,43 @@ use crate::session::hearing::{Heard, Listener};
 use crate::session::histories::Session;
 use crate::session::replies::{answer, refuse};
 use crate::tables::Table;
-use coll_lex::{LexFault, Sink, WriteStop};
+use coll_lex::{LexFault, LineReader, ReadStop, Sink, Source, WriteStop};
 use std::alloc::{AllocError, Global};
+
+/// Serves the lines of a source as a session over a table, and writes the replies to a sink, each flushed.
+///
+/// What is written is the stated function of what is read, and nothing else (`Runs`). The run ends with the input, or
+/// with the fault that ends it: a line too long or one too many, of which the reply is the last; a read that failed,
+/// without a reply; a write that failed; or want of memory before the first line is read. A line, a block or a
+/// statement that is refused has its reply and ends nothing.
+pub fn run_session<R: Source, W: Sink>(
+    alloc: Global,
+    table: Table,
+    input: &mut R,
+    output: &mut W,
+) -> Result<(), RunFault>
+    ensures run { Runs table (R.left input.old) (R.left input.new) (W.taken output.old) (W.taken output.new) result }
+    ensures reads { CountsReads (R.failed input.old) (R.failed input.new) result }
+    ensures writes { CountsWrites (W.failed output.old) (W.failed output.new) result }
+{
+    let Ok(mut reader) = LineReader::new(alloc) else {
+        return Err(no_memory());
+    };
+    let Ok(mut desk) = Desk::new(alloc, table) else {
+        return Err(no_memory());
+    };
+    'lines: loop {
+        match reader.advance(input) {
+            Ok(true) => {
+                if let Err(ended) = desk.serve(alloc, reader.line(), output) {
+                    return Err(ended);
+                }
+            }
+            Ok(false) => return desk.finish(output),
+            Err(stop) => return Err(desk.cut_off(stop, output)),
+        }
+    }
+}
 
 // Where a session stands between two lines.
 #[derive(Debug, Drop)]
@@ -94,6 +131,49 @@ impl Desk {
             },
             Err(stop) => write_failed(stop),
         }
+    }
+
+    // Ends the session with its text.
+    fn finish<W: Sink>(&mut self, output: &mut W) -> Result<(), RunFault>
+        ensures ended { (block : Option Block) → StandsFor self.old.block block
+            → FinishesWith (W.taken output.old) (W.taken output.new) (refused_lines (end_faults (is_some (pending self.old.listener)) block)) result }
+        ensures errors { CountsWrites (W.failed output.old) (W.failed output.new) result }
+    {
+        let continued = self.listener.finish();
+        match write_end(&self.block, continued, output) {
+            Ok(()) => Ok(()),
+            Err(stop) => Err(write_failed(stop)),
+        }
+    }
+
+    // Ends the session where no further line could be read.
+    fn cut_off<W: Sink>(&self, stop: ReadStop, output: &mut W) -> RunFault
+        ensures ended { (block : Option Block) → StandsFor self.now.block block
+            → IsCutOff stop (number_of self.now.listener) (W.taken output.old) (W.taken output.new) (refused_lines (last_faults block too_long)) result }
+        ensures errors { CountsEnd (W.failed output.old) (W.failed output.new) result }
+    {
+        match stop {
+            ReadStop::LineTooLong => {
+                let number = self.listener.next_number();
+                self.stop(number, LexFault::LineTooLong, output)
+            }
+            ReadStop::ReadFault => RunFault {
+                input: 0,
+                line: 0,
+                fault: Fault::Read(ReadStop::ReadFault),
+            },
+        }
+    }
+}
+
+// The fault of a run for which memory was refused before it began.
+fn no_memory() -> RunFault
+    ensures { result ≡ never_ran }
+{
+    RunFault {
+        input: 0,
+        line: 0,
+        fault: Fault::Lex(LexFault::OutOfMemory),
     }
 }
 

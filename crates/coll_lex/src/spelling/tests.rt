@@ -1,5 +1,6 @@
 use crate::test_devices::{Failure, ShortWriter};
-use crate::{Counted, Sink, WriteStop, write_bytes, write_char, write_symbol};
+use crate::{Counted, Lexer, Sink, Token, WriteStop, write_bytes, write_char, write_symbol};
+use std::alloc::Global;
 use std::test::Fail;
 
 #[test]
@@ -30,6 +31,44 @@ fn characters_are_spelled_by_their_code_points(rt: HostRuntime) -> Result<(), Fa
         let mut out = Counted::new(Vec::new(rt.alloc()));
         write_char(&mut out, c)?;
         assert_eq!(rt; out.device().as_slice(), spelled.as_bytes(), "{spelled}");
+    }
+    Ok(())
+}
+
+// A lexer under the comment character `%` and the escape character `/`.
+fn lexer(alloc: Global) -> Result<Lexer, Fail> {
+    let mut lexer = Lexer::new(alloc)?;
+    lexer.feed(b"comment_char %")?;
+    lexer.feed(b"escape_char /")?;
+    Ok(lexer)
+}
+
+#[test]
+fn names_are_read_back(rt: HostRuntime) -> Result<(), Fail> {
+    for name in ["BASE", "a>b", "/>", "a\"%<é", "U61"] {
+        let mut out = Counted::new(Vec::new(rt.alloc()));
+        write_symbol(&mut out, name)?;
+        let read = lexer(rt.alloc())?.feed(out.device())?;
+        let line = read.ok_or("no line")?;
+        match line.tokens.get() {
+            [Token::Symbol(symbol)] => assert_eq!(rt; symbol.get(), name),
+            _ => assert!(rt; false, "{name}"),
+        }
+    }
+    Ok(())
+}
+
+#[test]
+fn characters_are_read_back(rt: HostRuntime) -> Result<(), Fail> {
+    for c in ['a', '%', '/', '\u{ffff}', '\u{10ffff}'] {
+        let mut out = Counted::new(Vec::new(rt.alloc()));
+        write_char(&mut out, c)?;
+        let read = lexer(rt.alloc())?.feed(out.device())?;
+        let line = read.ok_or("no line")?;
+        match line.tokens.get() {
+            [Token::Char(character)] => assert_eq!(rt; *character, c),
+            _ => assert!(rt; false, "{c}"),
+        }
     }
     Ok(())
 }

@@ -1,0 +1,96 @@
+-- The run of a session, put together over all that may come later: what one physical line writes, and what is then left
+-- to be written.
+use Rattle.std.proofs.Common.{◌≡◌, ℕ, ◌+◌, ◌<◌, Bool, true, false, List, [], ◌∷◌, ◌++◌, length, map, Option, Some, None, Result, Ok, Err, refl, sym, ap, ◌∙◌, subst, append-nil, append_assoc, inl, inr, ⊎_elim, arith}
+use Rattle.std.specs.Prelude.{◌⊎◌, if◌then◌else◌, option_to_list, is_some}
+use Rattle.coll_lex.specs.LogicalLines.{OpenLine, LexerState, LogicalLine, pending, number_of, first_line, first_choice, later_choices, fed, served, state_by, lines_by, logical_lines}
+use Rattle.coll_lex.specs.declared.tokens.Line.{Line}
+use Rattle.coll_lex.specs.declared.tokens.Token.{Token}
+use Rattle.coll_lex.specs.declared.faults.LexFault.{LexFault}
+use Rattle.coll_lex.specs.declared.faults.LexFault.TheVariants as lex
+use Rattle.coll_bench.specs.History.{History}
+use Rattle.coll_bench.specs.SessionLines.{opening_of, heard}
+use Rattle.coll_bench.specs.Hearing.{heard_by}
+use Rattle.coll_bench.specs.Units.{Block, units, requests_at, block_after, stop_of, or_last, refusals, last_faults, end_faults}
+use Rattle.coll_bench.specs.Replies.{answers, reply_if, after_if, refused_lines}
+use Rattle.coll_bench.specs.Serving.{replies_to, history_after, heard_at, stop_at, requests_or_last, line_requests, line_block}
+use Rattle.coll_bench.specs.Run.{written_from}
+use Rattle.coll_bench.specs.declared.faults.Fault.{Fault}
+use Rattle.coll_bench.specs.declared.session.hearing.Opening.{Opening}
+use Rattle.coll_bench.specs.declared.session.hearing.Heard.{Heard}
+use Rattle.coll_bench.specs.declared.session.requests.Request.{Request}
+
+-- a choice for each of some units
+abbrev pub choices_for : (starved : Bool) → List Request → List Bool
+choices_for starved units = map (λ _. starved) units
+
+-- the replies to some units, and then those to what comes later
+answers-append : (starved : Bool) (h : History) (units later : List Request) (choices : List Bool)
+    → answers h (units ++ later) (choices_for starved units ++ choices) ≡ replies_to starved h units ++ answers (history_after starved h units) later choices
+unfolding answers replies_to history_after
+answers-append starved h [] later choices = refl
+answers-append starved h (unit ∷ units) later choices =
+    ap (λ (bytes : List ℕ). reply_if starved h unit ++ bytes) (answers-append starved (after_if starved h unit) units later choices)
+    ∙ sym (append_assoc (reply_if starved h unit) (replies_to starved (after_if starved h unit) units) (answers (history_after starved (after_if starved h unit) units) later choices))
+
+-- the replies to some units alone
+answers-all : (starved : Bool) (h : History) (units : List Request) (choices : List Bool) → answers h units (choices_for starved units ++ choices) ≡ replies_to starved h units
+unfolding answers replies_to
+answers-all starved h [] choices = refl
+answers-all starved h (unit ∷ units) choices = ap (λ (bytes : List ℕ). reply_if starved h unit ++ bytes) (answers-all starved (after_if starved h unit) units choices)
+
+map-append : (xs ys : List LogicalLine) → map heard (xs ++ ys) ≡ map heard xs ++ map heard ys
+map-append [] ys = refl
+map-append (x ∷ xs) ys = ap (λ (hs : List Heard). heard x ∷ hs) (map-append xs ys)
+
+-- what is heard of the logical lines that an answer gives
+heard_lines : (s : LexerState) (line : List ℕ) (a : Result (Option Line × LexerState) LexFault) → map heard (lines_by s line a) ≡ option_to_list (heard_by (opening_of (first_line s line)) a)
+heard_lines s line (Ok (None, after)) = refl
+heard_lines s line (Ok (Some given, after)) = refl
+heard_lines s line (Err f) = refl
+
+-- what is heard of a physical line, and then of those that come later
+heard_later : (memory : Bool) (choices : List Bool) (ends : Bool) (s : LexerState) (line : List ℕ) (later : List (List ℕ))
+    → map heard (logical_lines (memory ∷ choices) ends s (line ∷ later)) ≡ option_to_list (heard_at memory s line) ++ map heard (logical_lines choices ends (state_by s (served memory s line)) later)
+unfolding logical_lines heard_at
+heard_later memory choices ends s line later =
+    map-append (lines_by s line (served memory s line)) (logical_lines choices ends (state_by s (served memory s line)) later)
+    ∙ ap (λ (hs : List Heard). hs ++ map heard (logical_lines choices ends (state_by s (served memory s line)) later)) (heard_lines s line (served memory s line))
+
+-- the units of what was heard of a line, and then of what comes later
+units_on : (ends : Bool) (block : Option Block) (h : Option Heard) (later : List Heard) → stop_at h ≡ None → units ends block (option_to_list h ++ later) ≡ line_requests block h ++ units ends (line_block block h) later
+unfolding units line_requests line_block
+units_on ends block None later goes = refl
+units_on ends block (Some x) later goes =
+    ap (λ (o : Option LexFault). or_last o block (requests_at block x ++ units ends (block_after block x) later)) goes
+    ∙ ap (λ (o : Option LexFault). requests_or_last block x o ++ units ends (block_after block x) later) (sym goes)
+
+units_stop : (ends : Bool) (block : Option Block) (h : Option Heard) (later : List Heard) (f : LexFault) → stop_at h ≡ Some f → units ends block (option_to_list h ++ later) ≡ line_requests block h
+unfolding units line_requests
+units_stop ends block None later f stops = absurd cc
+units_stop ends block (Some x) later f stops =
+    ap (λ (o : Option LexFault). or_last o block (requests_at block x ++ units ends (block_after block x) later)) stops
+    ∙ ap (requests_or_last block x) (sym stops)
+
+-- a physical line that the session goes on after: its replies, and what is then left to be written
+pub written_on : (memory starved : Bool) (s : LexerState) (block : Option Block) (h : History) (line : List ℕ) (c d : List Bool) (ends : Bool) (later : List (List ℕ)) → stop_at (heard_at memory s line) ≡ None
+    → written_from s block h (memory ∷ c) (choices_for starved (line_requests block (heard_at memory s line)) ++ d) ends (line ∷ later)
+    ≡ replies_to starved h (line_requests block (heard_at memory s line))
+      ++ written_from (state_by s (served memory s line)) (line_block block (heard_at memory s line)) (history_after starved h (line_requests block (heard_at memory s line))) c d ends later
+unfolding written_from
+written_on memory starved s block h line c d ends later goes =
+    let x = heard_at memory s line in
+    let rest = map heard (logical_lines c ends (state_by s (served memory s line)) later) in
+    ap (λ (hs : List Heard). answers h (units ends block hs) (choices_for starved (line_requests block x) ++ d)) (heard_later memory c ends s line later)
+    ∙ ap (λ (us : List Request). answers h us (choices_for starved (line_requests block x) ++ d)) (units_on ends block x rest goes)
+    ∙ answers-append starved h (line_requests block x) (units ends (line_block block x) rest) d
+
+-- a physical line at which the session ends: its replies are the last
+pub written_stop : (memory starved : Bool) (s : LexerState) (block : Option Block) (h : History) (line : List ℕ) (c d : List Bool) (ends : Bool) (later : List (List ℕ)) (f : LexFault) → stop_at (heard_at memory s line) ≡ Some f
+    → written_from s block h (memory ∷ c) (choices_for starved (line_requests block (heard_at memory s line)) ++ d) ends (line ∷ later) ≡ replies_to starved h (line_requests block (heard_at memory s line))
+unfolding written_from
+written_stop memory starved s block h line c d ends later f stops =
+    let x = heard_at memory s line in
+    let rest = map heard (logical_lines c ends (state_by s (served memory s line)) later) in
+    ap (λ (hs : List Heard). answers h (units ends block hs) (choices_for starved (line_requests block x) ++ d)) (heard_later memory c ends s line later)
+    ∙ ap (λ (us : List Request). answers h us (choices_for starved (line_requests block x) ++ d)) (units_stop ends block x rest f stops)
+    ∙ answers-all starved h (line_requests block x) d
