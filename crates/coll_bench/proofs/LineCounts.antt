@@ -1,0 +1,58 @@
+-- How many lines a lexer has been handed after one more before the category, and when such a line is at fault.
+use Rattle.std.proofs.Common.{◌≡◌, ℕ, ◌+◌, ◌<◌, Bool, true, false, List, length, min, Option, Some, None, Result, Ok, Err, refl, subst, eq-eqb}
+use Rattle.std.specs.Prelude.{nat_lt, ◌==◌, if◌then◌else◌}
+use Rattle.std.proofs.lemmas.Bool.{lt-ltb}
+use Rattle.coll_lex.specs.PhysicalLines.{without_return}
+use Rattle.coll_lex.specs.Directives.{directive}
+use Rattle.coll_lex.specs.LogicalLines.{LexerState, dropped, line_fault, unless_fault, outside_as, outside}
+use Rattle.coll_lex.specs.declared.tokens.Chars.{Chars}
+use Rattle.coll_lex.specs.declared.tokens.TheConstants.{MOST_LINES, MOST_LINE_BYTES}
+use Rattle.coll_lex.specs.declared.faults.LexFault.{LexFault}
+use Rattle.coll_lex.specs.declared.faults.LexFault.TheVariants.{LineTooLong, TooManyLines}
+
+abbrev Answer : Type 0
+Answer = Result (Bool × LexerState) LexFault
+
+-- each line that isn't at fault is counted
+Counted : LexerState → Answer → Type 0
+Counted s (Ok answer) = answer.1.count ≡ min (s.count + 1) MOST_LINES
+Counted s (Err fault) = Unit {0}
+
+by_directive : (s : LexerState) (text : List ℕ) (asked : Option (Result Chars LexFault)) → Counted s (outside_as (dropped s) text asked)
+unfolding Counted
+by_directive s text (Some (Ok special)) = refl
+by_directive s text (Some (Err fault)) = tt
+by_directive s text None = refl
+
+unless_counted : (s : LexerState) (fault : Option LexFault) (answer : Answer) → Counted s answer → Counted s (unless_fault fault answer)
+unfolding Counted
+unless_counted s None answer h = h
+unless_counted s (Some fault) answer h = tt
+
+counted : (s : LexerState) (line : List ℕ) → Counted s (outside s line)
+unfolding outside
+counted s line =
+    let text = without_return line in
+    unless_counted s (line_fault s.count (length line)) (outside_as (dropped s) text (directive s.special text)) (by_directive s text (directive s.special text))
+
+-- a line before the category that isn't at fault is counted
+pub outside_count : (s after : LexerState) (line : List ℕ) (begins : Bool) → outside s line ≡ Ok (begins, after) → after.count ≡ min (s.count + 1) MOST_LINES
+unfolding Counted
+outside_count s after line begins e = subst (Counted s) e (counted s line)
+
+-- a line before the category that is longer than a line may be is at fault
+pub outside_too_long : (s : LexerState) (line : List ℕ) → MOST_LINE_BYTES < length line → outside s line ≡ Err LineTooLong
+unfolding outside
+outside_too_long s line long = rw (lt-ltb MOST_LINE_BYTES (length line) long) refl
+
+no_answer : (long last : Bool) (other : Answer) (o : Bool × LexerState) → last ≡ true → unless_fault (if long then Some LineTooLong else (if last then Some TooManyLines else None)) other ≡ Ok o → ⊥
+no_answer true last other o is e = cc
+no_answer false true other o is e = cc
+no_answer false false other o is e = cc
+
+-- past the most lines each line before the category is at fault
+pub outside_room : (s after : LexerState) (line : List ℕ) (begins : Bool) → outside s line ≡ Ok (begins, after) → s.count ≡ MOST_LINES → ⊥
+unfolding outside
+outside_room s after line begins e full =
+    let text = without_return line in
+    no_answer (nat_lt MOST_LINE_BYTES (length line)) (s.count == MOST_LINES) (outside_as (dropped s) text (directive s.special text)) (begins, after) (eq-eqb s.count MOST_LINES full) e
