@@ -195,15 +195,15 @@ pub left_open_kept : (block : Block) → kept_left_open (kept block) ≡ left_op
 unfolding kept
 left_open_kept block =
     left_open_cases (is_starved block) block.target (order_lines MOST_BLOCK_LINES block.lines)
-        (λ sane starved f e. order_lines_want MOST_BLOCK_LINES block.lines f (second_false (wants_memory block.target) (some_wants_memory block.lines) starved) e)
-        (λ starved. first_false (wants_memory block.target) (some_wants_memory block.lines) starved)
+    (λ sane starved f e. order_lines_want MOST_BLOCK_LINES block.lines f (second_false (wants_memory block.target) (some_wants_memory block.lines) starved) e)
+    (λ starved. first_false (wants_memory block.target) (some_wants_memory block.lines) starved)
 
 pub dropped_kept : (block : Block) → option_to_list (kept_dropped (kept block)) ≡ dropped_faults (Some block)
 unfolding kept
 dropped_kept block =
     dropped_cases (is_starved block) block.target (order_lines MOST_BLOCK_LINES block.lines)
-        (λ sane starved f e. order_lines_want MOST_BLOCK_LINES block.lines f (second_false (wants_memory block.target) (some_wants_memory block.lines) starved) e)
-        (λ starved. first_false (wants_memory block.target) (some_wants_memory block.lines) starved)
+    (λ sane starved f e. order_lines_want MOST_BLOCK_LINES block.lines f (second_false (wants_memory block.target) (some_wants_memory block.lines) starved) e)
+    (λ starved. first_false (wants_memory block.target) (some_wants_memory block.lines) starved)
 
 pub end_faults-open : (continued : Bool) (block : Block) → end_faults continued (Some block) ≡ left_open block ∷ []
 end_faults-open true block = refl

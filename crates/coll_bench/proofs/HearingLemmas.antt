@@ -41,8 +41,8 @@ pub opens_as_next : (s after : LexerState) (line : List ℕ) (answer : Option Li
 unfolding OpensAs
 opens_as_next s after line answer opening e is some =
     ⊎_elim (λ (none : after.line ≡ None). absurd (false≢true (sym (ap is_some none) ∙ some)))
-        (λ (kept : after.line ≡ Some (extended s line)) (next : List ℕ). ap opening_of (first_line-continued s after line next kept) ∙ sym is)
-        (fed-open s line answer after e)
+    (λ (kept : after.line ≡ Some (extended s line)) (next : List ℕ). ap opening_of (first_line-continued s after line next kept) ∙ sym is)
+    (fed-open s line answer after e)
 
 is_open : (o : Option OpenLine) (number : ℕ) → option_map (λ (o : OpenLine). o.number) o ≡ Some number → is_some o ≡ true
 is_open None number e = absurd (cc)
@@ -87,7 +87,7 @@ unfolding served
 heard_fault s after line opening f heard is stands e was = record {
   room = not_starved s;
   heard_is = ap Some was ∙ ap (λ (o : Opening). Some (fault_heard o f)) is ∙ ap (heard_by (opening_of (first_line s line))) (sym e);
-  stands = stands ∙ ap (state_by s) (sym e)
+  stands = stands ∙ ap (state_by s) (sym e);
 }
 
 -- a line at fault
@@ -95,8 +95,8 @@ pub hears_fault : (s after : LexerState) (line : List ℕ) (opening : Opening) (
     → (f ≢ lex.OutOfMemory → fed s line ≡ Err f) → (f ≡ lex.OutOfMemory → s.count < MOST_LINES) → heard ≡ fault_heard opening f → (starved : Bool) × Hears starved s after line (Some heard)
 hears_fault s after line opening f heard is stands e room was =
     ⊎_elim (λ (want : f ≡ lex.OutOfMemory). (true, heard_starved s after line opening heard is stands (was ∙ ap (fault_heard opening) want) (λ full. omega (arith, room want, full))))
-        (λ (not_want : f ≢ lex.OutOfMemory). (false, heard_fault s after line opening f heard is stands (e not_want) was))
-        (want_or_not f)
+    (λ (not_want : f ≢ lex.OutOfMemory). (false, heard_fault s after line opening f heard is stands (e not_want) was))
+    (want_or_not f)
 
 -- a line that ends no logical line with a token
 pub hears_none : (s after : LexerState) (line : List ℕ) → fed s line ≡ Ok (None, after) → (starved : Bool) × Hears starved s after line None
@@ -108,7 +108,7 @@ unfolding served
 heard_whole s after line opening given heard is e was = record {
   room = not_starved s;
   heard_is = ap Some was ∙ ap (λ (o : Opening). Some (tokens_heard o given.tokens)) is ∙ ap (heard_by (opening_of (first_line s line))) (sym e);
-  stands = ap (state_by s) (sym e)
+  stands = ap (state_by s) (sym e);
 }
 
 whole_cases : (starved : Bool) (s after : LexerState) (line : List ℕ) (opening : Opening) (given : Line) (heard : Heard) → opening ≡ opening_of (first_line s line) → fed s line ≡ Ok (Some given, after)

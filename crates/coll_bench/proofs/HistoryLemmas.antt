@@ -30,20 +30,26 @@ pub Leads-push : (table : Collation) (kept : List Kept) (k : Kept) → Leads (tu
 unfolding Leads turned_back
 Leads-push table [] k leads accepted fit = (accepted, fit, tt)
 Leads-push table (first ∷ kept) k leads accepted fit =
-    let e = sym (turned_back-push table kept k) in
-    (subst (λ (t : Collation). delta (turn t first.change) first.statement ≡ Ok t) e leads.0,
-     subst (λ (t : Collation). fits t first.change) e leads.1,
-     Leads-push table kept k leads.2 accepted fit)
+    let e = sym (turned_back-push table kept k) in (
+      subst (λ (t : Collation). delta (turn t first.change) first.statement ≡ Ok t) e leads.0,
+      subst (λ (t : Collation). fits t first.change) e leads.1,
+      Leads-push table kept k leads.2 accepted fit,
+    )
 
 pub Leads-last : (table : Collation) (kept : List Kept) (k : Kept) → Leads table (kept ++ k ∷ []) → Leads (turn table k.change) kept × (delta (turn table k.change) k.statement ≡ Ok table) × fits table k.change
 unfolding Leads turned_back
 Leads-last table [] k leads = (tt, leads.0, leads.1)
 Leads-last table (first ∷ kept) k leads =
     let e = turned_back-push table kept k in
-    let rest = Leads-last table kept k leads.2 in
-    ((subst (λ (t : Collation). delta (turn t first.change) first.statement ≡ Ok t) e leads.0,
-      subst (λ (t : Collation). fits t first.change) e leads.1,
-      rest.0), rest.1, rest.2)
+    let rest = Leads-last table kept k leads.2 in (
+      (
+        subst (λ (t : Collation). delta (turn t first.change) first.statement ≡ Ok t) e leads.0,
+        subst (λ (t : Collation). fits t first.change) e leads.1,
+        rest.0,
+      ),
+      rest.1,
+      rest.2,
+    )
 
 -- the table is the replay of the statements that are kept
 pub replayed : (table : Collation) (kept : List Kept) → Leads table kept → replay (turned_back table kept) (statements_of kept) ≡ table
@@ -76,14 +82,14 @@ pub history_with : (T T2 : Collation) (kept undone kept2 undone2 : List Kept) (k
     → history_of T2 kept2 undone2 ≡ with_statement (history_of T kept undone) k.statement
 history_with T T2 kept undone kept2 undone2 k grown emptied back =
     made_same _ _ _ _ _ _
-        (ap (turned_back T2) grown ∙ turned_back-push T2 kept k ∙ ap (λ (t : Collation). turned_back t kept) back)
-        (ap statements_of grown ∙ statements_of-push kept k)
-        (ap (λ (ks : List Kept). reverse (statements_of ks)) emptied)
+    (ap (turned_back T2) grown ∙ turned_back-push T2 kept k ∙ ap (λ (t : Collation). turned_back t kept) back)
+    (ap statements_of grown ∙ statements_of-push kept k)
+    (ap (λ (ks : List Kept). reverse (statements_of ks)) emptied)
 
 pub Leads_with : (T T2 : Collation) (kept kept2 : List Kept) (k : Kept) → kept2 ≡ kept ++ k ∷ [] → turn T2 k.change ≡ T → delta T k.statement ≡ Ok T2 → fits T2 k.change → Leads T kept → Leads T2 kept2
 Leads_with T T2 kept kept2 k grown back accepted fit leads =
     subst (Leads T2) (sym grown)
-        (Leads-push T2 kept k (subst (λ (t : Collation). Leads t kept) (sym back) leads) (ap (λ (t : Collation). delta t k.statement) back ∙ accepted) fit)
+    (Leads-push T2 kept k (subst (λ (t : Collation). Leads t kept) (sym back) leads) (ap (λ (t : Collation). delta t k.statement) back ∙ accepted) fit)
 
 pub LeadsOn_none : (T : Collation) (undone : List Kept) → undone ≡ [] → LeadsOn T (reverse undone)
 unfolding LeadsOn
@@ -122,12 +128,12 @@ pub taken_back_last : (T T1 : Collation) (kept kept1 undone undone1 : List Kept)
     → taken_back (history_of T kept undone) ≡ Ok (history_of T1 kept1 undone1)
 taken_back_last T T1 kept kept1 undone undone1 k k1 shrunk grown same turned =
     ap taken_back (made_same _ _ _ _ _ _
-        (ap (turned_back T) shrunk ∙ turned_back-push T kept1 k ∙ ap (λ (t : Collation). turned_back t kept1) (sym turned))
-        (ap statements_of shrunk ∙ statements_of-push kept1 k ∙ ap (λ (s : Statement). statements_of kept1 ++ s ∷ []) (sym same))
-        refl)
+    (ap (turned_back T) shrunk ∙ turned_back-push T kept1 k ∙ ap (λ (t : Collation). turned_back t kept1) (sym turned))
+    (ap statements_of shrunk ∙ statements_of-push kept1 k ∙ ap (λ (s : Statement). statements_of kept1 ++ s ∷ []) (sym same))
+    refl)
     ∙ taken_back_push (turned_back T1 kept1) (statements_of kept1) k1.statement (reverse (statements_of undone))
     ∙ ap (λ (ss : List Statement). Ok (made (turned_back T1 kept1) (statements_of kept1) ss))
-        (sym (ap (λ (ks : List Kept). reverse (statements_of ks)) grown ∙ ap reverse (statements_of-push undone k1) ∙ reverse-append (statements_of undone) (k1.statement ∷ [])))
+    (sym (ap (λ (ks : List Kept). reverse (statements_of ks)) grown ∙ ap reverse (statements_of-push undone k1) ∙ reverse-append (statements_of undone) (k1.statement ∷ [])))
 
 pub Leads_shorter : (T T1 : Collation) (kept kept1 : List Kept) (k : Kept) → kept ≡ kept1 ++ k ∷ [] → T1 ≡ turn T k.change → Leads T kept → Leads T1 kept1
 Leads_shorter T T1 kept kept1 k shrunk turned leads =

@@ -46,26 +46,26 @@ or_false false = refl
 pub found_place : (names : List (List ℕ)) (characters : List ℕ) (undefined : Bool) (id : Id) → has_id (places_of names characters undefined) id ≡ found_by_kind names characters undefined id
 found_place names characters undefined (Char c) =
     list_any-append (same_id (Char c)) (map Named names) _
-        ∙ (ap (λ b. b || has_id (map Char characters ++ last_part undefined) (Char c)) (none_made (Char c) Named names (λ _. refl))
-        ∙ (list_any-append (same_id (Char c)) (map Char characters) _
-        ∙ (ap (λ b. has_id (map Char characters) (Char c) || b) (none_last undefined (Char c) refl)
-        ∙ (or_false _ ∙ charred characters c))))
+    ∙ (ap (λ b. b || has_id (map Char characters ++ last_part undefined) (Char c)) (none_made (Char c) Named names (λ _. refl))
+    ∙ (list_any-append (same_id (Char c)) (map Char characters) _
+    ∙ (ap (λ b. has_id (map Char characters) (Char c) || b) (none_last undefined (Char c) refl)
+    ∙ (or_false _ ∙ charred characters c))))
 found_place names characters undefined (Named name) =
     list_any-append (same_id (Named name)) (map Named names) _
-        ∙ (ap (λ b. has_id (map Named names) (Named name) || b)
-            (list_any-append (same_id (Named name)) (map Char characters) _
-            ∙ (ap (λ b. b || has_id (last_part undefined) (Named name)) (none_made (Named name) Char characters (λ _. refl))
-            ∙ none_last undefined (Named name) refl))
-        ∙ (or_false _ ∙ named names name))
+    ∙ (ap (λ b. has_id (map Named names) (Named name) || b)
+    (list_any-append (same_id (Named name)) (map Char characters) _
+    ∙ (ap (λ b. b || has_id (last_part undefined) (Named name)) (none_made (Named name) Char characters (λ _. refl))
+    ∙ none_last undefined (Named name) refl))
+    ∙ (or_false _ ∙ named names name))
 found_place names characters undefined Undefined =
     list_any-append (same_id Undefined) (map Named names) _
-        ∙ (ap (λ b. b || has_id (map Char characters ++ last_part undefined) Undefined) (none_made Undefined Named names (λ _. refl))
-        ∙ (list_any-append (same_id Undefined) (map Char characters) _
-        ∙ (ap (λ b. b || has_id (last_part undefined) Undefined) (none_made Undefined Char characters (λ _. refl))
-        ∙ last_found undefined))) where
-    last_found : (undefined : Bool) → has_id (last_part undefined) Undefined ≡ undefined
-    last_found true = refl
-    last_found false = refl
+    ∙ (ap (λ b. b || has_id (map Char characters ++ last_part undefined) Undefined) (none_made Undefined Named names (λ _. refl))
+    ∙ (list_any-append (same_id Undefined) (map Char characters) _
+    ∙ (ap (λ b. b || has_id (last_part undefined) Undefined) (none_made Undefined Char characters (λ _. refl))
+    ∙ last_found undefined))) where
+      last_found : (undefined : Bool) → has_id (last_part undefined) Undefined ≡ undefined
+      last_found true = refl
+      last_found false = refl
 
 -- a name put in is found, and each other as before
 with_name_has : (names : List (List ℕ)) (name other : List ℕ) → has_name (with_name names name) other ≡ (same_name other name || has_name names other)
@@ -88,7 +88,7 @@ adds_name names characters undefined name (Char c) =
     found_place (with_name names name) characters undefined (Char c) ∙ sym (found_place names characters undefined (Char c))
 adds_name names characters undefined name (Named other) =
     found_place (with_name names name) characters undefined (Named other)
-        ∙ (with_name_has names name other ∙ ap (λ b. same_name other name || b) (sym (found_place names characters undefined (Named other))))
+    ∙ (with_name_has names name other ∙ ap (λ b. same_name other name || b) (sym (found_place names characters undefined (Named other))))
 adds_name names characters undefined name Undefined =
     found_place (with_name names name) characters undefined Undefined ∙ sym (found_place names characters undefined Undefined)
 
@@ -96,20 +96,12 @@ adds_name names characters undefined name Undefined =
 pub adds_char : (names : List (List ℕ)) (old new : List ℕ) (undefined : Bool) (c : ℕ) → ((q : ℕ) → list_any (nat_eq q) new ≡ cond (nat_eq c q) true (list_any (nat_eq q) old)) → AddsId (places_of names old undefined) (places_of names new undefined) (Char c)
 adds_char names old new undefined c h (Char other) =
     found_place names new undefined (Char other)
-        ∙ (h other ∙ (ap (λ b. cond b true (list_any (nat_eq other) old)) (decided_symmetric nat_eq Decides-eqb c other) ∙ (either (nat_eq other c) _
-        ∙ ap (λ b. nat_eq other c || b) (sym (found_place names old undefined (Char other)))))) where
-    either : (a b : Bool) → cond a true b ≡ (a || b)
-    either true b = refl
-    either false b = refl
+    ∙ (h other ∙ (ap (λ b. cond b true (list_any (nat_eq other) old)) (decided_symmetric nat_eq Decides-eqb c other) ∙ (either (nat_eq other c) _
+    ∙ ap (λ b. nat_eq other c || b) (sym (found_place names old undefined (Char other)))))) where
+      either : (a b : Bool) → cond a true b ≡ (a || b)
+      either true b = refl
+      either false b = refl
 adds_char names old new undefined c h (Named other) =
     found_place names new undefined (Named other) ∙ sym (found_place names old undefined (Named other))
 adds_char names old new undefined c h Undefined =
     found_place names new undefined Undefined ∙ sym (found_place names old undefined Undefined)
-
--- with UNDEFINED put in, a look-up has that more
-pub adds_undefined : (names : List (List ℕ)) (characters : List ℕ) (undefined : Bool) → AddsId (places_of names characters undefined) (places_of names characters true) Undefined
-adds_undefined names characters undefined (Char c) =
-    found_place names characters true (Char c) ∙ sym (found_place names characters undefined (Char c))
-adds_undefined names characters undefined (Named name) =
-    found_place names characters true (Named name) ∙ sym (found_place names characters undefined (Named name))
-adds_undefined names characters undefined Undefined = found_place names characters true Undefined

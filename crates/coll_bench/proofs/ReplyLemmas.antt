@@ -42,11 +42,11 @@ pub outcome_is : (word : List ℕ) (h h2 : History) (r : Result ℕ BenchFault) 
     → IfOk r (λ _. given ≡ Ok h2) → IfOk r (λ n. n ≡ length h2.remaining) → IfErr r (λ f. given ≡ Err f) → OnErr r (h2 ≡ h) → Outcome word h h2 r given
 outcome_is word h h2 (Ok n) given ok count err same = record {
   line = ap (counted_line word) count ∙ ap (count_reply word) (sym ok);
-  state = ap (history_or h) (sym ok)
+  state = ap (history_or h) (sym ok);
 }
 outcome_is word h h2 (Err f) given ok count err same = record {
   line = ap (count_reply word) (sym err);
-  state = same ∙ ap (history_or h) (sym err)
+  state = same ∙ ap (history_or h) (sym err);
 }
 
 -- the reply to an undo
@@ -88,8 +88,8 @@ pub statement_answered : (h h2 : History) (s : Statement) (r : Result ℕ BenchF
 statement_answered h h2 s (Ok n) ok count err same = (false, judged_answered h h2 s (Ok n) ok count tt same)
 statement_answered h h2 s (Err f) ok count err same =
     ⊎_elim (λ (want : f ≡ bench.Table refusal.OutOfMemory). (true, starved_answered h h2 s f want same))
-        (λ (other_fault : f ≢ bench.Table refusal.OutOfMemory). (false, judged_answered h h2 s (Err f) ok count (err other_fault) same))
-        (want_or_not f)
+    (λ (other_fault : f ≢ bench.Table refusal.OutOfMemory). (false, judged_answered h h2 s (Err f) ok count (err other_fault) same))
+    (want_or_not f)
 
 -- the reply to a command, and to what is refused
 pub command_answered : (h h2 : History) (c : Command) → h2 ≡ after_command h c → Answered false h h2 (request.Asks c) (command_reply h c)

@@ -1,5 +1,5 @@
 -- When names and identifiers are the same, and lists in which each stands once.
-use Rattle.std.proofs.Common.{◌≡◌, ℕ, ◌<◌, suc, Bool, true, false, ◌||◌, List, [], ◌∷◌, ◌++◌, length, get_or, take, drop, map, Decides, sym, ap, subst, ◌∙◌, refl, arith}
+use Rattle.std.proofs.Common.{◌≡◌, ℕ, ◌<◌, suc, Bool, true, false, ◌||◌, List, [], ◌∷◌, ◌++◌, length, get_or, take, drop, map, Decides, sym, ap, subst, ◌∙◌, refl}
 use Rattle.std.specs.List.{list_any}
 use Rattle.std.proofs.lemmas.List.{map-append}
 use Rattle.std.proofs.Math.Seq.{split_at}
@@ -70,9 +70,9 @@ module _ {X : Type 0} (same : X → X → Bool) (symmetric : (a b : X) → same 
   distinct_before [] y ys d = refl
   distinct_before (x ∷ xs) y ys d =
       nor (same y x) _ (symmetric y x ∙ first_apart x xs y ys d.0) (distinct_before xs y ys d.1) where
-      first_apart : (x : X) (xs : List X) (y : X) (ys : List X) → list_any (same x) (xs ++ y ∷ ys) ≡ false → same x y ≡ false
-      first_apart x [] y ys e = (neither _ _ e).0
-      first_apart x (z ∷ xs) y ys e = first_apart x xs y ys (neither _ _ e).1
+        first_apart : (x : X) (xs : List X) (y : X) (ys : List X) → list_any (same x) (xs ++ y ∷ ys) ≡ false → same x y ≡ false
+        first_apart x [] y ys e = (neither _ _ e).0
+        first_apart x (z ∷ xs) y ys e = first_apart x xs y ys (neither _ _ e).1
 
   -- what is in a front of a list is in the list
   pub absent_front : (x : X) (xs ys : List X) → list_any (same x) (xs ++ ys) ≡ false → list_any (same x) xs ≡ false
@@ -83,5 +83,5 @@ module _ {X : Type 0} (same : X → X → Bool) (symmetric : (a b : X) → same 
   pub distinct_at : {A : Type 0} (f : A → X) (xs : List A) (i : ℕ) (d : A) → AreDistinct same (map f xs) → i < length xs → list_any (same (f (get_or xs i d))) (map f (take i xs)) ≡ false
   distinct_at f xs i d h below =
       let cut : map f xs ≡ map f (take i xs) ++ f (get_or xs i d) ∷ map f (drop (suc i) xs) =
-          ap (map f) (split_at xs i d below) ∙ map-append f (take i xs) (get_or xs i d ∷ drop (suc i) xs) in
+      ap (map f) (split_at xs i d below) ∙ map-append f (take i xs) (get_or xs i d ∷ drop (suc i) xs) in
       distinct_before (map f (take i xs)) (f (get_or xs i d)) (map f (drop (suc i) xs)) (subst (AreDistinct same) cut h)

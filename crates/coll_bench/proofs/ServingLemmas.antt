@@ -48,12 +48,13 @@ pub takes_one : {T E : Type 0} (starved : Bool) (old new : Desk) (line : Heard) 
     → (block : Option Block) → StandsFor old.block block → Takes starved old new line block × Sends taken taken_after (replies_to starved old.session (requests_at block line)) r
 takes_one starved old new line completed unit taken taken_after r some takes sent state block stands =
     let t = takes block stands in
-    let units : unit ∷ [] ≡ requests_at block line = sym (ap option_to_list some) ∙ t.unit in
-    (record {
-      block_is = t.block;
-      session = state ∙ sym (history_after_one starved old.session unit) ∙ ap (history_after starved old.session) units
-    },
-    subst (λ (bytes : List ℕ). Sends taken taken_after bytes r) (sym (replies_to_one starved old.session unit) ∙ ap (replies_to starved old.session) units) sent)
+    let units : unit ∷ [] ≡ requests_at block line = sym (ap option_to_list some) ∙ t.unit in (
+      record {
+        block_is = t.block;
+        session = state ∙ sym (history_after_one starved old.session unit) ∙ ap (history_after starved old.session) units;
+      },
+      subst (λ (bytes : List ℕ). Sends taken taken_after bytes r) (sym (replies_to_one starved old.session unit) ∙ ap (replies_to starved old.session) units) sent,
+    )
 
 none_sent : (starved : Bool) (h : History) (taken : Option (List ℕ)) → Appends taken taken (replies_to starved h [])
 unfolding replies_to
@@ -69,12 +70,13 @@ pub takes_none : (old new : Desk) (line : Heard) (completed : Option Request) (t
     → (block : Option Block) → StandsFor old.block block → Takes false old new line block × Appends taken taken (replies_to false old.session (requests_at block line))
 takes_none old new line completed taken none takes state block stands =
     let t = takes block stands in
-    let units : [] ≡ requests_at block line = sym (ap option_to_list none) ∙ t.unit in
-    (record {
-      block_is = t.block;
-      session = state ∙ none_after false old.session ∙ ap (history_after false old.session) units
-    },
-    subst (λ (us : List Request). Appends taken taken (replies_to false old.session us)) units (none_sent false old.session taken))
+    let units : [] ≡ requests_at block line = sym (ap option_to_list none) ∙ t.unit in (
+      record {
+        block_is = t.block;
+        session = state ∙ none_after false old.session ∙ ap (history_after false old.session) units;
+      },
+      subst (λ (us : List Request). Appends taken taken (replies_to false old.session us)) units (none_sent false old.session taken),
+    )
 
 -- what was heard of a line is what the definition gives
 pub heard_is : (memory : Bool) (s s2 : LexerState) (line : List ℕ) (h : Option Heard) → Hears memory s s2 line h → h ≡ heard_at memory s line
@@ -99,7 +101,7 @@ nothing_done old s2 memory line block h none stands is open_block =
       goes_on = ap stop_at e;
       listener = stands;
       block_is = open_block ∙ ap (λ (o : Option Heard). option_map kept (line_block block o)) (sym e);
-      session = ap (λ (o : Option Heard). history_after false old.session (line_requests block o)) (sym e)
+      session = ap (λ (o : Option Heard). history_after false old.session (line_requests block o)) (sym e);
     }
 
 nothing_sent : (old : Desk) (memory : Bool) (line : List ℕ) (block : Option Block) (taken : Option (List ℕ)) → heard_at memory old.listener line ≡ None → Appends taken taken (line_replies memory false old line block)
@@ -118,8 +120,8 @@ fault_stops : (o : Opening) (f : LexFault) → (f ≡ lex.LineTooLong) ⊎ (f �
 fault_stops o f which none =
     let P : LexFault → Type 0 = λ g. stop_at (Some (fault_heard o g)) ≡ None in
     ⊎_elim (λ (e : f ≡ lex.LineTooLong). let g : Some lex.LineTooLong ≡ None = subst P e none in cc)
-        (λ (e : f ≡ lex.TooManyLines). let g : Some lex.TooManyLines ≡ None = subst P e none in cc)
-        which
+    (λ (e : f ≡ lex.TooManyLines). let g : Some lex.TooManyLines ≡ None = subst P e none in cc)
+    which
 
 room_by : (s : LexerState) (line : List ℕ) (o : Opening) (a : Result (Option Line × LexerState) LexFault) → fed s line ≡ a → stop_at (heard_by o a) ≡ None → s.count ≡ MOST_LINES → ⊥
 room_by s line o (Ok (answer, after)) e none full = fed-room s line answer after e full
@@ -153,8 +155,8 @@ taken_served memory starved old old2 new line x block at goes same listener t = 
   listener = listener;
   block_is = t.block_is ∙ ap (λ (h : Option Heard). option_map kept (line_block block h)) (sym at);
   session = t.session ∙ ap (λ (h : History). history_after starved h (requests_at block x)) same
-    ∙ ap (λ (o : Option LexFault). history_after starved old.session (taken_requests block x o)) (sym goes)
-    ∙ ap (λ (h : Option Heard). history_after starved old.session (line_requests block h)) (sym at)
+      ∙ ap (λ (o : Option LexFault). history_after starved old.session (taken_requests block x o)) (sym goes)
+      ∙ ap (λ (h : Option Heard). history_after starved old.session (line_requests block h)) (sym at);
 }
 
 -- a line that was taken, with its reply
@@ -165,11 +167,15 @@ pub serves_taken : {E : Type 0} (old old2 new : Desk) (line : List ℕ) (x : Hea
     → (memory : Bool) × (starved : Bool) × ((block : Option Block) → StandsFor old.block block → Served memory starved old new line block × Sends taken taken_after (line_replies memory starved old line block) r)
 serves_taken old old2 new line x h taken taken_after r hears some goes same_block same_session kept_listener takes =
     let is = heard_is hears.0 old.listener old2.listener line h hears.1 in
-    let at : heard_at hears.0 old.listener line ≡ Some x = sym is ∙ some in
-    (hears.0, takes.0, λ block stands.
-        let t = takes.1 block (same_block ∙ stands) in
-        (taken_served hears.0 takes.0 old old2 new line x block at goes same_session (kept_listener ∙ hears.1.stands) t.0,
-         subst (λ (bytes : List ℕ). Sends taken taken_after bytes r) (taken_replies hears.0 takes.0 old old2 line x block at goes same_session) t.1))
+    let at : heard_at hears.0 old.listener line ≡ Some x = sym is ∙ some in (
+      hears.0,
+      takes.0,
+      λ block stands.
+          let t = takes.1 block (same_block ∙ stands) in (
+            taken_served hears.0 takes.0 old old2 new line x block at goes same_session (kept_listener ∙ hears.1.stands) t.0,
+            subst (λ (bytes : List ℕ). Sends taken taken_after bytes r) (taken_replies hears.0 takes.0 old old2 line x block at goes same_session) t.1,
+          ),
+    )
 
 refusals_replies : (starved : Bool) (h : History) (faults : List Fault) → replies_to starved h (refusals faults) ≡ refused_lines faults
 unfolding replies_to refused_lines reply after

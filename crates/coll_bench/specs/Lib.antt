@@ -22,3 +22,9 @@ pub mod TableLines
 pub mod Underway
 pub mod Units
 pub mod WellFormed
+pub mod Reading
+pub mod Loads
+pub mod LoadFaults
+pub mod TextLines
+pub mod Drafts
+pub mod CategoryReading

@@ -7,7 +7,7 @@ use Rattle.coll_bench.specs.declared.tables.entries.Entry.{Entry}
 
 -- the entries without that of an identifier
 abbrev pub entries_without : List Entry → Id → List Entry
-entries_without entries id = filter (λ (entry : Entry). not (same_id entry.id id)) entries
+entries_without entries id = filter (λ (entry : Entry). not (same_id id entry.id)) entries
 
 -- each section without the entry of an identifier
 abbrev pub without : List Section → Id → List Section
@@ -17,7 +17,7 @@ without sections id = map (λ (section : Section). record section { entries = en
 abbrev pub entries_after : List Entry → Id → Entry → List Entry
 entries_after [] target entry = []
 entries_after (first ∷ entries) target entry =
-    if same_id first.id target then first ∷ entry ∷ entries
+    if same_id target first.id then first ∷ entry ∷ entries
     else first ∷ entries_after entries target entry
 
 -- an entry directly after that of the target, in the section that has the target

@@ -1,12 +1,15 @@
 -- How the parts of a table are seen, and what holds of them.
-use Rattle.std.specs.Prelude.{◌≡◌, ℕ, Bool, if◌then◌else◌, List, [], ◌∷◌, ◌++◌, ◌||◌, map, None, chars, string_bytes, encode_utf8_all}
+use Rattle.std.specs.Prelude.{◌≡◌, ◌≤◌, ℕ, Bool, false, if◌then◌else◌, ◌||◌, List, [], ◌∷◌, ◌++◌, length, map, None, chars, string_bytes, encode_utf8_all}
 use Rattle.std.specs.declared.string.String.{String}
 use Rattle.coll_bench.specs.Identifier.{same_name, same_id, has_name, has_id}
-use Rattle.coll_bench.specs.Table.{Collation, ids_of}
+use Rattle.coll_bench.specs.Table.{Collation, Section, ids_of, entries_of, is_placed}
 use Rattle.coll_bench.specs.WellFormed.{AreDistinct, IsWellFormed}
 use Rattle.coll_bench.specs.declared.syntax.identifiers.Id.{Id}
 use Rattle.coll_bench.specs.declared.syntax.identifiers.Id.TheVariants.{Char, Named, Undefined}
 use Rattle.coll_bench.specs.declared.tables.entries.Entry.{Entry}
+use Rattle.coll_bench.specs.declared.tables.limits.TheConstants.{MOST_ENTRIES}
+use Rattle.coll_bench.specs.declared.tables.refusals.Refusal.{Refusal}
+use Rattle.coll_bench.specs.declared.tables.refusals.Refusal.TheVariants.{Full}
 
 -- the table of these names and entries: one section, without a name
 abbrev pub collation_of : List (List ℕ) → List Entry → Collation
@@ -16,6 +19,18 @@ collation_of declared entries = record { declared = declared; sections = record 
 pub record IsSoundTable (declared : List (List ℕ)) (entries : List Entry) (placed : List Id) : Type 0 where
   pub well_formed : IsWellFormed (collation_of declared entries)
   pub placed_are : (id : Id) → has_id placed id ≡ has_id (ids_of entries) id
+
+-- the table with one more name
+abbrev pub with_declared : Collation → List ℕ → Collation
+with_declared table name = record table { declared = table.declared ++ name ∷ [] }
+
+-- the table with one more entry, after all others
+abbrev pub with_last : Collation → Id → Collation
+with_last table id = collation_of table.declared (entries_of table ++ record { id = id } ∷ [])
+
+-- the table with other sections
+abbrev pub with_sections : Collation → List Section → Collation
+with_sections table sections = record table { sections = sections }
 
 -- the characters of a text
 abbrev pub text_of : {Y : Type 0} → String Y → List ℕ
@@ -47,3 +62,7 @@ AddsId old new id = (other : Id) → has_id new other ≡ (same_id other id || h
 abbrev pub places_of : List (List ℕ) → List ℕ → Bool → List Id
 places_of names characters undefined =
     map Named names ++ (map Char characters ++ (if undefined then Undefined ∷ [] else []))
+
+-- a table has no room for an identifier that isn't placed
+abbrev pub IsFullAt : Collation → Id → Refusal → Type 0
+IsFullAt table id refusal = (refusal ≡ Full) × (is_placed table id ≡ false) × (MOST_ENTRIES ≤ length (entries_of table))

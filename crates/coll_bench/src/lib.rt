@@ -14,4 +14,6 @@ pub use session::{Session, run_session};
 pub use syntax::{
     DeltaLine, Id, OrderLine, Statement, SyntaxFault, TableLine, parse_delta_line, parse_table_line,
 };
-pub use tables::{Entry, MOST_DECLARATIONS, MOST_ENTRIES, Record, Refusal, Table};
+pub use tables::{
+    Entry, LoadCause, LoadFault, MOST_DECLARATIONS, MOST_ENTRIES, Record, Refusal, Table, load,
+};

@@ -139,7 +139,10 @@ fn give_up(table: &mut Table, undone: &mut Vec<Kept>)
     ensures room { vec_capacity undone.new ≡ vec_capacity undone.old }
 {
     while let Some(kept) = undone.pop() {
-        let Kept { statement: _, change } = kept;
+        let Kept {
+            statement: _,
+            change,
+        } = kept;
         table.forget(change);
     }
 }

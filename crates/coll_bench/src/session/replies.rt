@@ -56,11 +56,7 @@ fn flush<W: Sink>(out: &mut W) -> Result<(), WriteStop>
 }
 
 // Does what a unit asks for, and writes its reply.
-fn respond<W: Sink>(
-    session: &mut Session,
-    request: Request,
-    out: &mut W,
-) -> Result<(), WriteStop>
+fn respond<W: Sink>(session: &mut Session, request: Request, out: &mut W) -> Result<(), WriteStop>
     ensures answered { (starved : Bool) × Sends (W.taken out.old) (W.taken out.new) (reply_if starved session.old request) result
         × (session.new ≡ after_if starved session.old request) }
     ensures errors { CountsErr (W.failed out.old) (W.failed out.new) result }
@@ -170,7 +166,11 @@ fn write_refused<W: Sink>(out: &mut W, fault: Fault) -> Result<(), WriteStop>
 {
     write_bytes(out, b"refused ")?;
     let mut number = Buffer::new();
-    write_words(out, number.format(fault.number()).as_bytes(), fault.name().as_bytes())
+    write_words(
+        out,
+        number.format(fault.number()).as_bytes(),
+        fault.name().as_bytes(),
+    )
 }
 
 // Writes a word and a number.

@@ -83,12 +83,7 @@ impl Desk {
     }
 
     // Serves one physical line.
-    fn serve<W: Sink>(
-        &mut self,
-        alloc: Global,
-        line: &[u8],
-        output: &mut W,
-    ) -> Result<(), RunFault>
+    fn serve<W: Sink>(&mut self, alloc: Global, line: &[u8], output: &mut W) -> Result<(), RunFault>
         ensures served { ServesLine self.old self.new line.now (W.taken output.old) (W.taken output.new) result }
         ensures counted { self.old.listener.count ≤ MOST_LINES }
         ensures room { OnOk result (self.old.listener.count ≢ MOST_LINES) }

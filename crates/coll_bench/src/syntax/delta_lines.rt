@@ -6,6 +6,9 @@ ghost use Rattle.std.specs.Prelude.{◌≡◌, ◌∷◌, ◌≢◌, Ok, Err, If
 ghost use Rattle.coll_bench.specs.declared.syntax.syntax_faults.SyntaxFault.TheVariants.{OutOfMemory};
 ghost use Rattle.coll_bench.specs.DeltaLines.{delta_line, block_start as spelled_start};
 
+#[cfg(test)]
+mod tests;
+
 use super::keywords::{ended, id_of, is_word, order_line};
 use crate::{Id, OrderLine, SyntaxFault};
 use coll_lex::{Line, Token};

@@ -23,19 +23,19 @@ pub returns-in-Opens : goal.returns-in-Opens
 unfolding requests_at block_after
 returns-in-Opens c = λ b is. rw c.in-Opens.is (record {
   block = ap Some (ap Gathers c.begin.ensures ∙ sym (kept_opened _));
-  unit = ap (λ (r : Request). r ∷ []) (c.request.ensures ∙ ap kept_request is ∙ block_request_kept b)
+  unit = ap (λ (r : Request). r ∷ []) (c.request.ensures ∙ ap kept_request is ∙ block_request_kept b);
 })
 
 pub returns-in-Ends : goal.returns-in-Ends
 unfolding requests_at block_after
 returns-in-Ends c = λ b is. rw c.in-Ends.is (record {
   block = refl;
-  unit = ap (λ (r : Request). r ∷ []) (c.request-in-Ends.ensures ∙ ap kept_request is ∙ block_request_kept b)
+  unit = ap (λ (r : Request). r ∷ []) (c.request-in-Ends.ensures ∙ ap kept_request is ∙ block_request_kept b);
 })
 
 pub returns-in-Orders : goal.returns-in-Orders
 unfolding requests_at block_after
 returns-in-Orders c = λ b is. rw c.in-Orders.is (record {
   block = ap Some (c.join.ensures ∙ ap (λ (o : OpenBlock). joined o c.in-Orders.line) is ∙ sym (kept_with_order b c.in-Orders.line));
-  unit = refl
+  unit = refl;
 })

@@ -11,7 +11,7 @@ returns-in-Undo g c =
     rw c.in-Undo.is (record {
       sent = subst (λ (line : List ℕ). Sends (taken c.args.out.now) (taken c.write_outcome.new.out) line c.write_outcome.result) o.line c.write_outcome.ensures.sent;
       after = o.state;
-      errors = c.write_outcome.ensures.errors
+      errors = c.write_outcome.ensures.errors;
     })
 
 pub returns-in-List : goal.returns-in-List

@@ -7,7 +7,7 @@ pub returns-in_err-write_id-clause-sent : goal.returns-in_err-write_id-clause-se
 returns-in_err-write_id-clause-sent g c =
     let taken = g.W.Sink.taken in
     Sends-stopped (taken c.args.out.now) (taken c.write_id.new.out) ((spelled_id c.args.id.now) ++ (10 ∷ [])) c.from_residual.result c.from_residual.ensures.0
-        (AppendsFront-before (taken c.args.out.now) (taken c.write_id.new.out) (spelled_id c.args.id.now) (10 ∷ []) c.in_err-write_id.ensures.sent)
+    (AppendsFront-before (taken c.args.out.now) (taken c.write_id.new.out) (spelled_id c.args.id.now) (10 ∷ []) c.in_err-write_id.ensures.sent)
 
 pub returns-clause-sent : goal.returns-clause-sent
 returns-clause-sent g c =

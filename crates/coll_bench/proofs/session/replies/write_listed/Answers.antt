@@ -12,7 +12,7 @@ returns-in_err-write_spaced-clause-sent g c =
     let number : c.as_bytes.result.now ≡ decimal c.args.rank = c.as_bytes.ensures.value ∙ c.format.ensures.text in
     let part = rw number at c.in_err-write_spaced.ensures.sent in
     Sends-stopped (taken c.args.out.now) (taken c.write_spaced.new.out) (first ++ rest) c.from_residual.result c.from_residual.ensures.0
-        (AppendsFront-before (taken c.args.out.now) (taken c.write_spaced.new.out) first rest part)
+    (AppendsFront-before (taken c.args.out.now) (taken c.write_spaced.new.out) first rest part)
 
 pub returns-clause-sent : goal.returns-clause-sent
 unfolding listed_line

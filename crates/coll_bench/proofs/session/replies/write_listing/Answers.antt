@@ -11,7 +11,7 @@ returns-in_err-write_entries-clause-sent g c =
     let entries = entries_of c.args.table.now in
     let part = rw c.entries-entries.ensures.entries at c.in_err-write_entries.ensures.sent in
     Sends-stopped (taken c.args.out.now) (taken c.write_entries.new.out) (listed_lines 1 entries ++ counted_line (codes "listed") (length entries)) c.from_residual.result c.from_residual.ensures.0
-        (AppendsFront-before (taken c.args.out.now) (taken c.write_entries.new.out) (listed_lines 1 entries) (counted_line (codes "listed") (length entries)) part)
+    (AppendsFront-before (taken c.args.out.now) (taken c.write_entries.new.out) (listed_lines 1 entries) (counted_line (codes "listed") (length entries)) part)
 
 pub returns-clause-sent : goal.returns-clause-sent
 unfolding listing

@@ -10,7 +10,7 @@ returns-in_err-write_bytes-clause-sent g c =
     let taken = g.W.Sink.taken in
     let rest = worded (decimal (fault_number c.args.fault)) (fault_name c.args.fault) in
     Sends-stopped (taken c.args.out.now) (taken c.write_bytes.new.out) (codes "refused " ++ rest) c.from_residual.result c.from_residual.ensures.0
-        (AppendsFront-before (taken c.args.out.now) (taken c.write_bytes.new.out) (codes "refused ") rest c.in_err-write_bytes.ensures.sent)
+    (AppendsFront-before (taken c.args.out.now) (taken c.write_bytes.new.out) (codes "refused ") rest c.in_err-write_bytes.ensures.sent)
 
 pub returns-clause-sent : goal.returns-clause-sent
 unfolding refused_line

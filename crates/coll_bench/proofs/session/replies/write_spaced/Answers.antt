@@ -6,7 +6,7 @@ pub returns-in_err-write_bytes-clause-sent : goal.returns-in_err-write_bytes-cla
 returns-in_err-write_bytes-clause-sent g c =
     let taken = g.W.Sink.taken in
     Sends-stopped (taken c.args.out.now) (taken c.write_bytes.new.out) (c.args.word.now ++ (32 ∷ [])) c.from_residual.result c.from_residual.ensures.0
-        (AppendsFront-before (taken c.args.out.now) (taken c.write_bytes.new.out) c.args.word.now (32 ∷ []) c.in_err-write_bytes.ensures.sent)
+    (AppendsFront-before (taken c.args.out.now) (taken c.write_bytes.new.out) c.args.word.now (32 ∷ []) c.in_err-write_bytes.ensures.sent)
 
 pub returns-clause-sent : goal.returns-clause-sent
 returns-clause-sent g c =

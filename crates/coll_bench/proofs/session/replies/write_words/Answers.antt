@@ -6,7 +6,7 @@ pub returns-in_err-write_spaced-clause-sent : goal.returns-in_err-write_spaced-c
 returns-in_err-write_spaced-clause-sent g c =
     let taken = g.W.Sink.taken in
     Sends-stopped (taken c.args.out.now) (taken c.write_spaced.new.out) ((c.args.first.now ++ 32 ∷ []) ++ (c.args.second.now ++ 10 ∷ [])) c.from_residual.result c.from_residual.ensures.0
-        (AppendsFront-before (taken c.args.out.now) (taken c.write_spaced.new.out) (c.args.first.now ++ 32 ∷ []) (c.args.second.now ++ 10 ∷ []) c.in_err-write_spaced.ensures.sent)
+    (AppendsFront-before (taken c.args.out.now) (taken c.write_spaced.new.out) (c.args.first.now ++ 32 ∷ []) (c.args.second.now ++ 10 ∷ []) c.in_err-write_spaced.ensures.sent)
 
 pub returns-clause-sent : goal.returns-clause-sent
 returns-clause-sent g c =

@@ -10,7 +10,7 @@ use Rattle.coll_bench.proofs.session.runs.dropped_fault.Goals as goal
 pub returns-in-Some : goal.returns-in-Some
 returns-in-Some c = λ b stands.
     open_stands c.in-Some.block b (λ (o : Option Block). option_to_list c.dropped.result ≡ dropped_faults o)
-        (λ block is. ap option_to_list (c.dropped.ensures ∙ ap kept_dropped is) ∙ dropped_kept block) (rw c.in-Some.is at stands)
+    (λ block is. ap option_to_list (c.dropped.ensures ∙ ap kept_dropped is) ∙ dropped_kept block) (rw c.in-Some.is at stands)
 
 pub returns-in-None : goal.returns-in-None
 returns-in-None c = λ b stands.

@@ -9,7 +9,7 @@ use Rattle.coll_bench.proofs.session.runs.end_fault.Goals as goal
 pub returns-in-Some : goal.returns-in-Some
 returns-in-Some c = λ b stands.
     open_stands c.in-Some.block b (λ (o : Option Block). c.left_open.result ∷ [] ≡ end_faults c.args.continued o)
-        (λ block is. ap (λ (f : Fault). f ∷ []) (c.left_open.ensures ∙ ap kept_left_open is ∙ left_open_kept block) ∙ sym (end_faults-open c.args.continued block)) (rw c.in-Some.is at stands)
+    (λ block is. ap (λ (f : Fault). f ∷ []) (c.left_open.ensures ∙ ap kept_left_open is ∙ left_open_kept block) ∙ sym (end_faults-open c.args.continued block)) (rw c.in-Some.is at stands)
 
 pub returns-then-continued : goal.returns-then-continued
 returns-then-continued c = λ b stands.

@@ -9,7 +9,7 @@ invariant_of-result c = record {
   leads = Leads_none c.args.table _ c.new.ensures.items;
   leads_on = LeadsOn_none c.args.table _ c.new-2.ensures.items;
   few = omega (arith, c.new.ensures.len);
-  room = omega (arith, c.new.ensures.len, c.new-2.ensures.len)
+  room = omega (arith, c.new.ensures.len, c.new-2.ensures.len);
 }
 
 pub returns : goal.returns

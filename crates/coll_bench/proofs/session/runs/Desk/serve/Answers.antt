@@ -18,13 +18,13 @@ pub returns-in-Stops-clause-served : goal.returns-in-Stops-clause-served
 returns-in-Stops-clause-served g c =
     let taken = g.W.Sink.taken in
     serves_stop c.args.self.now c.hear.new.self c.args.line.now c.in-Some.heard c.in-Stops.fault c.hear.result c.next_number-number.result (taken c.args.output.now) (taken c.stop.new.output) c.stop.result
-        c.hear.ensures c.in-Some.is c.in-Stops.is c.next_number-number.ensures.number c.stop.ensures.ended
+    c.hear.ensures c.in-Some.is c.in-Stops.is c.next_number-number.ensures.number c.stop.ensures.ended
 
 pub returns-in-Ok-clause-served : goal.returns-in-Ok-clause-served
 returns-in-Ok-clause-served g c =
     let taken = g.W.Sink.taken in
     serves_taken {E = WriteStop} c.args.self.now (record { listener = c.hear.new.self; block = c.args.self.now.block; session = c.args.self.now.session }) c.take.new.self c.args.line.now c.in-Some.heard c.hear.result
-        (taken c.args.output.now) (taken c.take.new.output) (Ok c.in-Ok.field-0) c.hear.ensures c.in-Some.is (not_stops c.in-Some.heard c.in_default-heard.not-Stops) refl refl c.take.ensures.listener c.in-Ok.ensures.taken
+    (taken c.args.output.now) (taken c.take.new.output) (Ok c.in-Ok.field-0) c.hear.ensures c.in-Some.is (not_stops c.in-Some.heard c.in_default-heard.not-Stops) refl refl c.take.ensures.listener c.in-Ok.ensures.taken
 
 pub returns-in-Ok-clause-room : goal.returns-in-Ok-clause-room
 returns-in-Ok-clause-room g c =
@@ -34,5 +34,5 @@ pub returns-in-Err-clause-served : goal.returns-in-Err-clause-served
 returns-in-Err-clause-served g c =
     let taken = g.W.Sink.taken in
     serves_failed c.args.self.now c.take.new.self c.args.line.now (taken c.args.output.now) (taken c.take.new.output) c.write_failed.result c.write_failed.ensures
-        (serves_taken {E = WriteStop} c.args.self.now (record { listener = c.hear.new.self; block = c.args.self.now.block; session = c.args.self.now.session }) c.take.new.self c.args.line.now c.in-Some.heard c.hear.result
-            (taken c.args.output.now) (taken c.take.new.output) (Err c.in-Err.stop) c.hear.ensures c.in-Some.is (not_stops c.in-Some.heard c.in_default-heard.not-Stops) refl refl c.take.ensures.listener c.in-Err.ensures.taken)
+    (serves_taken {E = WriteStop} c.args.self.now (record { listener = c.hear.new.self; block = c.args.self.now.block; session = c.args.self.now.session }) c.take.new.self c.args.line.now c.in-Some.heard c.hear.result
+    (taken c.args.output.now) (taken c.take.new.output) (Err c.in-Err.stop) c.hear.ensures c.in-Some.is (not_stops c.in-Some.heard c.in_default-heard.not-Stops) refl refl c.take.ensures.listener c.in-Err.ensures.taken)

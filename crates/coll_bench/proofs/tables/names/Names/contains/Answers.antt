@@ -1,6 +1,5 @@
 -- A name is found by its bytes.
-use Rattle.std.proofs.Common.{ap, ◌∙◌}
-use Rattle.coll_bench.specs.Identifier.{has_name}
+use Rattle.std.proofs.Common.{◌∙◌}
 use Rattle.coll_bench.proofs.LookUps.{found_name}
 use Rattle.coll_bench.proofs.tables.names.Names.contains.Goals as goal
 

@@ -14,5 +14,5 @@ pub returns-clause-ok : goal.returns-clause-ok
 returns-clause-ok c =
     let same = c.in_ok-text.ensures.ok in
     ap texts_of c.in_ok-insert.ensures.keys
-        ∙ (inserted_name c.self.inside.names.keys c.in_ok-text.text (chars c.args.name.now) c.self.invariant (ap chars same) (encodes-chars _ c.utf8.name ∙ sym same)
-        ∙ ap (λ names. with_name names (chars c.args.name.now)) c.self.view_is)
+    ∙ (inserted_name c.self.inside.names.keys c.in_ok-text.text (chars c.args.name.now) c.self.invariant (ap chars same) (encodes-chars _ c.utf8.name ∙ sym same)
+    ∙ ap (λ names. with_name names (chars c.args.name.now)) c.self.view_is)

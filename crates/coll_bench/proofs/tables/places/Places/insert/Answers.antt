@@ -1,6 +1,4 @@
 -- One identifier more is found.
-use Rattle.std.proofs.Common.{sym, ap, ◌∙◌}
-use Rattle.coll_bench.specs.Sound.{places_of, with_name}
 use Rattle.coll_bench.proofs.PlaceLookUps.{adds_name, adds_char}
 use Rattle.coll_bench.proofs.tables.places.Places.insert.Goals as goal
 

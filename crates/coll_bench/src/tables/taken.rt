@@ -1,0 +1,14 @@
+//! What one physical line gave.
+
+use coll_lex::Line;
+
+/// What the lexer gave for one physical line of the category.
+#[derive(Debug, Drop)]
+pub enum Taken {
+    /// The logical line that it ends.
+    Whole(Line),
+    /// No logical line: it is continued, a directive, or has no token.
+    NoLine,
+    /// There was no physical line.
+    End,
+}
