@@ -155,7 +155,10 @@ impl Lexer {
     /// Takes one more physical line, without its line feed, and answers the logical line that it ends, if that
     /// has a token.
     ///
-    /// A fault drops the logical line so far, and the next line handed in begins another. Want of memory may
+    /// The faults are looked for in this order: the bytes of the logical line up to here are more than
+    /// `MOST_LINE_BYTES` (carriage returns and escape characters counted), the line comes after `MOST_LINES`
+    /// others, it isn't UTF-8, it is a directive at fault, and then the first fault of its logical line from the
+    /// left. A fault drops the logical line so far, and the next line handed in begins another. Want of memory may
     /// stand in place of any other answer, but not in place of a line too many.
     pub fn feed(&mut self, line: &[u8]) -> Result<Option<Line>, LexFault>
         ensures ok { IfOk result (λ answer. fed self.old line.now ≡ Ok (answer, self.new)) }
