@@ -12,6 +12,7 @@ pub mod PlaceLookUps
 pub mod PlacingLemmas
 pub mod ReplyLemmas
 pub mod RunEnds
+pub mod RunExits
 pub mod RunLemmas
 pub mod RunSteps
 pub mod Sameness

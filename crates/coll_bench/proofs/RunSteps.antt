@@ -4,18 +4,21 @@ use Rattle.std.specs.Prelude.{◌⊎◌, is_some}
 use Rattle.std.specs.Io.KnownBytes.{Appends, Keeps, prepend_known, IsAtEnd}
 use Rattle.coll_lex.specs.Devices.{AppendsFront, raised}
 use Rattle.coll_lex.specs.PhysicalLines.{line_feed, IsInLine, lines_of}
-use Rattle.coll_lex.specs.LineReading.{Reading, CutsLine, Cuts, GivesLine, GivesEnd, HasStop, StopsNow, StopsAgain, ahead}
+use Rattle.coll_lex.specs.LineReading.{Reading, no_line, CutsLine, Cuts, GivesLine, GivesEnd, HasStop, StopsNow, StopsAgain, Advances, ahead}
 use Rattle.coll_lex.specs.LogicalLines.{LexerState, pending, number_of, first_state, fed, served, state_by, dropped, logical_lines}
 use Rattle.coll_lex.specs.declared.faults.LexFault.{LexFault}
 use Rattle.coll_lex.specs.declared.faults.LexFault.TheVariants as lex
-use Rattle.coll_lex.specs.declared.faults.ReadStop.TheVariants as stop
+use Rattle.coll_lex.specs.declared.faults.ReadStop.{ReadStop}
 use Rattle.coll_lex.proofs.PhysicalLinesLemmas.{lines_of-nil, lines_of-ended, lines_of-part, lines_of-cut, lines_of-long}
 use Rattle.coll_bench.specs.Table.{Collation}
 use Rattle.coll_bench.specs.History.{History, begun}
 use Rattle.coll_bench.specs.Units.{Block}
 use Rattle.coll_bench.specs.OpenBlock.{StandsFor}
-use Rattle.coll_bench.specs.Serving.{IsBegun, Served, heard_at, stop_at, line_requests, line_block, history_after, replies_to, line_replies}
-use Rattle.coll_bench.specs.Run.{written_from, last_line}
+use Rattle.coll_bench.specs.Serving.{IsBegun, Served, ReadsNone, heard_at, stop_at, line_requests, line_block, history_after, replies_to, line_replies}
+use Rattle.coll_bench.specs.Run.{written_from, last_line, CountsReads}
+use Rattle.std.specs.Result.{IfErr}
+use Rattle.coll_bench.specs.declared.faults.RunFault.{RunFault}
+use Rattle.coll_bench.proofs.ServingLemmas.{counts_none}
 use Rattle.coll_bench.specs.Underway.{IsCut, IsUnderway, Underway}
 use Rattle.coll_bench.specs.declared.session.runs.Desk.{Desk}
 use Rattle.coll_bench.proofs.RunLemmas.{choices_for, written_on, written_stop}
@@ -91,7 +94,7 @@ lines_next read rest rest2 line whole cuts cut =
         (λ (c : IsCut read). c rest ∙ ap (λ (ls : List (List ℕ)). lines_of read ++ ls) (lines_of-cut rest line rest2 cuts whole)) cut
 
 -- what is ahead after a line was cut off
-ahead_after : (a b : Option (List ℕ)) (rest line : List ℕ) → a ≡ Some rest → Cuts a b line → (rest2 : List ℕ) × (b ≡ Some rest2) × CutsLine rest line rest2
+pub ahead_after : (a b : Option (List ℕ)) (rest line : List ℕ) → a ≡ Some rest → Cuts a b line → (rest2 : List ℕ) × (b ≡ Some rest2) × CutsLine rest line rest2
 ahead_after a (Some rest2) rest line is cuts = (rest2, refl, cut_at a is cuts)
   where
     cut_at : (a : Option (List ℕ)) → a ≡ Some rest → Cuts a (Some rest2) line → CutsLine rest line rest2
@@ -102,3 +105,94 @@ ahead_after a None rest line is cuts = absurd (cut_none a is cuts)
     cut_none : (a : Option (List ℕ)) → a ≡ Some rest → Cuts a None line → ⊥
     cut_none None e c = cc
     cut_none (Some all) e c = c
+
+-- what a device took that is known, after it took more
+pub appended : (a b : Option (List ℕ)) (before written bytes : List ℕ) → a ≡ Some (before ++ written) → Appends a b bytes → b ≡ Some (before ++ (written ++ bytes))
+appended None b before written bytes is more = absurd (cc)
+appended (Some xs) None before written bytes is more = absurd more
+appended (Some xs) (Some ys) before written bytes is more =
+    let same : xs ≡ before ++ written = cc in
+    ap Some (more ∙ ap (λ (l : List ℕ). l ++ bytes) same ∙ append_assoc before written bytes)
+
+-- how a run goes on from what was read and written so far, for all further lines and choices
+abbrev GoesOn : Collation → (read written : List ℕ) → (lines units : List Bool) → LexerState → Option Block → History → Type 0
+GoesOn table read written lines units s block h = (c d : List Bool) (ends : Bool) (later : List (List ℕ)) → written_from first_state None (begun table) (lines ++ c) (units ++ d) ends (lines_of read ++ later) ≡ written ++ written_from s block h c d ends later
+
+-- the same of a text's last line
+abbrev HasLast : (read : List ℕ) → List Bool → LexerState → Type 0
+HasLast read lines s = (c : List Bool) (ends : Bool) (later : List (List ℕ)) → last_line (logical_lines (lines ++ c) ends first_state (lines_of read ++ later)) ≡ last_line (logical_lines c ends s later)
+
+pub one_more : (read read2 line : List ℕ) (later : List (List ℕ)) → lines_of read2 ≡ lines_of read ++ line ∷ [] → lines_of read2 ++ later ≡ lines_of read ++ line ∷ later
+one_more read read2 line later more = ap (λ (ls : List (List ℕ)). ls ++ later) more ∙ append_assoc (lines_of read) (line ∷ []) later
+
+goes_on_by : (table : Collation) (read read2 written line : List ℕ) (lines units : List Bool) (s s2 : LexerState) (block block2 : Option Block) (h h2 : History) (memory starved : Bool) → GoesOn table read written lines units s block h
+    → lines_of read2 ≡ lines_of read ++ line ∷ [] → stop_at (heard_at memory s line) ≡ None → s2 ≡ state_by s (served memory s line) → block2 ≡ line_block block (heard_at memory s line) → h2 ≡ history_after starved h (line_requests block (heard_at memory s line))
+    → GoesOn table read2 (written ++ replies_to starved h (line_requests block (heard_at memory s line))) (lines ++ memory ∷ []) (units ++ choices_for starved (line_requests block (heard_at memory s line))) s2 block2 h2
+goes_on_by table read read2 written line lines units s s2 block block2 h h2 memory starved goes more on s_is block_is h_is c d ends later =
+    let us = line_requests block (heard_at memory s line) in
+    let first = written_from first_state None (begun table) in
+    ap (λ (ls : List (List ℕ)). first ((lines ++ memory ∷ []) ++ c) ((units ++ choices_for starved us) ++ d) ends ls) (one_more read read2 line later more)
+    ∙ ap (λ (l : List Bool). first l ((units ++ choices_for starved us) ++ d) ends (lines_of read ++ line ∷ later)) (append_assoc lines (memory ∷ []) c)
+    ∙ ap (λ (l : List Bool). first (lines ++ memory ∷ c) l ends (lines_of read ++ line ∷ later)) (append_assoc units (choices_for starved us) d)
+    ∙ goes (memory ∷ c) (choices_for starved us ++ d) ends (line ∷ later)
+    ∙ ap (λ (l : List ℕ). written ++ l) (written_on memory starved s block h line c d ends later on
+        ∙ ap (λ (x : LexerState). replies_to starved h us ++ written_from x (line_block block (heard_at memory s line)) (history_after starved h us) c d ends later) (sym s_is)
+        ∙ ap (λ (b : Option Block). replies_to starved h us ++ written_from s2 b (history_after starved h us) c d ends later) (sym block_is)
+        ∙ ap (λ (x : History). replies_to starved h us ++ written_from s2 block2 x c d ends later) (sym h_is))
+    ∙ sym (append_assoc written (replies_to starved h us) (written_from s2 block2 h2 c d ends later))
+
+has_last_by : (read read2 line : List ℕ) (lines : List Bool) (s s2 : LexerState) (memory : Bool) → HasLast read lines s → lines_of read2 ≡ lines_of read ++ line ∷ [] → stop_at (heard_at memory s line) ≡ None → s2 ≡ state_by s (served memory s line)
+    → HasLast read2 (lines ++ memory ∷ []) s2
+has_last_by read read2 line lines s s2 memory last more on s_is c ends later =
+    ap (λ (ls : List (List ℕ)). last_line (logical_lines ((lines ++ memory ∷ []) ++ c) ends first_state ls)) (one_more read read2 line later more)
+    ∙ ap (λ (l : List Bool). last_line (logical_lines l ends first_state (lines_of read ++ line ∷ later))) (append_assoc lines (memory ∷ []) c)
+    ∙ last (memory ∷ c) ends (line ∷ later)
+    ∙ last_on memory s line c ends later on
+    ∙ ap (λ (x : LexerState). last_line (logical_lines c ends x later)) (sym s_is)
+
+served_on : (table : Collation) (text before : List ℕ) (ahead0 ahead1 taken0 taken1 : Option (List ℕ)) (old new : Desk) (read rest written : List ℕ) (lines units : List Bool) (block : Option Block) (memory starved : Bool) (line : List ℕ)
+    → IsUnderway table text before ahead0 taken0 old read rest written lines units block → Cuts ahead0 ahead1 line → IsInLine line → Served memory starved old new line block → Appends taken0 taken1 (line_replies memory starved old line block)
+    → Underway table text before ahead1 taken1 new
+served_on table text before ahead0 ahead1 taken0 taken1 old new read rest written lines units block memory starved line u cuts whole served more =
+    let (rest2, ahead_is, cut) = ahead_after ahead0 ahead1 rest line u.ahead_is cuts in
+    let (read2, n) = next_line read rest rest2 line whole cut u.cut in
+    (read2, rest2, written ++ line_replies memory starved old line block, lines ++ memory ∷ [], units ++ choices_for starved (line_requests block (heard_at memory old.listener line)), line_block block (heard_at memory old.listener line), record {
+      text_is = u.text_is ∙ n.text_is;
+      cut = n.cut;
+      ahead_is = ahead_is;
+      taken_is = appended taken0 taken1 before written (line_replies memory starved old line block) u.taken_is more;
+      block_is = served.block_is;
+      goes_on = goes_on_by table read read2 written line lines units old.listener new.listener block (line_block block (heard_at memory old.listener line)) old.session new.session memory starved u.goes_on n.lines_are served.goes_on served.listener refl served.session;
+      last = has_last_by read read2 line lines old.listener new.listener memory u.last n.lines_are served.goes_on served.listener
+    })
+
+-- one more line was served, and the run goes on
+pub underway_on : (table : Collation) (text before : List ℕ) (ahead0 ahead1 taken0 taken1 : Option (List ℕ)) (old new : Desk) (line : List ℕ) → Underway table text before ahead0 taken0 old → Cuts ahead0 ahead1 line → IsInLine line
+    → (memory : Bool) × (starved : Bool) × ((block : Option Block) → StandsFor old.block block → Served memory starved old new line block × Appends taken0 taken1 (line_replies memory starved old line block))
+    → Underway table text before ahead1 taken1 new
+underway_on table text before ahead0 ahead1 taken0 taken1 old new line (read, rest, written, lines, units, block, u) cuts whole (memory, starved, did) =
+    let (s, more) = did block u.block_is in
+    served_on table text before ahead0 ahead1 taken0 taken1 old new read rest written lines units block memory starved line u cuts whole s more
+
+-- what the reader did, by its answer
+pub gives_line : (old new : Reading) (left left_after : Option (List ℕ)) (failed failed_after : ℕ) (more : Bool) → Advances old new left left_after failed failed_after (Ok more) → more ≡ true → GivesLine old new left left_after failed failed_after
+gives_line old new left left_after failed failed_after true did is = did
+gives_line old new left left_after failed failed_after false did is = absurd (cc)
+
+pub gives_end : (old new : Reading) (left left_after : Option (List ℕ)) (failed failed_after : ℕ) (more : Bool) → Advances old new left left_after failed failed_after (Ok more) → more ≡ false → GivesEnd old new left left_after failed failed_after
+gives_end old new left left_after failed failed_after true did is = absurd (cc)
+gives_end old new left left_after failed failed_after false did is = did
+
+pub stops_now : (old new : Reading) (left left_after : Option (List ℕ)) (failed failed_after : ℕ) (stop : ReadStop) → Advances old new left left_after failed failed_after (Err stop) → old.stop ≡ None → StopsNow old new left left_after failed failed_after stop
+stops_now old new left left_after failed failed_after stop did going =
+    ⊎_elim (λ (now : StopsNow old new left left_after failed failed_after stop). now)
+        (λ (again : StopsAgain old new left left_after failed failed_after stop). let stopped = again.stopped in absurd (cc)) did
+
+-- all of the text is ahead of a new reader
+pub ahead_begun : (r : Reading) (left : Option (List ℕ)) (text : List ℕ) → r ≡ no_line → left ≡ Some text → ahead r left ≡ Some text
+ahead_begun r left text is left_is = ap (λ (x : Reading). ahead x left) is ∙ ap (λ (l : Option (List ℕ)). ahead no_line l) left_is
+
+-- no read failed so far
+pub reads_kept : (f0 f1 f2 : ℕ) (r : Result (Unit {0}) RunFault) → f1 ≡ f0 → f2 ≡ f1 → IfErr r (λ ended. ReadsNone ended) → CountsReads f0 f2 r
+reads_kept f0 f1 f2 (Ok done) same more none = more ∙ same
+reads_kept f0 f1 f2 (Err ended) same more none = more ∙ same ∙ counts_none f0 ended none

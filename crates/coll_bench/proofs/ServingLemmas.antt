@@ -3,14 +3,18 @@ use Rattle.std.proofs.Common.{◌≡◌, ℕ, Bool, true, false, List, [], ◌�
 use Rattle.std.specs.Prelude.{option_to_list, if◌then◌else◌}
 use Rattle.std.specs.Io.KnownBytes.{Appends}
 use Rattle.std.proofs.KnownBytes.{Appends-nil}
-use Rattle.coll_lex.specs.Devices.{AppendsFront, Sends}
+use Rattle.coll_lex.specs.Devices.{AppendsFront, Sends, raised}
+use Rattle.coll_lex.specs.LineReading.{counted}
+use Rattle.coll_lex.specs.declared.faults.ReadStop.{ReadStop}
+use Rattle.coll_bench.specs.SessionFaults.{fault_number}
+use Rattle.std.specs.Prelude.{◌==◌}
 use Rattle.coll_bench.specs.History.{History}
 use Rattle.coll_bench.specs.Units.{Block, requests_at, block_after, stop_of, refusals, last_faults, end_faults, dropped_faults}
 use Rattle.coll_bench.specs.OpenBlock.{kept, StandsFor, TakesLine}
 use Rattle.coll_bench.specs.Replies.{refused_line, refused_lines, reply, after, reply_if, after_if}
 use Rattle.coll_bench.specs.declared.faults.Fault.{Fault}
 use Rattle.coll_bench.specs.declared.faults.RunFault.{RunFault}
-use Rattle.coll_bench.specs.Serving.{replies_to, history_after, heard_at, stop_at, requests_or_last, line_requests, line_block, Takes, Served, EndsWith, EndsAtLine, write_failed, stopped_at, line_replies}
+use Rattle.coll_bench.specs.Serving.{replies_to, history_after, heard_at, stop_at, requests_or_last, line_requests, line_block, Takes, Served, EndsWith, EndsAtLine, ReadsNone, CountsStop, read_failed, write_failed, stopped_at, line_replies}
 use Rattle.std.proofs.Common.{⊎_elim, inl, inr, eq-eqb}
 use Rattle.std.proofs.lemmas.Bool.{ne_eqb}
 use Rattle.coll_lex.specs.Faults.{lex_fault_number}
@@ -22,7 +26,10 @@ use Rattle.coll_lex.specs.declared.tokens.Line.{Line}
 use Rattle.coll_lex.specs.declared.tokens.TheConstants.{MOST_LINES}
 use Rattle.coll_lex.specs.declared.faults.LexFault.{LexFault}
 use Rattle.coll_lex.specs.declared.faults.LexFault.TheVariants as lex
-use Rattle.coll_lex.proofs.LineEnds.{fed-room}
+use Rattle.std.proofs.Math.Arith.{lt_of_le-ne}
+use Rattle.std.proofs.Math.Nat.{min-eq_left}
+use Rattle.std.proofs.Common.{◌+◌, ◌<◌, ◌≤◌, min, arith}
+use Rattle.coll_lex.proofs.LineEnds.{fed-count, fed-room}
 use Rattle.coll_lex.proofs.LineFaults.{fed-full}
 use Rattle.coll_bench.specs.SessionLines.{fault_heard}
 use Rattle.coll_bench.specs.Hearing.{heard_by, Hears}
@@ -133,8 +140,31 @@ room_cases true s s2 line h hears none full = hears.room refl full
 room_cases false s s2 line h hears none full = room_by s line _ (fed s line) refl (ap stop_at (sym hears.heard_is) ∙ none) full
 
 -- a line that doesn't end the session is none too many
-pub room_at : (s s2 : LexerState) (line : List ℕ) (h : Option Heard) → (memory : Bool) × Hears memory s s2 line h → stop_at h ≡ None → s.count ≡ MOST_LINES → ⊥
+room_at : (s s2 : LexerState) (line : List ℕ) (h : Option Heard) → (memory : Bool) × Hears memory s s2 line h → stop_at h ≡ None → s.count ≡ MOST_LINES → ⊥
 room_at s s2 line h hears none full = room_cases hears.0 s s2 line h hears.1 none full
+
+-- a line that doesn't end the session is counted
+pub record CountsLine (s s2 : LexerState) : Type 0 where
+  pub counts : s2.count ≡ s.count + 1
+  pub room : s.count < MOST_LINES
+
+count_by : (s : LexerState) (line : List ℕ) (a : Result (Option Line × LexerState) LexFault) → fed s line ≡ a → (state_by s a).count ≡ min (s.count + 1) MOST_LINES
+count_by s line (Ok (answer, after)) e = fed-count s line answer after e
+count_by s line (Err f) e = refl
+
+count_cases : (memory : Bool) (s : LexerState) (line : List ℕ) → (state_by s (served memory s line)).count ≡ min (s.count + 1) MOST_LINES
+unfolding served
+count_cases true s line = refl
+count_cases false s line = count_by s line (fed s line) refl
+
+pub counts_line : (s s2 : LexerState) (line : List ℕ) (h : Option Heard) → (memory : Bool) × Hears memory s s2 line h → stop_at h ≡ None → s.count ≤ MOST_LINES → CountsLine s s2
+counts_line s s2 line h hears none few =
+    let room : s.count < MOST_LINES = lt_of_le-ne few (room_at s s2 line h hears none) in
+    let fits : s.count + 1 ≤ MOST_LINES = omega (arith, room) in
+    record {
+      counts = ap (λ (x : LexerState). x.count) hears.1.stands ∙ count_cases hears.0 s line ∙ min-eq_left fits;
+      room = room
+    }
 
 abbrev taken_requests : Option Block → Heard → Option LexFault → List Request
 taken_requests block x stop = requests_or_last block x stop
@@ -183,7 +213,7 @@ refusals_replies starved h [] = refl
 refusals_replies true h (f ∷ faults) = ap (λ (bytes : List ℕ). refused_line f ++ bytes) (refusals_replies true h faults)
 refusals_replies false h (f ∷ faults) = ap (λ (bytes : List ℕ). refused_line f ++ bytes) (refusals_replies false h faults)
 
-stopped_replies : (memory starved : Bool) (old : Desk) (line : List ℕ) (f : LexFault) (block : Option Block) → heard_at memory old.listener line ≡ Some (heard.Stops f) → refused_lines (last_faults block f) ≡ line_replies memory starved old line block
+pub stopped_replies : (memory starved : Bool) (old : Desk) (line : List ℕ) (f : LexFault) (block : Option Block) → heard_at memory old.listener line ≡ Some (heard.Stops f) → refused_lines (last_faults block f) ≡ line_replies memory starved old line block
 unfolding line_requests
 stopped_replies memory starved old line f block at =
     sym (refusals_replies starved old.session (last_faults block f)) ∙ ap (λ (h : Option Heard). replies_to starved old.session (line_requests block h)) (sym at)
@@ -226,3 +256,31 @@ last_replies block f dropped other is =
 
 pub end_replies : (block : Option Block) (f : LexFault) → lex_fault_number f ≡ 9 → refused_lines (last_faults block f) ≡ refused_lines (end_faults true block)
 end_replies block f is = ap (λ (b : Bool). refused_lines (if b then end_faults true block else dropped_faults block ++ faults.Lex f ∷ [])) (eq-eqb (lex_fault_number f) 9 is)
+
+-- no fault of the lexer is that of a read
+pub lex_reads_none : (f : LexFault) → (lex_fault_number f == 67) ≡ false
+lex_reads_none lex.LineTooLong = refl
+lex_reads_none lex.TooManyLines = refl
+lex_reads_none lex.DanglingEscape = refl
+lex_reads_none lex.NotUtf8 = refl
+lex_reads_none lex.OpenSymbol = refl
+lex_reads_none lex.EmptySymbol = refl
+lex_reads_none lex.BadName = refl
+lex_reads_none lex.BadCodePoint = refl
+lex_reads_none lex.OpenString = refl
+lex_reads_none lex.CharacterConstant = refl
+lex_reads_none lex.BadCharDirective = refl
+lex_reads_none lex.OutOfMemory = refl
+
+pub write_reads_none : (ended : RunFault) → ended ≡ write_failed → ReadsNone ended
+write_reads_none ended is = ap (λ (e : RunFault). fault_number e.fault == 67) is
+
+-- a read is counted by the fault that it ends with, and by no other
+pub counts_none : (failed : ℕ) (ended : RunFault) → ReadsNone ended → failed ≡ (if fault_number ended.fault == 67 then raised failed else failed)
+counts_none failed ended none = ap (λ (b : Bool). if b then raised failed else failed) (sym none)
+
+pub counts_read : (failed : ℕ) (ended : RunFault) → ended ≡ read_failed → raised failed ≡ (if fault_number ended.fault == 67 then raised failed else failed)
+counts_read failed ended is = ap (λ (b : Bool). if b then raised failed else failed) (sym (ap (λ (e : RunFault). fault_number e.fault == 67) is))
+
+pub counts_after : (old new : ℕ) (r : ReadStop) (ended : RunFault) → new ≡ counted r old → CountsStop r ended → new ≡ (if fault_number ended.fault == 67 then raised old else old)
+counts_after old new r ended is counts = is ∙ counts old

@@ -2,6 +2,7 @@
 use Rattle.std.specs.Prelude.{◌≡◌, ◌≢◌, ◌⊎◌, ℕ, Bool, true, false, ◌==◌, if◌then◌else◌, List, [], ◌∷◌, ◌++◌, Option, Some, None, Result, Ok, Err}
 use Rattle.std.specs.Io.KnownBytes.{Appends}
 use Rattle.coll_lex.specs.Devices.{AppendsFront, raised}
+use Rattle.coll_lex.specs.LineReading.{counted}
 use Rattle.coll_lex.specs.LogicalLines.{LexerState, first_state, pending, number_of, first_line, served, state_by}
 use Rattle.coll_lex.specs.declared.faults.LexFault.{LexFault}
 use Rattle.coll_lex.specs.declared.faults.LexFault.TheVariants as lex
@@ -102,6 +103,14 @@ ServesLine old new line taken taken_after (Ok done) =
     (memory : Bool) × (starved : Bool) × ((block : Option Block) → StandsFor old.block block → Served memory starved old new line block × Appends taken taken_after (line_replies memory starved old line block))
 ServesLine old new line taken taken_after (Err ended) =
     (memory : Bool) × (starved : Bool) × ((block : Option Block) → StandsFor old.block block → EndsAtLine memory starved old line block taken taken_after ended)
+
+-- the session ended for another reason than a failed read
+abbrev pub ReadsNone : RunFault → Type 0
+ReadsNone ended = (fault_number ended.fault == 67) ≡ false
+
+-- the fault is that of a failed read exactly where the reader counted one
+abbrev pub CountsStop : ReadStop → RunFault → Type 0
+CountsStop stop ended = (failed : ℕ) → counted stop failed ≡ (if fault_number ended.fault == 67 then raised failed else failed)
 
 -- a failed write is counted, and nothing else is
 abbrev pub CountsEnd : ℕ → ℕ → RunFault → Type 0

@@ -5,13 +5,13 @@
 //! heard, taken by the block that is open, and the unit that it completes is answered; each of these is a function with
 //! an exact clause, and the lemmas of `RunLemmas` put them together over all that may come later.
 
-ghost use Rattle.std.specs.Prelude.{◌≡◌, ◌≢◌, ◌≤◌, Bool, IfOk, OnOk, Option, option_to_list, is_some};
+ghost use Rattle.std.specs.Prelude.{◌≡◌, ◌+◌, ◌<◌, Bool, IfOk, IfErr, OnOk, Option, option_to_list, is_some};
 ghost use Rattle.coll_lex.specs.Devices.{CountsErr, Sends};
 ghost use Rattle.coll_lex.specs.declared.tokens.TheConstants.{MOST_LINES};
 ghost use Rattle.coll_bench.specs.Units.{Block, last_faults, end_faults, dropped_faults, requests_at};
 ghost use Rattle.coll_bench.specs.OpenBlock.{StandsFor};
 ghost use Rattle.coll_bench.specs.Replies.{refused_lines};
-ghost use Rattle.coll_bench.specs.Serving.{EndsWith, FinishesWith, IsCutOff, CountsEnd, CountsWrites, write_failed as failed_write, never_ran, too_long};
+ghost use Rattle.coll_bench.specs.Serving.{EndsWith, FinishesWith, IsCutOff, CountsEnd, CountsWrites, CountsStop, ReadsNone, write_failed as failed_write, never_ran, too_long};
 ghost use Rattle.coll_bench.specs.Run.{Runs, CountsReads};
 ghost use Rattle.coll_lex.specs.LogicalLines.{pending, number_of};
 
@@ -85,8 +85,9 @@ impl Desk {
     // Serves one physical line.
     fn serve<W: Sink>(&mut self, alloc: Global, line: &[u8], output: &mut W) -> Result<(), RunFault>
         ensures served { ServesLine self.old self.new line.now (W.taken output.old) (W.taken output.new) result }
-        ensures counted { self.old.listener.count ≤ MOST_LINES }
-        ensures room { OnOk result (self.old.listener.count ≢ MOST_LINES) }
+        ensures counts { OnOk result (self.new.listener.count ≡ self.old.listener.count + 1) }
+        ensures room { OnOk result (self.old.listener.count < MOST_LINES) }
+        ensures reads { IfErr result (λ ended. ReadsNone ended) }
         ensures errors { CountsWrites (W.failed output.old) (W.failed output.new) result }
     {
         let number = self.listener.next_number();
@@ -121,6 +122,7 @@ impl Desk {
     fn stop<W: Sink>(&self, number: u32, fault: LexFault, output: &mut W) -> RunFault
         ensures ended { (block : Option Block) → StandsFor self.now.block block
             → EndsWith number fault (W.taken output.old) (W.taken output.new) (refused_lines (last_faults block fault)) result }
+        ensures reads { ReadsNone result }
         ensures errors { CountsEnd (W.failed output.old) (W.failed output.new) result }
     {
         match write_last(&self.block, fault, output) {
@@ -137,6 +139,7 @@ impl Desk {
     fn finish<W: Sink>(&mut self, output: &mut W) -> Result<(), RunFault>
         ensures ended { (block : Option Block) → StandsFor self.old.block block
             → FinishesWith (W.taken output.old) (W.taken output.new) (refused_lines (end_faults (is_some (pending self.old.listener)) block)) result }
+        ensures reads { IfErr result (λ ended. ReadsNone ended) }
         ensures errors { CountsWrites (W.failed output.old) (W.failed output.new) result }
     {
         let continued = self.listener.finish();
@@ -150,6 +153,7 @@ impl Desk {
     fn cut_off<W: Sink>(&self, stop: ReadStop, output: &mut W) -> RunFault
         ensures ended { (block : Option Block) → StandsFor self.now.block block
             → IsCutOff stop (number_of self.now.listener) (W.taken output.old) (W.taken output.new) (refused_lines (last_faults block too_long)) result }
+        ensures reads { CountsStop stop result }
         ensures errors { CountsEnd (W.failed output.old) (W.failed output.new) result }
     {
         match stop {

@@ -1,4 +1,4 @@
-use super::super::test_tables::{FIRST_TABLE, listed};
+use super::super::test_tables::{FIRST_TABLE, has_order};
 use crate::{LoadCause, LoadFault, SyntaxFault, Table, load};
 use coll_lex::{Counted, LexFault, Source};
 use std::alloc::Global;
@@ -14,9 +14,9 @@ fn loaded(alloc: Global, text: &[u8]) -> Result<Table, LoadFault> {
 fn the_first_table_gives_its_entries_in_order(rt: HostRuntime) -> Result<(), Fail> {
     let table = loaded(rt.alloc(), FIRST_TABLE)?;
     assert_eq!(rt; table.len(), 4);
-    assert_eq!(rt; listed(rt.alloc(), &table)?.as_str(), "BASE a b c ");
+    assert!(rt; has_order(&table, "<abc"));
     let copy = table.try_copy()?;
-    assert_eq!(rt; listed(rt.alloc(), &copy)?.as_str(), "BASE a b c ");
+    assert!(rt; has_order(&copy, "<abc"));
     Ok(())
 }
 
@@ -25,7 +25,7 @@ fn lines_may_be_spelled_in_many_ways(rt: HostRuntime) -> Result<(), Fail> {
     let text =
         b"junk \xFF\nLC_COLLATE  # now\r\n\ncollating-symbol \\\n  <a\\>b>\r\norder_start\norder_end\norder_start forward\n  b # trailing\n<a\\>b>\n<U\\0041>\norder_end\nEND \\\nLC_COLLATE\n\xFF\n";
     let table = loaded(rt.alloc(), text.as_slice())?;
-    assert_eq!(rt; listed(rt.alloc(), &table)?.as_str(), "b a>b A ");
+    assert!(rt; has_order(&table, "b<A"));
     Ok(())
 }
 
