@@ -13,6 +13,7 @@ pub struct ShortReader<'a> {
 }
 
 impl<'a> ShortReader<'a> {
+    /// A reader of this text; reads are counted from 1.
     pub fn new(text: &'a [u8], fails_at: usize) -> Self {
         ShortReader {
             text,
@@ -55,6 +56,7 @@ pub struct ShortWriter {
 }
 
 impl ShortWriter {
+    /// A writer behind these bytes; writes and flushes are counted together, from 1.
     pub fn new(taken: Vec<u8>, fails_at: usize, failure: Failure) -> Self {
         ShortWriter {
             taken,
