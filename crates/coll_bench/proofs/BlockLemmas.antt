@@ -1,12 +1,10 @@
 -- What is kept of a block stands for the block: one more line, its unit, and what the end of the text makes of it.
-use Rattle.std.proofs.Common.{◌≡◌, ℕ, zero, suc, Bool, true, false, cond, List, [], ◌∷◌, ◌++◌, length, Option, Some, None, Result, Ok, Err, refl, sym, ap, ◌∙◌, rules, arith}
+use Rattle.std.proofs.Common.{◌≡◌, ℕ, zero, suc, Bool, true, false, List, [], ◌∷◌, ◌++◌, length, Option, Some, None, Result, Ok, Err, refl, sym, ap, ◌∙◌}
 use Rattle.std.specs.Prelude.{◌||◌, nat_le, if◌then◌else◌, option_to_list}
-use Rattle.std.specs.Option.{option_map}
 use Rattle.std.proofs.Math.Dec.{leb-suc-suc, leb-suc-zero}
 use Rattle.coll_lex.specs.declared.faults.LexFault.TheVariants as lex
-use Rattle.coll_bench.specs.Gathered.{Gathered}
-use Rattle.coll_bench.specs.Units.{Block, opened, with_line, is_want_of_memory, wants_memory, some_wants_memory, is_starved, and_line, order_lines, block_of, targeted, statement_of, requested, block_request, left_open, dropped_faults, end_faults, is_end_of_text, last_faults}
-use Rattle.coll_bench.specs.OpenBlock.{gathered, kept, first_fault, spoiled, lengthened, joined, begun_spoiled, kept_request, left_spoiled, kept_left_open, kept_dropped, StandsFor}
+use Rattle.coll_bench.specs.Units.{Block, opened, with_line, is_want_of_memory, wants_memory, some_wants_memory, is_starved, and_line, order_lines, block_of, targeted, statement_of, requested, block_request, left_open, dropped_faults, end_faults}
+use Rattle.coll_bench.specs.OpenBlock.{gathered, kept, first_fault, spoiled, joined, begun_spoiled, kept_request, kept_left_open, kept_dropped, StandsFor}
 use Rattle.coll_bench.specs.declared.session.blocks.TheConstants.{MOST_BLOCK_LINES}
 use Rattle.coll_bench.specs.declared.syntax.identifiers.Id.{Id}
 use Rattle.coll_bench.specs.declared.syntax.statements.OrderLine.{OrderLine}
@@ -16,7 +14,6 @@ use Rattle.coll_bench.specs.declared.faults.Fault.{Fault}
 use Rattle.coll_bench.specs.declared.faults.Fault.TheVariants as fault
 use Rattle.coll_bench.specs.declared.session.blocks.OpenBlock.{OpenBlock}
 use Rattle.coll_bench.specs.declared.session.blocks.OpenBlock.TheVariants.{Gathers, Spoiled}
-use Rattle.coll_bench.specs.declared.session.requests.Request.{Request}
 
 abbrev no_memory : OpenBlock
 no_memory = Spoiled (fault.Lex lex.OutOfMemory)
@@ -33,7 +30,7 @@ some_wants_memory-push : (lines : List (Result OrderLine Fault)) (line : Result 
 some_wants_memory-push [] line = or_false (wants_memory line)
 some_wants_memory-push (first ∷ lines) line = ap (λ (b : Bool). wants_memory first || b) (some_wants_memory-push lines line) ∙ or_assoc (wants_memory first) (some_wants_memory lines) (wants_memory line)
 
-is_starved-with_line : (block : Block) (line : Result OrderLine Fault) → is_starved (with_line block line) ≡ (is_starved block || wants_memory line)
+pub is_starved-with_line : (block : Block) (line : Result OrderLine Fault) → is_starved (with_line block line) ≡ (is_starved block || wants_memory line)
 is_starved-with_line block line = ap (λ (b : Bool). wants_memory block.target || b) (some_wants_memory-push block.lines line) ∙ or_assoc (wants_memory block.target) (some_wants_memory block.lines) (wants_memory line)
 
 abbrev then_fault : Result (List OrderLine) Fault → Fault → Result (List OrderLine) Fault

@@ -1,18 +1,17 @@
 -- The records that a session keeps, and the history that they stand for.
-use Rattle.std.proofs.Common.{◌≡◌, ◌≢◌, ℕ, ◌+◌, ◌-◌, ◌<◌, ◌≤◌, Bool, true, false, List, [], ◌∷◌, ◌++◌, length, map, reverse, take, drop, Result, Ok, Err, refl, sym, ap, ◌∙◌, subst, arith, length-append, add-one, suc, eqb}
-use Rattle.std.specs.Prelude.{nat_le, if◌then◌else◌}
+use Rattle.std.proofs.Common.{◌≡◌, ℕ, ◌-◌, ◌<◌, ◌≤◌, Bool, false, List, [], ◌∷◌, ◌++◌, length, reverse, take, drop, Result, Ok, Err, refl, sym, ap, ◌∙◌, subst, arith, length-append, add-one, suc, eqb}
+use Rattle.std.specs.Prelude.{if◌then◌else◌}
 use Rattle.std.proofs.lemmas.Bool.{le-leb, lt-leb, ne_eqb}
 use Rattle.std.proofs.lemmas.List.{reverse-append}
 use Rattle.std.proofs.Math.Seq.{take-append_seam, drop-append_seam}
 use Rattle.coll_bench.specs.Table.{Collation}
 use Rattle.coll_bench.specs.Delta.{delta}
 use Rattle.coll_bench.specs.Record.{fits, turn}
-use Rattle.coll_bench.specs.Replay.{given_or, after_statement, replay}
+use Rattle.coll_bench.specs.Replay.{given_or, replay}
 use Rattle.coll_bench.specs.History.{History, begun, most_remaining, table_of, with_statement, judged_by, judged, stepped_back, taken_back}
 use Rattle.coll_bench.specs.Kept.{statements_of, turned_back, Leads, LeadsOn, history_of}
 use Rattle.coll_bench.specs.declared.syntax.statements.Statement.{Statement}
 use Rattle.coll_bench.specs.declared.tables.refusals.Refusal.{Refusal}
-use Rattle.coll_bench.specs.declared.faults.BenchFault.{BenchFault}
 use Rattle.coll_bench.specs.declared.faults.BenchFault.TheVariants.{Table, NothingToUndo, HistoryFull}
 use Rattle.coll_bench.specs.declared.session.histories.Kept.{Kept}
 

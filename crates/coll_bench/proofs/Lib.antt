@@ -22,3 +22,4 @@ pub mod Spellings
 pub mod TableLemmas
 pub mod TakeLemmas
 pub mod TextSteps
+pub mod WantLemmas

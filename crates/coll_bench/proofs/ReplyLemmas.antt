@@ -1,5 +1,5 @@
 -- What is written of a listing, entry by entry.
-use Rattle.std.proofs.Common.{◌≡◌, ◌≢◌, Bool, true, false, Option, Result, Ok, Err, inl, inr, ⊎_elim, codes, ℕ, ◌+◌, ◌<◌, ◌≤◌, List, [], ◌∷◌, ◌++◌, length, drop, get_or, suc, refl, sym, ap, ◌∙◌, subst, append_assoc, append-nil, add-one, drop-cons, arith}
+use Rattle.std.proofs.Common.{◌≡◌, ◌≢◌, Bool, true, false, Option, Result, Ok, Err, inl, inr, ⊎_elim, codes, ℕ, ◌+◌, ◌<◌, ◌≤◌, List, [], ◌++◌, length, drop, get_or, suc, refl, sym, ap, ◌∙◌, subst, append-nil, add-one, drop-cons}
 use Rattle.std.proofs.Math.ListN.{drop_of_length-le}
 use Rattle.std.specs.Prelude.{◌⊎◌, IfOk, IfErr, OnErr}
 use Rattle.std.specs.Io.KnownBytes.{Appends, Keeps}

@@ -1,9 +1,9 @@
 -- How a run ends: what its last line is, and what the end of its text writes.
-use Rattle.std.proofs.Common.{◌≡◌, ℕ, codes, Bool, true, false, List, [], ◌∷◌, ◌++◌, map, Option, Some, None, Result, Ok, Err, refl, sym, ap, ◌∙◌, subst}
+use Rattle.std.proofs.Common.{◌≡◌, ℕ, codes, Bool, true, false, List, [], ◌∷◌, ◌++◌, map, Option, Some, None, Result, Ok, Err, refl, sym, ap, ◌∙◌}
 use Rattle.std.specs.Prelude.{◌==◌, if◌then◌else◌, option_map, is_some}
 use Rattle.std.proofs.lemmas.Bool.{false≢true}
 use Rattle.coll_lex.specs.Faults.{lex_fault_number}
-use Rattle.coll_lex.specs.LogicalLines.{OpenLine, LexerState, LogicalLine, pending, number_of, first_line, fed, served, state_by, lines_by, left_open, logical_lines}
+use Rattle.coll_lex.specs.LogicalLines.{OpenLine, LexerState, LogicalLine, pending, number_of, first_line, served, state_by, lines_by, left_open, logical_lines}
 use Rattle.coll_lex.specs.declared.tokens.Line.{Line}
 use Rattle.coll_lex.specs.declared.tokens.Token.{Token}
 use Rattle.coll_lex.specs.declared.faults.LexFault.{LexFault}
@@ -17,7 +17,7 @@ use Rattle.coll_bench.specs.Hearing.{heard_by}
 use Rattle.coll_bench.specs.Units.{Block, units, stop_of, refusals, end_faults}
 use Rattle.coll_bench.specs.Replies.{refused_line, refused_lines, reply, after, answers}
 use Rattle.coll_bench.specs.Serving.{heard_at, stop_at}
-use Rattle.coll_bench.specs.Run.{written_from, is_last, last_or, last_line}
+use Rattle.coll_bench.specs.Run.{written_from, is_last, last_line}
 use Rattle.coll_bench.specs.declared.syntax.delta_lines.DeltaLine.{DeltaLine}
 use Rattle.coll_bench.specs.declared.syntax.delta_lines.DeltaLine.TheVariants as delta_lines
 use Rattle.coll_bench.specs.declared.syntax.syntax_faults.SyntaxFault.{SyntaxFault}
@@ -43,7 +43,7 @@ command_goes_on first arguments =
     let unknown : Heard = Misasks fault.UnknownCommand in
     let list : Heard = alone command.List arguments in
     neither_stops (is_word first (codes ":undo")) (alone command.Undo arguments) (if is_word first (codes ":list") then list else unknown) (alone_goes_on command.Undo arguments)
-        (neither_stops (is_word first (codes ":list")) list unknown (alone_goes_on command.List arguments) refl)
+    (neither_stops (is_word first (codes ":list")) list unknown (alone_goes_on command.List arguments) refl)
 
 delta_goes_on : (o : Opening) (r : Result DeltaLine SyntaxFault) → stop_of (delta_heard o r) ≡ None
 delta_goes_on o (Ok (delta_lines.ReorderAfter target)) = refl
@@ -116,7 +116,7 @@ stop_by s line (Err g) later f other stops =
     let l = is_last_fault (opening_of (first_line s line)) g f (other g refl) stops in
     record {
       line_is = ap (λ (b : Bool). if b then Some (number_of s, g) else last_line later) l.last ∙ ap (λ (k : LexFault). Some (number_of s, k)) l.same;
-      last = ap is_last (sym l.same) ∙ l.last
+      last = ap is_last (sym l.same) ∙ l.last;
     }
 
 never_dangles : (memory : Bool) (s : LexerState) (line : List ℕ) (g : LexFault) → served memory s line ≡ Err g → (lex_fault_number g == 9) ≡ false

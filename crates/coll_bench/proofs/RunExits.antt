@@ -1,11 +1,11 @@
 -- A run that is under way ends: what was then written of its whole text, one lemma for each way to end.
-use Rattle.std.proofs.Common.{◌≡◌, ℕ, ◌+◌, ◌<◌, ◌≤◌, Bool, true, false, List, [], ◌∷◌, ◌++◌, length, Option, Some, None, Result, Ok, Err, refl, sym, ap, ◌∙◌, subst, append-nil, append_assoc, inl, inr, ⊎_elim, arith}
+use Rattle.std.proofs.Common.{◌≡◌, ℕ, ◌<◌, Bool, true, false, List, [], ◌∷◌, ◌++◌, length, Option, Some, None, Result, Ok, Err, refl, sym, ap, ◌∙◌, subst, append-nil, append_assoc, inl, ⊎_elim, arith}
 use Rattle.std.specs.Prelude.{◌⊎◌, is_some}
 use Rattle.std.specs.Io.KnownBytes.{Appends, Keeps, prepend_known, IsAtEnd}
-use Rattle.coll_lex.specs.Devices.{AppendsFront, raised}
-use Rattle.coll_lex.specs.PhysicalLines.{line_feed, IsInLine, lines_of}
-use Rattle.coll_lex.specs.LineReading.{Reading, CutsLine, Cuts, GivesLine, GivesEnd, IsLongLine, HasStop, StopsNow, StopsAgain, ahead}
-use Rattle.coll_lex.specs.LogicalLines.{LexerState, pending, number_of, first_line, first_state, fed, served, state_by, logical_lines}
+use Rattle.coll_lex.specs.Devices.{AppendsFront}
+use Rattle.coll_lex.specs.PhysicalLines.{IsInLine, lines_of}
+use Rattle.coll_lex.specs.LineReading.{Reading, Cuts, IsLongLine, StopsNow, ahead}
+use Rattle.coll_lex.specs.LogicalLines.{LexerState, pending, number_of, first_line, first_state, served, state_by, logical_lines}
 use Rattle.coll_lex.specs.declared.faults.LexFault.{LexFault}
 use Rattle.coll_lex.specs.declared.tokens.Line.{Line}
 use Rattle.coll_lex.specs.declared.faults.LexFault.TheVariants as lex
@@ -13,12 +13,12 @@ use Rattle.coll_lex.specs.declared.faults.ReadStop.{ReadStop}
 use Rattle.coll_lex.specs.declared.faults.ReadStop.TheVariants as stop
 use Rattle.coll_bench.specs.declared.faults.RunFault.{RunFault}
 use Rattle.coll_bench.specs.Table.{Collation}
-use Rattle.coll_bench.specs.History.{History, begun}
+use Rattle.coll_bench.specs.History.{begun}
 use Rattle.coll_bench.specs.Units.{Block, last_faults, end_faults}
 use Rattle.coll_bench.specs.Replies.{refused_lines}
 use Rattle.coll_bench.specs.OpenBlock.{StandsFor}
-use Rattle.coll_bench.specs.Serving.{heard_at, stop_at, line_requests, line_block, history_after, replies_to, line_replies, write_failed, stopped_at, never_ran, read_failed, EndsWith, EndsAtLine, FinishesWith, IsCutOff}
-use Rattle.coll_bench.specs.Run.{written_from, starved_output, is_last, last_line, last_of, RanToEnd, RanToLastLine, RanToReadFault, RanToLexFault, RanToFault, Ran, NeverRan}
+use Rattle.coll_bench.specs.Serving.{heard_at, stop_at, line_requests, line_block, history_after, line_replies, write_failed, stopped_at, never_ran, read_failed, EndsWith, EndsAtLine, FinishesWith, IsCutOff}
+use Rattle.coll_bench.specs.Run.{written_from, starved_output, is_last, last_line, RanToLastLine, RanToReadFault, RanToLexFault, Ran}
 use Rattle.coll_bench.specs.Underway.{IsCut, IsUnderway, Underway}
 use Rattle.coll_bench.specs.declared.session.runs.Desk.{Desk}
 use Rattle.coll_bench.proofs.RunLemmas.{choices_for, written_on, written_stop}
@@ -27,7 +27,6 @@ use Rattle.coll_bench.proofs.RunSteps.{appended, ahead_after, lines_next}
 use Rattle.coll_bench.proofs.ServingLemmas.{stopped_replies}
 use Rattle.coll_bench.specs.SessionLines.{opening_of}
 use Rattle.coll_bench.specs.Hearing.{heard_by}
-use Rattle.coll_bench.specs.declared.session.hearing.Heard.{Heard}
 use Rattle.coll_bench.specs.declared.session.hearing.Heard.TheVariants as heard
 use Rattle.coll_lex.proofs.PhysicalLinesLemmas.{lines_of-nil, lines_of-long}
 use Rattle.coll_lex.proofs.LineEnds.{fed-too_long}
@@ -79,16 +78,20 @@ front_written written front back more bytes is =
 -- a write failed: a front of what the text's whole output goes on with was written
 write_ran : (table : Collation) (text before : List ℕ) (left taken0 taken1 : Option (List ℕ)) (written bytes more : List ℕ) (ls us : List Bool) (ended : RunFault) → starved_output ls us true table text ≡ written ++ (bytes ++ more)
     → taken0 ≡ Some (before ++ written) → ended ≡ write_failed → AppendsFront taken0 taken1 bytes → Leaves table text before left taken1 (Err ended)
-write_ran table text before left taken0 taken1 written bytes more ls us ended is taken_is failed (front, back, parts, more_taken) =
-    (written ++ front, appended taken0 taken1 before written front taken_is more_taken,
-        subst (λ (e : RunFault). Ran table text left (written ++ front) (Err e)) (sym failed) (refl, (ls, us, back ++ more, is ∙ front_written written front back more bytes parts)))
+write_ran table text before left taken0 taken1 written bytes more ls us ended is taken_is failed (front, back, parts, more_taken) = (
+  written ++ front,
+  appended taken0 taken1 before written front taken_is more_taken,
+  subst (λ (e : RunFault). Ran table text left (written ++ front) (Err e)) (sym failed) (refl, (ls, us, back ++ more, is ∙ front_written written front back more bytes parts)),
+)
 
 -- a last line was served whole
 last_ran : (table : Collation) (text before : List ℕ) (left taken0 taken1 : Option (List ℕ)) (written bytes : List ℕ) (ls us : List Bool) (number : ℕ) (f : LexFault) (ended : RunFault) → is_last f ≡ true → RanToLastLine table text (written ++ bytes) ls us number f
     → taken0 ≡ Some (before ++ written) → ended ≡ stopped_at number f → Appends taken0 taken1 bytes → Leaves table text before left taken1 (Err ended)
-last_ran table text before left taken0 taken1 written bytes ls us number f ended last r taken_is stopped more =
-    (written ++ bytes, appended taken0 taken1 before written bytes taken_is more,
-        subst (λ (e : RunFault). Ran table text left (written ++ bytes) (Err e)) (sym stopped) (refl, lex_fault_ran table text left (written ++ bytes) ls us number f last r))
+last_ran table text before left taken0 taken1 written bytes ls us number f ended last r taken_is stopped more = (
+  written ++ bytes,
+  appended taken0 taken1 before written bytes taken_is more,
+  subst (λ (e : RunFault). Ran table text left (written ++ bytes) (Err e)) (sym stopped) (refl, lex_fault_ran table text left (written ++ bytes) ls us number f last r),
+)
 
 -- the session ends at a line, of which memory was refused or not
 stop_ran : (table : Collation) (text before : List ℕ) (left ahead0 taken0 taken1 : Option (List ℕ)) (old : Desk) (read rest written : List ℕ) (lines units : List Bool) (block : Option Block) (line : List ℕ) (later : List (List ℕ)) (memory starved : Bool) (f : LexFault) (ended : RunFault)
@@ -100,15 +103,15 @@ stop_ran table text before left ahead0 taken0 taken1 old read rest written lines
     let whole = output_stop table text before ahead0 taken0 old read rest written lines units block line later memory starved f u by stops in
     let l = last_stop memory old.listener line [] true later f stops in
     ⊎_elim
-        (λ (e : (ended ≡ stopped_at (number_of old.listener) f) × Appends taken0 taken1 bytes).
-            last_ran table text before left taken0 taken1 written bytes (lines ++ memory ∷ []) us (number_of old.listener) f ended l.last
-                (record {
-                    output_is = sym whole;
-                    last = ap (λ (ls : List (List ℕ)). last_line (logical_lines (lines ++ memory ∷ []) true first_state ls)) by ∙ u.last (memory ∷ []) true (line ∷ later) ∙ l.line_is
-                  }) u.taken_is e.0 e.1)
-        (λ (e : (ended ≡ write_failed) × AppendsFront taken0 taken1 bytes).
-            write_ran table text before left taken0 taken1 written bytes [] (lines ++ memory ∷ []) us ended (whole ∙ ap (λ (l : List ℕ). written ++ l) (sym (append-nil bytes))) u.taken_is e.0 e.1)
-        ends
+    (λ (e : (ended ≡ stopped_at (number_of old.listener) f) × Appends taken0 taken1 bytes).
+    last_ran table text before left taken0 taken1 written bytes (lines ++ memory ∷ []) us (number_of old.listener) f ended l.last
+    (record {
+      output_is = sym whole;
+      last = ap (λ (ls : List (List ℕ)). last_line (logical_lines (lines ++ memory ∷ []) true first_state ls)) by ∙ u.last (memory ∷ []) true (line ∷ later) ∙ l.line_is;
+    }) u.taken_is e.0 e.1)
+    (λ (e : (ended ≡ write_failed) × AppendsFront taken0 taken1 bytes).
+    write_ran table text before left taken0 taken1 written bytes [] (lines ++ memory ∷ []) us ended (whole ∙ ap (λ (l : List ℕ). written ++ l) (sym (append-nil bytes))) u.taken_is e.0 e.1)
+    ends
 
 -- a write failed at a line that the session would go on after
 cut_ran : (table : Collation) (text before : List ℕ) (left ahead0 taken0 taken1 : Option (List ℕ)) (old : Desk) (read rest written : List ℕ) (lines units : List Bool) (block : Option Block) (line : List ℕ) (later : List (List ℕ)) (memory starved : Bool) (ended : RunFault)
@@ -117,21 +120,21 @@ cut_ran : (table : Collation) (text before : List ℕ) (left ahead0 taken0 taken
 cut_ran table text before left ahead0 taken0 taken1 old read rest written lines units block line later memory starved ended u by on failed front =
     let us = line_requests block (heard_at memory old.listener line) in
     write_ran table text before left taken0 taken1 written (line_replies memory starved old line block)
-        (written_from (state_by old.listener (served memory old.listener line)) (line_block block (heard_at memory old.listener line)) (history_after starved old.session us) [] [] true later)
-        (lines ++ memory ∷ []) (units ++ (choices_for starved us ++ [])) ended
-        (output_by table text before ahead0 taken0 old read rest written lines units block line later (memory ∷ []) (choices_for starved us ++ []) u by
-            ∙ ap (λ (l : List ℕ). written ++ l) (written_on memory starved old.listener block old.session line [] [] true later on))
-        u.taken_is failed front
+    (written_from (state_by old.listener (served memory old.listener line)) (line_block block (heard_at memory old.listener line)) (history_after starved old.session us) [] [] true later)
+    (lines ++ memory ∷ []) (units ++ (choices_for starved us ++ [])) ended
+    (output_by table text before ahead0 taken0 old read rest written lines units block line later (memory ∷ []) (choices_for starved us ++ []) u by
+    ∙ ap (λ (l : List ℕ). written ++ l) (written_on memory starved old.listener block old.session line [] [] true later on))
+    u.taken_is failed front
 
 ends_by : (table : Collation) (text before : List ℕ) (left ahead0 taken0 taken1 : Option (List ℕ)) (old : Desk) (read rest written : List ℕ) (lines units : List Bool) (block : Option Block) (line : List ℕ) (later : List (List ℕ)) (memory starved : Bool) (ended : RunFault)
     → IsUnderway table text before ahead0 taken0 old read rest written lines units block → GoesBy text read line later → EndsAtLine memory starved old line block taken0 taken1 ended → Leaves table text before left taken1 (Err ended)
 ends_by table text before left ahead0 taken0 taken1 old read rest written lines units block line later memory starved ended u by ends =
     ⊎_elim
-        (λ (e : (f : LexFault) × (stop_at (heard_at memory old.listener line) ≡ Some f) × EndsWith (number_of old.listener) f taken0 taken1 (line_replies memory starved old line block) ended).
-            stop_ran table text before left ahead0 taken0 taken1 old read rest written lines units block line later memory starved e.0 ended u by e.1 e.2)
-        (λ (e : (stop_at (heard_at memory old.listener line) ≡ None) × (ended ≡ write_failed) × AppendsFront taken0 taken1 (line_replies memory starved old line block)).
-            cut_ran table text before left ahead0 taken0 taken1 old read rest written lines units block line later memory starved ended u by e.0 e.1 e.2)
-        ends
+    (λ (e : (f : LexFault) × (stop_at (heard_at memory old.listener line) ≡ Some f) × EndsWith (number_of old.listener) f taken0 taken1 (line_replies memory starved old line block) ended).
+    stop_ran table text before left ahead0 taken0 taken1 old read rest written lines units block line later memory starved e.0 ended u by e.1 e.2)
+    (λ (e : (stop_at (heard_at memory old.listener line) ≡ None) × (ended ≡ write_failed) × AppendsFront taken0 taken1 (line_replies memory starved old line block)).
+    cut_ran table text before left ahead0 taken0 taken1 old read rest written lines units block line later memory starved ended u by e.0 e.1 e.2)
+    ends
 
 -- the session ended at a line
 pub line_ended : (table : Collation) (text before : List ℕ) (left ahead0 ahead1 taken0 taken1 : Option (List ℕ)) (old : Desk) (line : List ℕ) (ended : RunFault) → Underway table text before ahead0 taken0 old → Cuts ahead0 ahead1 line → IsInLine line
@@ -147,11 +150,13 @@ long_at s line long = ap (λ (a : Result (Option Line × LexerState) LexFault). 
 
 long_line : (read rest held more : List ℕ) → rest ≡ held ++ more → IsLongLine held → (rest ≡ []) ⊎ IsCut read → (line : List ℕ) × (later : List (List ℕ)) × (lines_of (read ++ rest) ≡ lines_of read ++ line ∷ later) × (65536 < length line)
 long_line read rest held more is long cut =
-    let (line, later, begins, longer) = lines_of-long held more long in
-    (line, later,
-        ⊎_elim (λ (none : rest ≡ []). absurd (no_nil held more long (sym is ∙ none)))
-            (λ (c : IsCut read). c rest ∙ ap (λ (ls : List (List ℕ)). lines_of read ++ ls) (ap lines_of is ∙ begins)) cut,
-        longer)
+    let (line, later, begins, longer) = lines_of-long held more long in (
+      line,
+      later,
+      ⊎_elim (λ (none : rest ≡ []). absurd (no_nil held more long (sym is ∙ none)))
+          (λ (c : IsCut read). c rest ∙ ap (λ (ls : List (List ℕ)). lines_of read ++ ls) (ap lines_of is ∙ begins)) cut,
+      longer,
+    )
   where
     no_nil : (held more : List ℕ) → IsLongLine held → held ++ more ≡ [] → ⊥
     no_nil [] more long e = omega (arith, long.long)
@@ -179,30 +184,41 @@ long_ended table text before left ahead0 left1 taken0 taken1 old held ended (rea
 cut_at : (read rest : List ℕ) → (rest ≡ []) ⊎ IsCut read → lines_of (read ++ rest) ≡ lines_of read ++ lines_of rest
 cut_at read rest cut =
     ⊎_elim (λ (none : rest ≡ []). subst (λ (r : List ℕ). lines_of (read ++ r) ≡ lines_of read ++ lines_of r) (sym none)
-            (ap lines_of (append-nil read) ∙ sym (append-nil (lines_of read)) ∙ ap (λ (ls : List (List ℕ)). lines_of read ++ ls) (sym lines_of-nil)))
-        (λ (c : IsCut read). c rest) cut
+    (ap lines_of (append-nil read) ∙ sym (append-nil (lines_of read)) ∙ ap (λ (ls : List (List ℕ)). lines_of read ++ ls) (sym lines_of-nil)))
+    (λ (c : IsCut read). c rest) cut
 
 read_ran : (table : Collation) (text before : List ℕ) (ahead0 taken0 : Option (List ℕ)) (old : Desk) (read rest written : List ℕ) (lines units : List Bool) (block : Option Block) (held more : List ℕ)
     → IsUnderway table text before ahead0 taken0 old read rest written lines units block → rest ≡ held ++ more → IsInLine held → RanToReadFault table text (Some more) written (lines ++ []) (units ++ []) read held more
 unfolding starved_output
 read_ran table text before ahead0 taken0 old read rest written lines units block held more u is whole = record {
-    text_is = u.text_is ∙ ap (λ (r : List ℕ). read ++ r) is;
-    whole = ap lines_of u.text_is ∙ cut_at read rest u.cut ∙ ap (λ (r : List ℕ). lines_of read ++ lines_of r) is;
-    part_in_line = whole;
-    left_is = refl;
-    output_is = sym (ap (λ (ls : List (List ℕ)). written_from first_state None (begun table) (lines ++ []) (units ++ []) false ls) (sym (append-nil (lines_of read)))
-        ∙ u.goes_on [] [] false [] ∙ ap (λ (l : List ℕ). written ++ l) (written_cut old.listener block old.session) ∙ append-nil written);
-    no_last = ap (λ (ls : List (List ℕ)). last_line (logical_lines (lines ++ []) false first_state ls)) (sym (append-nil (lines_of read))) ∙ u.last [] false [] ∙ last_cut old.listener
-  }
+  text_is = u.text_is ∙ ap (λ (r : List ℕ). read ++ r) is;
+  whole = ap lines_of u.text_is ∙ cut_at read rest u.cut ∙ ap (λ (r : List ℕ). lines_of read ++ lines_of r) is;
+  part_in_line = whole;
+  left_is = refl;
+  output_is = sym (ap (λ (ls : List (List ℕ)). written_from first_state None (begun table) (lines ++ []) (units ++ []) false ls) (sym (append-nil (lines_of read)))
+      ∙ u.goes_on [] [] false [] ∙ ap (λ (l : List ℕ). written ++ l) (written_cut old.listener block old.session) ∙ append-nil written);
+  no_last = ap (λ (ls : List (List ℕ)). last_line (logical_lines (lines ++ []) false first_state ls)) (sym (append-nil (lines_of read))) ∙ u.last [] false [] ∙ last_cut old.listener;
+}
 
 pub read_ended : (table : Collation) (text before : List ℕ) (ahead0 left1 taken0 taken1 : Option (List ℕ)) (old : Desk) (held : List ℕ) (ended : RunFault) → Underway table text before ahead0 taken0 old → Keeps ahead0 (prepend_known held left1) → IsInLine held
     → (ended ≡ read_failed) × (taken1 ≡ taken0) → Leaves table text before left1 taken1 (Err ended)
 read_ended table text before ahead0 left1 taken0 taken1 old held ended (read, rest, written, lines, units, block, u) keeps whole (is, kept) =
-    let (more, left_is, rest_is) = held_first held ahead0 left1 rest u.ahead_is keeps in
-    (written, kept ∙ u.taken_is,
-        subst (λ (e : RunFault). Ran table text left1 written (Err e)) (sym is)
-            (refl, (lines ++ [], units ++ [], read, held, more, subst (λ (l : Option (List ℕ)). RanToReadFault table text l written (lines ++ []) (units ++ []) read held more) (sym left_is)
-                (read_ran table text before ahead0 taken0 old read rest written lines units block held more u rest_is whole))))
+    let (more, left_is, rest_is) = held_first held ahead0 left1 rest u.ahead_is keeps in (
+      written,
+      kept ∙ u.taken_is,
+      subst (λ (e : RunFault). Ran table text left1 written (Err e)) (sym is) (
+        refl,
+        (
+          lines ++ [],
+          units ++ [],
+          read,
+          held,
+          more,
+          subst (λ (l : Option (List ℕ)). RanToReadFault table text l written (lines ++ []) (units ++ []) read held more) (sym left_is)
+              (read_ran table text before ahead0 taken0 old read rest written lines units block held more u rest_is whole),
+        ),
+      ),
+    )
 
 -- the text ended
 nothing_ahead : (ahead0 left1 : Option (List ℕ)) (rest : List ℕ) → ahead0 ≡ Some rest → Keeps ahead0 (prepend_known [] left1) → IsAtEnd (prepend_known [] left1) → (rest ≡ []) × (left1 ≡ Some [])
@@ -229,16 +245,23 @@ end_output table text before ahead0 taken0 old read rest written lines units blo
 end_ran : (table : Collation) (text before : List ℕ) (left1 taken0 taken1 : Option (List ℕ)) (ahead0 : Option (List ℕ)) (old : Desk) (read rest written : List ℕ) (lines units : List Bool) (block : Option Block) (r : Result (Unit {0}) RunFault)
     → IsUnderway table text before ahead0 taken0 old read rest written lines units block → rest ≡ [] → left1 ≡ Some [] → FinishesWith taken0 taken1 (refused_lines (end_faults (is_some (pending old.listener)) block)) r → Leaves table text before left1 taken1 r
 end_ran table text before left1 taken0 taken1 ahead0 old read rest written lines units block (Ok done) u none left_is more =
-    let bytes = refused_lines (end_faults (is_some (pending old.listener)) block) in
-    (written ++ bytes, appended taken0 taken1 before written bytes u.taken_is more, (lines ++ [], units ++ [], record {
-      output_is = sym (end_output table text before ahead0 taken0 old read rest written lines units block u none);
-      no_last = ap (λ (ls : List (List ℕ)). last_line (logical_lines (lines ++ []) true first_state ls)) (end_lines text read rest u.text_is none) ∙ u.last [] true [] ∙ last_end old.listener;
-      left_is = left_is
-    }))
+    let bytes = refused_lines (end_faults (is_some (pending old.listener)) block) in (
+      written ++ bytes,
+      appended taken0 taken1 before written bytes u.taken_is more,
+      (
+        lines ++ [],
+        units ++ [],
+        record {
+          output_is = sym (end_output table text before ahead0 taken0 old read rest written lines units block u none);
+          no_last = ap (λ (ls : List (List ℕ)). last_line (logical_lines (lines ++ []) true first_state ls)) (end_lines text read rest u.text_is none) ∙ u.last [] true [] ∙ last_end old.listener;
+          left_is = left_is;
+        },
+      ),
+    )
 end_ran table text before left1 taken0 taken1 ahead0 old read rest written lines units block (Err ended) u none left_is (is, front) =
     let bytes = refused_lines (end_faults (is_some (pending old.listener)) block) in
     write_ran table text before left1 taken0 taken1 written bytes [] (lines ++ []) (units ++ []) ended
-        (end_output table text before ahead0 taken0 old read rest written lines units block u none ∙ ap (λ (l : List ℕ). written ++ l) (sym (append-nil bytes))) u.taken_is is front
+    (end_output table text before ahead0 taken0 old read rest written lines units block u none ∙ ap (λ (l : List ℕ). written ++ l) (sym (append-nil bytes))) u.taken_is is front
 
 pub text_ended : (table : Collation) (text before : List ℕ) (ahead0 left1 taken0 taken1 : Option (List ℕ)) (old : Desk) (held : List ℕ) (r : Result (Unit {0}) RunFault) → Underway table text before ahead0 taken0 old
     → Keeps ahead0 (prepend_known held left1) → held ≡ [] → IsAtEnd (prepend_known held left1)

@@ -1,21 +1,17 @@
 -- The run of a session, put together over all that may come later: what one physical line writes, and what is then left
 -- to be written.
-use Rattle.std.proofs.Common.{◌≡◌, ℕ, ◌+◌, ◌<◌, Bool, true, false, List, [], ◌∷◌, ◌++◌, length, map, Option, Some, None, Result, Ok, Err, refl, sym, ap, ◌∙◌, subst, append-nil, append_assoc, inl, inr, ⊎_elim, arith}
-use Rattle.std.specs.Prelude.{◌⊎◌, if◌then◌else◌, option_to_list, is_some}
-use Rattle.coll_lex.specs.LogicalLines.{OpenLine, LexerState, LogicalLine, pending, number_of, first_line, first_choice, later_choices, fed, served, state_by, lines_by, logical_lines}
+use Rattle.std.proofs.Common.{◌≡◌, ℕ, Bool, List, [], ◌∷◌, ◌++◌, map, Option, Some, None, Result, Ok, Err, refl, sym, ap, ◌∙◌, append_assoc}
+use Rattle.std.specs.Prelude.{option_to_list}
+use Rattle.coll_lex.specs.LogicalLines.{LexerState, LogicalLine, first_line, served, state_by, lines_by, logical_lines}
 use Rattle.coll_lex.specs.declared.tokens.Line.{Line}
-use Rattle.coll_lex.specs.declared.tokens.Token.{Token}
 use Rattle.coll_lex.specs.declared.faults.LexFault.{LexFault}
-use Rattle.coll_lex.specs.declared.faults.LexFault.TheVariants as lex
 use Rattle.coll_bench.specs.History.{History}
 use Rattle.coll_bench.specs.SessionLines.{opening_of, heard}
 use Rattle.coll_bench.specs.Hearing.{heard_by}
-use Rattle.coll_bench.specs.Units.{Block, units, requests_at, block_after, stop_of, or_last, refusals, last_faults, end_faults}
-use Rattle.coll_bench.specs.Replies.{answers, reply_if, after_if, refused_lines}
+use Rattle.coll_bench.specs.Units.{Block, units, requests_at, block_after, or_last}
+use Rattle.coll_bench.specs.Replies.{answers, reply_if, after_if}
 use Rattle.coll_bench.specs.Serving.{replies_to, history_after, heard_at, stop_at, requests_or_last, line_requests, line_block}
 use Rattle.coll_bench.specs.Run.{written_from}
-use Rattle.coll_bench.specs.declared.faults.Fault.{Fault}
-use Rattle.coll_bench.specs.declared.session.hearing.Opening.{Opening}
 use Rattle.coll_bench.specs.declared.session.hearing.Heard.{Heard}
 use Rattle.coll_bench.specs.declared.session.requests.Request.{Request}
 
@@ -49,7 +45,7 @@ heard_lines s line (Ok (Some given, after)) = refl
 heard_lines s line (Err f) = refl
 
 -- what is heard of a physical line, and then of those that come later
-heard_later : (memory : Bool) (choices : List Bool) (ends : Bool) (s : LexerState) (line : List ℕ) (later : List (List ℕ))
+pub heard_later : (memory : Bool) (choices : List Bool) (ends : Bool) (s : LexerState) (line : List ℕ) (later : List (List ℕ))
     → map heard (logical_lines (memory ∷ choices) ends s (line ∷ later)) ≡ option_to_list (heard_at memory s line) ++ map heard (logical_lines choices ends (state_by s (served memory s line)) later)
 unfolding logical_lines heard_at
 heard_later memory choices ends s line later =
@@ -57,14 +53,14 @@ heard_later memory choices ends s line later =
     ∙ ap (λ (hs : List Heard). hs ++ map heard (logical_lines choices ends (state_by s (served memory s line)) later)) (heard_lines s line (served memory s line))
 
 -- the units of what was heard of a line, and then of what comes later
-units_on : (ends : Bool) (block : Option Block) (h : Option Heard) (later : List Heard) → stop_at h ≡ None → units ends block (option_to_list h ++ later) ≡ line_requests block h ++ units ends (line_block block h) later
+pub units_on : (ends : Bool) (block : Option Block) (h : Option Heard) (later : List Heard) → stop_at h ≡ None → units ends block (option_to_list h ++ later) ≡ line_requests block h ++ units ends (line_block block h) later
 unfolding units line_requests line_block
 units_on ends block None later goes = refl
 units_on ends block (Some x) later goes =
     ap (λ (o : Option LexFault). or_last o block (requests_at block x ++ units ends (block_after block x) later)) goes
     ∙ ap (λ (o : Option LexFault). requests_or_last block x o ++ units ends (block_after block x) later) (sym goes)
 
-units_stop : (ends : Bool) (block : Option Block) (h : Option Heard) (later : List Heard) (f : LexFault) → stop_at h ≡ Some f → units ends block (option_to_list h ++ later) ≡ line_requests block h
+pub units_stop : (ends : Bool) (block : Option Block) (h : Option Heard) (later : List Heard) (f : LexFault) → stop_at h ≡ Some f → units ends block (option_to_list h ++ later) ≡ line_requests block h
 unfolding units line_requests
 units_stop ends block None later f stops = absurd cc
 units_stop ends block (Some x) later f stops =
@@ -75,7 +71,7 @@ units_stop ends block (Some x) later f stops =
 pub written_on : (memory starved : Bool) (s : LexerState) (block : Option Block) (h : History) (line : List ℕ) (c d : List Bool) (ends : Bool) (later : List (List ℕ)) → stop_at (heard_at memory s line) ≡ None
     → written_from s block h (memory ∷ c) (choices_for starved (line_requests block (heard_at memory s line)) ++ d) ends (line ∷ later)
     ≡ replies_to starved h (line_requests block (heard_at memory s line))
-      ++ written_from (state_by s (served memory s line)) (line_block block (heard_at memory s line)) (history_after starved h (line_requests block (heard_at memory s line))) c d ends later
+    ++ written_from (state_by s (served memory s line)) (line_block block (heard_at memory s line)) (history_after starved h (line_requests block (heard_at memory s line))) c d ends later
 unfolding written_from
 written_on memory starved s block h line c d ends later goes =
     let x = heard_at memory s line in

@@ -1,15 +1,12 @@
 -- A run that is under way goes on by a line, or ends: one lemma for each way.
-use Rattle.std.proofs.Common.{◌≡◌, ℕ, ◌+◌, ◌<◌, ◌≤◌, Bool, true, false, List, [], ◌∷◌, ◌++◌, length, Option, Some, None, Result, Ok, Err, refl, sym, ap, ◌∙◌, subst, append-nil, append_assoc, inl, inr, ⊎_elim, arith}
-use Rattle.std.specs.Prelude.{◌⊎◌, is_some}
-use Rattle.std.specs.Io.KnownBytes.{Appends, Keeps, prepend_known, IsAtEnd}
-use Rattle.coll_lex.specs.Devices.{AppendsFront, raised}
+use Rattle.std.proofs.Common.{◌≡◌, ℕ, ◌<◌, Bool, true, false, List, [], ◌∷◌, ◌++◌, length, Option, Some, None, Result, Ok, Err, refl, sym, ap, ◌∙◌, subst, append-nil, append_assoc, inl, inr, ⊎_elim, arith}
+use Rattle.std.specs.Prelude.{◌⊎◌}
+use Rattle.std.specs.Io.KnownBytes.{Appends}
 use Rattle.coll_lex.specs.PhysicalLines.{line_feed, IsInLine, lines_of}
-use Rattle.coll_lex.specs.LineReading.{Reading, no_line, CutsLine, Cuts, GivesLine, GivesEnd, HasStop, StopsNow, StopsAgain, Advances, ahead}
-use Rattle.coll_lex.specs.LogicalLines.{LexerState, pending, number_of, first_state, fed, served, state_by, dropped, logical_lines}
-use Rattle.coll_lex.specs.declared.faults.LexFault.{LexFault}
-use Rattle.coll_lex.specs.declared.faults.LexFault.TheVariants as lex
+use Rattle.coll_lex.specs.LineReading.{Reading, no_line, CutsLine, Cuts, GivesLine, GivesEnd, StopsNow, StopsAgain, Advances, ahead}
+use Rattle.coll_lex.specs.LogicalLines.{LexerState, first_state, served, state_by, logical_lines}
 use Rattle.coll_lex.specs.declared.faults.ReadStop.{ReadStop}
-use Rattle.coll_lex.proofs.PhysicalLinesLemmas.{lines_of-nil, lines_of-ended, lines_of-part, lines_of-cut, lines_of-long}
+use Rattle.coll_lex.proofs.PhysicalLinesLemmas.{lines_of-nil, lines_of-ended, lines_of-part, lines_of-cut}
 use Rattle.coll_bench.specs.Table.{Collation}
 use Rattle.coll_bench.specs.History.{History, begun}
 use Rattle.coll_bench.specs.Units.{Block}
@@ -21,26 +18,33 @@ use Rattle.coll_bench.specs.declared.faults.RunFault.{RunFault}
 use Rattle.coll_bench.proofs.ServingLemmas.{counts_none}
 use Rattle.coll_bench.specs.Underway.{IsCut, IsUnderway, Underway}
 use Rattle.coll_bench.specs.declared.session.runs.Desk.{Desk}
-use Rattle.coll_bench.proofs.RunLemmas.{choices_for, written_on, written_stop}
+use Rattle.coll_bench.proofs.RunLemmas.{choices_for, written_on}
 use Rattle.coll_bench.proofs.RunEnds.{last_on}
 
 -- nothing was read or written yet
 pub underway_begun : (table : Collation) (text before : List ℕ) (ahead taken : Option (List ℕ)) (desk : Desk) → IsBegun desk table → ahead ≡ Some text → taken ≡ Some before → Underway table text before ahead taken desk
-underway_begun table text before ahead taken desk b ahead_is taken_is =
-    ([], text, [], [], [], None, record {
-      text_is = refl;
-      cut = inr (λ later. sym (ap (λ (ls : List (List ℕ)). ls ++ lines_of later) lines_of-nil));
-      ahead_is = ahead_is;
-      taken_is = taken_is ∙ ap Some (sym (append-nil before));
-      block_is = b.block;
-      goes_on = λ c d ends later.
+underway_begun table text before ahead taken desk b ahead_is taken_is = (
+  [],
+  text,
+  [],
+  [],
+  [],
+  None,
+  record {
+    text_is = refl;
+    cut = inr (λ later. sym (ap (λ (ls : List (List ℕ)). ls ++ lines_of later) lines_of-nil));
+    ahead_is = ahead_is;
+    taken_is = taken_is ∙ ap Some (sym (append-nil before));
+    block_is = b.block;
+    goes_on = λ c d ends later.
         ap (λ (ls : List (List ℕ)). written_from first_state None (begun table) c d ends (ls ++ later)) lines_of-nil
         ∙ ap (λ (s : LexerState). written_from s None (begun table) c d ends later) (sym b.listener)
         ∙ ap (λ (h : History). written_from desk.listener None h c d ends later) (sym b.session);
-      last = λ c ends later.
+    last = λ c ends later.
         ap (λ (ls : List (List ℕ)). last_line (logical_lines c ends first_state (ls ++ later))) lines_of-nil
-        ∙ ap (λ (s : LexerState). last_line (logical_lines c ends s later)) (sym b.listener)
-    })
+        ∙ ap (λ (s : LexerState). last_line (logical_lines c ends s later)) (sym b.listener);
+  },
+)
 
 -- the bytes read after one more line, of a text that is cut so
 record NextLine (read rest rest2 line : List ℕ) (read2 : List ℕ) : Type 0 where
@@ -56,28 +60,30 @@ next_ended read rest2 line whole cut =
       text_is = sym (ended rest2);
       lines_are = lines;
       cut = inr (λ later. ap lines_of (ended later) ∙ cut (line ++ line_feed ∷ later) ∙ ap (λ (ls : List (List ℕ)). lines_of read ++ ls) (lines_of-ended line later whole)
-        ∙ sym (append_assoc (lines_of read) (line ∷ []) (lines_of later)) ∙ ap (λ (ls : List (List ℕ)). ls ++ lines_of later) (sym lines))
+          ∙ sym (append_assoc (lines_of read) (line ∷ []) (lines_of later)) ∙ ap (λ (ls : List (List ℕ)). ls ++ lines_of later) (sym lines));
     }
 
 next_last : (read line : List ℕ) → IsInLine line → 0 < length line → IsCut read → NextLine read line [] line (read ++ line)
 next_last read line whole some cut = record {
   text_is = sym (append-nil (read ++ line));
   lines_are = cut line ∙ ap (λ (ls : List (List ℕ)). lines_of read ++ ls) (lines_of-part line some whole);
-  cut = inl refl
+  cut = inl refl;
 }
 
 next_by : (read rest rest2 line : List ℕ) → IsInLine line → CutsLine rest line rest2 → IsCut read → (read2 : List ℕ) × NextLine read rest rest2 line read2
 next_by read rest rest2 line whole cuts cut =
     ⊎_elim (λ (e : rest ≡ line ++ line_feed ∷ rest2). (read ++ (line ++ line_feed ∷ []), subst (λ (r : List ℕ). NextLine read r rest2 line (read ++ (line ++ line_feed ∷ []))) (sym e) (next_ended read rest2 line whole cut)))
-        (λ (e : (rest ≡ line) × (0 < length line) × (rest2 ≡ [])). (read ++ line,
-            subst (λ (r : List ℕ). NextLine read r rest2 line (read ++ line)) (sym e.0) (subst (λ (r : List ℕ). NextLine read line r line (read ++ line)) (sym e.2) (next_last read line whole e.1 cut))))
-        cuts
+    (λ (e : (rest ≡ line) × (0 < length line) × (rest2 ≡ [])). (
+      read ++ line,
+      subst (λ (r : List ℕ). NextLine read r rest2 line (read ++ line)) (sym e.0) (subst (λ (r : List ℕ). NextLine read line r line (read ++ line)) (sym e.2) (next_last read line whole e.1 cut)),
+    ))
+    cuts
 
 nothing_cut : (rest rest2 line : List ℕ) → rest ≡ [] → CutsLine rest line rest2 → ⊥
 nothing_cut rest rest2 line none cuts =
     ⊎_elim (λ (e : rest ≡ line ++ line_feed ∷ rest2). no_nil line rest2 (sym none ∙ e))
-        (λ (e : (rest ≡ line) × (0 < length line) × (rest2 ≡ [])). omega (arith, ap (length {A = ℕ}) (sym none ∙ e.0), e.1))
-        cuts
+    (λ (e : (rest ≡ line) × (0 < length line) × (rest2 ≡ [])). omega (arith, ap (length {A = ℕ}) (sym none ∙ e.0), e.1))
+    cuts
   where
     no_nil : (line rest2 : List ℕ) → [] ≡ line ++ line_feed ∷ rest2 → ⊥
     no_nil [] rest2 e = cc
@@ -91,7 +97,7 @@ next_line read rest rest2 line whole cuts cut =
 pub lines_next : (read rest rest2 line : List ℕ) → IsInLine line → CutsLine rest line rest2 → (rest ≡ []) ⊎ IsCut read → lines_of (read ++ rest) ≡ lines_of read ++ line ∷ lines_of rest2
 lines_next read rest rest2 line whole cuts cut =
     ⊎_elim (λ (none : rest ≡ []). absurd (nothing_cut rest rest2 line none cuts))
-        (λ (c : IsCut read). c rest ∙ ap (λ (ls : List (List ℕ)). lines_of read ++ ls) (lines_of-cut rest line rest2 cuts whole)) cut
+    (λ (c : IsCut read). c rest ∙ ap (λ (ls : List (List ℕ)). lines_of read ++ ls) (lines_of-cut rest line rest2 cuts whole)) cut
 
 -- what is ahead after a line was cut off
 pub ahead_after : (a b : Option (List ℕ)) (rest line : List ℕ) → a ≡ Some rest → Cuts a b line → (rest2 : List ℕ) × (b ≡ Some rest2) × CutsLine rest line rest2
@@ -136,9 +142,9 @@ goes_on_by table read read2 written line lines units s s2 block block2 h h2 memo
     ∙ ap (λ (l : List Bool). first (lines ++ memory ∷ c) l ends (lines_of read ++ line ∷ later)) (append_assoc units (choices_for starved us) d)
     ∙ goes (memory ∷ c) (choices_for starved us ++ d) ends (line ∷ later)
     ∙ ap (λ (l : List ℕ). written ++ l) (written_on memory starved s block h line c d ends later on
-        ∙ ap (λ (x : LexerState). replies_to starved h us ++ written_from x (line_block block (heard_at memory s line)) (history_after starved h us) c d ends later) (sym s_is)
-        ∙ ap (λ (b : Option Block). replies_to starved h us ++ written_from s2 b (history_after starved h us) c d ends later) (sym block_is)
-        ∙ ap (λ (x : History). replies_to starved h us ++ written_from s2 block2 x c d ends later) (sym h_is))
+    ∙ ap (λ (x : LexerState). replies_to starved h us ++ written_from x (line_block block (heard_at memory s line)) (history_after starved h us) c d ends later) (sym s_is)
+    ∙ ap (λ (b : Option Block). replies_to starved h us ++ written_from s2 b (history_after starved h us) c d ends later) (sym block_is)
+    ∙ ap (λ (x : History). replies_to starved h us ++ written_from s2 block2 x c d ends later) (sym h_is))
     ∙ sym (append_assoc written (replies_to starved h us) (written_from s2 block2 h2 c d ends later))
 
 has_last_by : (read read2 line : List ℕ) (lines : List Bool) (s s2 : LexerState) (memory : Bool) → HasLast read lines s → lines_of read2 ≡ lines_of read ++ line ∷ [] → stop_at (heard_at memory s line) ≡ None → s2 ≡ state_by s (served memory s line)
@@ -155,16 +161,23 @@ served_on : (table : Collation) (text before : List ℕ) (ahead0 ahead1 taken0 t
     → Underway table text before ahead1 taken1 new
 served_on table text before ahead0 ahead1 taken0 taken1 old new read rest written lines units block memory starved line u cuts whole served more =
     let (rest2, ahead_is, cut) = ahead_after ahead0 ahead1 rest line u.ahead_is cuts in
-    let (read2, n) = next_line read rest rest2 line whole cut u.cut in
-    (read2, rest2, written ++ line_replies memory starved old line block, lines ++ memory ∷ [], units ++ choices_for starved (line_requests block (heard_at memory old.listener line)), line_block block (heard_at memory old.listener line), record {
-      text_is = u.text_is ∙ n.text_is;
-      cut = n.cut;
-      ahead_is = ahead_is;
-      taken_is = appended taken0 taken1 before written (line_replies memory starved old line block) u.taken_is more;
-      block_is = served.block_is;
-      goes_on = goes_on_by table read read2 written line lines units old.listener new.listener block (line_block block (heard_at memory old.listener line)) old.session new.session memory starved u.goes_on n.lines_are served.goes_on served.listener refl served.session;
-      last = has_last_by read read2 line lines old.listener new.listener memory u.last n.lines_are served.goes_on served.listener
-    })
+    let (read2, n) = next_line read rest rest2 line whole cut u.cut in (
+      read2,
+      rest2,
+      written ++ line_replies memory starved old line block,
+      lines ++ memory ∷ [],
+      units ++ choices_for starved (line_requests block (heard_at memory old.listener line)),
+      line_block block (heard_at memory old.listener line),
+      record {
+        text_is = u.text_is ∙ n.text_is;
+        cut = n.cut;
+        ahead_is = ahead_is;
+        taken_is = appended taken0 taken1 before written (line_replies memory starved old line block) u.taken_is more;
+        block_is = served.block_is;
+        goes_on = goes_on_by table read read2 written line lines units old.listener new.listener block (line_block block (heard_at memory old.listener line)) old.session new.session memory starved u.goes_on n.lines_are served.goes_on served.listener refl served.session;
+        last = has_last_by read read2 line lines old.listener new.listener memory u.last n.lines_are served.goes_on served.listener;
+      },
+    )
 
 -- one more line was served, and the run goes on
 pub underway_on : (table : Collation) (text before : List ℕ) (ahead0 ahead1 taken0 taken1 : Option (List ℕ)) (old new : Desk) (line : List ℕ) → Underway table text before ahead0 taken0 old → Cuts ahead0 ahead1 line → IsInLine line
@@ -186,7 +199,7 @@ gives_end old new left left_after failed failed_after false did is = did
 pub stops_now : (old new : Reading) (left left_after : Option (List ℕ)) (failed failed_after : ℕ) (stop : ReadStop) → Advances old new left left_after failed failed_after (Err stop) → old.stop ≡ None → StopsNow old new left left_after failed failed_after stop
 stops_now old new left left_after failed failed_after stop did going =
     ⊎_elim (λ (now : StopsNow old new left left_after failed failed_after stop). now)
-        (λ (again : StopsAgain old new left left_after failed failed_after stop). let stopped = again.stopped in absurd (cc)) did
+    (λ (again : StopsAgain old new left left_after failed failed_after stop). let stopped = again.stopped in absurd (cc)) did
 
 -- all of the text is ahead of a new reader
 pub ahead_begun : (r : Reading) (left : Option (List ℕ)) (text : List ℕ) → r ≡ no_line → left ≡ Some text → ahead r left ≡ Some text

@@ -9,12 +9,12 @@ use Rattle.coll_lex.specs.declared.faults.ReadStop.{ReadStop}
 use Rattle.coll_bench.specs.SessionFaults.{fault_number}
 use Rattle.std.specs.Prelude.{◌==◌}
 use Rattle.coll_bench.specs.History.{History}
-use Rattle.coll_bench.specs.Units.{Block, requests_at, block_after, stop_of, refusals, last_faults, end_faults, dropped_faults}
+use Rattle.coll_bench.specs.Units.{Block, requests_at, stop_of, refusals, last_faults, end_faults, dropped_faults}
 use Rattle.coll_bench.specs.OpenBlock.{kept, StandsFor, TakesLine}
 use Rattle.coll_bench.specs.Replies.{refused_line, refused_lines, reply, after, reply_if, after_if}
 use Rattle.coll_bench.specs.declared.faults.Fault.{Fault}
 use Rattle.coll_bench.specs.declared.faults.RunFault.{RunFault}
-use Rattle.coll_bench.specs.Serving.{replies_to, history_after, heard_at, stop_at, requests_or_last, line_requests, line_block, Takes, Served, EndsWith, EndsAtLine, ReadsNone, CountsStop, read_failed, write_failed, stopped_at, line_replies}
+use Rattle.coll_bench.specs.Serving.{replies_to, history_after, heard_at, stop_at, requests_or_last, line_requests, line_block, Takes, Served, EndsWith, EndsAtLine, ReadsNone, CountsStop, read_failed, write_failed, line_replies}
 use Rattle.std.proofs.Common.{⊎_elim, inl, inr, eq-eqb}
 use Rattle.std.proofs.lemmas.Bool.{ne_eqb}
 use Rattle.coll_lex.specs.Faults.{lex_fault_number}
@@ -35,7 +35,6 @@ use Rattle.coll_bench.specs.SessionLines.{fault_heard}
 use Rattle.coll_bench.specs.Hearing.{heard_by, Hears}
 use Rattle.coll_bench.specs.declared.session.hearing.Opening.{Opening}
 use Rattle.coll_bench.specs.declared.session.hearing.Heard.TheVariants as heard
-use Rattle.coll_bench.specs.declared.session.blocks.OpenBlock.{OpenBlock}
 use Rattle.coll_bench.specs.declared.session.hearing.Heard.{Heard}
 use Rattle.coll_bench.specs.declared.session.requests.Request.{Request}
 use Rattle.coll_bench.specs.declared.session.runs.Desk.{Desk}
@@ -163,7 +162,7 @@ counts_line s s2 line h hears none few =
     let fits : s.count + 1 ≤ MOST_LINES = omega (arith, room) in
     record {
       counts = ap (λ (x : LexerState). x.count) hears.1.stands ∙ count_cases hears.0 s line ∙ min-eq_left fits;
-      room = room
+      room = room;
     }
 
 abbrev taken_requests : Option Block → Heard → Option LexFault → List Request

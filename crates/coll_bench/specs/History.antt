@@ -1,5 +1,5 @@
 -- The history of a session: which statements remain, which were taken back, and what a statement or an undo does.
-use Rattle.std.specs.Prelude.{◌≡◌, ◌≢◌, ◌+◌, ◌-◌, ℕ, ◌==◌, nat_le, if◌then◌else◌, List, [], ◌∷◌, ◌++◌, length, take, drop, Result, Ok, Err}
+use Rattle.std.specs.Prelude.{◌≡◌, ◌≢◌, ◌-◌, ℕ, ◌==◌, nat_le, if◌then◌else◌, List, [], ◌∷◌, ◌++◌, length, take, drop, Result, Ok, Err}
 use Rattle.coll_bench.specs.Table.{Collation}
 use Rattle.coll_bench.specs.Delta.{delta}
 use Rattle.coll_bench.specs.Replay.{replay}

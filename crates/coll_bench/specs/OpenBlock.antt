@@ -1,5 +1,5 @@
 -- What a session keeps of an open block: all that its end needs, in one piece.
-use Rattle.std.specs.Prelude.{◌≡◌, Bool, true, false, nat_le, if◌then◌else◌, List, [], ◌∷◌, ◌++◌, length, Option, Some, None, option_to_list, Result, Ok, Err}
+use Rattle.std.specs.Prelude.{◌≡◌, nat_le, if◌then◌else◌, List, [], ◌∷◌, ◌++◌, length, Option, Some, None, option_to_list, Result, Ok, Err}
 use Rattle.std.specs.Option.{option_map}
 use Rattle.coll_lex.specs.declared.faults.LexFault.TheVariants as lex
 use Rattle.coll_bench.specs.Gathered.{Gathered}

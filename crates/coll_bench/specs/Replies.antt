@@ -8,7 +8,6 @@ use Rattle.coll_bench.specs.History.{History, table_of, judged, taken_back}
 use Rattle.coll_bench.specs.SessionFaults.{fault_number, fault_name}
 use Rattle.coll_bench.specs.declared.syntax.identifiers.Id.{Id}
 use Rattle.coll_bench.specs.declared.syntax.identifiers.Id.TheVariants as id
-use Rattle.coll_bench.specs.declared.syntax.statements.Statement.{Statement}
 use Rattle.coll_bench.specs.declared.tables.entries.Entry.{Entry}
 use Rattle.coll_bench.specs.declared.faults.BenchFault.{BenchFault}
 use Rattle.coll_bench.specs.declared.faults.Fault.{Fault}

@@ -1,5 +1,5 @@
 -- A whole run of a session: what is written is a stated function of what is read.
-use Rattle.std.specs.Prelude.{◌≡◌, ◌==◌, ℕ, Bool, true, false, if◌then◌else◌, List, [], ◌∷◌, ◌++◌, map, Option, Some, None, Result, Ok, Err}
+use Rattle.std.specs.Prelude.{◌≡◌, ◌⊎◌, ◌==◌, ℕ, Bool, true, false, if◌then◌else◌, List, [], ◌∷◌, ◌++◌, map, Option, Some, None, Result, Ok, Err}
 use Rattle.coll_lex.specs.Devices.{raised}
 use Rattle.coll_lex.specs.PhysicalLines.{lines_of, IsInLine}
 use Rattle.coll_lex.specs.LogicalLines.{LexerState, LogicalLine, first_state, logical_lines}
@@ -12,7 +12,7 @@ use Rattle.coll_bench.specs.History.{History, begun}
 use Rattle.coll_bench.specs.SessionLines.{heard}
 use Rattle.coll_bench.specs.SessionFaults.{fault_number}
 use Rattle.coll_bench.specs.Units.{Block, units}
-use Rattle.coll_bench.specs.Replies.{answers}
+use Rattle.coll_bench.specs.Replies.{starved_line, answers}
 use Rattle.coll_bench.specs.declared.faults.Fault.{Fault}
 use Rattle.coll_bench.specs.declared.faults.Fault.TheVariants as fault
 use Rattle.coll_bench.specs.declared.faults.RunFault.{RunFault}
@@ -119,3 +119,12 @@ Runs table left left_after taken taken_after r =
 abbrev pub CountsReads : ℕ → ℕ → Result (Unit {0}) RunFault → Type 0
 CountsReads old new (Ok done) = new ≡ old
 CountsReads old new (Err ended) = new ≡ (if fault_number ended.fault == 67 then raised old else old)
+
+-- the reply to want of memory stands in these bytes
+abbrev pub ShowsWant : List ℕ → Type 0
+ShowsWant bytes = (before : List ℕ) × (after : List ℕ) × (bytes ≡ before ++ (starved_line ++ after))
+
+-- want of memory shows: what is written for a whole text is what is stated, or that reply stands in it
+abbrev pub WantShows : Type 0
+WantShows = (lines_starved units_starved : List Bool) (table : Collation) (text : List ℕ)
+    → (starved_output lines_starved units_starved true table text ≡ output table text) ⊎ ShowsWant (starved_output lines_starved units_starved true table text)

@@ -1,9 +1,9 @@
 -- What serving one physical line does, from where a session stands between two lines.
-use Rattle.std.specs.Prelude.{◌≡◌, ◌≢◌, ◌⊎◌, ℕ, Bool, true, false, ◌==◌, if◌then◌else◌, List, [], ◌∷◌, ◌++◌, Option, Some, None, Result, Ok, Err}
+use Rattle.std.specs.Prelude.{◌≡◌, ◌⊎◌, ℕ, Bool, false, ◌==◌, if◌then◌else◌, List, [], ◌∷◌, ◌++◌, Option, Some, None, Result, Ok, Err}
 use Rattle.std.specs.Io.KnownBytes.{Appends}
 use Rattle.coll_lex.specs.Devices.{AppendsFront, raised}
 use Rattle.coll_lex.specs.LineReading.{counted}
-use Rattle.coll_lex.specs.LogicalLines.{LexerState, first_state, pending, number_of, first_line, served, state_by}
+use Rattle.coll_lex.specs.LogicalLines.{LexerState, first_state, number_of, first_line, served, state_by}
 use Rattle.coll_lex.specs.declared.faults.LexFault.{LexFault}
 use Rattle.coll_lex.specs.declared.faults.LexFault.TheVariants as lex
 use Rattle.coll_lex.specs.declared.faults.ReadStop.{ReadStop}
@@ -17,7 +17,6 @@ use Rattle.coll_bench.specs.SessionFaults.{fault_number}
 use Rattle.coll_bench.specs.Units.{Block, requests_at, block_after, stop_of, refusals, last_faults}
 use Rattle.coll_bench.specs.OpenBlock.{StandsFor}
 use Rattle.coll_bench.specs.Replies.{reply_if, after_if}
-use Rattle.coll_bench.specs.declared.faults.Fault.{Fault}
 use Rattle.coll_bench.specs.declared.faults.Fault.TheVariants as faults
 use Rattle.coll_bench.specs.declared.faults.RunFault.{RunFault}
 use Rattle.coll_bench.specs.declared.session.hearing.Heard.{Heard}

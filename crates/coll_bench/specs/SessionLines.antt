@@ -1,5 +1,5 @@
 -- What a logical line of a session is: a command, a line of a delta, or a refused line.
-use Rattle.std.specs.Prelude.{ℕ, Bool, true, false, ◌==◌, ◌||◌, nat_eq, if◌then◌else◌, List, [], ◌∷◌, Result, Ok, Err, codes}
+use Rattle.std.specs.Prelude.{ℕ, Bool, true, false, ◌==◌, nat_eq, if◌then◌else◌, List, [], ◌∷◌, Result, Ok, Err, codes}
 use Rattle.std.specs.List.{starts_with}
 use Rattle.coll_lex.specs.Directives.{past_blanks}
 use Rattle.coll_lex.specs.LogicalLines.{LogicalLine}
@@ -13,7 +13,6 @@ use Rattle.coll_bench.specs.declared.syntax.delta_lines.DeltaLine.{DeltaLine}
 use Rattle.coll_bench.specs.declared.syntax.delta_lines.DeltaLine.TheVariants as delta_lines
 use Rattle.coll_bench.specs.declared.syntax.syntax_faults.SyntaxFault.{SyntaxFault}
 use Rattle.coll_bench.specs.declared.syntax.syntax_faults.SyntaxFault.TheVariants as syntax
-use Rattle.coll_bench.specs.declared.faults.Fault.{Fault}
 use Rattle.coll_bench.specs.declared.faults.Fault.TheVariants as fault
 use Rattle.coll_bench.specs.declared.session.commands.Command.{Command}
 use Rattle.coll_bench.specs.declared.session.commands.Command.TheVariants as command

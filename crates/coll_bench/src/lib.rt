@@ -12,7 +12,7 @@ mod tables;
 mod test_devices;
 
 pub use faults::{BenchFault, Fault, RunFault};
-pub use session::{Session, run_session};
+pub use session::{Session, run_session, want_of_memory_shows};
 pub use syntax::{
     DeltaLine, Id, OrderLine, Statement, SyntaxFault, TableLine, parse_delta_line, parse_table_line,
 };

@@ -1,5 +1,5 @@
 use Rattle.std.proofs.Common.{refl, sym, ap, ◌∙◌, Some, [], ◌∷◌}
-use Rattle.coll_bench.specs.Units.{Block, requests_at, block_after}
+use Rattle.coll_bench.specs.Units.{requests_at, block_after}
 use Rattle.coll_bench.specs.OpenBlock.{kept_request, spoiled}
 use Rattle.coll_bench.specs.declared.session.requests.Request.{Request}
 use Rattle.coll_bench.specs.declared.session.blocks.OpenBlock.{OpenBlock}

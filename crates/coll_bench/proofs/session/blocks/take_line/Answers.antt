@@ -1,6 +1,6 @@
-use Rattle.std.proofs.Common.{Option, subst}
+use Rattle.std.proofs.Common.{Option}
 use Rattle.coll_bench.specs.Units.{Block}
-use Rattle.coll_bench.specs.OpenBlock.{StandsFor, TakesLine}
+use Rattle.coll_bench.specs.OpenBlock.{TakesLine}
 use Rattle.coll_bench.proofs.BlockLemmas.{open_stands, none_stands}
 use Rattle.coll_bench.proofs.session.blocks.take_line.Goals as goal
 

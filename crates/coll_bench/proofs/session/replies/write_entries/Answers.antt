@@ -1,6 +1,5 @@
 -- What was written so far and the lines of the entries that are left are the whole listing.
-use Rattle.std.proofs.Common.{◌≡◌, ◌++◌, ◌+◌, [], drop, sym, ap, ◌∙◌, subst, append_assoc, append-nil}
-use Rattle.std.specs.Io.KnownBytes.{Appends}
+use Rattle.std.proofs.Common.{◌≡◌, ◌++◌, ◌+◌, drop, sym, ap, ◌∙◌, append_assoc, append-nil}
 use Rattle.std.proofs.KnownBytes.{Appends-trans}
 use Rattle.coll_lex.proofs.WritingLemmas.{AppendsFront-after, AppendsFront-before}
 use Rattle.coll_bench.specs.Replies.{listed_lines, listed_line}

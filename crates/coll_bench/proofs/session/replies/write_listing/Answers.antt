@@ -1,4 +1,4 @@
-use Rattle.std.proofs.Common.{◌≡◌, ◌++◌, length, codes, ap}
+use Rattle.std.proofs.Common.{◌++◌, length, codes}
 use Rattle.coll_lex.proofs.WritingLemmas.{AppendsFront-before, Sends-after, Sends-stopped}
 use Rattle.coll_bench.specs.Table.{entries_of}
 use Rattle.coll_bench.specs.Replies.{listed_lines, counted_line, listing}

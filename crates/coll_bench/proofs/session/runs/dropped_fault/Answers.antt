@@ -3,7 +3,6 @@ use Rattle.std.specs.Prelude.{option_to_list}
 use Rattle.coll_bench.specs.Units.{Block, dropped_faults}
 use Rattle.coll_bench.specs.OpenBlock.{kept_dropped}
 use Rattle.coll_bench.specs.declared.faults.Fault.{Fault}
-use Rattle.coll_bench.specs.declared.session.blocks.OpenBlock.{OpenBlock}
 use Rattle.coll_bench.proofs.BlockLemmas.{open_stands, none_stands, dropped_kept}
 use Rattle.coll_bench.proofs.session.runs.dropped_fault.Goals as goal
 

@@ -1,8 +1,7 @@
-use Rattle.std.proofs.Common.{◌≡◌, [], ◌∷◌, Bool, true, false, None, Option, refl, sym, ap, ◌∙◌}
+use Rattle.std.proofs.Common.{◌≡◌, [], ◌∷◌, Bool, true, false, None, Option, sym, ap, ◌∙◌}
 use Rattle.coll_bench.specs.Units.{Block, end_faults}
 use Rattle.coll_bench.specs.OpenBlock.{kept_left_open}
 use Rattle.coll_bench.specs.declared.faults.Fault.{Fault}
-use Rattle.coll_bench.specs.declared.session.blocks.OpenBlock.{OpenBlock}
 use Rattle.coll_bench.proofs.BlockLemmas.{open_stands, none_stands, left_open_kept, end_faults-open}
 use Rattle.coll_bench.proofs.session.runs.end_fault.Goals as goal
 

@@ -1,4 +1,4 @@
-use Rattle.std.proofs.Common.{◌≡◌, ℕ, ◌-◌, List, Option, Some, None}
+use Rattle.std.proofs.Common.{◌≡◌, ℕ, ◌-◌, List, Some, None}
 use Rattle.coll_lex.specs.LineReading.{ahead}
 use Rattle.coll_lex.specs.declared.tokens.TheConstants.{MOST_LINES}
 use Rattle.coll_bench.specs.Underway.{Underway}

@@ -4,7 +4,7 @@ use Rattle.coll_lex.specs.Devices.{Sends}
 use Rattle.coll_lex.proofs.WritingLemmas.{AppendsFront-before, Sends-after, Sends-stopped}
 use Rattle.coll_bench.specs.Replies.{refused_line, refused_lines}
 use Rattle.coll_bench.specs.declared.faults.Fault.TheVariants.{Lex}
-use Rattle.coll_bench.proofs.ServingLemmas.{last_replies, end_replies}
+use Rattle.coll_bench.proofs.ServingLemmas.{last_replies}
 use Rattle.coll_bench.proofs.session.runs.write_last.Goals as goal
 
 pub returns-in_err-refuse_if-clause-sent : goal.returns-in_err-refuse_if-clause-sent

@@ -1,8 +1,7 @@
 -- What is heard is the lexer's answer, or a line for which memory was refused.
-use Rattle.std.proofs.Common.{◌≡◌, Bool, Some, None, Option, Ok, Err, sym, ap, ◌∙◌, subst}
+use Rattle.std.proofs.Common.{Bool, Some, None, sym, ap, ◌∙◌, subst}
 use Rattle.coll_lex.specs.LogicalLines.{LexerState, first_line}
 use Rattle.coll_bench.specs.SessionLines.{opening_of}
-use Rattle.coll_lex.specs.declared.tokens.Line.{Line}
 use Rattle.coll_bench.specs.Hearing.{Hears}
 use Rattle.coll_bench.proofs.HearingLemmas.{opens_as_none, opens_as_next, hears_fault, hears_none, hears_whole}
 use Rattle.coll_lex.proofs.LineEnds.{fed-whole}

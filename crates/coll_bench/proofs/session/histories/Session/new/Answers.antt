@@ -1,6 +1,5 @@
 -- A session that has just begun keeps nothing.
-use Rattle.std.proofs.Common.{ap, ◌∙◌, subst, sym, arith}
-use Rattle.coll_bench.specs.Kept.{turned_back, Leads}
+use Rattle.std.proofs.Common.{arith}
 use Rattle.coll_bench.proofs.HistoryLemmas.{LeadsOn_none, Leads_none, history_begun}
 use Rattle.coll_bench.proofs.session.histories.Session.new.Goals as goal
 

@@ -2,11 +2,11 @@
 use Rattle.std.proofs.Common.{◌≡◌, List, [], ◌∷◌, ◌++◌, Ok, Err, sym, ap, ◌∙◌, subst, arith}
 use Rattle.coll_bench.specs.Delta.{delta}
 use Rattle.coll_bench.specs.Table.{Collation}
-use Rattle.coll_bench.specs.History.{History, table_of, judged}
+use Rattle.coll_bench.specs.History.{History, judged}
 use Rattle.coll_bench.specs.Kept.{history_of, Leads}
 use Rattle.coll_bench.specs.declared.session.histories.Kept.{Kept}
 use Rattle.coll_bench.specs.declared.faults.BenchFault.TheVariants.{Table, HistoryFull}
-use Rattle.coll_bench.proofs.HistoryLemmas.{replayed, judged_full, judged_refused, judged_accepted, history_with, Leads_with, LeadsOn_none, length-remaining, length-push}
+use Rattle.coll_bench.proofs.HistoryLemmas.{replayed, judged_full, judged_refused, judged_accepted, history_with, Leads_with, LeadsOn_none, length-remaining}
 use Rattle.coll_bench.proofs.session.histories.Session.statement.Goals as goal
 
 pub returns-then-len-ge-MOST_REMAINING-clause-refused : goal.returns-then-len-ge-MOST_REMAINING-clause-refused

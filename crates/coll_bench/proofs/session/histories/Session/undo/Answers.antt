@@ -1,9 +1,9 @@
 -- An undo turns the last record, which leads back to the table before its statement.
-use Rattle.std.proofs.Common.{◌≡◌, Ok, Err, refl, sym, ap, ◌∙◌, subst, append-nil, arith}
+use Rattle.std.proofs.Common.{◌≡◌, Ok, Err, refl, subst, arith}
 use Rattle.coll_bench.specs.History.{History, taken_back}
 use Rattle.coll_bench.specs.Kept.{Leads, history_of}
 use Rattle.coll_bench.specs.declared.faults.BenchFault.TheVariants.{NothingToUndo}
-use Rattle.coll_bench.proofs.HistoryLemmas.{nothing_left, taken_back_none, taken_back_last, Leads-last, Leads_shorter, LeadsOn_longer, length-push}
+use Rattle.coll_bench.proofs.HistoryLemmas.{nothing_left, taken_back_none, taken_back_last, Leads-last, Leads_shorter, LeadsOn_longer}
 use Rattle.coll_bench.proofs.session.histories.Session.undo.Goals as goal
 
 pub returns-in_default-clause-refused : goal.returns-in_default-clause-refused

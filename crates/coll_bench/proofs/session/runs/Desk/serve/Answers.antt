@@ -1,9 +1,8 @@
 -- A line is heard, and either ends the session or is taken by the block and the history.
-use Rattle.std.proofs.Common.{Some, None, Ok, Err, refl, sym, ap, ◌∙◌}
+use Rattle.std.proofs.Common.{Ok, Err, refl, ap, ◌∙◌}
 use Rattle.coll_lex.specs.LogicalLines.{LexerState}
 use Rattle.coll_lex.specs.declared.faults.WriteStop.{WriteStop}
 use Rattle.coll_bench.specs.Serving.{stop_at}
-use Rattle.coll_bench.specs.Units.{stop_of}
 use Rattle.coll_bench.proofs.ServingLemmas.{serves_none, counts_line, not_stops, serves_stop, serves_taken, serves_failed}
 use Rattle.coll_bench.proofs.session.runs.Desk.serve.Goals as goal
 

@@ -1,8 +1,5 @@
 -- The unit that the line completes is answered from the history before it.
-use Rattle.std.proofs.Common.{false, refl, sym, subst, Option}
-use Rattle.coll_bench.specs.Units.{Block}
-use Rattle.coll_bench.specs.OpenBlock.{StandsFor, TakesLine}
-use Rattle.coll_bench.specs.declared.session.blocks.OpenBlock.{OpenBlock}
+use Rattle.std.proofs.Common.{false, refl}
 use Rattle.coll_bench.proofs.ServingLemmas.{takes_one, takes_none}
 use Rattle.coll_bench.proofs.session.runs.Desk.take.Goals as goal
 
