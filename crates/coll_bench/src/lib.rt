@@ -8,6 +8,8 @@ mod faults;
 mod session;
 mod syntax;
 mod tables;
+#[cfg(test)]
+mod test_devices;
 
 pub use faults::{BenchFault, Fault, RunFault};
 pub use session::{Session, run_session, want_of_memory_shows};

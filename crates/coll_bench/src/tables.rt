@@ -19,7 +19,7 @@ mod records;
 mod refusals;
 mod taken;
 #[cfg(test)]
-mod test_tables;
+pub(crate) mod test_tables;
 mod text_lines;
 
 use crate::Id;

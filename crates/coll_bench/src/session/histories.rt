@@ -8,6 +8,9 @@
 ghost use Rattle.std.specs.Prelude.{◌≡◌, ◌≢◌, ◌↔◌, ◌<◌, ◌≤◌, ◌+◌, [], length, vec_len, vec_capacity, IsOk, IsTrue, Ok, Err, IfOk, IfErr, OnOk, OnErr};
 ghost use Rattle.coll_bench.specs.History.{History, begun, judged, taken_back, table_of, RefusesStatement};
 
+#[cfg(test)]
+mod tests;
+
 use crate::faults::BenchFault;
 use crate::syntax::Statement;
 use crate::tables::{Record, Refusal, Table};

@@ -15,6 +15,9 @@ ghost use Rattle.coll_bench.specs.Serving.{EndsWith, FinishesWith, IsCutOff, Cou
 ghost use Rattle.coll_bench.specs.Run.{Runs, CountsReads};
 ghost use Rattle.coll_lex.specs.LogicalLines.{pending, number_of};
 
+#[cfg(test)]
+mod tests;
+
 use crate::faults::{Fault, RunFault};
 use crate::session::blocks::{OpenBlock, Taken, take_line};
 use crate::session::hearing::{Heard, Listener};

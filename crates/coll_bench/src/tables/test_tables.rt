@@ -1,6 +1,8 @@
 //! Tables for tests.
 
-use crate::{Id, Table};
+use crate::{Id, OrderLine, Statement, Table};
+use coll_lex::{ListBuf, TextBuf};
+use std::alloc::{AllocError, Global};
 
 /// A name and three characters.
 pub const FIRST_TABLE: &[u8] =
@@ -20,4 +22,27 @@ pub fn has_order(table: &Table, order: &str) -> bool {
         }
     }
     wanted.next().is_none()
+}
+
+/// A block of characters, and a line with a name where one is given.
+pub fn block(
+    alloc: Global,
+    target: char,
+    lines: &str,
+    name: &str,
+) -> Result<Statement, AllocError> {
+    let mut order = Vec::new(alloc);
+    for c in lines.chars() {
+        order.push(OrderLine { id: Id::Char(c) })?;
+    }
+    if !name.is_empty() {
+        let name = TextBuf::new(String::from_str(alloc, name)?);
+        order.push(OrderLine {
+            id: Id::Named(name),
+        })?;
+    }
+    Ok(Statement::Block {
+        target: Id::Char(target),
+        lines: ListBuf::new(order),
+    })
 }

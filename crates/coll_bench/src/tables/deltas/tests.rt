@@ -1,26 +1,8 @@
-use super::super::test_tables::{FIRST_TABLE, has_order};
+use super::super::test_tables::{FIRST_TABLE, block, has_order};
 use crate::{Id, OrderLine, Refusal, Statement, load};
-use coll_lex::{Counted, ListBuf, TextBuf};
-use std::alloc::{AllocError, Global};
+use coll_lex::{Counted, TextBuf};
+use std::alloc::Global;
 use std::test::Fail;
-
-// A block of characters, and a line with a name where one is given.
-fn block(alloc: Global, target: char, lines: &str, name: &str) -> Result<Statement, AllocError> {
-    let mut order = Vec::new(alloc);
-    for c in lines.chars() {
-        order.push(OrderLine { id: Id::Char(c) })?;
-    }
-    if !name.is_empty() {
-        let name = TextBuf::new(String::from_str(alloc, name)?);
-        order.push(OrderLine {
-            id: Id::Named(name),
-        })?;
-    }
-    Ok(Statement::Block {
-        target: Id::Char(target),
-        lines: ListBuf::new(order),
-    })
-}
 
 // Whether a statement rewrites the first table to this order, is turned back and again, and its record given up.
 fn turns(alloc: Global, statement: &Statement, after: &str) -> Result<bool, Refusal> {

@@ -1,9 +1,8 @@
 use super::super::test_tables::{FIRST_TABLE, has_order};
+use crate::test_devices::FailingReader;
 use crate::{LoadCause, LoadFault, SyntaxFault, Table, load};
 use coll_lex::{Counted, LexFault, Source};
 use std::alloc::Global;
-use std::io;
-use std::io::{ErrorKind, Read};
 use std::test::Fail;
 
 fn loaded(alloc: Global, text: &[u8]) -> Result<Table, LoadFault> {
@@ -125,34 +124,11 @@ fn the_first_line_at_fault_decides(rt: HostRuntime) {
     }
 }
 
-// Gives three bytes per read, and fails at one of its reads.
-#[derive(Drop)]
-struct FailingReader<'a> {
-    text: &'a [u8],
-    reads_left: usize,
-}
-
-impl Read for FailingReader<'_> {
-    fn read(&mut self, buf: &mut [u8]) -> io::Result<usize> {
-        if self.reads_left == 0 {
-            return Err(io::Error::from(ErrorKind::BrokenPipe));
-        }
-        self.reads_left -= 1;
-        let count = self.text.len().min(buf.len()).min(3);
-        buf[..count].copy_from_slice(&self.text[..count]);
-        self.text = &self.text[count..];
-        Ok(count)
-    }
-}
-
 // The first table has 111 bytes, which 37 reads give; its last line feed is the last of them.
 #[test]
 fn a_read_that_fails_is_the_fault_unless_the_lines_before_decide(rt: HostRuntime) {
     for reads in 0..39 {
-        let mut input = Counted::new(FailingReader {
-            text: FIRST_TABLE,
-            reads_left: reads,
-        });
+        let mut input = Counted::new(FailingReader::new(FIRST_TABLE, reads));
         let fault = load(rt.alloc(), &mut input).err();
         if reads < 37 {
             let want = LoadFault {
