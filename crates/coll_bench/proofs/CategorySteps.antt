@@ -20,6 +20,7 @@ use Rattle.coll_bench.specs.declared.syntax.syntax_faults.SyntaxFault.{SyntaxFau
 use Rattle.coll_bench.specs.declared.syntax.syntax_faults.SyntaxFault.TheVariants as syntax
 use Rattle.coll_bench.specs.declared.tables.load_faults.LoadCause.{LoadCause}
 use Rattle.coll_bench.specs.declared.tables.load_faults.LoadCause.TheVariants.{Lex, Syntax, NoCategory, NoRules, DeclaredTwice, NotDeclared, PlacedTwice, OutsideOrder, Full, NoEnd, ReadFault, OutOfMemory}
+use Rattle.coll_bench.proofs.TextSteps.{ends_behind}
 
 -- without a line nothing is decided
 outcome_within-nil : (before : List TableLine) → outcome_within before [] ≡ Undecided NoEnd
@@ -70,14 +71,15 @@ Reading start now left left_now draft =
 
 -- before the first line
 pub reading_starts : (start : TextState) (left : Option (List ℕ)) → Reading start start left left (draft_of [])
-reading_starts start left = λ text e. ([], text, [], (e, refl, omega arith), refl, λ ends more. refl)
+reading_starts start left = λ text e. ([], text, [], (e, refl, ([], refl), omega arith), refl, λ ends more. refl)
 
 -- lines of two parts
 takes_both : (start now next : TextState) (left_now left_next : Option (List ℕ)) (text : List ℕ) (whole : List (List ℕ)) (rest : List ℕ) (more : List (List ℕ)) (later : List ℕ) → TakesLines start now left_now text whole rest → TakesLines now next left_next rest more later → TakesLines start next left_next text (whole ++ more) later
 takes_both start now next left_now left_next text whole rest more later h k = (
   k.0,
   h.1 ∙ (ap (λ lines. whole ++ lines) k.1 ∙ sym (append_assoc whole more (lines_of later))),
-  omega (arith, h.2, k.2, length-append whole more),
+  ends_behind text rest later h.2 k.2,
+  omega (arith, h.3, k.3, length-append whole more),
 )
 
 module _ (start now : TextState) (left left_now : Option (List ℕ)) (draft : DraftState) (h : Reading start now left left_now draft) where
@@ -167,7 +169,7 @@ module _ (start now : TextState) (left left_now : Option (List ℕ)) (draft : Dr
       let last = none at.1 at.3.0 in
       let lines = at.3.1 in (
         ap (λ ls. outcome_within [] (logical_lines [] true start.lexer ls)) lines ∙ (at.5 true (lines_of at.1) ∙ (ap (outcome_within at.2) last.0 ∙ outcome_within-nil at.2)),
-        omega (arith, counted, last.1, at.3.2, ap length lines, length-append at.0 (lines_of at.1)),
+        omega (arith, counted, last.1, at.3.3, ap length lines, length-append at.0 (lines_of at.1)),
       )
 
   lexed : (line : ℕ) (fault : LexFault) → ((text : List ℕ) → ahead_of now left_now ≡ Some text → (first : List ℕ) × (later : List LogicalLine) × (logical_lines [] true now.lexer (lines_of text) ≡ record { number = line; first = first; tokens = Err fault } ∷ later)) → (text : List ℕ) → ahead_of start left ≡ Some text → outcome_within [] (logical_lines [] true start.lexer (lines_of text)) ≡ at_fault line (Lex fault)
@@ -188,7 +190,7 @@ module _ (start now : TextState) (left left_now : Option (List ℕ)) (draft : Dr
         let cut = f.1 at.1 at.3.0 in
         let behind = cut.1 in (
           at.0 ++ cut.0,
-          (behind.0, behind.1, behind.2, at.3.1 ∙ (ap (λ ls. at.0 ++ ls) behind.3 ∙ sym (append_assoc at.0 cut.0 (lines_of (behind.0 ++ behind.1)))), behind.4),
+          (behind.0, behind.1, behind.2, ends_behind text at.1 (behind.0 ++ behind.1) at.3.2 behind.3, at.3.1 ∙ (ap (λ ls. at.0 ++ ls) behind.4 ∙ sym (append_assoc at.0 cut.0 (lines_of (behind.0 ++ behind.1)))), behind.5),
           at.5 false cut.0 ∙ (ap (outcome_within at.2) cut.2 ∙ outcome_within-nil at.2),
         ),
   )

@@ -14,6 +14,7 @@ use Rattle.coll_bench.specs.declared.syntax.syntax_faults.SyntaxFault.TheVariant
 use Rattle.coll_bench.specs.declared.tables.load_faults.LoadFault.{LoadFault}
 use Rattle.coll_bench.specs.declared.tables.load_faults.LoadCause.{LoadCause}
 use Rattle.coll_bench.specs.declared.tables.load_faults.LoadCause.TheVariants.{Lex, Syntax, NoCategory, NoEnd, ReadFault, OutOfMemory}
+use Rattle.coll_bench.proofs.TextSteps.{ends_behind}
 
 -- before the first line of a text
 abbrev pub text_start : TextState
@@ -44,7 +45,7 @@ module _ (left left_after : Option (List ℕ)) where
       reads_undecided text NoCategory line h.0 (omega (arith, h.1))
   load_not_found line ReadFault f text e =
       let h = f.1 text (ap (prepend_known []) e) in
-      (f.0, (h.0, h.1.0, h.1.1, h.1.2, h.1.3, h.1.4, undecided (outcome_of false h.0) NoCategory h.2))
+      (f.0, (h.0, h.1.0, h.1.1, h.1.2, h.1.3, h.1.4, h.1.5, undecided (outcome_of false h.0) NoCategory h.2))
   load_not_found line _ f text e = absurd f
 
   module _ (found : TextState) (left_found : Option (List ℕ)) (finds : Finds text_start found left left_found (Ok tt)) where
@@ -69,7 +70,7 @@ module _ (left left_after : Option (List ℕ)) where
         let at = finds text (ap (prepend_known []) e) in
         let h = f at.1 at.2.0 in
         reads_undecided text NoEnd line (from_category text e (Undecided NoEnd) h.0)
-        (omega (arith, h.1, at.2.2, ap length at.2.1, length-append at.0 (lines_of at.1)))
+        (omega (arith, h.1, at.2.3, ap length at.2.1, length-append at.0 (lines_of at.1)))
     load_fails line ReadFault f text e =
         let at = finds text (ap (prepend_known []) e) in
         let h = f.1 at.1 at.2.0 in (
@@ -79,8 +80,9 @@ module _ (left left_after : Option (List ℕ)) where
             h.1.0,
             h.1.1,
             h.1.2,
-            at.2.1 ∙ (ap (λ ls. at.0 ++ ls) h.1.3 ∙ sym (append_assoc at.0 h.0 (lines_of (h.1.0 ++ h.1.1)))),
-            h.1.4,
+            ends_behind text at.1 (h.1.0 ++ h.1.1) at.2.2 h.1.3,
+            at.2.1 ∙ (ap (λ ls. at.0 ++ ls) h.1.4 ∙ sym (append_assoc at.0 h.0 (lines_of (h.1.0 ++ h.1.1)))),
+            h.1.5,
             undecided (outcome_of false (at.0 ++ h.0)) NoEnd (at.3 false h.0 ∙ h.2),
           ),
         )

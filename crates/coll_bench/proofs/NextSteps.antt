@@ -1,5 +1,5 @@
 -- The lines of the category, one after another: what is known after some of them, and what one more adds.
-use Rattle.std.proofs.Common.{◌≡◌, ℕ, ◌+◌, Bool, true, false, List, [], ◌∷◌, ◌++◌, length, Option, Some, None, Ok, Err, sym, ap, ◌∙◌, refl, arith, append-nil}
+use Rattle.std.proofs.Common.{◌≡◌, ℕ, ◌+◌, Bool, true, false, List, [], ◌∷◌, ◌++◌, length, Option, Some, None, Ok, Err, sym, ap, subst, ◌∙◌, refl, arith, append-nil}
 use Rattle.std.specs.Prelude.{IsSome, option_map, unwrap_or}
 use Rattle.coll_lex.specs.PhysicalLines.{lines_of}
 use Rattle.coll_lex.specs.LogicalLines.{LexerState, LogicalLine, OpenLine, number_of, pending, first_of, fed, first_line, dropped, logical_lines, left_open}
@@ -7,7 +7,7 @@ use Rattle.coll_lex.specs.declared.tokens.Line.{Line}
 use Rattle.coll_lex.specs.declared.faults.LexFault.{LexFault}
 use Rattle.coll_lex.specs.declared.faults.LexFault.TheVariants as lex
 use Rattle.coll_lex.proofs.LineSteps.{logical_lines-nil, logical_lines-none, logical_lines-whole, logical_lines-fault}
-use Rattle.coll_bench.specs.TextLines.{TextState, ahead_of, GivesFirst, WasLast, CountsOne, FailsFed, TakeFails, TakesLines, NextFails, Nexts}
+use Rattle.coll_bench.specs.TextLines.{TextState, ahead_of, EndsIn, GivesFirst, WasLast, CountsOne, FailsFed, TakeFails, TakesLines, NextFails, Nexts}
 use Rattle.coll_bench.specs.declared.tables.load_faults.LoadCause.{LoadCause}
 use Rattle.coll_bench.specs.declared.tables.load_faults.LoadCause.TheVariants.{Lex, ReadFault}
 use Rattle.coll_bench.proofs.FindSteps.{one_behind, takes_more}
@@ -21,7 +21,7 @@ Nexting start now left left_now =
 
 -- before the first line
 pub nexting_starts : (start : TextState) (left : Option (List ℕ)) → Nexting start start left left
-nexting_starts start left = λ text e. ([], text, (e, refl, omega arith), λ ends more. refl)
+nexting_starts start left = λ text e. ([], text, (e, refl, ([], refl), omega arith), λ ends more. refl)
 
 module _ (start now : TextState) (left left_now : Option (List ℕ)) (h : Nexting start now left left_now) where
   -- a line more that ends no logical line
@@ -31,7 +31,7 @@ module _ (start now : TextState) (left left_now : Option (List ℕ)) (h : Nextin
       let line = gives at.1 at.2.0 in (
         at.0 ++ next.reader.line ∷ [],
         line.0,
-        takes_more start now next left_now left_next text at.0 at.1 line.0 at.2 line.1 line.2 one,
+        takes_more start now next left_now left_next text at.0 at.1 line.0 at.2 line.1 line.2 line.3 one,
         λ ends more. ap (logical_lines [] ends start.lexer) (one_behind at.0 next.reader.line more) ∙ (at.3 ends (next.reader.line ∷ more) ∙ logical_lines-none [] ends now.lexer next.reader.line more next.lexer refl none),
       )
 
@@ -43,7 +43,7 @@ module _ (start now : TextState) (left left_now : Option (List ℕ)) (h : Nextin
         at.0 ++ next.reader.line ∷ [],
         line.0,
         first_line now.lexer next.reader.line,
-        takes_more start now next left_now left_next text at.0 at.1 line.0 at.2 line.1 line.2 one,
+        takes_more start now next left_now left_next text at.0 at.1 line.0 at.2 line.1 line.2 line.3 one,
         λ ends more. ap (logical_lines [] ends start.lexer) (one_behind at.0 next.reader.line more) ∙ (at.3 ends (next.reader.line ∷ more) ∙ logical_lines-whole [] ends now.lexer next.reader.line more given next.lexer refl whole),
       )
 
@@ -57,7 +57,7 @@ module _ (start now : TextState) (left left_now : Option (List ℕ)) (h : Nextin
       let at = h text e in
       let all = all_taken last text e in (
         ap (logical_lines [] true start.lexer) all ∙ (at.3 true [] ∙ (logical_lines-nil [] true now.lexer ∙ none)),
-        count ∙ (at.2.2 ∙ ap (λ lines. start.lexer.count + length lines) (sym (all ∙ append-nil at.0))),
+        count ∙ (at.2.3 ∙ ap (λ lines. start.lexer.count + length lines) (sym (all ∙ append-nil at.0))),
       )
 
   -- no line more, and one open
@@ -92,7 +92,7 @@ module _ (start now : TextState) (left left_now : Option (List ℕ)) (h : Nextin
         let at = h text e in
         let cut = f.1 at.1 at.2.0 in (
           at.0,
-          (cut.0, cut.1, cut.2, at.2.1 ∙ ap (λ rest. at.0 ++ lines_of rest) cut.3, cut.4),
+          (cut.0, cut.1, cut.2, subst (EndsIn text) cut.3 at.2.2, at.2.1 ∙ ap (λ rest. at.0 ++ lines_of rest) cut.3, cut.4),
           ap (logical_lines [] false start.lexer) (sym (append-nil at.0)) ∙ (at.3 false [] ∙ logical_lines-nil [] false now.lexer),
         ),
   )

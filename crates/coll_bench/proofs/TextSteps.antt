@@ -1,13 +1,13 @@
 -- What the reader's answer to one call says of the lines of the text that is ahead.
-use Rattle.std.proofs.Common.{◌≡◌, ℕ, ◌<◌, Bool, true, false, List, [], ◌++◌, length, Option, Some, None, Ok, ◌⊎◌, ⊎_elim, sym, ap, subst, ◌∙◌, refl}
+use Rattle.std.proofs.Common.{◌≡◌, ℕ, ◌<◌, Bool, true, false, List, [], ◌∷◌, ◌++◌, length, Option, Some, None, Ok, ◌⊎◌, ⊎_elim, sym, ap, subst, ◌∙◌, refl, append_assoc, append-nil}
 use Rattle.std.specs.Io.KnownBytes.{prepend_known, Keeps, IsAtEnd}
 use Rattle.coll_lex.specs.LineReading as reading
-use Rattle.coll_lex.specs.PhysicalLines.{lines_of}
+use Rattle.coll_lex.specs.PhysicalLines.{line_feed, lines_of}
 use Rattle.coll_lex.specs.declared.tokens.TheConstants.{MOST_LINE_BYTES}
 use Rattle.coll_lex.specs.declared.faults.ReadStop.{ReadStop}
 use Rattle.coll_lex.specs.declared.faults.ReadStop.TheVariants as stop
 use Rattle.coll_lex.proofs.PhysicalLinesLemmas.{lines_of-nil, lines_of-cut, lines_of-long}
-use Rattle.coll_bench.specs.TextLines.{TextState, ahead_of, GivesFirst, WasLast, FirstFails, CutShort, Advances}
+use Rattle.coll_bench.specs.TextLines.{TextState, ahead_of, EndsIn, GivesFirst, WasLast, FirstFails, CutShort, Advances}
 
 -- bytes that are known lose a line, and the rest is known
 known_cut : (new : Option (List ℕ)) (text line : List ℕ) → reading.Cuts (Some text) new line → (rest : List ℕ) × (new ≡ Some rest) × reading.CutsLine text line rest
@@ -24,12 +24,23 @@ known_behind : (left : Option (List ℕ)) (held text : List ℕ) → prepend_kno
 known_behind None held text e = cc
 known_behind (Some rest) held text e = (rest, refl, cc)
 
+-- behind a line that is cut off, the text has its end
+ends_by : (text line rest : List ℕ) → reading.CutsLine text line rest → EndsIn text rest
+ends_by text line rest cut =
+    ⊎_elim (λ (e : text ≡ line ++ line_feed ∷ rest). (line ++ line_feed ∷ [], e ∙ sym (append_assoc line (line_feed ∷ []) rest)))
+    (λ (e : (text ≡ line) × (0 < length line) × (rest ≡ [])). (line, e.0 ∙ (sym (append-nil line) ∙ ap (λ l. line ++ l) (sym e.2))))
+    cut
+
+-- the end of an end is one of the text
+pub ends_behind : (text rest later : List ℕ) → EndsIn text rest → EndsIn rest later → EndsIn text later
+ends_behind text rest later h k = (h.0 ++ k.0, h.1 ∙ (ap (λ l. h.0 ++ l) k.1 ∙ sym (append_assoc h.0 k.0 later)))
+
 module _ (old new : TextState) (left left_after : Option (List ℕ)) (failed failed_after : ℕ) where
   -- a line that was given is the first one ahead
   pub gives_first : reading.GivesLine old.reader new.reader left left_after failed failed_after → GivesFirst old new left left_after
   gives_first h = λ text e.
       let cut = known_cut (ahead_of new left_after) text new.reader.line (subst (λ o. reading.Cuts o (ahead_of new left_after) new.reader.line) e h.cut) in
-      (cut.0, cut.1, lines_of-cut text new.reader.line cut.0 cut.2 h.whole)
+      (cut.0, cut.1, ends_by text new.reader.line cut.0 cut.2, lines_of-cut text new.reader.line cut.0 cut.2 h.whole)
 
   -- at the end there is no line ahead
   pub was_last : reading.GivesEnd old.reader new.reader left left_after failed failed_after → WasLast old left

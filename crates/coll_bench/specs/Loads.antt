@@ -4,6 +4,7 @@ use Rattle.coll_lex.specs.Devices.{raised}
 use Rattle.coll_lex.specs.PhysicalLines.{lines_of, IsInLine}
 use Rattle.coll_lex.specs.declared.faults.LexFault.TheVariants as lex
 use Rattle.coll_bench.specs.Table.{Collation}
+use Rattle.coll_bench.specs.TextLines.{EndsIn}
 use Rattle.coll_bench.specs.Reading.{Outcome, Decided, Undecided, outcome_of, reads}
 use Rattle.coll_bench.specs.declared.syntax.syntax_faults.SyntaxFault.TheVariants as syntax
 use Rattle.coll_bench.specs.declared.tables.load_faults.LoadFault.{LoadFault}
@@ -15,10 +16,11 @@ abbrev pub IsUndecided : Outcome → Type 0
 IsUndecided (Decided answer) = ⊥
 IsUndecided (Undecided cause) = Unit {0}
 
--- a read failed behind a part of a line: the lines read whole before it decide nothing
+-- a read failed behind a part of a line: the lines read whole before it decide nothing. That part and the rest are the
+-- last bytes of the text, so that a line feed that was read belongs to the lines read whole
 abbrev pub StopsWithin : List ℕ → Option (List ℕ) → Type 0
 StopsWithin text left =
-    (whole : List (List ℕ)) × (part : List ℕ) × (rest : List ℕ) × (left ≡ Some rest)
+    (whole : List (List ℕ)) × (part : List ℕ) × (rest : List ℕ) × (left ≡ Some rest) × EndsIn text (part ++ rest)
     × (lines_of text ≡ whole ++ lines_of (part ++ rest)) × IsInLine part × IsUndecided (outcome_of false whole)
 
 -- what a fault says of the text, by its cause; a want of memory says nothing

@@ -85,17 +85,17 @@ pub record NeverRan (text : List ℕ) (left : Option (List ℕ)) (written : List
   pub nothing_read : left ≡ Some text
 
 abbrev pub RanToLexFault : Collation → List ℕ → Option (List ℕ) → List ℕ → ℕ → LexFault → Type 0
-RanToLexFault table text left written number lex.OutOfMemory = NeverRan text left written
+RanToLexFault table text left written number lex.OutOfMemory = (number ≡ 0) × NeverRan text left written
 RanToLexFault table text left written number f = (lines_starved : List Bool) × (units_starved : List Bool) × RanToLastLine table text written lines_starved units_starved number f
 
 -- a run that ended with a fault
 abbrev pub RanToFault : Collation → List ℕ → Option (List ℕ) → List ℕ → ℕ → Fault → Type 0
 RanToFault table text left written number (fault.Read read.ReadFault) =
-    (lines_starved : List Bool) × (units_starved : List Bool) × (read : List ℕ) × (part : List ℕ) × (rest : List ℕ) × RanToReadFault table text left written lines_starved units_starved read part rest
+    (number ≡ 0) × (lines_starved : List Bool) × (units_starved : List Bool) × (read : List ℕ) × (part : List ℕ) × (rest : List ℕ) × RanToReadFault table text left written lines_starved units_starved read part rest
 RanToFault table text left written number (fault.Read read.LineTooLong) = ⊥
 -- a write failed: a front of what was to be written was
 RanToFault table text left written number (fault.Write stop) =
-    (lines_starved : List Bool) × (units_starved : List Bool) × (back : List ℕ) × (starved_output lines_starved units_starved true table text ≡ written ++ back)
+    (number ≡ 0) × (lines_starved : List Bool) × (units_starved : List Bool) × (back : List ℕ) × (starved_output lines_starved units_starved true table text ≡ written ++ back)
 RanToFault table text left written number (fault.Lex f) = RanToLexFault table text left written number f
 RanToFault table text left written number (fault.Syntax f) = ⊥
 RanToFault table text left written number (fault.Bench f) = ⊥

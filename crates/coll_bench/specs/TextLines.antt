@@ -23,11 +23,15 @@ pub record TextState : Type 0 where
 abbrev pub ahead_of : TextState → Option (List ℕ) → Option (List ℕ)
 ahead_of t left = reading.ahead t.reader left
 
+-- a text ends in these bytes
+abbrev pub EndsIn : List ℕ → List ℕ → Type 0
+EndsIn text rest = (front : List ℕ) × (text ≡ front ++ rest)
+
 -- the reader gave the first of the physical lines ahead
 abbrev pub GivesFirst : TextState → TextState → Option (List ℕ) → Option (List ℕ) → Type 0
 GivesFirst old new left left_after =
     (text : List ℕ) → ahead_of old left ≡ Some text →
-    (rest : List ℕ) × (ahead_of new left_after ≡ Some rest) × (lines_of text ≡ new.reader.line ∷ lines_of rest)
+    (rest : List ℕ) × (ahead_of new left_after ≡ Some rest) × EndsIn text rest × (lines_of text ≡ new.reader.line ∷ lines_of rest)
 
 -- no physical line was ahead
 abbrev pub WasLast : TextState → Option (List ℕ) → Type 0
@@ -108,12 +112,14 @@ Takes old new left left_after (Err fault) = TakeFails FailsFed old left left_aft
 -- physical lines were taken: these of the text, and the rest is ahead
 abbrev pub TakesLines : TextState → TextState → Option (List ℕ) → List ℕ → List (List ℕ) → List ℕ → Type 0
 TakesLines old new left_after text whole rest =
-    (ahead_of new left_after ≡ Some rest) × (lines_of text ≡ whole ++ lines_of rest) × (new.lexer.count ≡ old.lexer.count + length whole)
+    (ahead_of new left_after ≡ Some rest) × (lines_of text ≡ whole ++ lines_of rest) × EndsIn text rest × (new.lexer.count ≡ old.lexer.count + length whole)
 
--- a read failed behind whole lines and a part of a line
+-- a read failed behind whole lines and a part of a line; that part and the rest are the last bytes of the text, so that a
+-- line feed that was read belongs to the whole lines
 abbrev pub StopsAfter : Option (List ℕ) → List ℕ → List (List ℕ) → Type 0
 StopsAfter left_after text whole =
-    (part : List ℕ) × (rest : List ℕ) × (left_after ≡ Some rest) × (lines_of text ≡ whole ++ lines_of (part ++ rest)) × IsInLine part
+    (part : List ℕ) × (rest : List ℕ) × (left_after ≡ Some rest) × EndsIn text (part ++ rest)
+    × (lines_of text ≡ whole ++ lines_of (part ++ rest)) × IsInLine part
 
 -- why no category was found; the lines before it decide the fault
 abbrev pub FindFails : TextState → Option (List ℕ) → Option (List ℕ) → ℕ → LoadCause → Type 0

@@ -1,9 +1,9 @@
 //! What a line of a session is.
 //!
 //! A physical line is handed to the lexer; where it ends a logical line, that line is a command, a line of a delta,
-//! or refused. What a line is depends on no table and on no block. Memory is taken here alone, for a line's tokens and
-//! names and for the room of a block, so that what comes after can't fail for want of it. A new kind of line is a new
-//! variant of `Heard`, and a case of the definition of session lines.
+//! or refused. What a line is depends on no table and on no block. For a line and for its block memory is taken here
+//! alone; a statement takes its own when it is judged. A new kind of line is a new variant of `Heard`, and a case of the
+//! definition of session lines.
 
 ghost use Rattle.std.specs.Prelude.{◌≡◌, ◌≤◌, Bool, IfOk, is_some, chars};
 ghost use Rattle.coll_lex.specs.LogicalLines.{pending, number_of, first_line};
@@ -33,7 +33,7 @@ pub enum Opening {
 /// What a logical line of a session is.
 #[derive(Debug, Drop)]
 pub enum Heard {
-    /// A line too long, or a line too many: no line follows.
+    /// A line too long, a line too many, or one that is to be continued where the text ends: no line follows.
     Stops(LexFault),
     /// A line that the lexer or the grammar refuses, and what it begins with.
     Refused(Opening, Fault),

@@ -325,3 +325,20 @@ fn a_line_too_long_drops_the_open_block_and_ends_the_session(rt: HostRuntime) ->
     );
     Ok(())
 }
+
+// One block more than may remain, and then one is taken back.
+#[test]
+fn a_full_history_refuses_a_statement(rt: HostRuntime) -> Result<(), Fail> {
+    let mut text = Vec::new(rt.alloc());
+    for _ in 0..65_536_u32 {
+        text.extend_from_slice(b"reorder-after <U0061>\nreorder-end\n")?;
+    }
+    text.extend_from_slice(b":undo\n")?;
+    let mut input = Counted::new(text.as_slice());
+    let mut output = Counted::new(Vec::new(rt.alloc()));
+    let answer = run(rt.alloc(), &mut input, &mut output)?;
+    assert_eq!(rt; answer, Ok(()));
+    let replies = b"ok 65535\nrefused 66 HistoryFull\nundone 65534\n".as_slice();
+    assert!(rt; output.device().ends_with(replies));
+    Ok(())
+}

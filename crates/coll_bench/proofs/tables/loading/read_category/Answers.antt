@@ -1,10 +1,20 @@
 -- One logical line of the category more, or what ends it.
-use Rattle.std.proofs.Common.{Option, Ok, subst, ◌∙◌}
+use Rattle.std.proofs.Common.{Option, Ok, refl, sym, subst, ◌∙◌}
 use Rattle.std.proofs.lemmas.Result.{err_from_is_err_and}
 use Rattle.coll_lex.specs.declared.tokens.Line.{Line}
+use Rattle.coll_bench.specs.Drafts.{DraftState}
 use Rattle.coll_bench.specs.TextLines.{Nexts}
-use Rattle.coll_bench.proofs.CategorySteps.{reading_more, read_whole, refused_line, not_ended, not_given}
+use Rattle.coll_bench.proofs.CategorySteps.{Reading, reading_starts, reading_more, read_whole, refused_line, not_ended, not_given}
 use Rattle.coll_bench.proofs.tables.loading.read_category.Goals as goal
+
+pub lines-init : goal.lines-init
+lines-init g c =
+    let left = g.R.Source.left c.args.input.now in
+    record {
+      read = subst (λ (d : DraftState). Reading c.args.lines.now c.args.lines.now left left d) (sym c.new-draft.ensures) (reading_starts c.args.lines.now left);
+      errors = refl;
+      goes_on = c.requires;
+    }
 
 pub returns-in_err-line-clause-read : goal.returns-in_err-line-clause-read
 returns-in_err-line-clause-read g c =
