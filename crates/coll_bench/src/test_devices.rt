@@ -11,6 +11,7 @@ pub struct FailingReader<'a> {
 }
 
 impl<'a> FailingReader<'a> {
+    /// A reader of this text, before its first read.
     pub fn new(text: &'a [u8], reads_left: usize) -> Self {
         FailingReader { text, reads_left }
     }
@@ -39,6 +40,7 @@ pub struct FailingWriter {
 }
 
 impl FailingWriter {
+    /// A writer behind these bytes, before its first write and flush.
     pub fn new(taken: Vec<u8>, writes_left: usize, flushes_left: usize) -> Self {
         FailingWriter {
             taken,
