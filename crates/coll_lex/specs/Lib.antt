@@ -9,6 +9,7 @@ pub mod LineBuffer
 pub mod LineReading
 pub mod LogicalLines
 pub mod Marked
+pub mod Names
 pub mod PhysicalLines
 pub mod ReadingBack
 pub mod Scanning

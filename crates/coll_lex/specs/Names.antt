@@ -1,0 +1,30 @@
+-- What is true of the tokens of every logical line: names are names, and no word is empty.
+use Rattle.std.specs.Prelude.{◌≡◌, ℕ, ◌<◌, List, length, All, Ok}
+use Rattle.coll_lex.specs.Tokens.{symbol_of}
+use Rattle.coll_lex.specs.declared.tokens.Token.{Token}
+use Rattle.coll_lex.specs.declared.tokens.Token.TheVariants as token
+use Rattle.coll_lex.specs.declared.tokens.Piece.{Piece}
+use Rattle.coll_lex.specs.declared.tokens.Piece.TheVariants as piece
+
+-- a name: what stands between the brackets of a symbol that is no code point
+abbrev pub IsName : List ℕ → Type 0
+IsName name = symbol_of name ≡ Ok (piece.Name name)
+
+-- a piece of a string is a character or a name
+abbrev pub IsPiece : Piece → Type 0
+IsPiece (piece.Char c) = Unit {0}
+IsPiece (piece.Name name) = IsName name
+
+-- a word has a character, a symbol and each symbol in a string is a name
+abbrev pub IsToken : Token → Type 0
+IsToken (token.Word word) = 0 < length word
+IsToken (token.Symbol name) = IsName name
+IsToken (token.Char c) = Unit {0}
+IsToken (token.Text pieces) = All IsPiece pieces
+IsToken token.Semicolon = Unit {0}
+IsToken token.Comma = Unit {0}
+
+-- the tokens of a logical line: there is one, and each is as the lexer makes it
+pub record AreTokens (tokens : List Token) : Type 0 where
+  pub some : 0 < length tokens
+  pub each : All IsToken tokens
