@@ -16,8 +16,8 @@ use Rattle.coll_lex.proofs.LineSteps.{first_line-fresh, first_line-continued, fe
 use Rattle.coll_lex.proofs.LineEnds.{fed-whole, fed-room}
 use Rattle.coll_bench.specs.SessionLines.{opening_of, is_command_word, tokens_heard, fault_heard, line_heard}
 use Rattle.coll_bench.specs.Hearing.{OpensAs, heard_by, Hears, no_memory, HearsTokens}
-use Rattle.coll_bench.specs.declared.session.hearing.Opening.{Opening}
-use Rattle.coll_bench.specs.declared.session.hearing.Heard.{Heard}
+use Rattle.coll_bench.specs.declared.hearing.Opening.{Opening}
+use Rattle.coll_bench.specs.declared.hearing.Heard.{Heard}
 
 -- a text of which two characters were taken is a command word by the first
 pub command_of_two : (text later last : List ℕ) (a b : ℕ) → IsUtf8 text → text ≡ encode_utf8 a ++ later → later ≡ encode_utf8 b ++ last → (a == 58) ≡ is_command_word (chars text)

@@ -4,16 +4,16 @@ use Rattle.std.specs.Prelude.{if◌then◌else◌}
 use Rattle.std.proofs.lemmas.Bool.{le-leb, lt-leb, ne_eqb}
 use Rattle.std.proofs.lemmas.List.{reverse-append}
 use Rattle.std.proofs.Math.Seq.{take-append_seam, drop-append_seam}
-use Rattle.coll_bench.specs.Table.{Collation}
-use Rattle.coll_bench.specs.Delta.{delta}
-use Rattle.coll_bench.specs.Record.{fits, turn}
+use Rattle.coll_table.specs.Table.{Collation}
+use Rattle.coll_table.specs.Delta.{delta}
+use Rattle.coll_table.specs.Record.{fits, turn}
 use Rattle.coll_bench.specs.Replay.{given_or, replay}
 use Rattle.coll_bench.specs.History.{History, begun, most_remaining, table_of, with_statement, judged_by, judged, stepped_back, taken_back}
 use Rattle.coll_bench.specs.Kept.{statements_of, turned_back, Leads, LeadsOn, history_of}
-use Rattle.coll_bench.specs.declared.syntax.statements.Statement.{Statement}
-use Rattle.coll_bench.specs.declared.tables.refusals.Refusal.{Refusal}
+use Rattle.coll_table.specs.declared.plain.statements.PlainStatement.{PlainStatement}
+use Rattle.coll_table.specs.declared.refusals.Refusal.{Refusal}
 use Rattle.coll_bench.specs.declared.faults.BenchFault.TheVariants.{Table, NothingToUndo, HistoryFull}
-use Rattle.coll_bench.specs.declared.session.histories.Kept.{Kept}
+use Rattle.coll_bench.specs.declared.histories.Kept.{Kept}
 
 -- the last record is turned first
 pub turned_back-push : (table : Collation) (kept : List Kept) (k : Kept) → turned_back table (kept ++ k ∷ []) ≡ turned_back (turn table k.change) kept
@@ -23,7 +23,7 @@ turned_back-push table (first ∷ kept) k = ap (λ (t : Collation). turn t first
 
 pub statements_of-push : (kept : List Kept) (k : Kept) → statements_of (kept ++ k ∷ []) ≡ statements_of kept ++ k.statement ∷ []
 statements_of-push [] k = refl
-statements_of-push (first ∷ kept) k = ap (λ (ss : List Statement). first.statement ∷ ss) (statements_of-push kept k)
+statements_of-push (first ∷ kept) k = ap (λ (ss : List PlainStatement). first.statement ∷ ss) (statements_of-push kept k)
 
 pub Leads-push : (table : Collation) (kept : List Kept) (k : Kept) → Leads (turn table k.change) kept → delta (turn table k.change) k.statement ≡ Ok table → fits table k.change → Leads table (kept ++ k ∷ [])
 unfolding Leads turned_back
@@ -58,11 +58,11 @@ replayed table (k ∷ kept) leads =
     ap (λ (r : Result Collation Refusal). replay (given_or (turn (turned_back table kept) k.change) r) (statements_of kept)) leads.0 ∙ replayed table kept leads.2
 
 -- what becomes of a statement, by what its history and the table say
-pub judged_full : (h : History) (s : Statement) → most_remaining ≤ length h.remaining → judged h s ≡ Err HistoryFull
+pub judged_full : (h : History) (s : PlainStatement) → most_remaining ≤ length h.remaining → judged h s ≡ Err HistoryFull
 unfolding judged
 judged_full h s full = ap (λ (b : Bool). if b then Err HistoryFull else judged_by h s (delta (table_of h) s)) (le-leb most_remaining (length h.remaining) full)
 
-pub judged_where_room : (h : History) (s : Statement) → length h.remaining < most_remaining → judged h s ≡ judged_by h s (delta (table_of h) s)
+pub judged_where_room : (h : History) (s : PlainStatement) → length h.remaining < most_remaining → judged h s ≡ judged_by h s (delta (table_of h) s)
 unfolding judged
 judged_where_room h s room = ap (λ (b : Bool). if b then Err HistoryFull else judged_by h s (delta (table_of h) s)) (lt-leb most_remaining (length h.remaining) room)
 
@@ -70,11 +70,11 @@ length-statements_of : (kept : List Kept) → length (statements_of kept) ≡ le
 length-statements_of [] = refl
 length-statements_of (k ∷ kept) = ap suc (length-statements_of kept)
 
-abbrev made : Collation → List Statement → List Statement → History
+abbrev made : Collation → List PlainStatement → List PlainStatement → History
 made start remaining undone = record { start = start; remaining = remaining; undone = undone }
 
-made_same : (s t : Collation) (a b u v : List Statement) → s ≡ t → a ≡ b → u ≡ v → made s a u ≡ made t b v
-made_same s t a b u v p q r = ap (λ (x : Collation). made x a u) p ∙ ap (λ (x : List Statement). made t x u) q ∙ ap (λ (x : List Statement). made t b x) r
+made_same : (s t : Collation) (a b u v : List PlainStatement) → s ≡ t → a ≡ b → u ≡ v → made s a u ≡ made t b v
+made_same s t a b u v p q r = ap (λ (x : Collation). made x a u) p ∙ ap (λ (x : List PlainStatement). made t x u) q ∙ ap (λ (x : List PlainStatement). made t b x) r
 
 -- the history with an accepted statement, in which nothing is left to be put again
 pub history_with : (T T2 : Collation) (kept undone kept2 undone2 : List Kept) (k : Kept) → kept2 ≡ kept ++ k ∷ [] → undone2 ≡ [] → turn T2 k.change ≡ T
@@ -94,10 +94,10 @@ pub LeadsOn_none : (T : Collation) (undone : List Kept) → undone ≡ [] → Le
 unfolding LeadsOn
 LeadsOn_none T undone emptied = subst (λ (ks : List Kept). LeadsOn T (reverse ks)) (sym emptied) tt
 
-pub judged_accepted : (h : History) (s : Statement) (T2 : Collation) → length h.remaining < most_remaining → delta (table_of h) s ≡ Ok T2 → judged h s ≡ Ok (with_statement h s)
+pub judged_accepted : (h : History) (s : PlainStatement) (T2 : Collation) → length h.remaining < most_remaining → delta (table_of h) s ≡ Ok T2 → judged h s ≡ Ok (with_statement h s)
 judged_accepted h s T2 room accepted = judged_where_room h s room ∙ ap (judged_by h s) accepted
 
-pub judged_refused : (h : History) (s : Statement) (reason : Refusal) → length h.remaining < most_remaining → delta (table_of h) s ≡ Err reason → judged h s ≡ Err (Table reason)
+pub judged_refused : (h : History) (s : PlainStatement) (reason : Refusal) → length h.remaining < most_remaining → delta (table_of h) s ≡ Err reason → judged h s ≡ Err (Table reason)
 judged_refused h s reason room refused = judged_where_room h s room ∙ ap (judged_by h s) refused
 
 -- the history after an undo
@@ -111,7 +111,7 @@ taken_back_none T kept undone none = ap (λ (ks : List Kept). taken_back (histor
 pub length-push : {A : Type 0} (xs : List A) (x : A) → length (xs ++ x ∷ []) ≡ suc (length xs)
 length-push xs x = length-append xs (x ∷ []) ∙ add-one (length xs)
 
-taken_back_push : (start : Collation) (kept : List Statement) (s : Statement) (undone : List Statement)
+taken_back_push : (start : Collation) (kept : List PlainStatement) (s : PlainStatement) (undone : List PlainStatement)
     → taken_back (made start (kept ++ s ∷ []) undone) ≡ Ok (made start kept (s ∷ undone))
 unfolding taken_back
 taken_back_push start kept s undone =
@@ -120,18 +120,18 @@ taken_back_push start kept s undone =
     let none : eqb (length (kept ++ s ∷ [])) 0 ≡ false = ne_eqb (length (kept ++ s ∷ [])) 0 (omega (arith, count)) in
     ap (λ (b : Bool). if b then Err NothingToUndo else Ok (stepped_back (made start (kept ++ s ∷ []) undone))) none
     ∙ ap (λ (n : ℕ). Ok (made start (take n (kept ++ s ∷ [])) (drop n (kept ++ s ∷ []) ++ undone))) less
-    ∙ ap (λ (xs : List Statement). Ok (made start xs (drop (length kept) (kept ++ s ∷ []) ++ undone))) (take-append_seam kept (s ∷ []))
-    ∙ ap (λ (xs : List Statement). Ok (made start kept (xs ++ undone))) (drop-append_seam kept (s ∷ []))
+    ∙ ap (λ (xs : List PlainStatement). Ok (made start xs (drop (length kept) (kept ++ s ∷ []) ++ undone))) (take-append_seam kept (s ∷ []))
+    ∙ ap (λ (xs : List PlainStatement). Ok (made start kept (xs ++ undone))) (drop-append_seam kept (s ∷ []))
 
 pub taken_back_last : (T T1 : Collation) (kept kept1 undone undone1 : List Kept) (k k1 : Kept) → kept ≡ kept1 ++ k ∷ [] → undone1 ≡ undone ++ k1 ∷ [] → k1.statement ≡ k.statement → T1 ≡ turn T k.change
     → taken_back (history_of T kept undone) ≡ Ok (history_of T1 kept1 undone1)
 taken_back_last T T1 kept kept1 undone undone1 k k1 shrunk grown same turned =
     ap taken_back (made_same _ _ _ _ _ _
     (ap (turned_back T) shrunk ∙ turned_back-push T kept1 k ∙ ap (λ (t : Collation). turned_back t kept1) (sym turned))
-    (ap statements_of shrunk ∙ statements_of-push kept1 k ∙ ap (λ (s : Statement). statements_of kept1 ++ s ∷ []) (sym same))
+    (ap statements_of shrunk ∙ statements_of-push kept1 k ∙ ap (λ (s : PlainStatement). statements_of kept1 ++ s ∷ []) (sym same))
     refl)
     ∙ taken_back_push (turned_back T1 kept1) (statements_of kept1) k1.statement (reverse (statements_of undone))
-    ∙ ap (λ (ss : List Statement). Ok (made (turned_back T1 kept1) (statements_of kept1) ss))
+    ∙ ap (λ (ss : List PlainStatement). Ok (made (turned_back T1 kept1) (statements_of kept1) ss))
     (sym (ap (λ (ks : List Kept). reverse (statements_of ks)) grown ∙ ap reverse (statements_of-push undone k1) ∙ reverse-append (statements_of undone) (k1.statement ∷ [])))
 
 pub Leads_shorter : (T T1 : Collation) (kept kept1 : List Kept) (k : Kept) → kept ≡ kept1 ++ k ∷ [] → T1 ≡ turn T k.change → Leads T kept → Leads T1 kept1

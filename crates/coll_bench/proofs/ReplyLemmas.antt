@@ -7,16 +7,16 @@ use Rattle.std.proofs.KnownBytes.{Appends-kept}
 use Rattle.coll_lex.specs.Devices.{Sends}
 use Rattle.coll_bench.specs.History.{History, judged, taken_back, RefusesStatement}
 use Rattle.coll_bench.specs.Replies.{counted_line, refused_line, listed_line, listed_lines, count_reply, outcome_line, history_or, command_reply, after_command, reply, after, reply_if, after_if}
-use Rattle.coll_bench.specs.declared.syntax.statements.Statement.{Statement}
-use Rattle.coll_bench.specs.declared.tables.entries.Entry.{Entry}
-use Rattle.coll_bench.specs.declared.tables.refusals.Refusal.TheVariants as refusal
+use Rattle.coll_table.specs.declared.plain.statements.PlainStatement.{PlainStatement}
+use Rattle.coll_table.specs.declared.entries.Entry.{Entry}
+use Rattle.coll_table.specs.declared.refusals.Refusal.TheVariants as refusal
 use Rattle.coll_bench.specs.declared.faults.BenchFault.{BenchFault}
 use Rattle.coll_bench.specs.declared.faults.BenchFault.TheVariants as bench
 use Rattle.coll_bench.specs.declared.faults.Fault.{Fault}
 use Rattle.coll_bench.specs.declared.faults.Fault.TheVariants as fault
-use Rattle.coll_bench.specs.declared.session.commands.Command.{Command}
-use Rattle.coll_bench.specs.declared.session.requests.Request.{Request}
-use Rattle.coll_bench.specs.declared.session.requests.Request.TheVariants as request
+use Rattle.coll_bench.specs.declared.commands.Command.{Command}
+use Rattle.coll_bench.specs.declared.requests.Request.{Request}
+use Rattle.coll_bench.specs.declared.requests.Request.TheVariants as request
 
 -- the lines of the entries from a place on begin with the line of the entry there
 pub listed_more : (entries : List Entry) (index : ℕ) (entry : Entry) → index < length entries → entry ≡ get_or entries index entry
@@ -58,7 +58,7 @@ pub undo_outcome : (h h2 : History) (r : Result ℕ BenchFault)
     → IfOk r (λ _. taken_back h ≡ Ok h2) → IfOk r (λ n. n ≡ length h2.remaining) → IfErr r (λ f. taken_back h ≡ Err f) → OnErr r (h2 ≡ h) → Outcome (codes "undone") h h2 r (taken_back h)
 undo_outcome h h2 r ok count err same = outcome_is (codes "undone") h h2 r (taken_back h) ok count err same
 
-judged_answered : (h h2 : History) (s : Statement) (r : Result ℕ BenchFault)
+judged_answered : (h h2 : History) (s : PlainStatement) (r : Result ℕ BenchFault)
     → IfOk r (λ _. judged h s ≡ Ok h2) → IfOk r (λ n. n ≡ length h2.remaining) → IfErr r (λ f. judged h s ≡ Err f) → OnErr r (h2 ≡ h) → Answered false h h2 (request.States s) (outcome_line (codes "ok") r)
 unfolding reply after
 judged_answered h h2 s r ok count err same =
@@ -77,12 +77,12 @@ want_or_not (bench.Table refusal.NoWeights) = inr (λ e. cc)
 want_or_not bench.NothingToUndo = inr (λ e. cc)
 want_or_not bench.HistoryFull = inr (λ e. cc)
 
-starved_answered : (h h2 : History) (s : Statement) (f : BenchFault) → f ≡ bench.Table refusal.OutOfMemory → h2 ≡ h → Answered true h h2 (request.States s) (outcome_line (codes "ok") (Err f))
+starved_answered : (h h2 : History) (s : PlainStatement) (f : BenchFault) → f ≡ bench.Table refusal.OutOfMemory → h2 ≡ h → Answered true h h2 (request.States s) (outcome_line (codes "ok") (Err f))
 unfolding refused_line
 starved_answered h h2 s f want same = record { line_is = ap (λ (g : BenchFault). refused_line (fault.Bench g)) want; state = same }
 
 -- the reply to a statement
-pub statement_answered : (h h2 : History) (s : Statement) (r : Result ℕ BenchFault)
+pub statement_answered : (h h2 : History) (s : PlainStatement) (r : Result ℕ BenchFault)
     → IfOk r (λ _. judged h s ≡ Ok h2) → IfOk r (λ n. n ≡ length h2.remaining) → IfErr r (λ f. RefusesStatement h s f) → OnErr r (h2 ≡ h)
     → (starved : Bool) × Answered starved h h2 (request.States s) (outcome_line (codes "ok") r)
 statement_answered h h2 s (Ok n) ok count err same = (false, judged_answered h h2 s (Ok n) ok count tt same)

@@ -9,8 +9,8 @@ use Rattle.coll_lex.specs.declared.tokens.Token.{Token}
 use Rattle.coll_lex.specs.declared.faults.LexFault.{LexFault}
 use Rattle.coll_lex.specs.declared.faults.LexFault.TheVariants as lex
 use Rattle.coll_lex.proofs.LineFaults.{fed-not_dangling}
-use Rattle.coll_bench.specs.Identifier.{is_word}
-use Rattle.coll_bench.specs.DeltaLines.{delta_line}
+use Rattle.coll_syntax.specs.Identifier.{is_word}
+use Rattle.coll_table.specs.PlainDeltaLines.{plain_delta_line}
 use Rattle.coll_bench.specs.History.{History}
 use Rattle.coll_bench.specs.SessionLines.{opening_of, alone, is_command, command_heard, delta_heard, tokens_heard, fault_heard, heard}
 use Rattle.coll_bench.specs.Hearing.{heard_by}
@@ -18,15 +18,15 @@ use Rattle.coll_bench.specs.Units.{Block, units, stop_of, refusals, end_faults}
 use Rattle.coll_bench.specs.Replies.{refused_line, refused_lines, reply, after, answers}
 use Rattle.coll_bench.specs.Serving.{heard_at, stop_at}
 use Rattle.coll_bench.specs.Run.{written_from, is_last, last_line}
-use Rattle.coll_bench.specs.declared.syntax.delta_lines.DeltaLine.{DeltaLine}
-use Rattle.coll_bench.specs.declared.syntax.delta_lines.DeltaLine.TheVariants as delta_lines
-use Rattle.coll_bench.specs.declared.syntax.syntax_faults.SyntaxFault.{SyntaxFault}
+use Rattle.coll_table.specs.declared.plain.delta_lines.PlainDeltaLine.{PlainDeltaLine}
+use Rattle.coll_table.specs.declared.plain.delta_lines.PlainDeltaLine.TheVariants as delta_lines
+use Rattle.coll_syntax.specs.declared.faults.SyntaxFault.{SyntaxFault}
 use Rattle.coll_bench.specs.declared.faults.Fault.{Fault}
-use Rattle.coll_bench.specs.declared.session.commands.Command.{Command}
-use Rattle.coll_bench.specs.declared.session.hearing.Opening.{Opening}
-use Rattle.coll_bench.specs.declared.session.hearing.Heard.{Heard}
-use Rattle.coll_bench.specs.declared.session.hearing.Heard.TheVariants.{Misasks}
-use Rattle.coll_bench.specs.declared.session.commands.Command.TheVariants as command
+use Rattle.coll_bench.specs.declared.commands.Command.{Command}
+use Rattle.coll_bench.specs.declared.hearing.Opening.{Opening}
+use Rattle.coll_bench.specs.declared.hearing.Heard.{Heard}
+use Rattle.coll_bench.specs.declared.hearing.Heard.TheVariants.{Misasks}
+use Rattle.coll_bench.specs.declared.commands.Command.TheVariants as command
 use Rattle.coll_bench.specs.declared.faults.Fault.TheVariants as fault
 
 -- a line with tokens ends no session
@@ -45,7 +45,7 @@ command_goes_on first arguments =
     neither_stops (is_word first (codes ":undo")) (alone command.Undo arguments) (if is_word first (codes ":list") then list else unknown) (alone_goes_on command.Undo arguments)
     (neither_stops (is_word first (codes ":list")) list unknown (alone_goes_on command.List arguments) refl)
 
-delta_goes_on : (o : Opening) (r : Result DeltaLine SyntaxFault) → stop_of (delta_heard o r) ≡ None
+delta_goes_on : (o : Opening) (r : Result PlainDeltaLine SyntaxFault) → stop_of (delta_heard o r) ≡ None
 delta_goes_on o (Ok (delta_lines.ReorderAfter target)) = refl
 delta_goes_on o (Ok delta_lines.ReorderEnd) = refl
 delta_goes_on o (Ok (delta_lines.Order line)) = refl
@@ -53,8 +53,8 @@ delta_goes_on o (Err f) = refl
 
 tokens_go_on : (o : Opening) (tokens : List Token) → stop_of (tokens_heard o tokens) ≡ None
 unfolding tokens_heard
-tokens_go_on o [] = delta_goes_on o (delta_line [])
-tokens_go_on o (first ∷ rest) = neither_stops (is_command first) _ _ (command_goes_on first rest) (delta_goes_on o (delta_line (first ∷ rest)))
+tokens_go_on o [] = delta_goes_on o (plain_delta_line [])
+tokens_go_on o (first ∷ rest) = neither_stops (is_command first) _ _ (command_goes_on first rest) (delta_goes_on o (plain_delta_line (first ∷ rest)))
 
 -- a fault after which the session goes on is none of a last line
 not_last : (o : Opening) (f : LexFault) → stop_of (fault_heard o f) ≡ None → is_last f ≡ false

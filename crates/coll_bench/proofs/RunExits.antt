@@ -12,7 +12,7 @@ use Rattle.coll_lex.specs.declared.faults.LexFault.TheVariants as lex
 use Rattle.coll_lex.specs.declared.faults.ReadStop.{ReadStop}
 use Rattle.coll_lex.specs.declared.faults.ReadStop.TheVariants as stop
 use Rattle.coll_bench.specs.declared.faults.RunFault.{RunFault}
-use Rattle.coll_bench.specs.Table.{Collation}
+use Rattle.coll_table.specs.Table.{Collation}
 use Rattle.coll_bench.specs.History.{begun}
 use Rattle.coll_bench.specs.Units.{Block, last_faults, end_faults}
 use Rattle.coll_bench.specs.Replies.{refused_lines}
@@ -20,14 +20,14 @@ use Rattle.coll_bench.specs.OpenBlock.{StandsFor}
 use Rattle.coll_bench.specs.Serving.{heard_at, stop_at, line_requests, line_block, history_after, line_replies, write_failed, stopped_at, never_ran, read_failed, EndsWith, EndsAtLine, FinishesWith, IsCutOff}
 use Rattle.coll_bench.specs.Run.{written_from, starved_output, is_last, last_line, RanToLastLine, RanToReadFault, RanToLexFault, Ran}
 use Rattle.coll_bench.specs.Underway.{IsCut, IsUnderway, Underway}
-use Rattle.coll_bench.specs.declared.session.runs.Desk.{Desk}
+use Rattle.coll_bench.specs.declared.runs.Desk.{Desk}
 use Rattle.coll_bench.proofs.RunLemmas.{choices_for, written_on, written_stop}
 use Rattle.coll_bench.proofs.RunEnds.{last_stop, written_end, written_cut, last_end, last_cut}
 use Rattle.coll_bench.proofs.RunSteps.{appended, ahead_after, lines_next}
 use Rattle.coll_bench.proofs.ServingLemmas.{stopped_replies}
 use Rattle.coll_bench.specs.SessionLines.{opening_of}
 use Rattle.coll_bench.specs.Hearing.{heard_by}
-use Rattle.coll_bench.specs.declared.session.hearing.Heard.TheVariants as heard
+use Rattle.coll_bench.specs.declared.hearing.Heard.TheVariants as heard
 use Rattle.coll_lex.proofs.PhysicalLinesLemmas.{lines_of-nil, lines_of-long}
 use Rattle.coll_lex.proofs.LineEnds.{fed-too_long}
 

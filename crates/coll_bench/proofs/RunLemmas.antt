@@ -12,8 +12,8 @@ use Rattle.coll_bench.specs.Units.{Block, units, requests_at, block_after, or_la
 use Rattle.coll_bench.specs.Replies.{answers, reply_if, after_if}
 use Rattle.coll_bench.specs.Serving.{replies_to, history_after, heard_at, stop_at, requests_or_last, line_requests, line_block}
 use Rattle.coll_bench.specs.Run.{written_from}
-use Rattle.coll_bench.specs.declared.session.hearing.Heard.{Heard}
-use Rattle.coll_bench.specs.declared.session.requests.Request.{Request}
+use Rattle.coll_bench.specs.declared.hearing.Heard.{Heard}
+use Rattle.coll_bench.specs.declared.requests.Request.{Request}
 
 -- a choice for each of some units
 abbrev pub choices_for : (starved : Bool) → List Request → List Bool

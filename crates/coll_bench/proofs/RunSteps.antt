@@ -7,7 +7,7 @@ use Rattle.coll_lex.specs.LineReading.{Reading, no_line, CutsLine, Cuts, GivesLi
 use Rattle.coll_lex.specs.LogicalLines.{LexerState, first_state, served, state_by, logical_lines}
 use Rattle.coll_lex.specs.declared.faults.ReadStop.{ReadStop}
 use Rattle.coll_lex.proofs.PhysicalLinesLemmas.{lines_of-nil, lines_of-ended, lines_of-part, lines_of-cut}
-use Rattle.coll_bench.specs.Table.{Collation}
+use Rattle.coll_table.specs.Table.{Collation}
 use Rattle.coll_bench.specs.History.{History, begun}
 use Rattle.coll_bench.specs.Units.{Block}
 use Rattle.coll_bench.specs.OpenBlock.{StandsFor}
@@ -17,7 +17,7 @@ use Rattle.std.specs.Result.{IfErr}
 use Rattle.coll_bench.specs.declared.faults.RunFault.{RunFault}
 use Rattle.coll_bench.proofs.ServingLemmas.{counts_none}
 use Rattle.coll_bench.specs.Underway.{IsCut, IsUnderway, Underway}
-use Rattle.coll_bench.specs.declared.session.runs.Desk.{Desk}
+use Rattle.coll_bench.specs.declared.runs.Desk.{Desk}
 use Rattle.coll_bench.proofs.RunLemmas.{choices_for, written_on}
 use Rattle.coll_bench.proofs.RunEnds.{last_on}
 

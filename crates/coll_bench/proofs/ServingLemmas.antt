@@ -33,11 +33,11 @@ use Rattle.coll_lex.proofs.LineEnds.{fed-count, fed-room}
 use Rattle.coll_lex.proofs.LineFaults.{fed-full}
 use Rattle.coll_bench.specs.SessionLines.{fault_heard}
 use Rattle.coll_bench.specs.Hearing.{heard_by, Hears}
-use Rattle.coll_bench.specs.declared.session.hearing.Opening.{Opening}
-use Rattle.coll_bench.specs.declared.session.hearing.Heard.TheVariants as heard
-use Rattle.coll_bench.specs.declared.session.hearing.Heard.{Heard}
-use Rattle.coll_bench.specs.declared.session.requests.Request.{Request}
-use Rattle.coll_bench.specs.declared.session.runs.Desk.{Desk}
+use Rattle.coll_bench.specs.declared.hearing.Opening.{Opening}
+use Rattle.coll_bench.specs.declared.hearing.Heard.TheVariants as heard
+use Rattle.coll_bench.specs.declared.hearing.Heard.{Heard}
+use Rattle.coll_bench.specs.declared.requests.Request.{Request}
+use Rattle.coll_bench.specs.declared.runs.Desk.{Desk}
 
 pub replies_to_one : (starved : Bool) (h : History) (unit : Request) → replies_to starved h (unit ∷ []) ≡ reply_if starved h unit
 unfolding replies_to

@@ -12,15 +12,15 @@ use Rattle.coll_bench.specs.Units.{Block, opened, with_line, wants_memory, is_st
 use Rattle.coll_bench.specs.Replies.{refused_line, reply, after, starved_line, reply_if, after_if, answers}
 use Rattle.coll_bench.specs.Serving.{heard_at, stop_at, line_requests, line_block}
 use Rattle.coll_bench.specs.Run.{written_from, starved_output, output, ShowsWant, WantShows}
-use Rattle.coll_bench.specs.declared.syntax.statements.OrderLine.{OrderLine}
+use Rattle.coll_table.specs.declared.plain.statements.PlainLine.{PlainLine}
 use Rattle.coll_bench.specs.declared.faults.Fault.{Fault}
 use Rattle.coll_bench.specs.declared.faults.Fault.TheVariants as fault
-use Rattle.coll_bench.specs.declared.session.hearing.Opening.{Opening}
-use Rattle.coll_bench.specs.declared.session.hearing.Opening.TheVariants as opening
-use Rattle.coll_bench.specs.declared.session.hearing.Heard.{Heard}
-use Rattle.coll_bench.specs.declared.session.hearing.Heard.TheVariants as line
-use Rattle.coll_bench.specs.declared.session.requests.Request.{Request}
-use Rattle.coll_bench.specs.declared.session.requests.Request.TheVariants as request
+use Rattle.coll_bench.specs.declared.hearing.Opening.{Opening}
+use Rattle.coll_bench.specs.declared.hearing.Opening.TheVariants as opening
+use Rattle.coll_bench.specs.declared.hearing.Heard.{Heard}
+use Rattle.coll_bench.specs.declared.hearing.Heard.TheVariants as line
+use Rattle.coll_bench.specs.declared.requests.Request.{Request}
+use Rattle.coll_bench.specs.declared.requests.Request.TheVariants as request
 use Rattle.coll_bench.proofs.BlockLemmas.{is_starved-with_line}
 use Rattle.coll_bench.proofs.RunLemmas.{heard_later, units_on, units_stop}
 
@@ -83,7 +83,7 @@ starved_request : (block : Block) → is_starved block ≡ true → block_reques
 unfolding statement_of
 starved_request block is = ap (λ (b : Bool). requested (if b then Err starved else targeted block.target block.lines)) is
 
-starved_with : (block : Block) (l : Result OrderLine Fault) → is_starved block ≡ true → is_starved (with_line block l) ≡ true
+starved_with : (block : Block) (l : Result PlainLine Fault) → is_starved block ≡ true → is_starved (with_line block l) ≡ true
 starved_with block l is = is_starved-with_line block l ∙ ap (λ (b : Bool). b || wants_memory l) is
 
 or_true : (b : Bool) → (b || true) ≡ true

@@ -7,11 +7,11 @@ use Rattle.coll_lex.specs.declared.tokens.Token.{Token}
 use Rattle.coll_lex.specs.declared.faults.LexFault.{LexFault}
 use Rattle.coll_lex.specs.declared.faults.LexFault.TheVariants as lex
 use Rattle.coll_bench.specs.SessionLines.{opening_of, tokens_heard, line_heard, delta_heard}
-use Rattle.coll_bench.specs.DeltaLines.{delta_line}
+use Rattle.coll_table.specs.PlainDeltaLines.{plain_delta_line}
 use Rattle.coll_bench.specs.declared.faults.Fault.TheVariants as fault
-use Rattle.coll_bench.specs.declared.session.hearing.Opening.{Opening}
-use Rattle.coll_bench.specs.declared.session.hearing.Heard.{Heard}
-use Rattle.coll_bench.specs.declared.session.hearing.Heard.TheVariants.{Refused}
+use Rattle.coll_bench.specs.declared.hearing.Opening.{Opening}
+use Rattle.coll_bench.specs.declared.hearing.Heard.{Heard}
+use Rattle.coll_bench.specs.declared.hearing.Heard.TheVariants.{Refused}
 
 -- the logical line that is open, if one is, begins as this says, whatever is handed in next
 unfoldable pub OpensAs : LexerState → Opening → Type 0
@@ -39,4 +39,4 @@ HearsTokens opening tokens heard = (starved : Bool) × (heard ≡ (if starved th
 
 -- what was heard of tokens that are no command
 abbrev pub HearsDelta : Opening → List Token → Heard → Type 0
-HearsDelta opening tokens heard = (starved : Bool) × (heard ≡ (if starved then no_memory opening else delta_heard opening (delta_line tokens)))
+HearsDelta opening tokens heard = (starved : Bool) × (heard ≡ (if starved then no_memory opening else delta_heard opening (plain_delta_line tokens)))

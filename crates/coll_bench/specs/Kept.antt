@@ -1,15 +1,15 @@
 -- What a session keeps of its history, and what holds of it.
 use Rattle.std.specs.Prelude.{◌≡◌, ◌+◌, ◌≤◌, List, [], ◌∷◌, map, reverse, vec_len, vec_capacity, Ok}
-use Rattle.coll_bench.specs.Table.{Collation}
-use Rattle.coll_bench.specs.Delta.{delta}
-use Rattle.coll_bench.specs.Record.{fits, turn}
+use Rattle.coll_table.specs.Table.{Collation}
+use Rattle.coll_table.specs.Delta.{delta}
+use Rattle.coll_table.specs.Record.{fits, turn}
 use Rattle.coll_bench.specs.History.{History, most_remaining}
-use Rattle.coll_bench.specs.declared.syntax.statements.Statement.{Statement}
-use Rattle.coll_bench.specs.declared.session.histories.Kept.{Kept}
-use Rattle.coll_bench.specs.declared.session.histories.Session.TheInside.{Inside}
+use Rattle.coll_table.specs.declared.plain.statements.PlainStatement.{PlainStatement}
+use Rattle.coll_bench.specs.declared.histories.Kept.{Kept}
+use Rattle.coll_bench.specs.declared.histories.Session.TheInside.{Inside}
 
 -- the statements of what is kept
-abbrev pub statements_of : List Kept → List Statement
+abbrev pub statements_of : List Kept → List PlainStatement
 statements_of kept = map (λ (k : Kept). k.statement) kept
 
 -- a table turned back by the records kept since some moment, from the last to the first

@@ -4,20 +4,20 @@ use Rattle.std.specs.Option.{option_map}
 use Rattle.coll_lex.specs.declared.faults.LexFault.TheVariants as lex
 use Rattle.coll_bench.specs.Gathered.{Gathered}
 use Rattle.coll_bench.specs.Units.{Block, is_starved, is_want_of_memory, order_lines, requests_at, block_after}
-use Rattle.coll_bench.specs.declared.session.blocks.TheConstants.{MOST_BLOCK_LINES}
-use Rattle.coll_bench.specs.declared.syntax.identifiers.Id.{Id}
-use Rattle.coll_bench.specs.declared.syntax.statements.OrderLine.{OrderLine}
-use Rattle.coll_bench.specs.declared.syntax.statements.Statement.TheVariants as statement
-use Rattle.coll_bench.specs.declared.syntax.syntax_faults.SyntaxFault.TheVariants as syntax
+use Rattle.coll_bench.specs.declared.blocks.TheConstants.{MOST_BLOCK_LINES}
+use Rattle.coll_syntax.specs.declared.identifiers.Id.{Id}
+use Rattle.coll_table.specs.declared.plain.statements.PlainLine.{PlainLine}
+use Rattle.coll_table.specs.declared.plain.statements.PlainStatement.TheVariants as statement
+use Rattle.coll_syntax.specs.declared.faults.SyntaxFault.TheVariants as syntax
 use Rattle.coll_bench.specs.declared.faults.Fault.{Fault}
 use Rattle.coll_bench.specs.declared.faults.Fault.TheVariants as fault
-use Rattle.coll_bench.specs.declared.session.blocks.OpenBlock.{OpenBlock}
-use Rattle.coll_bench.specs.declared.session.blocks.OpenBlock.TheVariants.{Gathers, Spoiled}
-use Rattle.coll_bench.specs.declared.session.hearing.Heard.{Heard}
-use Rattle.coll_bench.specs.declared.session.requests.Request.{Request}
-use Rattle.coll_bench.specs.declared.session.requests.Request.TheVariants as request
+use Rattle.coll_bench.specs.declared.blocks.OpenBlock.{OpenBlock}
+use Rattle.coll_bench.specs.declared.blocks.OpenBlock.TheVariants.{Gathers, Spoiled}
+use Rattle.coll_bench.specs.declared.hearing.Heard.{Heard}
+use Rattle.coll_bench.specs.declared.requests.Request.{Request}
+use Rattle.coll_bench.specs.declared.requests.Request.TheVariants as request
 
-abbrev pub gathered : Result Id Fault → Result (List OrderLine) Fault → OpenBlock
+abbrev pub gathered : Result Id Fault → Result (List PlainLine) Fault → OpenBlock
 gathered (Ok target) (Ok lines) = Gathers (record { target = target; lines = lines })
 gathered (Ok target) (Err f) = Spoiled f
 gathered (Err f) lines = Spoiled f
@@ -35,12 +35,12 @@ abbrev pub spoiled : OpenBlock → Fault → OpenBlock
 spoiled block f = if is_want_of_memory f then Spoiled (fault.Lex lex.OutOfMemory) else first_fault block f
 
 -- what is kept after an order line
-abbrev pub lengthened : Gathered → OrderLine → OpenBlock
+abbrev pub lengthened : Gathered → PlainLine → OpenBlock
 lengthened g line =
     if nat_le MOST_BLOCK_LINES (length g.lines) then Spoiled (fault.Syntax syntax.BlockTooLong)
     else Gathers (record { target = g.target; lines = g.lines ++ line ∷ [] })
 
-abbrev pub joined : OpenBlock → OrderLine → OpenBlock
+abbrev pub joined : OpenBlock → PlainLine → OpenBlock
 joined (Gathers g) line = lengthened g line
 joined (Spoiled first) line = Spoiled first
 

@@ -3,19 +3,19 @@ use Rattle.std.specs.Prelude.{ℕ, suc, Bool, true, false, ◌&&◌, if◌then�
 use Rattle.coll_lex.specs.LogicalLines.{first_choice, later_choices}
 use Rattle.coll_lex.specs.Spelling.{spelled_symbol, spelled_code}
 use Rattle.coll_lex.specs.declared.faults.LexFault.TheVariants as lex
-use Rattle.coll_bench.specs.Table.{Collation, entries_of}
+use Rattle.coll_table.specs.Table.{Collation, entries_of}
 use Rattle.coll_bench.specs.History.{History, table_of, judged, taken_back}
 use Rattle.coll_bench.specs.SessionFaults.{fault_number, fault_name}
-use Rattle.coll_bench.specs.declared.syntax.identifiers.Id.{Id}
-use Rattle.coll_bench.specs.declared.syntax.identifiers.Id.TheVariants as id
-use Rattle.coll_bench.specs.declared.tables.entries.Entry.{Entry}
+use Rattle.coll_syntax.specs.declared.identifiers.Id.{Id}
+use Rattle.coll_syntax.specs.declared.identifiers.Id.TheVariants as id
+use Rattle.coll_table.specs.declared.entries.Entry.{Entry}
 use Rattle.coll_bench.specs.declared.faults.BenchFault.{BenchFault}
 use Rattle.coll_bench.specs.declared.faults.Fault.{Fault}
 use Rattle.coll_bench.specs.declared.faults.Fault.TheVariants as fault
-use Rattle.coll_bench.specs.declared.session.commands.Command.{Command}
-use Rattle.coll_bench.specs.declared.session.commands.Command.TheVariants as command
-use Rattle.coll_bench.specs.declared.session.requests.Request.{Request}
-use Rattle.coll_bench.specs.declared.session.requests.Request.TheVariants as request
+use Rattle.coll_bench.specs.declared.commands.Command.{Command}
+use Rattle.coll_bench.specs.declared.commands.Command.TheVariants as command
+use Rattle.coll_bench.specs.declared.requests.Request.{Request}
+use Rattle.coll_bench.specs.declared.requests.Request.TheVariants as request
 
 -- an identifier, spelled
 unfoldable pub spelled_id : Id → List ℕ

@@ -7,7 +7,7 @@ use Rattle.coll_lex.specs.declared.tokens.Token.{Token}
 use Rattle.coll_lex.specs.declared.faults.LexFault.{LexFault}
 use Rattle.coll_lex.specs.declared.faults.LexFault.TheVariants as lex
 use Rattle.coll_lex.specs.declared.faults.ReadStop.TheVariants as read
-use Rattle.coll_bench.specs.Table.{Collation}
+use Rattle.coll_table.specs.Table.{Collation}
 use Rattle.coll_bench.specs.History.{History, begun}
 use Rattle.coll_bench.specs.SessionLines.{heard}
 use Rattle.coll_bench.specs.SessionFaults.{fault_number}

@@ -9,7 +9,7 @@ use Rattle.coll_lex.specs.declared.faults.LexFault.TheVariants as lex
 use Rattle.coll_lex.specs.declared.faults.ReadStop.{ReadStop}
 use Rattle.coll_lex.specs.declared.faults.ReadStop.TheVariants as read
 use Rattle.coll_lex.specs.declared.faults.WriteStop.TheVariants as write
-use Rattle.coll_bench.specs.Table.{Collation}
+use Rattle.coll_table.specs.Table.{Collation}
 use Rattle.coll_bench.specs.History.{History, begun}
 use Rattle.coll_bench.specs.SessionLines.{opening_of}
 use Rattle.coll_bench.specs.Hearing.{heard_by}
@@ -19,9 +19,9 @@ use Rattle.coll_bench.specs.OpenBlock.{StandsFor}
 use Rattle.coll_bench.specs.Replies.{reply_if, after_if}
 use Rattle.coll_bench.specs.declared.faults.Fault.TheVariants as faults
 use Rattle.coll_bench.specs.declared.faults.RunFault.{RunFault}
-use Rattle.coll_bench.specs.declared.session.hearing.Heard.{Heard}
-use Rattle.coll_bench.specs.declared.session.requests.Request.{Request}
-use Rattle.coll_bench.specs.declared.session.runs.Desk.{Desk}
+use Rattle.coll_bench.specs.declared.hearing.Heard.{Heard}
+use Rattle.coll_bench.specs.declared.requests.Request.{Request}
+use Rattle.coll_bench.specs.declared.runs.Desk.{Desk}
 
 -- the replies to some units, to each of which memory was refused or not, and the history after them
 unfoldable pub replies_to : (starved : Bool) → History → List Request → List ℕ

@@ -1,8 +1,8 @@
 -- The numbers and the names of the faults of a session, as replies and messages show them.
 use Rattle.std.specs.Prelude.{ℕ, List, codes}
 use Rattle.coll_lex.specs.Faults.{read_stop_number, read_stop_name, write_stop_number, write_stop_name, lex_fault_number, lex_fault_name}
-use Rattle.coll_bench.specs.SyntaxFaults.{syntax_fault_number, syntax_fault_name}
-use Rattle.coll_bench.specs.Refusals.{refusal_number, refusal_name}
+use Rattle.coll_syntax.specs.SyntaxFaults.{syntax_fault_number, syntax_fault_name}
+use Rattle.coll_table.specs.Refusals.{refusal_number, refusal_name}
 use Rattle.coll_bench.specs.declared.faults.BenchFault.{BenchFault}
 use Rattle.coll_bench.specs.declared.faults.BenchFault.TheVariants as bench
 use Rattle.coll_bench.specs.declared.faults.Fault.{Fault}

@@ -7,19 +7,19 @@ use Rattle.coll_lex.specs.declared.tokens.Token.{Token}
 use Rattle.coll_lex.specs.declared.tokens.Token.TheVariants as token
 use Rattle.coll_lex.specs.declared.faults.LexFault.{LexFault}
 use Rattle.coll_lex.specs.declared.faults.LexFault.TheVariants as lex
-use Rattle.coll_bench.specs.Identifier.{is_word}
-use Rattle.coll_bench.specs.DeltaLines.{delta_line}
-use Rattle.coll_bench.specs.declared.syntax.delta_lines.DeltaLine.{DeltaLine}
-use Rattle.coll_bench.specs.declared.syntax.delta_lines.DeltaLine.TheVariants as delta_lines
-use Rattle.coll_bench.specs.declared.syntax.syntax_faults.SyntaxFault.{SyntaxFault}
-use Rattle.coll_bench.specs.declared.syntax.syntax_faults.SyntaxFault.TheVariants as syntax
+use Rattle.coll_syntax.specs.Identifier.{is_word}
+use Rattle.coll_table.specs.PlainDeltaLines.{plain_delta_line}
+use Rattle.coll_table.specs.declared.plain.delta_lines.PlainDeltaLine.{PlainDeltaLine}
+use Rattle.coll_table.specs.declared.plain.delta_lines.PlainDeltaLine.TheVariants as delta_lines
+use Rattle.coll_syntax.specs.declared.faults.SyntaxFault.{SyntaxFault}
+use Rattle.coll_syntax.specs.declared.faults.SyntaxFault.TheVariants as syntax
 use Rattle.coll_bench.specs.declared.faults.Fault.TheVariants as fault
-use Rattle.coll_bench.specs.declared.session.commands.Command.{Command}
-use Rattle.coll_bench.specs.declared.session.commands.Command.TheVariants as command
-use Rattle.coll_bench.specs.declared.session.hearing.Opening.{Opening}
-use Rattle.coll_bench.specs.declared.session.hearing.Opening.TheVariants as openings
-use Rattle.coll_bench.specs.declared.session.hearing.Heard.{Heard}
-use Rattle.coll_bench.specs.declared.session.hearing.Heard.TheVariants.{Stops, Refused, Asks, Misasks, Opens, Ends, Orders}
+use Rattle.coll_bench.specs.declared.commands.Command.{Command}
+use Rattle.coll_bench.specs.declared.commands.Command.TheVariants as command
+use Rattle.coll_bench.specs.declared.hearing.Opening.{Opening}
+use Rattle.coll_bench.specs.declared.hearing.Opening.TheVariants as openings
+use Rattle.coll_bench.specs.declared.hearing.Heard.{Heard}
+use Rattle.coll_bench.specs.declared.hearing.Heard.TheVariants.{Stops, Refused, Asks, Misasks, Opens, Ends, Orders}
 
 -- what a physical line begins with, blanks skipped: the bytes alone decide, without regard to words or escapes
 unfoldable pub opening_of : List ℕ → Opening
@@ -55,7 +55,7 @@ command_heard first arguments =
     else Misasks fault.UnknownCommand)
 
 -- a line of a delta, or a line that the grammar refuses
-abbrev pub delta_heard : Opening → Result DeltaLine SyntaxFault → Heard
+abbrev pub delta_heard : Opening → Result PlainDeltaLine SyntaxFault → Heard
 delta_heard opening (Ok (delta_lines.ReorderAfter target)) = Opens target
 delta_heard opening (Ok delta_lines.ReorderEnd) = Ends
 delta_heard opening (Ok (delta_lines.Order line)) = Orders line
@@ -63,9 +63,9 @@ delta_heard opening (Err f) = Refused opening (fault.Syntax f)
 
 -- what tokens say, under what the first physical line of their logical line begins with
 unfoldable pub tokens_heard : Opening → List Token → Heard
-tokens_heard opening [] = delta_heard opening (delta_line [])
+tokens_heard opening [] = delta_heard opening (plain_delta_line [])
 tokens_heard opening (first ∷ rest) =
-    if is_command first then command_heard first rest else delta_heard opening (delta_line (first ∷ rest))
+    if is_command first then command_heard first rest else delta_heard opening (plain_delta_line (first ∷ rest))
 
 -- after a line that is too long, a line too many or a dangling escape no line follows
 abbrev pub ends_session : LexFault → Bool

@@ -2,12 +2,12 @@
 use Rattle.std.specs.Prelude.{◌≡◌, ◌⊎◌, ℕ, Bool, List, [], ◌++◌, Option, Some, None}
 use Rattle.coll_lex.specs.PhysicalLines.{lines_of}
 use Rattle.coll_lex.specs.LogicalLines.{first_state, logical_lines}
-use Rattle.coll_bench.specs.Table.{Collation}
+use Rattle.coll_table.specs.Table.{Collation}
 use Rattle.coll_bench.specs.History.{begun}
 use Rattle.coll_bench.specs.Units.{Block}
 use Rattle.coll_bench.specs.OpenBlock.{StandsFor}
 use Rattle.coll_bench.specs.Run.{written_from, last_line}
-use Rattle.coll_bench.specs.declared.session.runs.Desk.{Desk}
+use Rattle.coll_bench.specs.declared.runs.Desk.{Desk}
 
 -- what was read are whole lines, whatever comes after them
 abbrev pub IsCut : List ℕ → Type 0

@@ -8,31 +8,31 @@ use Rattle.coll_lex.specs.declared.faults.LexFault.{LexFault}
 use Rattle.coll_lex.specs.declared.faults.LexFault.TheVariants as lex
 use Rattle.coll_lex.specs.Faults.{lex_fault_number}
 use Rattle.coll_bench.specs.SessionFaults.{fault_number}
-use Rattle.coll_bench.specs.declared.session.blocks.TheConstants.{MOST_BLOCK_LINES}
-use Rattle.coll_bench.specs.declared.syntax.identifiers.Id.{Id}
-use Rattle.coll_bench.specs.declared.syntax.statements.OrderLine.{OrderLine}
-use Rattle.coll_bench.specs.declared.syntax.statements.Statement.{Statement}
-use Rattle.coll_bench.specs.declared.syntax.statements.Statement.TheVariants as statement
-use Rattle.coll_bench.specs.declared.syntax.syntax_faults.SyntaxFault.TheVariants as syntax
+use Rattle.coll_bench.specs.declared.blocks.TheConstants.{MOST_BLOCK_LINES}
+use Rattle.coll_syntax.specs.declared.identifiers.Id.{Id}
+use Rattle.coll_table.specs.declared.plain.statements.PlainLine.{PlainLine}
+use Rattle.coll_table.specs.declared.plain.statements.PlainStatement.{PlainStatement}
+use Rattle.coll_table.specs.declared.plain.statements.PlainStatement.TheVariants as statement
+use Rattle.coll_syntax.specs.declared.faults.SyntaxFault.TheVariants as syntax
 use Rattle.coll_bench.specs.declared.faults.Fault.{Fault}
 use Rattle.coll_bench.specs.declared.faults.Fault.TheVariants as fault
-use Rattle.coll_bench.specs.declared.session.hearing.Opening.{Opening}
-use Rattle.coll_bench.specs.declared.session.hearing.Opening.TheVariants as opening
-use Rattle.coll_bench.specs.declared.session.hearing.Heard.{Heard}
-use Rattle.coll_bench.specs.declared.session.hearing.Heard.TheVariants as heard
-use Rattle.coll_bench.specs.declared.session.requests.Request.{Request}
-use Rattle.coll_bench.specs.declared.session.requests.Request.TheVariants as request
+use Rattle.coll_bench.specs.declared.hearing.Opening.{Opening}
+use Rattle.coll_bench.specs.declared.hearing.Opening.TheVariants as opening
+use Rattle.coll_bench.specs.declared.hearing.Heard.{Heard}
+use Rattle.coll_bench.specs.declared.hearing.Heard.TheVariants as heard
+use Rattle.coll_bench.specs.declared.requests.Request.{Request}
+use Rattle.coll_bench.specs.declared.requests.Request.TheVariants as request
 
 -- a block that is open: the target of its first line, or that line's fault; and its further lines, each an order
 -- line or the fault of a line that isn't taken in a block
 pub record Block : Type 0 where
   pub target : Result Id Fault
-  pub lines : List (Result OrderLine Fault)
+  pub lines : List (Result PlainLine Fault)
 
 abbrev pub opened : Result Id Fault → Block
 opened target = record { target = target; lines = [] }
 
-abbrev pub with_line : Block → Result OrderLine Fault → Block
+abbrev pub with_line : Block → Result PlainLine Fault → Block
 with_line block line = record { target = block.target; lines = block.lines ++ line ∷ [] }
 
 -- want of memory, which is 70
@@ -43,7 +43,7 @@ abbrev pub wants_memory : {A : Type 0} → Result A Fault → Bool
 wants_memory (Ok x) = false
 wants_memory (Err f) = is_want_of_memory f
 
-abbrev pub some_wants_memory : List (Result OrderLine Fault) → Bool
+abbrev pub some_wants_memory : List (Result PlainLine Fault) → Bool
 some_wants_memory [] = false
 some_wants_memory (line ∷ lines) = wants_memory line || some_wants_memory lines
 
@@ -51,30 +51,30 @@ some_wants_memory (line ∷ lines) = wants_memory line || some_wants_memory line
 abbrev pub is_starved : Block → Bool
 is_starved block = wants_memory block.target || some_wants_memory block.lines
 
-abbrev pub and_line : OrderLine → Result (List OrderLine) Fault → Result (List OrderLine) Fault
+abbrev pub and_line : PlainLine → Result (List PlainLine) Fault → Result (List PlainLine) Fault
 and_line line (Ok lines) = Ok (line ∷ lines)
 and_line line (Err f) = Err f
 
 -- the order lines of a block with room for so many; the least line that spoils it gives its fault
-abbrev pub order_lines : ℕ → List (Result OrderLine Fault) → Result (List OrderLine) Fault
+abbrev pub order_lines : ℕ → List (Result PlainLine Fault) → Result (List PlainLine) Fault
 order_lines room [] = Ok []
 order_lines room (Err f ∷ lines) = Err f
 order_lines zero (Ok line ∷ lines) = Err (fault.Syntax syntax.BlockTooLong)
 order_lines (suc room) (Ok line ∷ lines) = and_line line (order_lines room lines)
 
-abbrev pub block_of : Id → Result (List OrderLine) Fault → Result Statement Fault
+abbrev pub block_of : Id → Result (List PlainLine) Fault → Result PlainStatement Fault
 block_of target (Ok lines) = Ok (statement.Block target lines)
 block_of target (Err f) = Err f
 
-abbrev pub targeted : Result Id Fault → List (Result OrderLine Fault) → Result Statement Fault
+abbrev pub targeted : Result Id Fault → List (Result PlainLine Fault) → Result PlainStatement Fault
 targeted (Ok target) lines = block_of target (order_lines MOST_BLOCK_LINES lines)
 targeted (Err f) lines = Err f
 
 -- the statement of a block, or the fault that spoils it: want of memory where a line had it, else the least
-unfoldable pub statement_of : Block → Result Statement Fault
+unfoldable pub statement_of : Block → Result PlainStatement Fault
 statement_of block = if is_starved block then Err (fault.Lex lex.OutOfMemory) else targeted block.target block.lines
 
-abbrev pub requested : Result Statement Fault → Request
+abbrev pub requested : Result PlainStatement Fault → Request
 requested (Ok s) = request.States s
 requested (Err f) = request.Refused f
 
@@ -113,11 +113,11 @@ abbrev pub ended_or_none : Option Block → Request
 ended_or_none None = request.Refused fault.NoBlock
 ended_or_none (Some block) = block_request block
 
-abbrev pub order_requests : Option Block → OrderLine → List Request
+abbrev pub order_requests : Option Block → PlainLine → List Request
 order_requests None line = request.States (statement.Reweight line) ∷ []
 order_requests (Some block) line = []
 
-abbrev pub order_block : Option Block → OrderLine → Option Block
+abbrev pub order_block : Option Block → PlainLine → Option Block
 order_block None line = None
 order_block (Some block) line = Some (with_line block (Ok line))
 

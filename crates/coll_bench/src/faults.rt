@@ -5,12 +5,12 @@
 
 ghost use Rattle.std.specs.Prelude.{◌≡◌};
 ghost use Rattle.coll_bench.specs.SessionFaults.{bench_fault_number, bench_fault_name, fault_number, fault_name};
-ghost use Rattle.coll_bench.specs.declared.tables.refusals.Refusal.TheVariants.{OutOfMemory};
+ghost use Rattle.coll_table.specs.declared.refusals.Refusal.TheVariants.{OutOfMemory};
 ghost use Rattle.coll_bench.specs.declared.faults.BenchFault.TheVariants.{Table};
 
-use crate::syntax::SyntaxFault;
-use crate::tables::Refusal;
 use coll_lex::{LexFault, ReadStop, WriteStop};
+use coll_syntax::SyntaxFault;
+use coll_table::Refusal;
 use std::alloc::AllocError;
 use thiserror::Error;
 

@@ -1,21 +1,22 @@
-//! A workbench for collation tables in LC_COLLATE source form.
+//! Sessions over a collation table: the run that serves the lines of a text, and the history that it keeps.
 //!
-//! A text's way through this crate: its lines, as tokens, are read by a grammar (`syntax`), judged one after another
-//! and made into a table (`tables`), which statements then change (`session`).
+//! The way of a line: a physical line is heard (`hearing`) as what its logical line is, once that is whole; a block
+//! takes it (`blocks`), which may complete a unit of the session (`requests`); the unit is judged by the history
+//! (`histories`) and answered (`replies`). `runs` does this line by line, and `laws` says what follows from the
+//! definitions.
 #![tactic(auto)]
 
+mod blocks;
+mod commands;
 mod faults;
-mod session;
-mod syntax;
-mod tables;
-#[cfg(test)]
-mod test_devices;
+mod hearing;
+mod histories;
+mod laws;
+mod replies;
+mod requests;
+mod runs;
 
 pub use faults::{BenchFault, Fault, RunFault};
-pub use session::{Session, run_session, want_of_memory_shows};
-pub use syntax::{
-    DeltaLine, Id, OrderLine, Statement, SyntaxFault, TableLine, parse_delta_line, parse_table_line,
-};
-pub use tables::{
-    Entry, LoadCause, LoadFault, MOST_DECLARATIONS, MOST_ENTRIES, Record, Refusal, Table, load,
-};
+pub use histories::Session;
+pub use laws::want_of_memory_shows;
+pub use runs::run_session;

@@ -7,8 +7,9 @@
 ghost use Rattle.std.specs.Prelude.{◌≡◌};
 ghost use Rattle.collbench.specs.ExitStatus.{exit_status as stated_status};
 
-use coll_bench::{load, run_session};
+use coll_bench::run_session;
 use coll_lex::Counted;
+use coll_table::load;
 use std::process::ExitCode;
 
 /// The first table: a collating symbol and three letters, each with its own weight at the one level.

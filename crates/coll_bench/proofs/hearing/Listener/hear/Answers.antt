@@ -1,0 +1,38 @@
+-- What is heard is the lexer's answer, or a line for which memory was refused.
+use Rattle.std.proofs.Common.{Bool, Some, None, sym, ap, ◌∙◌, subst}
+use Rattle.coll_lex.specs.LogicalLines.{LexerState, first_line}
+use Rattle.coll_bench.specs.SessionLines.{opening_of}
+use Rattle.coll_bench.specs.Hearing.{Hears}
+use Rattle.coll_bench.proofs.HearingLemmas.{opens_as_none, opens_as_next, hears_fault, hears_none, hears_whole}
+use Rattle.coll_lex.proofs.LineEnds.{fed-whole}
+use Rattle.coll_bench.proofs.hearing.Listener.hear.Goals as goal
+
+pub invariant_of-self-in-Ok-None : goal.invariant_of-self-in-Ok-None
+invariant_of-self-in-Ok-None c =
+    let s = c.self.inside.lexer in
+    opens_as_next s c.feed.new.self c.args.line.now c.in-Ok-None.field-0 c.opening_at-opening.result c.in-Ok-None.ensures.ok
+    (c.opening_at-opening.ensures ∙ ap (λ (t : LexerState). opening_of (first_line t c.args.line.now)) (sym c.self.view_is))
+
+pub invariant_of-self-in-Ok-Some : goal.invariant_of-self-in-Ok-Some
+invariant_of-self-in-Ok-Some c =
+    opens_as_none c.feed.new.self c.self.inside.opening (ap (λ (t : LexerState). t.line) (fed-whole c.self.inside.lexer c.args.line.now c.in-Ok-Some.line c.feed.new.self (rw c.in-Ok-Some.field-0-is at c.in-Ok-Some.ensures.ok)))
+
+pub invariant_of-self : goal.invariant_of-self
+invariant_of-self c = opens_as_none c.feed.new.self c.self.inside.opening (ap (λ (t : LexerState). t.line) c.in-Err.ensures.dropped)
+
+pub returns-in-Err : goal.returns-in-Err
+returns-in-Err c =
+    subst (λ (s : LexerState). (starved : Bool) × Hears starved s c.feed.new.self c.args.line.now (Some c.refused_by_lexer.result)) c.self.view_is
+    (hears_fault c.self.inside.lexer c.feed.new.self c.args.line.now c.opening_at-opening.result c.in-Err.fault c.refused_by_lexer.result
+    (c.opening_at-opening.ensures ∙ ap (λ (t : LexerState). opening_of (first_line t c.args.line.now)) (sym c.self.view_is)) c.in-Err.ensures.dropped c.in-Err.ensures.err c.in-Err.ensures.room c.refused_by_lexer.ensures)
+
+pub returns-in-Ok-None : goal.returns-in-Ok-None
+returns-in-Ok-None c =
+    subst (λ (s : LexerState). (starved : Bool) × Hears starved s c.feed.new.self c.args.line.now None) c.self.view_is
+    (hears_none c.self.inside.lexer c.feed.new.self c.args.line.now (rw c.in-Ok-None.field-0-is at c.in-Ok-None.ensures.ok))
+
+pub returns-in-Ok-Some : goal.returns-in-Ok-Some
+returns-in-Ok-Some c =
+    subst (λ (s : LexerState). (starved : Bool) × Hears starved s c.feed.new.self c.args.line.now (Some c.line_heard.result)) c.self.view_is
+    (hears_whole c.self.inside.lexer c.feed.new.self c.args.line.now c.opening_at-opening.result c.in-Ok-Some.line c.line_heard.result
+    (c.opening_at-opening.ensures ∙ ap (λ (t : LexerState). opening_of (first_line t c.args.line.now)) (sym c.self.view_is)) (rw c.in-Ok-Some.field-0-is at c.in-Ok-Some.ensures.ok) c.line_heard.ensures)

@@ -1,0 +1,211 @@
+//! The replies of a session, written to its sink.
+//!
+//! Each unit has one reply, which is written piece by piece, without taking memory, and flushed. Where a write or the
+//! flush fails, the device has taken a front of the reply. A new unit is a new case of `respond`, and of the
+//! definition of replies.
+
+ghost use Rattle.std.specs.Prelude.{◌≡◌, ◌++◌, ◌∷◌, [], Bool, length};
+ghost use Rattle.std.specs.Io.KnownBytes.{Keeps};
+ghost use Rattle.coll_lex.specs.Devices.{CountsErr, Sends};
+ghost use Rattle.coll_table.specs.Table.{entries_of};
+ghost use Rattle.coll_bench.specs.Replies.{spelled_id, worded, counted_line, refused_line, listed_line, listed_lines, listing, outcome_line, command_reply, after_command, reply_if, after_if};
+
+use crate::commands::Command;
+use crate::faults::{BenchFault, Fault};
+use crate::histories::Session;
+use crate::requests::Request;
+use coll_lex::{Sink, WriteStop, write_bytes, write_char, write_symbol};
+use coll_syntax::Id;
+use coll_table::{Entry, Table};
+use itoa::Buffer;
+
+/// Does what a unit asks for, writes its reply and flushes it.
+///
+/// Where the device fails, it has taken a front of the reply; the history is then as if the reply was written.
+pub fn answer<W: Sink>(
+    session: &mut Session,
+    request: Request,
+    out: &mut W,
+) -> Result<(), WriteStop>
+    ensures answered { (starved : Bool) × Sends (W.taken out.old) (W.taken out.new) (reply_if starved session.old request) result
+        × (session.new ≡ after_if starved session.old request) }
+    ensures errors { CountsErr (W.failed out.old) (W.failed out.new) result }
+{
+    respond(session, request, out)?;
+    flush(out)
+}
+
+/// Writes the reply to a fault that ends a session, and flushes it.
+pub fn refuse<W: Sink>(fault: Fault, out: &mut W) -> Result<(), WriteStop>
+    ensures sent { Sends (W.taken out.old) (W.taken out.new) (refused_line fault) result }
+    ensures errors { CountsErr (W.failed out.old) (W.failed out.new) result }
+{
+    write_refused(out, fault)?;
+    flush(out)
+}
+
+// Flushes what was written.
+fn flush<W: Sink>(out: &mut W) -> Result<(), WriteStop>
+    ensures sent { Keeps (W.taken out.old) (W.taken out.new) }
+    ensures errors { CountsErr (W.failed out.old) (W.failed out.new) result }
+{
+    match out.flush() {
+        Ok(()) => Ok(()),
+        Err(_) => Err(WriteStop::WriteFault),
+    }
+}
+
+// Does what a unit asks for, and writes its reply.
+fn respond<W: Sink>(session: &mut Session, request: Request, out: &mut W) -> Result<(), WriteStop>
+    ensures answered { (starved : Bool) × Sends (W.taken out.old) (W.taken out.new) (reply_if starved session.old request) result
+        × (session.new ≡ after_if starved session.old request) }
+    ensures errors { CountsErr (W.failed out.old) (W.failed out.new) result }
+{
+    match request {
+        Request::Asks(command) => obey(session, command, out),
+        Request::States(statement) => {
+            let outcome = session.statement(statement);
+            write_outcome(out, b"ok", outcome)
+        }
+        Request::Refused(fault) => write_refused(out, fault),
+    }
+}
+
+// Does what a command asks for, and writes its reply. It takes no memory.
+fn obey<W: Sink>(session: &mut Session, command: Command, out: &mut W) -> Result<(), WriteStop>
+    ensures sent { Sends (W.taken out.old) (W.taken out.new) (command_reply session.old command) result }
+    ensures after { session.new ≡ after_command session.old command }
+    ensures errors { CountsErr (W.failed out.old) (W.failed out.new) result }
+{
+    match command {
+        Command::Undo => {
+            let outcome = session.undo();
+            write_outcome(out, b"undone", outcome)
+        }
+        Command::List => write_listing(out, session.table()),
+    }
+}
+
+// Writes what a call of the history answered.
+fn write_outcome<W: Sink>(
+    out: &mut W,
+    word: &[u8],
+    outcome: Result<u32, BenchFault>,
+) -> Result<(), WriteStop>
+    ensures sent { Sends (W.taken out.old) (W.taken out.new) (outcome_line word.now outcome) result }
+    ensures errors { CountsErr (W.failed out.old) (W.failed out.new) result }
+{
+    match outcome {
+        Ok(count) => write_counted(out, word, u64::from(count)),
+        Err(fault) => write_refused(out, Fault::Bench(fault)),
+    }
+}
+
+// Writes the entries of a table in their order, and how many there are.
+#[tactic(auto, unfolding(crate::specs::Replies::listing))]
+fn write_listing<W: Sink>(out: &mut W, table: &Table) -> Result<(), WriteStop>
+    ensures sent { Sends (W.taken out.old) (W.taken out.new) (listing table.now) result }
+    ensures errors { CountsErr (W.failed out.old) (W.failed out.new) result }
+{
+    let entries = table.entries();
+    write_entries(out, entries)?;
+    write_counted(out, b"listed", entries.len() as u64)
+}
+
+// Writes a line for each entry.
+fn write_entries<W: Sink>(out: &mut W, entries: &[Entry]) -> Result<(), WriteStop>
+    ensures sent { Sends (W.taken out.old) (W.taken out.new) (listed_lines 1 entries.now) result }
+    ensures errors { CountsErr (W.failed out.old) (W.failed out.new) result }
+{
+    for (index, entry) in entries.iter().enumerate() {
+        if let Err(stop) = write_listed(out, index as u64 + 1, entry) {
+            return Err(stop);
+        }
+    }
+    Ok(())
+}
+
+// Writes the line of one entry.
+#[tactic(auto, unfolding(crate::specs::Replies::listed_line))]
+fn write_listed<W: Sink>(out: &mut W, rank: u64, entry: &Entry) -> Result<(), WriteStop>
+    ensures sent { Sends (W.taken out.old) (W.taken out.new) (listed_line rank entry.now) result }
+    ensures errors { CountsErr (W.failed out.old) (W.failed out.new) result }
+{
+    let mut number = Buffer::new();
+    write_spaced(out, number.format(rank).as_bytes())?;
+    write_id_ended(out, &entry.id)
+}
+
+// Writes an identifier and the line's end.
+fn write_id_ended<W: Sink>(out: &mut W, id: &Id) -> Result<(), WriteStop>
+    ensures sent { Sends (W.taken out.old) (W.taken out.new) (spelled_id id.now ++ 10 ∷ []) result }
+    ensures errors { CountsErr (W.failed out.old) (W.failed out.new) result }
+{
+    write_id(out, id)?;
+    write_bytes(out, b"\n")
+}
+
+// Writes an identifier in its canonical spelling.
+#[tactic(auto, unfolding(crate::specs::Replies::spelled_id))]
+fn write_id<W: Sink>(out: &mut W, id: &Id) -> Result<(), WriteStop>
+    ensures sent { Sends (W.taken out.old) (W.taken out.new) (spelled_id id.now) result }
+    ensures errors { CountsErr (W.failed out.old) (W.failed out.new) result }
+{
+    match id {
+        Id::Char(c) => write_char(out, *c),
+        Id::Named(name) => write_symbol(out, name.get()),
+        Id::Undefined => write_bytes(out, b"UNDEFINED"),
+    }
+}
+
+// Writes the reply to what is refused.
+#[tactic(auto, unfolding(crate::specs::Replies::refused_line))]
+fn write_refused<W: Sink>(out: &mut W, fault: Fault) -> Result<(), WriteStop>
+    ensures sent { Sends (W.taken out.old) (W.taken out.new) (refused_line fault) result }
+    ensures errors { CountsErr (W.failed out.old) (W.failed out.new) result }
+{
+    write_bytes(out, b"refused ")?;
+    let mut number = Buffer::new();
+    write_words(
+        out,
+        number.format(fault.number()).as_bytes(),
+        fault.name().as_bytes(),
+    )
+}
+
+// Writes a word and a number.
+#[tactic(auto, unfolding(crate::specs::Replies::counted_line))]
+fn write_counted<W: Sink>(out: &mut W, word: &[u8], count: u64) -> Result<(), WriteStop>
+    ensures sent { Sends (W.taken out.old) (W.taken out.new) (counted_line word.now count) result }
+    ensures errors { CountsErr (W.failed out.old) (W.failed out.new) result }
+{
+    let mut number = Buffer::new();
+    write_words(out, word, number.format(count).as_bytes())
+}
+
+// Writes two words with a space between them, and the line's end.
+fn write_words<W: Sink>(out: &mut W, first: &[u8], second: &[u8]) -> Result<(), WriteStop>
+    ensures sent { Sends (W.taken out.old) (W.taken out.new) (worded first.now second.now) result }
+    ensures errors { CountsErr (W.failed out.old) (W.failed out.new) result }
+{
+    write_spaced(out, first)?;
+    write_ended(out, second)
+}
+
+// Writes a word and a space.
+fn write_spaced<W: Sink>(out: &mut W, word: &[u8]) -> Result<(), WriteStop>
+    ensures sent { Sends (W.taken out.old) (W.taken out.new) (word.now ++ 32 ∷ []) result }
+    ensures errors { CountsErr (W.failed out.old) (W.failed out.new) result }
+{
+    write_bytes(out, word)?;
+    write_bytes(out, b" ")
+}
+
+// Writes a word and the line's end.
+fn write_ended<W: Sink>(out: &mut W, word: &[u8]) -> Result<(), WriteStop>
+    ensures sent { Sends (W.taken out.old) (W.taken out.new) (word.now ++ 10 ∷ []) result }
+    ensures errors { CountsErr (W.failed out.old) (W.failed out.new) result }
+{
+    write_bytes(out, word)?;
+    write_bytes(out, b"\n")
+}

@@ -1,0 +1,3 @@
+pub mod Identifier
+pub mod Operands
+pub mod SyntaxFaults

@@ -1,0 +1,14 @@
+pub mod CategorySteps
+pub mod EntryLemmas
+pub mod FindSteps
+pub mod LineCounts
+pub mod LoadLemmas
+pub mod LookUps
+pub mod NextSteps
+pub mod PlaceLookUps
+pub mod PlacingLemmas
+pub mod Sameness
+pub mod SectionLemmas
+pub mod TableLemmas
+pub mod TakeLemmas
+pub mod TextSteps

@@ -1,0 +1,38 @@
+-- Where a line could not be read, it could not be taken.
+use Rattle.std.proofs.Common.{◌≡◌, ◌≢◌, ℕ, ◌+◌, ◌<◌, ◌≤◌, List, length, min, Option, sym, ap, ◌∙◌, arith}
+use Rattle.coll_lex.specs.declared.tokens.TheConstants.{MOST_LINE_BYTES, MOST_LINES}
+use Rattle.coll_lex.specs.declared.faults.LexFault.TheVariants as lex
+use Rattle.coll_lex.specs.LogicalLines.{LexerState}
+use Rattle.coll_lex.proofs.LineEnds.{fed-too_long}
+use Rattle.coll_table.proofs.LineCounts.{outside_too_long}
+use Rattle.coll_table.specs.TextLines.{TextState, FirstFails, AdvanceFails, TakeFails, FailsOutside, FailsFed, CountsOne}
+use Rattle.coll_table.specs.declared.load_faults.LoadCause.{LoadCause}
+use Rattle.coll_table.specs.declared.load_faults.LoadCause.TheVariants.{Lex, ReadFault}
+
+-- what follows from how the first line ahead fails
+pub fails_by : (old : TextState) (left : Option (List ℕ)) (P Q : List ℕ → Type 0) → ((first : List ℕ) → P first → Q first) → FirstFails old left P → FirstFails old left Q
+fails_by old left P Q f h = λ text e. let at = h text e in (at.0, at.1, at.2, f at.0 at.3)
+
+-- a line of the category that could not be read
+pub taken_fails : (old : TextState) (left left_after : Option (List ℕ)) (line : ℕ) (cause : LoadCause) → AdvanceFails old left left_after line cause → TakeFails FailsFed old left left_after line cause
+taken_fails old left left_after line (Lex lex.LineTooLong) h =
+    (h.0, fails_by old left (λ first. MOST_LINE_BYTES < length first) (λ first. FailsFed old.lexer first lex.LineTooLong) (λ first long. fed-too_long old.lexer first long) h.1)
+taken_fails old left left_after line ReadFault h = h
+taken_fails old left left_after line _ h = absurd h
+
+-- a line before the category that could not be read
+pub outside_fails : (old : TextState) (left left_after : Option (List ℕ)) (line : ℕ) (cause : LoadCause) → AdvanceFails old left left_after line cause → TakeFails FailsOutside old left left_after line cause
+outside_fails old left left_after line (Lex lex.LineTooLong) h =
+    (h.0, fails_by old left (λ first. MOST_LINE_BYTES < length first) (λ first. FailsOutside old.lexer first lex.LineTooLong) (λ first long. outside_too_long old.lexer first long) h.1)
+outside_fails old left left_after line ReadFault h = h
+outside_fails old left left_after line _ h = absurd h
+
+-- the count kept beside the lexer's is the lexer's
+pub count_kept : (count before after : ℕ) (result : ℕ) → count ≡ before → result ≡ min (count + 1) MOST_LINES → after ≡ min (before + 1) MOST_LINES → (result ≡ after) × (result ≤ MOST_LINES)
+count_kept count before after result e r a = (r ∙ (ap (λ n. min (n + 1) MOST_LINES) e ∙ sym a), omega arith)
+
+-- a line that was taken is counted
+pub counts_one : (count : ℕ) (before after : LexerState) → count ≡ before.count → count ≤ MOST_LINES → after.count ≡ min (before.count + 1) MOST_LINES → (before.count ≡ MOST_LINES → ⊥) → CountsOne before after
+counts_one count before after e few a room =
+    let ne : before.count ≢ MOST_LINES = room in
+    (omega arith, omega arith)

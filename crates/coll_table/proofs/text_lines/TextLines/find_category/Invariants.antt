@@ -1,0 +1,15 @@
+-- The lines so far decide nothing; each is one of the most lines that a text may have.
+use Rattle.std.proofs.Common.{◌≡◌, ◌-◌, None}
+use Rattle.coll_lex.specs.declared.tokens.TheConstants.{MOST_LINES}
+use Rattle.coll_table.proofs.FindSteps.{Finding}
+use Rattle.coll_table.proofs.text_lines.TextLines.find_category.Given as goal
+
+abbrev pub invariant-lines : goal.invariant-lines
+invariant-lines g l = record {
+  found : Finding l.initial.self l.self (g.R.Source.left l.initial.input) (g.R.Source.left l.input);
+  errors : g.R.Source.failed l.input ≡ g.R.Source.failed l.initial.input;
+  goes_on : l.self.reader.stop ≡ None;
+}
+
+abbrev pub decreases-lines : goal.decreases-lines
+decreases-lines g l = MOST_LINES - l.self.lexer.count

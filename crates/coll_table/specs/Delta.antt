@@ -1,0 +1,66 @@
+-- What a statement makes of a table: the table rewritten, or the refusal.
+use Rattle.std.specs.Prelude.{if◌then◌else◌, nat_le, not, List, [], ◌∷◌, ◌++◌, Option, Some, None, Result, Ok, Err, length}
+use Rattle.coll_syntax.specs.Identifier.{has_id}
+use Rattle.coll_table.specs.Table.{Collation, Section, entries_of, is_known, is_placed}
+use Rattle.coll_table.specs.Placement.{without, placed_after}
+use Rattle.coll_syntax.specs.declared.identifiers.Id.{Id}
+use Rattle.coll_table.specs.declared.plain.statements.PlainLine.{PlainLine}
+use Rattle.coll_table.specs.declared.plain.statements.PlainStatement.{PlainStatement}
+use Rattle.coll_table.specs.declared.plain.statements.PlainStatement.TheVariants.{Block, Reweight}
+use Rattle.coll_table.specs.declared.limits.TheConstants.{MOST_ENTRIES}
+use Rattle.coll_table.specs.declared.refusals.Refusal.{Refusal}
+use Rattle.coll_table.specs.declared.refusals.Refusal.TheVariants.{NotDeclared, Full, TargetNotPlaced, TwiceInBlock, NotPlaced, NoWeights}
+
+-- why a line of a block is refused, from the identifiers of the target and of the lines before it
+abbrev pub line_refusal : Collation → List Id → Id → Option Refusal
+line_refusal table before id =
+    if has_id before id then Some TwiceInBlock
+    else (if not (is_known table id) then Some NotDeclared
+    else None)
+
+-- the first of two refusals
+abbrev pub first_refusal : Option Refusal → Option Refusal → Option Refusal
+first_refusal (Some refusal) later = Some refusal
+first_refusal None later = later
+
+-- why the lines of a block are refused, the first line that is
+abbrev pub lines_refusal : Collation → List Id → List PlainLine → Option Refusal
+lines_refusal table before [] = None
+lines_refusal table before (line ∷ lines) =
+    first_refusal (line_refusal table before line.id) (lines_refusal table (before ++ line.id ∷ []) lines)
+
+-- the sections with an entry moved, or newly placed, directly after the target
+abbrev pub moved : List Section → Id → PlainLine → List Section
+moved sections target line = placed_after (without sections line.id) target (record { id = line.id })
+
+-- the sections rewritten by the lines of a block: the first after the target, each further one after the line before
+abbrev pub rewritten : List Section → Id → List PlainLine → List Section
+rewritten sections target [] = sections
+rewritten sections target (line ∷ lines) = rewritten (moved sections target line) line.id lines
+
+-- a table that results, unless it has too many entries
+abbrev pub within_limit : Collation → Result Collation Refusal
+within_limit table = if nat_le (length (entries_of table)) MOST_ENTRIES then Ok table else Err Full
+
+-- a refusal that stands, or the table that results
+abbrev pub unless_refused : Option Refusal → Collation → Result Collation Refusal
+unless_refused (Some refusal) table = Err refusal
+unless_refused None table = within_limit table
+
+-- the delta of a block
+abbrev pub block_delta : Collation → Id → List PlainLine → Result Collation Refusal
+block_delta table target lines =
+    if not (is_placed table target) then Err TargetNotPlaced
+    else unless_refused (lines_refusal table (target ∷ []) lines) (record table { sections = rewritten table.sections target lines })
+
+-- why an order line outside a block is refused: it has no weights to give
+abbrev pub reweight_refusal : Collation → Id → Refusal
+reweight_refusal table id =
+    if not (is_known table id) then NotDeclared
+    else (if not (is_placed table id) then NotPlaced
+    else NoWeights)
+
+-- the table rewritten by a statement, or the refusal
+unfoldable pub delta : Collation → PlainStatement → Result Collation Refusal
+delta table (Block target lines) = block_delta table target lines
+delta table (Reweight line) = Err (reweight_refusal table line.id)

@@ -1,0 +1,16 @@
+pub mod CategoryReading
+pub mod Delta
+pub mod Drafts
+pub mod LoadFaults
+pub mod Loads
+pub mod Placement
+pub mod PlainDeltaLines
+pub mod PlainLines
+pub mod PlainTableLines
+pub mod Reading
+pub mod Record
+pub mod Refusals
+pub mod Sound
+pub mod Table
+pub mod TextLines
+pub mod WellFormed

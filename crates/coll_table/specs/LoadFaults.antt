@@ -1,0 +1,36 @@
+-- The numbers and the names of the causes of a refused load, as messages show them.
+use Rattle.std.specs.Prelude.{ℕ, List, codes}
+use Rattle.coll_lex.specs.Faults.{lex_fault_number, lex_fault_name}
+use Rattle.coll_syntax.specs.SyntaxFaults.{syntax_fault_number, syntax_fault_name}
+use Rattle.coll_table.specs.declared.load_faults.LoadCause.{LoadCause}
+use Rattle.coll_table.specs.declared.load_faults.LoadCause.TheVariants.{Lex, Syntax, NoCategory, NoRules, DeclaredTwice, NotDeclared, PlacedTwice, OutsideOrder, Full, NoEnd, ReadFault, OutOfMemory}
+
+-- the number of a cause
+abbrev pub load_cause_number : LoadCause → ℕ
+load_cause_number (Lex fault) = lex_fault_number fault
+load_cause_number (Syntax fault) = syntax_fault_number fault
+load_cause_number NoCategory = 30
+load_cause_number NoRules = 31
+load_cause_number DeclaredTwice = 33
+load_cause_number NotDeclared = 34
+load_cause_number PlacedTwice = 35
+load_cause_number OutsideOrder = 41
+load_cause_number Full = 42
+load_cause_number NoEnd = 43
+load_cause_number ReadFault = 67
+load_cause_number OutOfMemory = 70
+
+-- the name of a cause
+abbrev pub load_cause_name : LoadCause → List ℕ
+load_cause_name (Lex fault) = lex_fault_name fault
+load_cause_name (Syntax fault) = syntax_fault_name fault
+load_cause_name NoCategory = codes "NoCategory"
+load_cause_name NoRules = codes "NoRules"
+load_cause_name DeclaredTwice = codes "DeclaredTwice"
+load_cause_name NotDeclared = codes "NotDeclared"
+load_cause_name PlacedTwice = codes "PlacedTwice"
+load_cause_name OutsideOrder = codes "OutsideOrder"
+load_cause_name Full = codes "Full"
+load_cause_name NoEnd = codes "NoEnd"
+load_cause_name ReadFault = codes "ReadFault"
+load_cause_name OutOfMemory = codes "OutOfMemory"

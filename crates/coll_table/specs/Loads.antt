@@ -1,0 +1,46 @@
+-- What a load answers, and what it leaves of the text and of the device's count of errors.
+use Rattle.std.specs.Prelude.{◌≡◌, ℕ, false, List, ◌++◌, Option, Some, Result, Ok, Err, MatchResult}
+use Rattle.coll_lex.specs.Devices.{raised}
+use Rattle.coll_lex.specs.PhysicalLines.{lines_of, IsInLine}
+use Rattle.coll_lex.specs.declared.faults.LexFault.TheVariants as lex
+use Rattle.coll_table.specs.Table.{Collation}
+use Rattle.coll_table.specs.TextLines.{EndsIn}
+use Rattle.coll_table.specs.Reading.{Outcome, Decided, Undecided, outcome_of, reads}
+use Rattle.coll_syntax.specs.declared.faults.SyntaxFault.TheVariants as syntax
+use Rattle.coll_table.specs.declared.load_faults.LoadFault.{LoadFault}
+use Rattle.coll_table.specs.declared.load_faults.LoadCause.{LoadCause}
+use Rattle.coll_table.specs.declared.load_faults.LoadCause.TheVariants.{Lex, Syntax, ReadFault, OutOfMemory}
+
+-- lines that decide nothing
+abbrev pub IsUndecided : Outcome → Type 0
+IsUndecided (Decided answer) = ⊥
+IsUndecided (Undecided cause) = Unit {0}
+
+-- a read failed behind a part of a line: the lines read whole before it decide nothing. That part and the rest are the
+-- last bytes of the text, so that a line feed that was read belongs to the lines read whole
+abbrev pub StopsWithin : List ℕ → Option (List ℕ) → Type 0
+StopsWithin text left =
+    (whole : List (List ℕ)) × (part : List ℕ) × (rest : List ℕ) × (left ≡ Some rest) × EndsIn text (part ++ rest)
+    × (lines_of text ≡ whole ++ lines_of (part ++ rest)) × IsInLine part × IsUndecided (outcome_of false whole)
+
+-- what a fault says of the text, by its cause; a want of memory says nothing
+abbrev pub Refuses : LoadCause → ℕ → List ℕ → Option (List ℕ) → Type 0
+Refuses OutOfMemory line text left = Unit {0}
+Refuses (Lex lex.OutOfMemory) line text left = Unit {0}
+Refuses (Syntax syntax.OutOfMemory) line text left = Unit {0}
+Refuses ReadFault line text left = (line ≡ 0) × StopsWithin text left
+Refuses cause line text left = reads text ≡ Err (record { line = line; cause = cause })
+
+-- what an answer says of the text that the device had
+abbrev pub Loads : Option (List ℕ) → Option (List ℕ) → Result Collation LoadFault → Type 0
+Loads old new (Ok table) = (text : List ℕ) → old ≡ Some text → reads text ≡ Ok table
+Loads old new (Err fault) = (text : List ℕ) → old ≡ Some text → Refuses fault.cause fault.line text new
+
+-- the count of errors, one higher where a read error is the cause
+abbrev pub counted_by : LoadCause → ℕ → ℕ
+counted_by ReadFault count = raised count
+counted_by _ count = count
+
+-- a read error is counted where it is the cause, and none elsewhere
+abbrev pub CountsFault : {T : Type 0} → ℕ → ℕ → Result T LoadFault → Type 0
+CountsFault old new r = MatchResult r (λ _. new ≡ old) (λ (fault : LoadFault). new ≡ counted_by fault.cause old)

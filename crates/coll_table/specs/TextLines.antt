@@ -1,0 +1,171 @@
+-- The lines of a text, taken one after another: physical ones by a reader, and logical ones by a lexer.
+use Rattle.std.specs.Prelude.{◌≡◌, ℕ, ◌+◌, ◌<◌, Bool, true, false, List, [], ◌∷◌, ◌++◌, length, Option, Some, None, Result, Ok, Err}
+use Rattle.coll_lex.specs.LineReading as reading
+use Rattle.coll_lex.specs.LogicalLines.{LexerState, LogicalLine, number_of, fed, outside, left_open, logical_lines}
+use Rattle.coll_lex.specs.PhysicalLines.{lines_of, IsInLine}
+use Rattle.coll_lex.specs.declared.tokens.Line.{Line}
+use Rattle.coll_lex.specs.declared.tokens.TheConstants.{MOST_LINE_BYTES, MOST_LINES}
+use Rattle.coll_lex.specs.declared.faults.LexFault.{LexFault}
+use Rattle.coll_lex.specs.declared.faults.LexFault.TheVariants as lex
+use Rattle.coll_table.specs.Reading.{Undecided, outcome_before, outcome_within, at_fault}
+use Rattle.coll_table.specs.declared.load_faults.LoadFault.{LoadFault}
+use Rattle.coll_table.specs.declared.load_faults.LoadCause.{LoadCause}
+use Rattle.coll_table.specs.declared.load_faults.LoadCause.TheVariants.{Lex, NoCategory, ReadFault}
+use Rattle.coll_table.specs.declared.taken.Taken.{Taken}
+use Rattle.coll_table.specs.declared.taken.Taken.TheVariants.{Whole, NoLine, End}
+
+-- where the taking of lines stands: what the reader holds, and where the lexer stands
+pub record TextState : Type 0 where
+  pub reader : reading.Reading
+  pub lexer : LexerState
+
+-- the bytes still to come, where those left in the device are known
+abbrev pub ahead_of : TextState → Option (List ℕ) → Option (List ℕ)
+ahead_of t left = reading.ahead t.reader left
+
+-- a text ends in these bytes
+abbrev pub EndsIn : List ℕ → List ℕ → Type 0
+EndsIn text rest = (front : List ℕ) × (text ≡ front ++ rest)
+
+-- the reader gave the first of the physical lines ahead
+abbrev pub GivesFirst : TextState → TextState → Option (List ℕ) → Option (List ℕ) → Type 0
+GivesFirst old new left left_after =
+    (text : List ℕ) → ahead_of old left ≡ Some text →
+    (rest : List ℕ) × (ahead_of new left_after ≡ Some rest) × EndsIn text rest × (lines_of text ≡ new.reader.line ∷ lines_of rest)
+
+-- no physical line was ahead
+abbrev pub WasLast : TextState → Option (List ℕ) → Type 0
+WasLast old left = (text : List ℕ) → ahead_of old left ≡ Some text → lines_of text ≡ []
+
+-- the first of the physical lines ahead is at fault
+abbrev pub FirstFails : TextState → Option (List ℕ) → (List ℕ → Type 0) → Type 0
+FirstFails old left Fails =
+    (text : List ℕ) → ahead_of old left ≡ Some text →
+    (first : List ℕ) × (later : List (List ℕ)) × (lines_of text ≡ first ∷ later) × Fails first
+
+-- a read failed behind a part of the first physical line ahead
+abbrev pub CutShort : TextState → Option (List ℕ) → Option (List ℕ) → Type 0
+CutShort old left left_after =
+    (text : List ℕ) → ahead_of old left ≡ Some text →
+    (part : List ℕ) × (rest : List ℕ) × (left_after ≡ Some rest) × (text ≡ part ++ rest) × IsInLine part
+
+-- a line could not be read
+abbrev pub AdvanceFails : TextState → Option (List ℕ) → Option (List ℕ) → ℕ → LoadCause → Type 0
+AdvanceFails old left left_after line (Lex lex.LineTooLong) =
+    (line ≡ number_of old.lexer) × FirstFails old left (λ first. MOST_LINE_BYTES < length first)
+AdvanceFails old left left_after line ReadFault = (line ≡ 0) × CutShort old left left_after
+AdvanceFails old left left_after line _ = ⊥
+
+-- one physical line was read, or none was ahead
+abbrev pub Advances : TextState → TextState → Option (List ℕ) → Option (List ℕ) → Result Bool LoadFault → Type 0
+Advances old new left left_after (Ok true) = GivesFirst old new left left_after
+Advances old new left left_after (Ok false) = WasLast old left
+Advances old new left left_after (Err fault) = AdvanceFails old left left_after fault.line fault.cause
+
+-- a line could not be taken; a want of memory says nothing
+abbrev pub TakeFails : (LexerState → List ℕ → LexFault → Type 0) → TextState → Option (List ℕ) → Option (List ℕ) → ℕ → LoadCause → Type 0
+TakeFails Fails old left left_after line (Lex lex.OutOfMemory) = Unit {0}
+TakeFails Fails old left left_after line (Lex fault) =
+    (line ≡ number_of old.lexer) × FirstFails old left (λ first. Fails old.lexer first fault)
+TakeFails Fails old left left_after line ReadFault = (line ≡ 0) × CutShort old left left_after
+TakeFails Fails old left left_after line _ = ⊥
+
+-- the lexer refuses a line before the category
+abbrev pub FailsOutside : LexerState → List ℕ → LexFault → Type 0
+FailsOutside s line fault = outside s line ≡ Err fault
+
+-- the lexer refuses a line of the category
+abbrev pub FailsFed : LexerState → List ℕ → LexFault → Type 0
+FailsFed s line fault = fed s line ≡ Err fault
+
+-- one physical line more was handed to the lexer, which takes no more than the most lines of a text
+abbrev pub CountsOne : LexerState → LexerState → Type 0
+CountsOne old new = (old.count < MOST_LINES) × (new.count ≡ old.count + 1)
+
+-- a physical line before the category that was taken is counted
+abbrev pub CountsOutside : TextState → TextState → Option Bool → Type 0
+CountsOutside old new (Some begins) = CountsOne old.lexer new.lexer
+CountsOutside old new None = Unit {0}
+
+-- a physical line of the category that was taken is counted
+abbrev pub CountsTaken : TextState → TextState → Taken → Type 0
+CountsTaken old new (Whole line) = CountsOne old.lexer new.lexer
+CountsTaken old new NoLine = CountsOne old.lexer new.lexer
+CountsTaken old new End = Unit {0}
+
+-- one physical line before the category was taken, or none was ahead
+abbrev pub TakesOutside : TextState → TextState → Option (List ℕ) → Option (List ℕ) → Result (Option Bool) LoadFault → Type 0
+TakesOutside old new left left_after (Ok (Some begins)) =
+    GivesFirst old new left left_after × (outside old.lexer new.reader.line ≡ Ok (begins, new.lexer))
+TakesOutside old new left left_after (Ok None) = WasLast old left × (new.lexer ≡ old.lexer)
+TakesOutside old new left left_after (Err fault) = TakeFails FailsOutside old left left_after fault.line fault.cause
+
+-- one physical line of the category was taken, or none was ahead
+abbrev pub Takes : TextState → TextState → Option (List ℕ) → Option (List ℕ) → Result Taken LoadFault → Type 0
+Takes old new left left_after (Ok (Whole line)) =
+    GivesFirst old new left left_after × (fed old.lexer new.reader.line ≡ Ok (Some line, new.lexer))
+Takes old new left left_after (Ok NoLine) =
+    GivesFirst old new left left_after × (fed old.lexer new.reader.line ≡ Ok (None, new.lexer))
+Takes old new left left_after (Ok End) = WasLast old left × (new.lexer ≡ old.lexer)
+Takes old new left left_after (Err fault) = TakeFails FailsFed old left left_after fault.line fault.cause
+
+-- physical lines were taken: these of the text, and the rest is ahead
+abbrev pub TakesLines : TextState → TextState → Option (List ℕ) → List ℕ → List (List ℕ) → List ℕ → Type 0
+TakesLines old new left_after text whole rest =
+    (ahead_of new left_after ≡ Some rest) × (lines_of text ≡ whole ++ lines_of rest) × EndsIn text rest × (new.lexer.count ≡ old.lexer.count + length whole)
+
+-- a read failed behind whole lines and a part of a line; that part and the rest are the last bytes of the text, so that a
+-- line feed that was read belongs to the whole lines
+abbrev pub StopsAfter : Option (List ℕ) → List ℕ → List (List ℕ) → Type 0
+StopsAfter left_after text whole =
+    (part : List ℕ) × (rest : List ℕ) × (left_after ≡ Some rest) × EndsIn text (part ++ rest)
+    × (lines_of text ≡ whole ++ lines_of (part ++ rest)) × IsInLine part
+
+-- why no category was found; the lines before it decide the fault
+abbrev pub FindFails : TextState → Option (List ℕ) → Option (List ℕ) → ℕ → LoadCause → Type 0
+FindFails old left left_after line (Lex lex.OutOfMemory) = Unit {0}
+FindFails old left left_after line (Lex fault) =
+    (text : List ℕ) → ahead_of old left ≡ Some text → outcome_before true old.lexer (lines_of text) ≡ at_fault line (Lex fault)
+FindFails old left left_after line NoCategory =
+    (text : List ℕ) → ahead_of old left ≡ Some text →
+    (outcome_before true old.lexer (lines_of text) ≡ Undecided NoCategory) × (line ≡ old.lexer.count + length (lines_of text))
+FindFails old left left_after line ReadFault =
+    (line ≡ 0) × ((text : List ℕ) → ahead_of old left ≡ Some text →
+    (whole : List (List ℕ)) × StopsAfter left_after text whole × (outcome_before false old.lexer whole ≡ Undecided NoCategory))
+FindFails old left left_after line _ = ⊥
+
+-- the line at which the category begins was found
+abbrev pub Finds : TextState → TextState → Option (List ℕ) → Option (List ℕ) → Result (Unit {0}) LoadFault → Type 0
+Finds old new left left_after (Ok _) =
+    (text : List ℕ) → ahead_of old left ≡ Some text →
+    (whole : List (List ℕ)) × (rest : List ℕ) × TakesLines old new left_after text whole rest
+    × ((ends : Bool) (more : List (List ℕ)) → outcome_before ends old.lexer (whole ++ more) ≡ outcome_within [] (logical_lines [] ends new.lexer more))
+Finds old new left left_after (Err fault) = FindFails old left left_after fault.line fault.cause
+
+-- why no logical line was given; the next one is at fault
+abbrev pub NextFails : TextState → Option (List ℕ) → Option (List ℕ) → ℕ → LoadCause → Type 0
+NextFails old left left_after line (Lex lex.OutOfMemory) = Unit {0}
+NextFails old left left_after line (Lex fault) =
+    (text : List ℕ) → ahead_of old left ≡ Some text →
+    (first : List ℕ) × (later : List LogicalLine) × (logical_lines [] true old.lexer (lines_of text) ≡ record { number = line; first = first; tokens = Err fault } ∷ later)
+NextFails old left left_after line ReadFault =
+    (line ≡ 0) × ((text : List ℕ) → ahead_of old left ≡ Some text →
+    (whole : List (List ℕ)) × StopsAfter left_after text whole × (logical_lines [] false old.lexer whole ≡ []))
+NextFails old left left_after line _ = ⊥
+
+-- the next logical line was given, or none was ahead
+abbrev pub Nexts : TextState → TextState → Option (List ℕ) → Option (List ℕ) → Result (Option Line) LoadFault → Type 0
+Nexts old new left left_after (Ok (Some line)) =
+    (text : List ℕ) → ahead_of old left ≡ Some text →
+    (whole : List (List ℕ)) × (rest : List ℕ) × (first : List ℕ) × TakesLines old new left_after text whole rest
+    × ((ends : Bool) (more : List (List ℕ)) → logical_lines [] ends old.lexer (whole ++ more) ≡ record { number = line.number; first = first; tokens = Ok line.tokens } ∷ logical_lines [] ends new.lexer more)
+Nexts old new left left_after (Ok None) =
+    (text : List ℕ) → ahead_of old left ≡ Some text →
+    (logical_lines [] true old.lexer (lines_of text) ≡ []) × (new.lexer.count ≡ old.lexer.count + length (lines_of text))
+Nexts old new left left_after (Err fault) = NextFails old left left_after fault.line fault.cause
+
+-- a text that ends leaves a line open, which is at fault
+abbrev pub LeavesOpen : LexerState → LoadFault → Type 0
+LeavesOpen s fault =
+    (fault.cause ≡ Lex lex.DanglingEscape)
+    × (first : List ℕ) × (left_open s.line ≡ record { number = fault.line; first = first; tokens = Err lex.DanglingEscape } ∷ [])

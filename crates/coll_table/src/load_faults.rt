@@ -1,0 +1,112 @@
+//! Why a table could not be loaded.
+//!
+//! A fault has a line and a cause, and a cause has a number and a name, which messages show; a fault of the lexer or the
+//! grammar keeps its own. A new cause is a new variant with its number and its name, here and in `specs/LoadFaults.antt`.
+
+ghost use Rattle.std.specs.Prelude.{◌≡◌};
+ghost use Rattle.coll_table.specs.LoadFaults.{load_cause_number, load_cause_name};
+ghost use Rattle.coll_table.specs.declared.load_faults.LoadCause.TheVariants.{OutOfMemory};
+
+use coll_syntax::SyntaxFault;
+use coll_lex::LexFault;
+use std::alloc::{AllocError, AllocFailed};
+use thiserror::Error;
+
+/// Why a table could not be loaded, and where.
+#[derive(Clone, Copy, Debug, PartialEq, Eq, Error)]
+#[error("line {line}: {cause}")]
+pub struct LoadFault {
+    /// The number of the line at fault, from 1; of a text that ends too early, the number of its lines; 0 where no line
+    /// is at fault. A want of memory may carry any.
+    pub line: u32,
+    /// What was wrong.
+    pub cause: LoadCause,
+}
+
+/// Why a table could not be loaded.
+#[derive(Clone, Copy, Debug, PartialEq, Eq, Error)]
+#[error("{} {}", self.number(), self.name())]
+pub enum LoadCause {
+    /// A line could not be lexed.
+    Lex(LexFault),
+    /// A line doesn't say anything that a table may say.
+    Syntax(SyntaxFault),
+    /// The text has no line `LC_COLLATE`.
+    NoCategory,
+    /// The category ends without an `order_start`.
+    NoRules,
+    /// A name is declared that an earlier line declares.
+    DeclaredTwice,
+    /// An order line names what no earlier line declares.
+    NotDeclared,
+    /// An order line has an identifier that an earlier one has.
+    PlacedTwice,
+    /// An order line or `order_end` stands where no order is open, or the category ends where one is.
+    OutsideOrder,
+    /// The table has no room for one more entry or declaration.
+    Full,
+    /// The text ends before its category does.
+    NoEnd,
+    /// A read of the device answered an error.
+    ReadFault,
+    /// Memory was refused.
+    OutOfMemory,
+}
+
+impl LoadCause {
+    /// The number that a message shows.
+    pub fn number(self) -> u8
+        ensures { result ≡ load_cause_number self }
+    {
+        match self {
+            LoadCause::Lex(fault) => fault.number(),
+            LoadCause::Syntax(fault) => fault.number(),
+            LoadCause::NoCategory => 30,
+            LoadCause::NoRules => 31,
+            LoadCause::DeclaredTwice => 33,
+            LoadCause::NotDeclared => 34,
+            LoadCause::PlacedTwice => 35,
+            LoadCause::OutsideOrder => 41,
+            LoadCause::Full => 42,
+            LoadCause::NoEnd => 43,
+            LoadCause::ReadFault => 67,
+            LoadCause::OutOfMemory => 70,
+        }
+    }
+
+    /// The name that a message shows.
+    pub fn name(self) -> &'static str
+        ensures { result.now ≡ load_cause_name self }
+    {
+        match self {
+            LoadCause::Lex(fault) => fault.name(),
+            LoadCause::Syntax(fault) => fault.name(),
+            LoadCause::NoCategory => "NoCategory",
+            LoadCause::NoRules => "NoRules",
+            LoadCause::DeclaredTwice => "DeclaredTwice",
+            LoadCause::NotDeclared => "NotDeclared",
+            LoadCause::PlacedTwice => "PlacedTwice",
+            LoadCause::OutsideOrder => "OutsideOrder",
+            LoadCause::Full => "Full",
+            LoadCause::NoEnd => "NoEnd",
+            LoadCause::ReadFault => "ReadFault",
+            LoadCause::OutOfMemory => "OutOfMemory",
+        }
+    }
+}
+
+impl From<AllocError> for LoadCause {
+    ghost from_gives = { λ _ cause. cause ≡ OutOfMemory };
+
+    fn from(_error: AllocError) -> LoadCause {
+        LoadCause::OutOfMemory
+    }
+}
+
+impl<T: Drop> From<AllocFailed<T>> for LoadCause {
+    ghost from_gives = { λ _ cause. cause ≡ OutOfMemory };
+
+    fn from(_error: AllocFailed<T>) -> LoadCause {
+        LoadCause::OutOfMemory
+    }
+}

@@ -1,0 +1,80 @@
+//! Names, with a look-up by hash.
+//!
+//! A `Names` is the list of its names in the order in which they came, each once.
+
+ghost use Rattle.std.specs.Prelude.{◌≡◌, [], IfOk, OnOk, OnErr, chars, length};
+ghost use Rattle.coll_syntax.specs.Identifier.{same_name, has_name};
+ghost use Rattle.coll_table.specs.WellFormed.{AreDistinct};
+
+use coll_lex::TextBuf;
+use indexmap::IndexSet;
+use std::alloc::{AllocError, Global};
+use std::marker::Model;
+
+/// Names, each once.
+#[derive(Debug, Drop)]
+pub struct Names {
+    names: IndexSet<String>,
+    alloc: Global,
+}
+
+impl Model for Names {
+    ghost use Rattle.std.specs.Prelude.{List, ℕ};
+    ghost use Rattle.coll_table.specs.Sound.{texts_of, AreNames};
+
+    ghost Value = { List (List ℕ) };
+
+    ghost view = { λ n. texts_of n.names.keys };
+
+    ghost invariant = { λ n. AreNames n.names.keys };
+}
+
+impl Names {
+    ghost use Rattle.coll_table.specs.Sound.{with_name};
+
+    /// No names. It takes no memory.
+    pub fn new(alloc: Global) -> Names
+        ensures { result ≡ [] }
+    {
+        Names {
+            names: IndexSet::new(alloc),
+            alloc,
+        }
+    }
+
+    /// The number of names.
+    pub fn len(&self) -> usize
+        ensures len { result ≡ length self.now }
+        ensures distinct { AreDistinct same_name self.now }
+    {
+        self.names.len()
+    }
+
+    /// Whether a name is there.
+    pub fn contains(&self, name: &TextBuf) -> bool
+        ensures { result ≡ has_name self.now name.now }
+    {
+        self.names.contains(name.get())
+    }
+
+    /// Puts a name at the end. One that is there stays where it is.
+    pub fn insert(&mut self, name: &str) -> Result<(), AllocError>
+        ensures ok { OnOk result (self.new ≡ with_name self.old (chars name.now)) }
+        ensures err { OnErr result (self.new ≡ self.old) }
+    {
+        let text = String::from_str(self.alloc, name)?;
+        self.names.insert(text)?;
+        Ok(())
+    }
+
+    /// A copy, in new memory.
+    pub fn try_copy(&self) -> Result<Names, AllocError>
+        ensures { IfOk result (λ copy. copy ≡ self.now) }
+    {
+        let mut copy = Names::new(self.alloc);
+        for name in self.names.as_slice() {
+            copy.insert(name.as_str())?;
+        }
+        Ok(copy)
+    }
+}

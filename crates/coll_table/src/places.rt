@@ -1,0 +1,71 @@
+//! The identifiers that stand in a table, with a look-up by hash.
+//!
+//! A `Places` is a list of identifiers in no stated order: what a contract says of it is which identifiers it has.
+
+ghost use Rattle.std.specs.Prelude.{◌≡◌, [], OnOk, OnErr};
+ghost use Rattle.coll_syntax.specs.Identifier.{has_id};
+
+use super::names::Names;
+use coll_syntax::Id;
+use indexmap::IndexSet;
+use std::alloc::{AllocError, Global};
+use std::marker::Model;
+
+/// Identifiers, each once.
+#[derive(Debug, Drop)]
+pub struct Places {
+    names: Names,
+    chars: IndexSet<char>,
+    undefined: bool,
+}
+
+impl Model for Places {
+    ghost use Rattle.std.specs.Prelude.{List};
+    ghost use Rattle.coll_syntax.specs.declared.identifiers.Id.{Id};
+    ghost use Rattle.coll_table.specs.Sound.{places_of};
+
+    ghost Value = { List Id };
+
+    ghost view = { λ p. places_of p.names p.chars.keys p.undefined };
+}
+
+impl Places {
+    ghost use Rattle.coll_table.specs.Sound.{AddsId};
+
+    /// No identifiers. It takes no memory.
+    pub fn new(alloc: Global) -> Places
+        ensures { result ≡ [] }
+    {
+        Places {
+            names: Names::new(alloc),
+            chars: IndexSet::new(alloc),
+            undefined: false,
+        }
+    }
+
+    /// Whether an identifier is there.
+    pub fn contains(&self, id: &Id) -> bool
+        ensures { result ≡ has_id self.now id.now }
+    {
+        match id {
+            Id::Char(c) => self.chars.contains(c),
+            Id::Named(name) => self.names.contains(name),
+            Id::Undefined => self.undefined,
+        }
+    }
+
+    /// Puts an identifier in. One that is there stays.
+    pub fn insert(&mut self, id: &Id) -> Result<(), AllocError>
+        ensures ok { OnOk result (AddsId self.old self.new id.now) }
+        ensures err { OnErr result (self.new ≡ self.old) }
+    {
+        match id {
+            Id::Char(c) => {
+                self.chars.insert(*c)?;
+            }
+            Id::Named(name) => self.names.insert(name.get())?,
+            Id::Undefined => self.undefined = true,
+        }
+        Ok(())
+    }
+}

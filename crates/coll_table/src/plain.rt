@@ -1,0 +1,12 @@
+//! The lines and the statements that a table takes today: those without weights.
+//!
+//! A small grammar of its own over the parts of `coll_syntax`. It goes as soon as tables have weights.
+
+mod delta_lines;
+mod order_lines;
+mod statements;
+mod table_lines;
+
+pub use delta_lines::{PlainDeltaLine, parse_plain_delta_line};
+pub use statements::{PlainLine, PlainStatement};
+pub use table_lines::{PlainTableLine, parse_plain_table_line};

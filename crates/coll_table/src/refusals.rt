@@ -1,0 +1,79 @@
+//! Why a table refuses a statement.
+//!
+//! Each refusal has a number and a name, which replies and messages show. A new refusal is a new variant with its number
+//! and its name, here and in `specs/Refusals.antt`.
+
+ghost use Rattle.std.specs.Prelude.{◌≡◌};
+ghost use Rattle.coll_table.specs.Refusals.{refusal_number, refusal_name};
+ghost use Rattle.coll_table.specs.declared.refusals.Refusal.TheVariants.{OutOfMemory};
+
+use std::alloc::{AllocError, AllocFailed};
+use thiserror::Error;
+
+/// Why a statement was refused. The table is then as it was.
+#[derive(Clone, Copy, Debug, PartialEq, Eq, Error)]
+#[error("{} {}", self.number(), self.name())]
+pub enum Refusal {
+    /// A line names what the table doesn't declare.
+    NotDeclared,
+    /// The table would have more entries than `MOST_ENTRIES`.
+    Full,
+    /// The target of a block has no entry.
+    TargetNotPlaced,
+    /// A line of a block has the identifier of the target, or of a line before it.
+    TwiceInBlock,
+    /// An order line outside a block has an identifier without an entry.
+    NotPlaced,
+    /// An order line outside a block gives no weights.
+    NoWeights,
+    /// Memory was refused.
+    OutOfMemory,
+}
+
+impl Refusal {
+    /// The number that a reply or a message shows.
+    pub fn number(self) -> u8
+        ensures { result ≡ refusal_number self }
+    {
+        match self {
+            Refusal::NotDeclared => 34,
+            Refusal::Full => 42,
+            Refusal::TargetNotPlaced => 50,
+            Refusal::TwiceInBlock => 51,
+            Refusal::NotPlaced => 54,
+            Refusal::NoWeights => 55,
+            Refusal::OutOfMemory => 70,
+        }
+    }
+
+    /// The name that a reply or a message shows.
+    pub fn name(self) -> &'static str
+        ensures { result.now ≡ refusal_name self }
+    {
+        match self {
+            Refusal::NotDeclared => "NotDeclared",
+            Refusal::Full => "Full",
+            Refusal::TargetNotPlaced => "TargetNotPlaced",
+            Refusal::TwiceInBlock => "TwiceInBlock",
+            Refusal::NotPlaced => "NotPlaced",
+            Refusal::NoWeights => "NoWeights",
+            Refusal::OutOfMemory => "OutOfMemory",
+        }
+    }
+}
+
+impl From<AllocError> for Refusal {
+    ghost from_gives = { λ _ refusal. refusal ≡ OutOfMemory };
+
+    fn from(_error: AllocError) -> Refusal {
+        Refusal::OutOfMemory
+    }
+}
+
+impl<T: Drop> From<AllocFailed<T>> for Refusal {
+    ghost from_gives = { λ _ refusal. refusal ≡ OutOfMemory };
+
+    fn from(_error: AllocFailed<T>) -> Refusal {
+        Refusal::OutOfMemory
+    }
+}
