@@ -148,7 +148,7 @@ module _ (start now : TextState) (left left_now : Option (List ℕ)) (draft : Dr
 
     -- a line at fault
     pub refused_line : (left_after : Option (List ℕ)) (number : ℕ) (cause : LoadCause) → RefusedFor draft given number cause → CategoryFails start left left_after number cause
-    refused_line left_after number (Syntax syntax.OutOfMemory) r = tt
+    refused_line left_after number (Syntax syntax.OutOfMemory) r = absurd r
     refused_line left_after number (Syntax fault) r = read_refused number fault r.0 r.1
     refused_line left_after number OutOfMemory r = tt
     refused_line left_after number (Lex fault) r = absurd r
@@ -181,7 +181,8 @@ module _ (start now : TextState) (left left_now : Option (List ℕ)) (draft : Dr
 
   -- the next line could not be taken
   pub not_given : (left_next : Option (List ℕ)) (line : ℕ) (cause : LoadCause) → NextFails now left_now left_next line cause → CategoryFails start left left_next line cause
-  not_given left_next line (Lex lex.OutOfMemory) f = tt
+  not_given left_next line OutOfMemory f = tt
+  not_given left_next line (Lex lex.OutOfMemory) f = absurd f
   not_given left_next line (Lex fault) f = lexed line fault f
   not_given left_next line ReadFault f = (
     f.0,

@@ -7,7 +7,7 @@ use Rattle.coll_lex.specs.declared.faults.LexFault.TheVariants as lex
 use Rattle.coll_table.specs.Reading.{Undecided, outcome_before, outcome_within, at_fault}
 use Rattle.coll_table.specs.TextLines.{TextState, ahead_of, EndsIn, GivesFirst, WasLast, CountsOne, FailsOutside, TakeFails, TakesLines, FindFails, Finds}
 use Rattle.coll_table.specs.declared.load_faults.LoadCause.{LoadCause}
-use Rattle.coll_table.specs.declared.load_faults.LoadCause.TheVariants.{Lex, NoCategory, ReadFault}
+use Rattle.coll_table.specs.declared.load_faults.LoadCause.TheVariants.{Lex, NoCategory, ReadFault, OutOfMemory}
 use Rattle.coll_table.proofs.TextSteps.{ends_behind}
 
 -- without a line nothing is decided
@@ -95,7 +95,8 @@ module _ (start now : TextState) (left left_now : Option (List ℕ)) (h : Findin
 
   -- a line at fault
   pub find_fails : (left_next : Option (List ℕ)) (line : ℕ) (cause : LoadCause) → TakeFails FailsOutside now left_now left_next line cause → FindFails start left left_next line cause
-  find_fails left_next line (Lex lex.OutOfMemory) f = tt
+  find_fails left_next line OutOfMemory f = tt
+  find_fails left_next line (Lex lex.OutOfMemory) f = absurd f
   find_fails left_next line (Lex fault) f = at_fault_here left_next line fault f.0 f.1
   find_fails left_next line ReadFault f = (
     f.0,

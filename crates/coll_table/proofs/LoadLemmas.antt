@@ -38,7 +38,8 @@ undecided o cause e = subst IsUndecided (sym e) tt
 module _ (left left_after : Option (List ℕ)) where
   -- no category was found
   pub load_not_found : (line : ℕ) (cause : LoadCause) → FindFails text_start left left_after line cause → (text : List ℕ) → left ≡ Some text → Refuses cause line text left_after
-  load_not_found line (Lex lex.OutOfMemory) f text e = tt
+  load_not_found line OutOfMemory f text e = tt
+  load_not_found line (Lex lex.OutOfMemory) f text e = absurd f
   load_not_found line (Lex fault) f text e = reads_decided text (Err (record { line = line; cause = Lex fault })) (f text (ap (prepend_known []) e))
   load_not_found line NoCategory f text e =
       let h = f text (ap (prepend_known []) e) in
@@ -63,8 +64,8 @@ module _ (left left_after : Option (List ℕ)) where
     -- the category could not be read
     load_fails : (line : ℕ) (cause : LoadCause) → CategoryFails found left_found left_after line cause → (text : List ℕ) → left ≡ Some text → Refuses cause line text left_after
     load_fails line OutOfMemory f text e = tt
-    load_fails line (Lex lex.OutOfMemory) f text e = tt
-    load_fails line (Syntax syntax.OutOfMemory) f text e = tt
+    load_fails line (Lex lex.OutOfMemory) f text e = absurd f
+    load_fails line (Syntax syntax.OutOfMemory) f text e = absurd f
     load_fails line NoCategory f text e = absurd f
     load_fails line NoEnd f text e =
         let at = finds text (ap (prepend_known []) e) in

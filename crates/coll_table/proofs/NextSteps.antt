@@ -9,7 +9,7 @@ use Rattle.coll_lex.specs.declared.faults.LexFault.TheVariants as lex
 use Rattle.coll_lex.proofs.LineSteps.{logical_lines-nil, logical_lines-none, logical_lines-whole, logical_lines-fault}
 use Rattle.coll_table.specs.TextLines.{TextState, ahead_of, EndsIn, GivesFirst, WasLast, CountsOne, FailsFed, TakeFails, TakesLines, NextFails, Nexts}
 use Rattle.coll_table.specs.declared.load_faults.LoadCause.{LoadCause}
-use Rattle.coll_table.specs.declared.load_faults.LoadCause.TheVariants.{Lex, ReadFault}
+use Rattle.coll_table.specs.declared.load_faults.LoadCause.TheVariants.{Lex, ReadFault, OutOfMemory}
 use Rattle.coll_table.proofs.FindSteps.{one_behind, takes_more}
 
 -- the lines taken so far end no logical line, and leave it to the later ones
@@ -84,7 +84,8 @@ module _ (start now : TextState) (left left_now : Option (List ℕ)) (h : Nextin
 
   -- a line at fault
   pub next_fails : (left_next : Option (List ℕ)) (line : ℕ) (cause : LoadCause) → TakeFails FailsFed now left_now left_next line cause → NextFails start left left_next line cause
-  next_fails left_next line (Lex lex.OutOfMemory) f = tt
+  next_fails left_next line OutOfMemory f = tt
+  next_fails left_next line (Lex lex.OutOfMemory) f = absurd f
   next_fails left_next line (Lex fault) f = at_fault_here line fault f.0 f.1
   next_fails left_next line ReadFault f = (
     f.0,

@@ -2,7 +2,9 @@
 use Rattle.std.proofs.Common.{◌≡◌, ◌≢◌, ℕ, ◌+◌, ◌<◌, ◌≤◌, List, length, min, Option, sym, ap, ◌∙◌, arith}
 use Rattle.coll_lex.specs.declared.tokens.TheConstants.{MOST_LINE_BYTES, MOST_LINES}
 use Rattle.coll_lex.specs.declared.faults.LexFault.TheVariants as lex
-use Rattle.coll_lex.specs.LogicalLines.{LexerState}
+use Rattle.coll_lex.specs.LogicalLines.{LexerState, number_of}
+use Rattle.coll_lex.specs.declared.faults.LexFault.{LexFault}
+use Rattle.coll_table.specs.LoadFaults.{lex_cause}
 use Rattle.coll_lex.proofs.LineEnds.{fed-too_long}
 use Rattle.coll_table.proofs.LineCounts.{outside_too_long}
 use Rattle.coll_table.specs.TextLines.{TextState, FirstFails, AdvanceFails, TakeFails, FailsOutside, FailsFed, CountsOne}
@@ -26,6 +28,11 @@ outside_fails old left left_after line (Lex lex.LineTooLong) h =
     (h.0, fails_by old left (λ first. MOST_LINE_BYTES < length first) (λ first. FailsOutside old.lexer first lex.LineTooLong) (λ first long. outside_too_long old.lexer first long) h.1)
 outside_fails old left left_after line ReadFault h = h
 outside_fails old left left_after line _ h = absurd h
+
+-- a line that the lexer refuses: the fault is its own, unless it is a want of memory
+pub lexed_fails : (Fails : LexerState → List ℕ → LexFault → Type 0) (old : TextState) (left left_after : Option (List ℕ)) (line : ℕ) (fault : LexFault) → line ≡ number_of old.lexer → (fault ≢ lex.OutOfMemory → FirstFails old left (λ first. Fails old.lexer first fault)) → TakeFails Fails old left left_after line (lex_cause fault)
+lexed_fails Fails old left left_after line lex.OutOfMemory n h = tt
+lexed_fails Fails old left left_after line _ n h = (n, h (λ e. cc))
 
 -- the count kept beside the lexer's is the lexer's
 pub count_kept : (count before after : ℕ) (result : ℕ) → count ≡ before → result ≡ min (count + 1) MOST_LINES → after ≡ min (before + 1) MOST_LINES → (result ≡ after) × (result ≤ MOST_LINES)

@@ -22,7 +22,7 @@ LineAccepted old line new ended =
 
 -- a line was refused: by the grammar, or after the lines before; a want of memory says nothing
 abbrev pub RefusedFor : DraftState → Line → ℕ → LoadCause → Type 0
-RefusedFor old line number (Syntax syntax.OutOfMemory) = Unit {0}
+RefusedFor old line number (Syntax syntax.OutOfMemory) = ⊥
 RefusedFor old line number (Syntax fault) = (number ≡ line.number) × (plain_table_line line.tokens ≡ Err fault)
 RefusedFor old line number OutOfMemory = Unit {0}
 RefusedFor old line number (Lex fault) = ⊥
@@ -39,8 +39,8 @@ LineRefused old line fault = RefusedFor old line fault.line fault.cause
 -- why a category could not be read; its first line at fault decides
 abbrev pub CategoryFails : TextState → Option (List ℕ) → Option (List ℕ) → ℕ → LoadCause → Type 0
 CategoryFails old left left_after line OutOfMemory = Unit {0}
-CategoryFails old left left_after line (Lex lex.OutOfMemory) = Unit {0}
-CategoryFails old left left_after line (Syntax syntax.OutOfMemory) = Unit {0}
+CategoryFails old left left_after line (Lex lex.OutOfMemory) = ⊥
+CategoryFails old left left_after line (Syntax syntax.OutOfMemory) = ⊥
 CategoryFails old left left_after line NoCategory = ⊥
 CategoryFails old left left_after line NoEnd =
     (text : List ℕ) → ahead_of old left ≡ Some text →

@@ -23,11 +23,11 @@ StopsWithin text left =
     (whole : List (List ℕ)) × (part : List ℕ) × (rest : List ℕ) × (left ≡ Some rest) × EndsIn text (part ++ rest)
     × (lines_of text ≡ whole ++ lines_of (part ++ rest)) × IsInLine part × IsUndecided (outcome_of false whole)
 
--- what a fault says of the text, by its cause; a want of memory says nothing
+-- what a fault says of the text, by its cause; a want of memory says nothing, and has one spelling
 abbrev pub Refuses : LoadCause → ℕ → List ℕ → Option (List ℕ) → Type 0
 Refuses OutOfMemory line text left = Unit {0}
-Refuses (Lex lex.OutOfMemory) line text left = Unit {0}
-Refuses (Syntax syntax.OutOfMemory) line text left = Unit {0}
+Refuses (Lex lex.OutOfMemory) line text left = ⊥
+Refuses (Syntax syntax.OutOfMemory) line text left = ⊥
 Refuses ReadFault line text left = (line ≡ 0) × StopsWithin text left
 Refuses cause line text left = reads text ≡ Err (record { line = line; cause = cause })
 

@@ -10,7 +10,7 @@ use Rattle.coll_lex.specs.declared.faults.LexFault.TheVariants as lex
 use Rattle.coll_table.specs.Reading.{Undecided, outcome_before, outcome_within, at_fault}
 use Rattle.coll_table.specs.declared.load_faults.LoadFault.{LoadFault}
 use Rattle.coll_table.specs.declared.load_faults.LoadCause.{LoadCause}
-use Rattle.coll_table.specs.declared.load_faults.LoadCause.TheVariants.{Lex, NoCategory, ReadFault}
+use Rattle.coll_table.specs.declared.load_faults.LoadCause.TheVariants.{Lex, NoCategory, ReadFault, OutOfMemory}
 use Rattle.coll_table.specs.declared.taken.Taken.{Taken}
 use Rattle.coll_table.specs.declared.taken.Taken.TheVariants.{Whole, NoLine, End}
 
@@ -62,9 +62,10 @@ Advances old new left left_after (Ok true) = GivesFirst old new left left_after
 Advances old new left left_after (Ok false) = WasLast old left
 Advances old new left left_after (Err fault) = AdvanceFails old left left_after fault.line fault.cause
 
--- a line could not be taken; a want of memory says nothing
+-- a line could not be taken; a want of memory says nothing, and is no fault of the lexer's
 abbrev pub TakeFails : (LexerState → List ℕ → LexFault → Type 0) → TextState → Option (List ℕ) → Option (List ℕ) → ℕ → LoadCause → Type 0
-TakeFails Fails old left left_after line (Lex lex.OutOfMemory) = Unit {0}
+TakeFails Fails old left left_after line OutOfMemory = Unit {0}
+TakeFails Fails old left left_after line (Lex lex.OutOfMemory) = ⊥
 TakeFails Fails old left left_after line (Lex fault) =
     (line ≡ number_of old.lexer) × FirstFails old left (λ first. Fails old.lexer first fault)
 TakeFails Fails old left left_after line ReadFault = (line ≡ 0) × CutShort old left left_after
@@ -123,7 +124,8 @@ StopsAfter left_after text whole =
 
 -- why no category was found; the lines before it decide the fault
 abbrev pub FindFails : TextState → Option (List ℕ) → Option (List ℕ) → ℕ → LoadCause → Type 0
-FindFails old left left_after line (Lex lex.OutOfMemory) = Unit {0}
+FindFails old left left_after line OutOfMemory = Unit {0}
+FindFails old left left_after line (Lex lex.OutOfMemory) = ⊥
 FindFails old left left_after line (Lex fault) =
     (text : List ℕ) → ahead_of old left ≡ Some text → outcome_before true old.lexer (lines_of text) ≡ at_fault line (Lex fault)
 FindFails old left left_after line NoCategory =
@@ -144,7 +146,8 @@ Finds old new left left_after (Err fault) = FindFails old left left_after fault.
 
 -- why no logical line was given; the next one is at fault
 abbrev pub NextFails : TextState → Option (List ℕ) → Option (List ℕ) → ℕ → LoadCause → Type 0
-NextFails old left left_after line (Lex lex.OutOfMemory) = Unit {0}
+NextFails old left left_after line OutOfMemory = Unit {0}
+NextFails old left left_after line (Lex lex.OutOfMemory) = ⊥
 NextFails old left left_after line (Lex fault) =
     (text : List ℕ) → ahead_of old left ≡ Some text →
     (first : List ℕ) × (later : List LogicalLine) × (logical_lines [] true old.lexer (lines_of text) ≡ record { number = line; first = first; tokens = Err fault } ∷ later)

@@ -9,7 +9,7 @@ ghost use Rattle.coll_table.specs.Reading.{is_end};
 ghost use Rattle.coll_table.specs.declared.plain.table_lines.PlainTableLine.TheVariants.{Symbol, OrderStart, OrderEnd, Order, EndCategory};
 ghost use Rattle.coll_table.specs.declared.load_faults.LoadCause.TheVariants.{OutOfMemory};
 
-use crate::{LoadCause, MOST_DECLARATIONS, MOST_ENTRIES, PlainLine, Table, PlainTableLine};
+use crate::{LoadCause, MOST_DECLARATIONS, MOST_ENTRIES, PlainLine, PlainTableLine, Table};
 use coll_lex::TextBuf;
 use std::alloc::Global;
 use std::marker::Model;

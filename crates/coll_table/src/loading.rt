@@ -69,7 +69,7 @@ fn take_line(alloc: Global, draft: &mut Draft, line: &Line) -> Result<bool, Load
         Err(fault) => {
             return Err(LoadFault {
                 line: line.number,
-                cause: LoadCause::Syntax(fault),
+                cause: LoadCause::from(fault),
             });
         }
     };

@@ -126,7 +126,7 @@ impl TextLines {
             Err(fault) => {
                 return Err(LoadFault {
                     line: number,
-                    cause: LoadCause::Lex(fault),
+                    cause: LoadCause::from(fault),
                 });
             }
         }
@@ -172,7 +172,7 @@ impl TextLines {
             Ok(begins) => return Ok(Some(begins)),
             Err(fault) => return Err(LoadFault {
                 line: number,
-                cause: LoadCause::Lex(fault),
+                cause: LoadCause::from(fault),
             }),
         }
     }
@@ -196,7 +196,7 @@ impl TextLines {
             Ok(None) => return Ok(Taken::NoLine),
             Err(fault) => return Err(LoadFault {
                 line: number,
-                cause: LoadCause::Lex(fault),
+                cause: LoadCause::from(fault),
             }),
         }
     }
