@@ -15,7 +15,7 @@ use Rattle.coll_table.specs.Delta.{lines_refusal, moved, rewritten, within_limit
 use Rattle.coll_table.specs.Sound.{with_sections, AddsId, IsFullAt}
 use Rattle.coll_syntax.specs.declared.identifiers.Id.{Id}
 use Rattle.coll_table.specs.declared.plain.statements.PlainLine.{PlainLine}
-use Rattle.coll_table.specs.declared.limits.TheConstants.{MOST_ENTRIES}
+use Rattle.coll_table.specs.Limits.{most_entries}
 use Rattle.coll_table.specs.declared.refusals.Refusal.{Refusal}
 use Rattle.coll_table.specs.declared.refusals.Refusal.TheVariants.{NotDeclared, Full, TwiceInBlock}
 
@@ -146,7 +146,7 @@ module _ (start : Collation) (target : Id) (lines : List PlainLine) where
         let among : has_id (before ++ line.id ∷ []) line.id ≡ true = has_push before line.id line.id ∙ ap (λ b. b || has_id before line.id) (same_id_itself line.id) in
         let later = grows start (moved now.sections after line) line.id (before ++ line.id ∷ []) (drop (i + 1) lines) distinct here among passes_here.later in
         let all : rewritten start.sections target lines ≡ rewritten (moved now.sections after line) line.id (drop (i + 1) lines) = h.goes_on ∙ ap (rewritten now.sections after) (rest_more lines i line below at) in
-        let past : MOST_ENTRIES < length (joined_entries (rewritten start.sections target lines)) =
+        let past : most_entries < length (joined_entries (rewritten start.sections target lines)) =
         omega (arith, ap (λ ss. length (joined_entries ss)) all, later, ap length joined, length_placed entries after line.id h.placed full.1, full.2) in
         ap (λ b. cond b (Ok (with_sections start (rewritten start.sections target lines))) (Err Full)) (lt-leb _ _ past) ∙ ap Err (sym full.0)
 

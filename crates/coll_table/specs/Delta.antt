@@ -7,7 +7,7 @@ use Rattle.coll_syntax.specs.declared.identifiers.Id.{Id}
 use Rattle.coll_table.specs.declared.plain.statements.PlainLine.{PlainLine}
 use Rattle.coll_table.specs.declared.plain.statements.PlainStatement.{PlainStatement}
 use Rattle.coll_table.specs.declared.plain.statements.PlainStatement.TheVariants.{Block, Reweight}
-use Rattle.coll_table.specs.declared.limits.TheConstants.{MOST_ENTRIES}
+use Rattle.coll_table.specs.Limits.{most_entries}
 use Rattle.coll_table.specs.declared.refusals.Refusal.{Refusal}
 use Rattle.coll_table.specs.declared.refusals.Refusal.TheVariants.{NotDeclared, Full, TargetNotPlaced, TwiceInBlock, NotPlaced, NoWeights}
 
@@ -40,7 +40,7 @@ rewritten sections target (line ∷ lines) = rewritten (moved sections target li
 
 -- a table that results, unless it has too many entries
 abbrev pub within_limit : Collation → Result Collation Refusal
-within_limit table = if nat_le (length (entries_of table)) MOST_ENTRIES then Ok table else Err Full
+within_limit table = if nat_le (length (entries_of table)) most_entries then Ok table else Err Full
 
 -- a refusal that stands, or the table that results
 abbrev pub unless_refused : Option Refusal → Collation → Result Collation Refusal

@@ -1,6 +1,7 @@
 pub mod CategoryReading
 pub mod Delta
 pub mod Drafts
+pub mod Limits
 pub mod LoadFaults
 pub mod Loads
 pub mod Placement

@@ -13,7 +13,7 @@ use Rattle.coll_table.specs.declared.plain.table_lines.PlainTableLine.{PlainTabl
 use Rattle.coll_table.specs.declared.plain.table_lines.PlainTableLine.TheVariants.{Symbol, OrderStart, OrderEnd, Order, EndCategory}
 use Rattle.coll_syntax.specs.declared.faults.SyntaxFault.{SyntaxFault}
 use Rattle.coll_table.specs.declared.entries.Entry.{Entry}
-use Rattle.coll_table.specs.declared.limits.TheConstants.{MOST_ENTRIES, MOST_DECLARATIONS}
+use Rattle.coll_table.specs.Limits.{most_entries, most_declarations}
 use Rattle.coll_table.specs.declared.load_faults.LoadFault.{LoadFault}
 use Rattle.coll_table.specs.declared.load_faults.LoadCause.{LoadCause}
 use Rattle.coll_table.specs.declared.load_faults.LoadCause.TheVariants.{Lex, Syntax, NoCategory, NoRules, DeclaredTwice, NotDeclared, PlacedTwice, OutsideOrder, Full, NoEnd}
@@ -72,14 +72,14 @@ refused_if test cause later = if test then Some cause else later
 abbrev pub line_cause : List PlainTableLine → PlainTableLine → Option LoadCause
 line_cause before (Symbol name) =
     refused_if (has_name (declared_in before) name) DeclaredTwice
-    (refused_if (nat_le MOST_DECLARATIONS (length (declared_in before))) Full None)
+    (refused_if (nat_le most_declarations (length (declared_in before))) Full None)
 line_cause before OrderStart = None
 line_cause before OrderEnd = refused_if (not (is_open before)) OutsideOrder None
 line_cause before (Order line) =
     refused_if (not (is_open before)) OutsideOrder
     (refused_if (not (is_known_among (declared_in before) line.id)) NotDeclared
     (refused_if (has_id (ids_of (entries_in before)) line.id) PlacedTwice
-    (refused_if (nat_le MOST_ENTRIES (length (entries_in before))) Full None)))
+    (refused_if (nat_le most_entries (length (entries_in before))) Full None)))
 line_cause before EndCategory =
     refused_if (is_open before) OutsideOrder
     (refused_if (not (has_start before)) NoRules None)

@@ -7,7 +7,7 @@ use Rattle.coll_table.specs.WellFormed.{AreDistinct, IsWellFormed}
 use Rattle.coll_syntax.specs.declared.identifiers.Id.{Id}
 use Rattle.coll_syntax.specs.declared.identifiers.Id.TheVariants.{Char, Named, Undefined}
 use Rattle.coll_table.specs.declared.entries.Entry.{Entry}
-use Rattle.coll_table.specs.declared.limits.TheConstants.{MOST_ENTRIES}
+use Rattle.coll_table.specs.Limits.{most_entries}
 use Rattle.coll_table.specs.declared.refusals.Refusal.{Refusal}
 use Rattle.coll_table.specs.declared.refusals.Refusal.TheVariants.{Full}
 
@@ -65,4 +65,4 @@ places_of names characters undefined =
 
 -- a table has no room for an identifier that isn't placed
 abbrev pub IsFullAt : Collation → Id → Refusal → Type 0
-IsFullAt table id refusal = (refusal ≡ Full) × (is_placed table id ≡ false) × (MOST_ENTRIES ≤ length (entries_of table))
+IsFullAt table id refusal = (refusal ≡ Full) × (is_placed table id ≡ false) × (most_entries ≤ length (entries_of table))

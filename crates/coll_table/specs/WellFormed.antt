@@ -4,7 +4,7 @@ use Rattle.std.specs.List.{list_any}
 use Rattle.coll_syntax.specs.Identifier.{same_name, same_id}
 use Rattle.coll_table.specs.Table.{Collation, ids_of, entries_of, is_known_among}
 use Rattle.coll_syntax.specs.declared.identifiers.Id.{Id}
-use Rattle.coll_table.specs.declared.limits.TheConstants.{MOST_ENTRIES, MOST_DECLARATIONS}
+use Rattle.coll_table.specs.Limits.{most_entries, most_declarations}
 
 -- no member of a list is the same as a later one
 abbrev pub AreDistinct : {X : Type 0} → (X → X → Bool) → List X → Type 0
@@ -21,5 +21,5 @@ pub record IsWellFormed (table : Collation) : Type 0 where
   pub distinct_names : AreDistinct same_name table.declared
   pub distinct_entries : AreDistinct same_id (ids_of (entries_of table))
   pub known : AreKnown table.declared (ids_of (entries_of table))
-  pub few_entries : length (entries_of table) ≤ MOST_ENTRIES
-  pub few_declarations : length table.declared ≤ MOST_DECLARATIONS
+  pub few_entries : length (entries_of table) ≤ most_entries
+  pub few_declarations : length table.declared ≤ most_declarations

@@ -5,6 +5,7 @@
 
 ghost use Rattle.std.specs.Prelude.{◌≡◌, ◌≢◌, ◌<◌, ◌∷◌, [], length, true, false, None, Some, Ok, Err, IsTrue, IfOk, IfErr, OnOk, OnErr, position, vec_len, vec_capacity};
 ghost use Rattle.coll_syntax.specs.Identifier.{same_id, has_id};
+ghost use Rattle.coll_table.specs.Limits.{most_entries};
 ghost use Rattle.coll_table.specs.Table.{ids_of, entries_of, is_known, is_placed};
 ghost use Rattle.coll_table.specs.WellFormed.{AreDistinct, IsWellFormed};
 ghost use Rattle.coll_table.specs.Placement.{entries_after, entries_without};
@@ -147,7 +148,7 @@ impl Table {
         requires known { IsTrue (is_known self.old id.now) }
         requires new { is_placed self.old id.now ≡ false }
         requires placed { IsTrue (is_placed self.old after.now) }
-        requires room { length (entries_of self.old) < MOST_ENTRIES }
+        requires room { length (entries_of self.old) < most_entries }
         ensures ok { OnOk result (self.new ≡ with_sections self.old (moved self.old.sections after.now (record { id = id.now }))) }
         ensures here { OnOk result (IsTrue (is_placed self.new id.now)) }
         ensures well_formed { IsWellFormed self.new }

@@ -65,6 +65,7 @@ impl Model for Table {
 }
 
 impl Table {
+    ghost use Rattle.coll_table.specs.Limits.{most_declarations, most_entries};
     ghost use Rattle.coll_table.specs.Table.{declared_of, entries_of, is_declared, is_known, is_placed};
     ghost use Rattle.coll_table.specs.Sound.{collation_of, with_declared, with_last};
     ghost use Rattle.coll_table.specs.WellFormed.{IsWellFormed};
@@ -132,7 +133,7 @@ impl Table {
     /// Declares a name.
     pub(crate) fn declare(&mut self, name: &TextBuf) -> Result<(), AllocError>
         requires new { is_declared self.old name.now ≡ false }
-        requires room { length (declared_of self.old) < MOST_DECLARATIONS }
+        requires room { length (declared_of self.old) < most_declarations }
         ensures ok { OnOk result (self.new ≡ with_declared self.old name.now) }
         ensures err { OnErr result (self.new ≡ self.old) }
     {
@@ -161,7 +162,7 @@ impl Table {
     pub(crate) fn place_last(&mut self, id: Id) -> Result<(), AllocError>
         requires known { IsTrue (is_known self.old id) }
         requires new { is_placed self.old id ≡ false }
-        requires room { length (entries_of self.old) < MOST_ENTRIES }
+        requires room { length (entries_of self.old) < most_entries }
         ensures ok { OnOk result (self.new ≡ with_last self.old id) }
         ensures err { OnErr result (self.new ≡ self.old) }
     {

@@ -2,7 +2,7 @@
 use Rattle.std.proofs.Common.{◌≡◌, ◌<◌, ◌∷◌, ◌++◌, [], false, cond, length, sym, ap, subst, ◌∙◌}
 use Rattle.coll_table.specs.Sound.{with_name, IsSoundTable}
 use Rattle.coll_table.specs.Table.{Collation, declared_of, is_declared}
-use Rattle.coll_table.specs.declared.limits.TheConstants.{MOST_DECLARATIONS}
+use Rattle.coll_table.specs.Limits.{most_declarations}
 use Rattle.coll_table.proofs.TableLemmas.{sound_declared}
 use Rattle.coll_table.proofs.Table.declare.Goals as goal
 
@@ -10,7 +10,7 @@ pub invariant_of-self-2 : goal.invariant_of-self-2
 invariant_of-self-2 c =
     let opened = sym c.self.view_is in
     let new = subst (λ (t : Collation). is_declared t c.args.name.now ≡ false) opened c.requires.new in
-    let room = subst (λ (t : Collation). length (declared_of t) < MOST_DECLARATIONS) opened c.requires.room in
+    let room = subst (λ (t : Collation). length (declared_of t) < most_declarations) opened c.requires.room in
     let names = c.self.inside.declared in
     let more : c.insert.new.self ≡ names ++ c.args.name.now ∷ [] =
     c.in_ok-insert.ensures.ok ∙ (ap (with_name names) c.get.ensures.characters ∙ ap (λ b. cond b names (names ++ c.args.name.now ∷ [])) new) in

@@ -3,7 +3,7 @@ use Rattle.std.proofs.Common.{◌≡◌, ◌<◌, false, IsTrue, length, sym, ap
 use Rattle.coll_table.specs.Delta.{moved}
 use Rattle.coll_table.specs.Sound.{collation_of, with_sections, IsSoundTable}
 use Rattle.coll_table.specs.Table.{Collation, ids_of, entries_of, is_known, is_placed}
-use Rattle.coll_table.specs.declared.limits.TheConstants.{MOST_ENTRIES}
+use Rattle.coll_table.specs.Limits.{most_entries}
 use Rattle.coll_table.proofs.EntryLemmas.{none_without}
 use Rattle.coll_table.proofs.TableLemmas.{moved_entries, sound_placed, here_moved, apart_when_new}
 use Rattle.coll_table.proofs.Table.place_new_after.Goals as goal
@@ -20,7 +20,7 @@ sound_now c =
     let known = subst (λ (t : Collation). IsTrue (is_known t c.args.id.now)) opened c.requires.known in
     let absent = subst (λ (t : Collation). is_placed t c.args.id.now ≡ false) opened c.requires.new in
     let after = subst (λ (t : Collation). IsTrue (is_placed t c.args.after.now)) opened c.requires.placed in
-    let room = subst (λ (t : Collation). length (entries_of t) < MOST_ENTRIES) opened c.requires.room in
+    let room = subst (λ (t : Collation). length (entries_of t) < most_entries) opened c.requires.room in
     rw (placed_entries c)
     (sound_placed c.self.inside.declared c.self.inside.entries.items c.self.inside.placed c.insert.new.self c.args.after.now c.args.id.now c.self.invariant known after absent room c.in_ok-insert.ensures.ok)
 
