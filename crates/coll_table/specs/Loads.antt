@@ -3,7 +3,7 @@ use Rattle.std.specs.Prelude.{◌≡◌, ℕ, false, List, ◌++◌, Option, Som
 use Rattle.coll_lex.specs.Devices.{raised}
 use Rattle.coll_lex.specs.PhysicalLines.{lines_of, IsInLine}
 use Rattle.coll_lex.specs.declared.faults.LexFault.TheVariants as lex
-use Rattle.coll_table.specs.Table.{Collation}
+use Rattle.coll_table.specs.Table.{TableValue, collation}
 use Rattle.coll_table.specs.TextLines.{EndsIn}
 use Rattle.coll_table.specs.Reading.{Outcome, Decided, Undecided, outcome_of, reads}
 use Rattle.coll_syntax.specs.declared.faults.SyntaxFault.TheVariants as syntax
@@ -32,8 +32,8 @@ Refuses ReadFault line text left = (line ≡ 0) × StopsWithin text left
 Refuses cause line text left = reads text ≡ Err (record { line = line; cause = cause })
 
 -- what an answer says of the text that the device had
-abbrev pub Loads : Option (List ℕ) → Option (List ℕ) → Result Collation LoadFault → Type 0
-Loads old new (Ok table) = (text : List ℕ) → old ≡ Some text → reads text ≡ Ok table
+abbrev pub Loads : Option (List ℕ) → Option (List ℕ) → Result TableValue LoadFault → Type 0
+Loads old new (Ok table) = (text : List ℕ) → old ≡ Some text → reads text ≡ Ok (collation table)
 Loads old new (Err fault) = (text : List ℕ) → old ≡ Some text → Refuses fault.cause fault.line text new
 
 -- the count of errors, one higher where a read error is the cause

@@ -6,11 +6,11 @@
 ghost use Rattle.std.specs.Prelude.{◌≡◌, ◌≢◌, ◌<◌, ◌∷◌, [], length, true, false, None, Some, Ok, Err, IsTrue, IfOk, IfErr, OnOk, OnErr, position, vec_len, vec_capacity};
 ghost use Rattle.coll_syntax.specs.Identifier.{same_id, has_id};
 ghost use Rattle.coll_table.specs.Limits.{most_entries};
-ghost use Rattle.coll_table.specs.Table.{ids_of, entries_of, is_known, is_placed};
+ghost use Rattle.coll_table.specs.Table.{collation, ids_of, entries_of, is_known, is_placed};
 ghost use Rattle.coll_table.specs.WellFormed.{AreDistinct, IsWellFormed};
 ghost use Rattle.coll_table.specs.Placement.{entries_after, entries_without};
 ghost use Rattle.coll_table.specs.Delta.{delta, block_delta, lines_refusal, reweight_refusal, moved, rewritten, within_limit};
-ghost use Rattle.coll_table.specs.Record.{fits, turn};
+ghost use Rattle.coll_table.specs.Record.{Extends, fits, turn};
 ghost use Rattle.coll_table.specs.Sound.{with_sections, IsFullAt};
 ghost use Rattle.coll_table.specs.declared.refusals.Refusal.TheVariants.{OutOfMemory};
 
@@ -26,10 +26,10 @@ impl Table {
     /// A statement is accepted whole or refused whole: after a refusal the table is as it was.
     #[tactic(auto, unfolding(crate::specs::Delta::delta))]
     pub fn apply(&mut self, statement: &PlainStatement) -> Result<Record, Refusal>
-        ensures ok { IfOk result (λ kept. delta self.old statement.now ≡ Ok self.new) }
+        ensures ok { IfOk result (λ kept. delta (collation self.old) statement.now ≡ Ok (collation self.new)) }
         ensures fits { IfOk result (λ kept. fits self.new kept) }
-        ensures back { IfOk result (λ kept. turn self.new kept ≡ self.old) }
-        ensures err { IfErr result (λ refusal. refusal ≢ OutOfMemory → delta self.old statement.now ≡ Err refusal) }
+        ensures back { IfOk result (λ kept. Extends (turn self.new kept) self.old) }
+        ensures err { IfErr result (λ refusal. refusal ≢ OutOfMemory → delta (collation self.old) statement.now ≡ Err refusal) }
         ensures unchanged { OnErr result (self.new ≡ self.old) }
     {
         match statement {
@@ -63,7 +63,7 @@ impl Table {
             return Err(Refusal::TargetNotPlaced);
         }
         self.judge_lines(target, lines)?;
-        let mut other = self.try_copy()?;
+        let mut other = self.try_copy(self.alloc)?;
         other.rewrite(target, lines)?;
         mem::swap(self, &mut other);
         Ok(Record::of_table(other))

@@ -52,9 +52,9 @@ pub struct Table {
 }
 
 impl Model for Table {
-    ghost use Rattle.coll_table.specs.Table.{Collation};
+    ghost use Rattle.coll_table.specs.Table.{TableValue};
 
-    ghost Value = { Collation };
+    ghost Value = { TableValue };
 
     ghost use Rattle.std.specs.Prelude.{None, [], ◌∷◌};
     ghost use Rattle.coll_table.specs.Sound.{IsSoundTable, collation_of};
@@ -66,39 +66,39 @@ impl Model for Table {
 
 impl Table {
     ghost use Rattle.coll_table.specs.Limits.{most_declarations, most_entries};
-    ghost use Rattle.coll_table.specs.Table.{declared_of, entries_of, is_declared, is_known, is_placed};
+    ghost use Rattle.coll_table.specs.Table.{collation, declared_of, entries_of, is_declared, is_known, is_placed};
     ghost use Rattle.coll_table.specs.Sound.{collation_of, with_declared, with_last};
     ghost use Rattle.coll_table.specs.WellFormed.{IsWellFormed};
 
     /// The number of entries, in all sections together.
     pub fn len(&self) -> usize
-        ensures { result ≡ length (entries_of self.now) }
+        ensures { result ≡ length (entries_of (collation self.now)) }
     {
         self.entries.len()
     }
 
     /// The entries of all sections, in order.
     pub fn entries(&self) -> &[Entry]
-        ensures entries { result.now ≡ entries_of self.now }
-        ensures well_formed { IsWellFormed self.now }
+        ensures entries { result.now ≡ entries_of (collation self.now) }
+        ensures well_formed { IsWellFormed (collation self.now) }
     {
         self.entries.as_slice()
     }
 
     /// A copy of the table, in new memory.
-    pub fn try_copy(&self) -> Result<Table, AllocError>
-        ensures same { IfOk result (λ copy. copy ≡ self.now) }
-        ensures well_formed { IfOk result (λ copy. IsWellFormed copy) }
+    pub fn try_copy(&self, alloc: Global) -> Result<Table, AllocError>
+        ensures same { IfOk result (λ copy. collation copy ≡ collation self.now) }
+        ensures well_formed { IfOk result (λ copy. IsWellFormed (collation copy)) }
     {
-        let declared = self.declared.try_copy()?;
+        let declared = self.declared.try_copy(alloc)?;
         let mut copy = Table {
             declared,
-            entries: Vec::new(self.alloc),
-            placed: Places::new(self.alloc),
-            alloc: self.alloc,
+            entries: Vec::new(alloc),
+            placed: Places::new(alloc),
+            alloc,
         };
         for entry in &self.entries {
-            let id = entry.id.try_copy(self.alloc)?;
+            let id = entry.id.try_copy(alloc)?;
             copy.place_last(id)?;
         }
         Ok(copy)

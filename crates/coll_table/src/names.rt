@@ -68,10 +68,10 @@ impl Names {
     }
 
     /// A copy, in new memory.
-    pub fn try_copy(&self) -> Result<Names, AllocError>
+    pub fn try_copy(&self, alloc: Global) -> Result<Names, AllocError>
         ensures { IfOk result (λ copy. copy ≡ self.now) }
     {
-        let mut copy = Names::new(self.alloc);
+        let mut copy = Names::new(alloc);
         for name in self.names.as_slice() {
             copy.insert(name.as_str())?;
         }

@@ -4,7 +4,7 @@
 //! other table whole, and turning exchanges the two.
 
 ghost use Rattle.std.specs.Prelude.{◌≡◌};
-ghost use Rattle.coll_table.specs.Record.{fits, turn};
+ghost use Rattle.coll_table.specs.Record.{Extends, fits, turn};
 
 use crate::Table;
 use std::marker::Model;
@@ -52,7 +52,7 @@ impl Table {
 
     /// Gives up a record. The table stays.
     pub fn forget(&mut self, kept: Record)
-        ensures { self.new ≡ self.old }
+        ensures { Extends self.old self.new }
     {
         drop(kept);
     }
