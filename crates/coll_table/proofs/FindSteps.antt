@@ -5,7 +5,7 @@ use Rattle.coll_lex.specs.LogicalLines.{LexerState, number_of, outside, logical_
 use Rattle.coll_lex.specs.declared.faults.LexFault.{LexFault}
 use Rattle.coll_lex.specs.declared.faults.LexFault.TheVariants as lex
 use Rattle.coll_table.specs.Reading.{Undecided, outcome_before, outcome_within, at_fault}
-use Rattle.coll_table.specs.TextLines.{TextState, ahead_of, EndsIn, GivesFirst, WasLast, CountsOne, FailsOutside, TakeFails, TakesLines, FindFails, Finds}
+use Rattle.coll_table.specs.TextLines.{TextState, unread_text, EndsIn, GivesFirst, WasLast, CountsOne, FailsOutside, FeedFails, ReadsLines, FindFails, Finds}
 use Rattle.coll_table.specs.declared.load_faults.LoadCause.{LoadCause}
 use Rattle.coll_table.specs.declared.load_faults.LoadCause.TheVariants.{Lex, NoCategory, ReadFault, OutOfMemory}
 use Rattle.coll_table.proofs.TextSteps.{ends_behind}
@@ -35,7 +35,7 @@ pub one_behind : (whole : List (List ℕ)) (line : List ℕ) (more : List (List 
 one_behind whole line more = append_assoc whole (line ∷ []) more
 
 -- one line more was taken
-pub takes_more : (start now next : TextState) (left_now left_next : Option (List ℕ)) (text : List ℕ) (whole : List (List ℕ)) (rest : List ℕ) (later : List ℕ) → TakesLines start now left_now text whole rest → ahead_of next left_next ≡ Some later → EndsIn rest later → lines_of rest ≡ next.reader.line ∷ lines_of later → CountsOne now.lexer next.lexer → TakesLines start next left_next text (whole ++ next.reader.line ∷ []) later
+pub takes_more : (start now next : TextState) (left_now left_next : Option (List ℕ)) (text : List ℕ) (whole : List (List ℕ)) (rest : List ℕ) (later : List ℕ) → ReadsLines start now left_now text whole rest → unread_text next left_next ≡ Some later → EndsIn rest later → lines_of rest ≡ next.reader.line ∷ lines_of later → CountsOne now.lexer next.lexer → ReadsLines start next left_next text (whole ++ next.reader.line ∷ []) later
 takes_more start now next left_now left_next text whole rest later h known ends given one = (
   known,
   h.1 ∙ (ap (λ lines. whole ++ lines) given ∙ sym (one_behind whole next.reader.line (lines_of later))),
@@ -46,8 +46,8 @@ takes_more start now next left_now left_next text whole rest later h known ends 
 -- the lines taken so far decide nothing, and leave it to the later ones
 abbrev pub Finding : TextState → TextState → Option (List ℕ) → Option (List ℕ) → Type 0
 Finding start now left left_now =
-    (text : List ℕ) → ahead_of start left ≡ Some text →
-    (whole : List (List ℕ)) × (rest : List ℕ) × TakesLines start now left_now text whole rest
+    (text : List ℕ) → unread_text start left ≡ Some text →
+    (whole : List (List ℕ)) × (rest : List ℕ) × ReadsLines start now left_now text whole rest
     × ((ends : Bool) (more : List (List ℕ)) → outcome_before ends start.lexer (whole ++ more) ≡ outcome_before ends now.lexer more)
 
 -- before the first line
@@ -86,7 +86,7 @@ module _ (start now : TextState) (left left_now : Option (List ℕ)) (h : Findin
         counted ∙ (at.2.3 ∙ ap (λ lines. start.lexer.count + length lines) (sym (all ∙ append-nil at.0))),
       )
 
-  at_fault_here : (left_next : Option (List ℕ)) (line : ℕ) (fault : LexFault) → (line ≡ number_of now.lexer) → ((text : List ℕ) → ahead_of now left_now ≡ Some text → (first : List ℕ) × (later : List (List ℕ)) × (lines_of text ≡ first ∷ later) × FailsOutside now.lexer first fault) → (text : List ℕ) → ahead_of start left ≡ Some text → outcome_before true start.lexer (lines_of text) ≡ at_fault line (Lex fault)
+  at_fault_here : (left_next : Option (List ℕ)) (line : ℕ) (fault : LexFault) → (line ≡ number_of now.lexer) → ((text : List ℕ) → unread_text now left_now ≡ Some text → (first : List ℕ) × (later : List (List ℕ)) × (lines_of text ≡ first ∷ later) × FailsOutside now.lexer first fault) → (text : List ℕ) → unread_text start left ≡ Some text → outcome_before true start.lexer (lines_of text) ≡ at_fault line (Lex fault)
   at_fault_here left_next line fault number fails text e =
       let at = h text e in
       let first = fails at.1 at.2.0 in
@@ -94,7 +94,7 @@ module _ (start now : TextState) (left left_now : Option (List ℕ)) (h : Findin
       ∙ (at.3 true (first.0 ∷ first.1) ∙ (outcome_before-fault true now.lexer first.0 first.1 fault first.3 ∙ ap (λ n. at_fault n (Lex fault)) (sym number)))
 
   -- a line at fault
-  pub find_fails : (left_next : Option (List ℕ)) (line : ℕ) (cause : LoadCause) → TakeFails FailsOutside now left_now left_next line cause → FindFails start left left_next line cause
+  pub find_fails : (left_next : Option (List ℕ)) (line : ℕ) (cause : LoadCause) → FeedFails FailsOutside now left_now left_next line cause → FindFails start left left_next line cause
   find_fails left_next line OutOfMemory f = tt
   find_fails left_next line (Lex lex.OutOfMemory) f = absurd f
   find_fails left_next line (Lex fault) f = at_fault_here left_next line fault f.0 f.1

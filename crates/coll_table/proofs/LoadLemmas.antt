@@ -6,7 +6,7 @@ use Rattle.coll_lex.specs.LogicalLines.{first_state, logical_lines}
 use Rattle.coll_lex.specs.PhysicalLines.{lines_of}
 use Rattle.coll_lex.specs.declared.faults.LexFault.TheVariants as lex
 use Rattle.coll_table.specs.CategoryReading.{CategoryFails, ReadsCategory}
-use Rattle.coll_table.specs.Loads.{IsUndecided, Refuses, Loads}
+use Rattle.coll_table.specs.Loads.{IsUndecided, FaultSays, Loads}
 use Rattle.coll_table.specs.Reading.{Outcome, Decided, Undecided, outcome_of, outcome_within, at_fault, answer_at_end, reads}
 use Rattle.coll_table.specs.Table.{Collation}
 use Rattle.coll_table.specs.TextLines.{TextState, FindFails, Finds}
@@ -37,7 +37,7 @@ undecided o cause e = subst IsUndecided (sym e) tt
 
 module _ (left left_after : Option (List ℕ)) where
   -- no category was found
-  pub load_not_found : (line : ℕ) (cause : LoadCause) → FindFails text_start left left_after line cause → (text : List ℕ) → left ≡ Some text → Refuses cause line text left_after
+  pub load_not_found : (line : ℕ) (cause : LoadCause) → FindFails text_start left left_after line cause → (text : List ℕ) → left ≡ Some text → FaultSays cause line text left_after
   load_not_found line OutOfMemory f text e = tt
   load_not_found line (Lex lex.OutOfMemory) f text e = absurd f
   load_not_found line (Lex fault) f text e = reads_decided text (Err (record { line = line; cause = Lex fault })) (f text (ap (prepend_known []) e))
@@ -62,7 +62,7 @@ module _ (left left_after : Option (List ℕ)) where
         reads_decided text (Err (record { line = line; cause = cause })) (from_category text e (at_fault line cause) (f at.1 at.2.0))
 
     -- the category could not be read
-    load_fails : (line : ℕ) (cause : LoadCause) → CategoryFails found left_found left_after line cause → (text : List ℕ) → left ≡ Some text → Refuses cause line text left_after
+    load_fails : (line : ℕ) (cause : LoadCause) → CategoryFails found left_found left_after line cause → (text : List ℕ) → left ≡ Some text → FaultSays cause line text left_after
     load_fails line OutOfMemory f text e = tt
     load_fails line (Lex lex.OutOfMemory) f text e = absurd f
     load_fails line (Syntax syntax.OutOfMemory) f text e = absurd f

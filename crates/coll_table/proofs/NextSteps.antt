@@ -7,7 +7,7 @@ use Rattle.coll_lex.specs.declared.tokens.Line.{Line}
 use Rattle.coll_lex.specs.declared.faults.LexFault.{LexFault}
 use Rattle.coll_lex.specs.declared.faults.LexFault.TheVariants as lex
 use Rattle.coll_lex.proofs.LineSteps.{logical_lines-nil, logical_lines-none, logical_lines-whole, logical_lines-fault}
-use Rattle.coll_table.specs.TextLines.{TextState, ahead_of, EndsIn, GivesFirst, WasLast, CountsOne, FailsFed, TakeFails, TakesLines, NextFails, Nexts}
+use Rattle.coll_table.specs.TextLines.{TextState, unread_text, EndsIn, GivesFirst, WasLast, CountsOne, FailsFed, FeedFails, ReadsLines, NextFails, GivesNext}
 use Rattle.coll_table.specs.declared.load_faults.LoadCause.{LoadCause}
 use Rattle.coll_table.specs.declared.load_faults.LoadCause.TheVariants.{Lex, ReadFault, OutOfMemory}
 use Rattle.coll_table.proofs.FindSteps.{one_behind, takes_more}
@@ -15,8 +15,8 @@ use Rattle.coll_table.proofs.FindSteps.{one_behind, takes_more}
 -- the lines taken so far end no logical line, and leave it to the later ones
 abbrev pub Nexting : TextState → TextState → Option (List ℕ) → Option (List ℕ) → Type 0
 Nexting start now left left_now =
-    (text : List ℕ) → ahead_of start left ≡ Some text →
-    (whole : List (List ℕ)) × (rest : List ℕ) × TakesLines start now left_now text whole rest
+    (text : List ℕ) → unread_text start left ≡ Some text →
+    (whole : List (List ℕ)) × (rest : List ℕ) × ReadsLines start now left_now text whole rest
     × ((ends : Bool) (more : List (List ℕ)) → logical_lines [] ends start.lexer (whole ++ more) ≡ logical_lines [] ends now.lexer more)
 
 -- before the first line
@@ -36,7 +36,7 @@ module _ (start now : TextState) (left left_now : Option (List ℕ)) (h : Nextin
       )
 
   -- the line that ends one
-  pub next_given : (next : TextState) (left_next : Option (List ℕ)) (given : Line) → GivesFirst now next left_now left_next → fed now.lexer next.reader.line ≡ Ok (Some given, next.lexer) → CountsOne now.lexer next.lexer → Nexts start next left left_next (Ok (Some given))
+  pub next_given : (next : TextState) (left_next : Option (List ℕ)) (given : Line) → GivesFirst now next left_now left_next → fed now.lexer next.reader.line ≡ Ok (Some given, next.lexer) → CountsOne now.lexer next.lexer → GivesNext start next left left_next (Ok (Some given))
   next_given next left_next given gives whole one = λ text e.
       let at = h text e in
       let line = gives at.1 at.2.0 in (
@@ -48,11 +48,11 @@ module _ (start now : TextState) (left left_now : Option (List ℕ)) (h : Nextin
       )
 
   -- all lines, where none is left
-  all_taken : WasLast now left_now → (text : List ℕ) → (e : ahead_of start left ≡ Some text) → lines_of text ≡ (h text e).0 ++ []
+  all_taken : WasLast now left_now → (text : List ℕ) → (e : unread_text start left ≡ Some text) → lines_of text ≡ (h text e).0 ++ []
   all_taken last text e = let at = h text e in at.2.1 ∙ ap (λ lines. at.0 ++ lines) (last at.1 at.2.0)
 
   -- no line more, and none open
-  pub none_next : (next : TextState) (left_next : Option (List ℕ)) → WasLast now left_now → left_open now.lexer.line ≡ [] → next.lexer.count ≡ now.lexer.count → Nexts start next left left_next (Ok None)
+  pub none_next : (next : TextState) (left_next : Option (List ℕ)) → WasLast now left_now → left_open now.lexer.line ≡ [] → next.lexer.count ≡ now.lexer.count → GivesNext start next left left_next (Ok None)
   none_next next left_next last none count = λ text e.
       let at = h text e in
       let all = all_taken last text e in (
@@ -69,8 +69,8 @@ module _ (start now : TextState) (left left_now : Option (List ℕ)) (h : Nextin
         ap (logical_lines [] true start.lexer) (all_taken last text e) ∙ (at.3 true [] ∙ (logical_lines-nil [] true now.lexer ∙ behind.1)),
       )
 
-  at_fault_here : (line : ℕ) (fault : LexFault) → (line ≡ number_of now.lexer) → ((text : List ℕ) → ahead_of now left_now ≡ Some text → (first : List ℕ) × (later : List (List ℕ)) × (lines_of text ≡ first ∷ later) × FailsFed now.lexer first fault)
-      → (text : List ℕ) → ahead_of start left ≡ Some text → (first : List ℕ) × (later : List LogicalLine) × (logical_lines [] true start.lexer (lines_of text) ≡ record { number = line; first = first; tokens = Err fault } ∷ later)
+  at_fault_here : (line : ℕ) (fault : LexFault) → (line ≡ number_of now.lexer) → ((text : List ℕ) → unread_text now left_now ≡ Some text → (first : List ℕ) × (later : List (List ℕ)) × (lines_of text ≡ first ∷ later) × FailsFed now.lexer first fault)
+      → (text : List ℕ) → unread_text start left ≡ Some text → (first : List ℕ) × (later : List LogicalLine) × (logical_lines [] true start.lexer (lines_of text) ≡ record { number = line; first = first; tokens = Err fault } ∷ later)
   at_fault_here line fault number fails text e =
       let at = h text e in
       let first = fails at.1 at.2.0 in
@@ -83,7 +83,7 @@ module _ (start now : TextState) (left left_now : Option (List ℕ)) (h : Nextin
       )
 
   -- a line at fault
-  pub next_fails : (left_next : Option (List ℕ)) (line : ℕ) (cause : LoadCause) → TakeFails FailsFed now left_now left_next line cause → NextFails start left left_next line cause
+  pub next_fails : (left_next : Option (List ℕ)) (line : ℕ) (cause : LoadCause) → FeedFails FailsFed now left_now left_next line cause → NextFails start left left_next line cause
   next_fails left_next line OutOfMemory f = tt
   next_fails left_next line (Lex lex.OutOfMemory) f = absurd f
   next_fails left_next line (Lex fault) f = at_fault_here line fault f.0 f.1

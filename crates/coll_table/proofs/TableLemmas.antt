@@ -9,7 +9,8 @@ use Rattle.coll_syntax.specs.Identifier.{same_name, same_id, has_name, has_id}
 use Rattle.coll_table.specs.Table.{Collation, ids_of, is_known, is_known_among, is_placed}
 use Rattle.coll_table.specs.WellFormed.{AreDistinct, AreKnown, IsWellFormed}
 use Rattle.coll_table.specs.Placement.{entries_after, entries_without}
-use Rattle.coll_table.specs.Sound.{collation_of, AddsId, IsSoundTable}
+use Rattle.coll_table.specs.LookUps.{AddsId}
+use Rattle.coll_table.specs.Sound.{collation_of, IsSoundTable}
 use Rattle.coll_syntax.specs.declared.identifiers.Id.{Id}
 use Rattle.coll_syntax.specs.declared.identifiers.Id.TheVariants.{Char, Named, Undefined}
 use Rattle.coll_table.specs.declared.entries.Entry.{Entry}

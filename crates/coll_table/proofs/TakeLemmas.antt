@@ -7,7 +7,7 @@ use Rattle.coll_lex.specs.declared.faults.LexFault.{LexFault}
 use Rattle.coll_table.specs.LoadFaults.{lex_cause}
 use Rattle.coll_lex.proofs.LineEnds.{fed-too_long}
 use Rattle.coll_table.proofs.LineCounts.{outside_too_long}
-use Rattle.coll_table.specs.TextLines.{TextState, FirstFails, AdvanceFails, TakeFails, FailsOutside, FailsFed, CountsOne}
+use Rattle.coll_table.specs.TextLines.{TextState, FirstFails, ReadFails, FeedFails, FailsOutside, FailsFed, CountsOne}
 use Rattle.coll_table.specs.declared.load_faults.LoadCause.{LoadCause}
 use Rattle.coll_table.specs.declared.load_faults.LoadCause.TheVariants.{Lex, ReadFault}
 
@@ -16,21 +16,21 @@ pub fails_by : (old : TextState) (left : Option (List ℕ)) (P Q : List ℕ → 
 fails_by old left P Q f h = λ text e. let at = h text e in (at.0, at.1, at.2, f at.0 at.3)
 
 -- a line of the category that could not be read
-pub taken_fails : (old : TextState) (left left_after : Option (List ℕ)) (line : ℕ) (cause : LoadCause) → AdvanceFails old left left_after line cause → TakeFails FailsFed old left left_after line cause
+pub taken_fails : (old : TextState) (left left_after : Option (List ℕ)) (line : ℕ) (cause : LoadCause) → ReadFails old left left_after line cause → FeedFails FailsFed old left left_after line cause
 taken_fails old left left_after line (Lex lex.LineTooLong) h =
     (h.0, fails_by old left (λ first. MOST_LINE_BYTES < length first) (λ first. FailsFed old.lexer first lex.LineTooLong) (λ first long. fed-too_long old.lexer first long) h.1)
 taken_fails old left left_after line ReadFault h = h
 taken_fails old left left_after line _ h = absurd h
 
 -- a line before the category that could not be read
-pub outside_fails : (old : TextState) (left left_after : Option (List ℕ)) (line : ℕ) (cause : LoadCause) → AdvanceFails old left left_after line cause → TakeFails FailsOutside old left left_after line cause
+pub outside_fails : (old : TextState) (left left_after : Option (List ℕ)) (line : ℕ) (cause : LoadCause) → ReadFails old left left_after line cause → FeedFails FailsOutside old left left_after line cause
 outside_fails old left left_after line (Lex lex.LineTooLong) h =
     (h.0, fails_by old left (λ first. MOST_LINE_BYTES < length first) (λ first. FailsOutside old.lexer first lex.LineTooLong) (λ first long. outside_too_long old.lexer first long) h.1)
 outside_fails old left left_after line ReadFault h = h
 outside_fails old left left_after line _ h = absurd h
 
 -- a line that the lexer refuses: the fault is its own, unless it is a want of memory
-pub lexed_fails : (Fails : LexerState → List ℕ → LexFault → Type 0) (old : TextState) (left left_after : Option (List ℕ)) (line : ℕ) (fault : LexFault) → line ≡ number_of old.lexer → (fault ≢ lex.OutOfMemory → FirstFails old left (λ first. Fails old.lexer first fault)) → TakeFails Fails old left left_after line (lex_cause fault)
+pub lexed_fails : (Fails : LexerState → List ℕ → LexFault → Type 0) (old : TextState) (left left_after : Option (List ℕ)) (line : ℕ) (fault : LexFault) → line ≡ number_of old.lexer → (fault ≢ lex.OutOfMemory → FirstFails old left (λ first. Fails old.lexer first fault)) → FeedFails Fails old left left_after line (lex_cause fault)
 lexed_fails Fails old left left_after line lex.OutOfMemory n h = tt
 lexed_fails Fails old left left_after line _ n h = (n, h (λ e. cc))
 

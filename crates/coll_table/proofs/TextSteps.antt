@@ -7,7 +7,7 @@ use Rattle.coll_lex.specs.declared.tokens.TheConstants.{MOST_LINE_BYTES}
 use Rattle.coll_lex.specs.declared.faults.ReadStop.{ReadStop}
 use Rattle.coll_lex.specs.declared.faults.ReadStop.TheVariants as stop
 use Rattle.coll_lex.proofs.PhysicalLinesLemmas.{lines_of-nil, lines_of-cut, lines_of-long}
-use Rattle.coll_table.specs.TextLines.{TextState, ahead_of, EndsIn, GivesFirst, WasLast, FirstFails, CutShort, Advances}
+use Rattle.coll_table.specs.TextLines.{TextState, unread_text, EndsIn, GivesFirst, WasLast, FirstFails, CutShort, ReadsOne}
 
 -- bytes that are known lose a line, and the rest is known
 known_cut : (new : Option (List ℕ)) (text line : List ℕ) → reading.Cuts (Some text) new line → (rest : List ℕ) × (new ≡ Some rest) × reading.CutsLine text line rest
@@ -39,20 +39,20 @@ module _ (old new : TextState) (left left_after : Option (List ℕ)) (failed fai
   -- a line that was given is the first one ahead
   pub gives_first : reading.GivesLine old.reader new.reader left left_after failed failed_after → GivesFirst old new left left_after
   gives_first h = λ text e.
-      let cut = known_cut (ahead_of new left_after) text new.reader.line (subst (λ o. reading.Cuts o (ahead_of new left_after) new.reader.line) e h.cut) in
+      let cut = known_cut (unread_text new left_after) text new.reader.line (subst (λ o. reading.Cuts o (unread_text new left_after) new.reader.line) e h.cut) in
       (cut.0, cut.1, ends_by text new.reader.line cut.0 cut.2, lines_of-cut text new.reader.line cut.0 cut.2 h.whole)
 
   -- at the end there is no line ahead
   pub was_last : reading.GivesEnd old.reader new.reader left left_after failed failed_after → WasLast old left
   was_last h = λ text e.
-      let kept = known_kept (ahead_of new left_after) text (subst (λ o. Keeps o (ahead_of new left_after)) e h.kept) in
+      let kept = known_kept (unread_text new left_after) text (subst (λ o. Keeps o (unread_text new left_after)) e h.kept) in
       let none : text ≡ [] = subst IsAtEnd kept h.end in
       ap lines_of none ∙ lines_of-nil
 
   -- the bytes that were ahead are those held and those left
-  stopped_at : (s : ReadStop) → reading.StopsNow old.reader new.reader left left_after failed failed_after s → (text : List ℕ) → ahead_of old left ≡ Some text → (rest : List ℕ) × (left_after ≡ Some rest) × (text ≡ new.reader.held ++ rest)
+  stopped_at : (s : ReadStop) → reading.StopsNow old.reader new.reader left left_after failed failed_after s → (text : List ℕ) → unread_text old left ≡ Some text → (rest : List ℕ) × (left_after ≡ Some rest) × (text ≡ new.reader.held ++ rest)
   stopped_at s h text e =
-      known_behind left_after new.reader.held text (known_kept (ahead_of new left_after) text (subst (λ o. Keeps o (ahead_of new left_after)) e h.kept))
+      known_behind left_after new.reader.held text (known_kept (unread_text new left_after) text (subst (λ o. Keeps o (unread_text new left_after)) e h.kept))
 
   -- at a line that is too long, the first one ahead is
   pub first_long : reading.StopsNow old.reader new.reader left left_after failed failed_after stop.LineTooLong → FirstFails old left (λ first. MOST_LINE_BYTES < length first)
@@ -68,7 +68,7 @@ module _ (old new : TextState) (left left_after : Option (List ℕ)) (failed fai
       (new.reader.held, at.0, at.1, at.2, h.cause.1)
 
   -- a line was given, or there was none
-  pub advanced : (is_line : Bool) → reading.Advances old.reader new.reader left left_after failed failed_after (Ok is_line) → Advances old new left left_after (Ok is_line)
+  pub advanced : (is_line : Bool) → reading.Advances old.reader new.reader left left_after failed failed_after (Ok is_line) → ReadsOne old new left left_after (Ok is_line)
   advanced true h = gives_first h
   advanced false h = was_last h
 

@@ -33,10 +33,10 @@ lines_refusal table before (line ∷ lines) =
 abbrev pub moved : List Section → Id → PlainLine → List Section
 moved sections target line = placed_after (without sections line.id) target (record { id = line.id })
 
--- the sections rewritten by the lines of a block: the first after the target, each further one after the line before
-abbrev pub rewritten : List Section → Id → List PlainLine → List Section
-rewritten sections target [] = sections
-rewritten sections target (line ∷ lines) = rewritten (moved sections target line) line.id lines
+-- the sections with the entry of each line of a block moved, or newly placed: the first after the target, each further one after the line before
+abbrev pub all_moved : List Section → Id → List PlainLine → List Section
+all_moved sections target [] = sections
+all_moved sections target (line ∷ lines) = all_moved (moved sections target line) line.id lines
 
 -- a table that results, unless it has too many entries
 abbrev pub within_limit : Collation → Result Collation Refusal
@@ -51,7 +51,7 @@ unless_refused None table = within_limit table
 abbrev pub block_delta : Collation → Id → List PlainLine → Result Collation Refusal
 block_delta table target lines =
     if not (is_placed table target) then Err TargetNotPlaced
-    else unless_refused (lines_refusal table (target ∷ []) lines) (record table { sections = rewritten table.sections target lines })
+    else unless_refused (lines_refusal table (target ∷ []) lines) (record table { sections = all_moved table.sections target lines })
 
 -- why an order line outside a block is refused: it has no weights to give
 abbrev pub reweight_refusal : Collation → Id → Refusal

@@ -24,17 +24,17 @@ StopsWithin text left =
     × (lines_of text ≡ whole ++ lines_of (part ++ rest)) × IsInLine part × IsUndecided (outcome_of false whole)
 
 -- what a fault says of the text, by its cause; a want of memory says nothing, and has one spelling
-abbrev pub Refuses : LoadCause → ℕ → List ℕ → Option (List ℕ) → Type 0
-Refuses OutOfMemory line text left = Unit {0}
-Refuses (Lex lex.OutOfMemory) line text left = ⊥
-Refuses (Syntax syntax.OutOfMemory) line text left = ⊥
-Refuses ReadFault line text left = (line ≡ 0) × StopsWithin text left
-Refuses cause line text left = reads text ≡ Err (record { line = line; cause = cause })
+abbrev pub FaultSays : LoadCause → ℕ → List ℕ → Option (List ℕ) → Type 0
+FaultSays OutOfMemory line text left = Unit {0}
+FaultSays (Lex lex.OutOfMemory) line text left = ⊥
+FaultSays (Syntax syntax.OutOfMemory) line text left = ⊥
+FaultSays ReadFault line text left = (line ≡ 0) × StopsWithin text left
+FaultSays cause line text left = reads text ≡ Err (record { line = line; cause = cause })
 
 -- what an answer says of the text that the device had
 abbrev pub Loads : Option (List ℕ) → Option (List ℕ) → Result TableValue LoadFault → Type 0
 Loads old new (Ok table) = (text : List ℕ) → old ≡ Some text → reads text ≡ Ok (collation table)
-Loads old new (Err fault) = (text : List ℕ) → old ≡ Some text → Refuses fault.cause fault.line text new
+Loads old new (Err fault) = (text : List ℕ) → old ≡ Some text → FaultSays fault.cause fault.line text new
 
 -- the count of errors, one higher where a read error is the cause
 abbrev pub counted_by : LoadCause → ℕ → ℕ

@@ -4,7 +4,7 @@ use Rattle.coll_lex.specs.declared.tokens.Token.{Token}
 use Rattle.coll_lex.specs.declared.tokens.Token.TheVariants as token
 use Rattle.coll_syntax.specs.Identifier.{is_word}
 use Rattle.coll_syntax.specs.Operands.{ended}
-use Rattle.coll_table.specs.PlainLines.{plain_id, plain_line}
+use Rattle.coll_table.specs.PlainOrderLines.{plain_id, plain_line}
 use Rattle.coll_table.specs.declared.plain.statements.PlainLine.{PlainLine}
 use Rattle.coll_table.specs.declared.plain.table_lines.PlainTableLine.{PlainTableLine}
 use Rattle.coll_table.specs.declared.plain.table_lines.PlainTableLine.TheVariants.{Symbol, OrderStart, OrderEnd, Order, EndCategory}

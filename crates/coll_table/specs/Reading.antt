@@ -61,8 +61,8 @@ is_end EndCategory = true
 is_end _ = false
 
 -- the table that lines make
-abbrev pub table_of : List PlainTableLine → Collation
-table_of lines = collation_of (declared_in lines) (entries_in lines)
+abbrev pub table_from : List PlainTableLine → Collation
+table_from lines = collation_of (declared_in lines) (entries_in lines)
 
 -- a cause, where a test holds, and else what follows
 abbrev pub refused_if : Bool → LoadCause → Option LoadCause → Option LoadCause
@@ -95,17 +95,17 @@ at_fault number cause = Decided (Err (record { line = number; cause = cause }))
 
 -- what an accepted line decides: the table, if it ends the category, and else what the later lines do
 abbrev pub accepted : List PlainTableLine → (is_last : Bool) → Outcome → Outcome
-accepted before is_last later = if is_last then Decided (Ok (table_of before)) else later
+accepted before is_last later = if is_last then Decided (Ok (table_from before)) else later
 
 -- what a line decides that the grammar accepts, by why it is refused
-abbrev pub judged : ℕ → List PlainTableLine → PlainTableLine → Option LoadCause → Outcome → Outcome
-judged number before line (Some cause) later = at_fault number cause
-judged number before line None later = accepted before (is_end line) later
+abbrev pub line_judged : ℕ → List PlainTableLine → PlainTableLine → Option LoadCause → Outcome → Outcome
+line_judged number before line (Some cause) later = at_fault number cause
+line_judged number before line None later = accepted before (is_end line) later
 
 -- what a line with these tokens decides, by what the grammar says
 abbrev pub by_grammar : ℕ → List PlainTableLine → Result PlainTableLine SyntaxFault → (PlainTableLine → Outcome) → Outcome
 by_grammar number before (Err fault) later = at_fault number (Syntax fault)
-by_grammar number before (Ok line) later = judged number before line (line_cause before line) (later line)
+by_grammar number before (Ok line) later = line_judged number before line (line_cause before line) (later line)
 
 -- what a logical line decides, by its tokens
 abbrev pub by_tokens : ℕ → List PlainTableLine → Result (List Token) LexFault → (PlainTableLine → Outcome) → Outcome

@@ -9,7 +9,7 @@ ghost use Rattle.coll_table.specs.Limits.{most_entries};
 ghost use Rattle.coll_table.specs.Table.{collation, ids_of, entries_of, is_known, is_placed};
 ghost use Rattle.coll_table.specs.WellFormed.{AreDistinct, IsWellFormed};
 ghost use Rattle.coll_table.specs.Placement.{entries_after, entries_without};
-ghost use Rattle.coll_table.specs.Delta.{delta, block_delta, lines_refusal, reweight_refusal, moved, rewritten, within_limit};
+ghost use Rattle.coll_table.specs.Delta.{delta, block_delta, lines_refusal, reweight_refusal, moved, all_moved, within_limit};
 ghost use Rattle.coll_table.specs.Record.{Extends, fits, turn};
 ghost use Rattle.coll_table.specs.Sound.{with_sections, IsFullAt};
 ghost use Rattle.coll_table.specs.declared.refusals.Refusal.TheVariants.{OutOfMemory};
@@ -95,8 +95,8 @@ impl Table {
         requires well_formed { IsWellFormed self.old }
         requires placed { IsTrue (is_placed self.old target.now) }
         requires judged { lines_refusal self.old (target.now ∷ []) lines.now ≡ None }
-        ensures ok { OnOk result (within_limit (with_sections self.old (rewritten self.old.sections target.now lines.now)) ≡ Ok self.new) }
-        ensures err { IfErr result (λ refusal. refusal ≢ OutOfMemory → within_limit (with_sections self.old (rewritten self.old.sections target.now lines.now)) ≡ Err refusal) }
+        ensures ok { OnOk result (within_limit (with_sections self.old (all_moved self.old.sections target.now lines.now)) ≡ Ok self.new) }
+        ensures err { IfErr result (λ refusal. refusal ≢ OutOfMemory → within_limit (with_sections self.old (all_moved self.old.sections target.now lines.now)) ≡ Err refusal) }
     {
         let mut after = target;
         for line in lines {

@@ -31,7 +31,7 @@ impl Model for Draft {
 }
 
 impl Draft {
-    ghost use Rattle.coll_table.specs.Drafts.{draft_of, Accepts, RefusesLine, IsLineCause};
+    ghost use Rattle.coll_table.specs.Drafts.{draft_of, Accepts, RefusesNext, IsLineCause};
 
     /// A draft before the first line. It takes no memory.
     pub fn new(alloc: Global) -> Draft
@@ -55,7 +55,7 @@ impl Draft {
     pub fn take(&mut self, line: PlainTableLine) -> Result<bool, LoadCause>
         ensures ok { OnOk result (Accepts self.old line self.new) }
         ensures ended { IfOk result (λ ended. ended ≡ is_end line) }
-        ensures err { IfErr result (λ cause. cause ≢ OutOfMemory → RefusesLine self.old line cause) }
+        ensures err { IfErr result (λ cause. cause ≢ OutOfMemory → RefusesNext self.old line cause) }
         ensures cause { IfErr result IsLineCause }
     {
         match line {
@@ -85,7 +85,7 @@ impl Draft {
     /// A declaration.
     fn declare(&mut self, name: &TextBuf) -> Result<(), LoadCause>
         ensures ok { OnOk result (Accepts self.old (Symbol name.now) self.new) }
-        ensures err { IfErr result (λ cause. cause ≢ OutOfMemory → RefusesLine self.old (Symbol name.now) cause) }
+        ensures err { IfErr result (λ cause. cause ≢ OutOfMemory → RefusesNext self.old (Symbol name.now) cause) }
         ensures cause { IfErr result IsLineCause }
     {
         if self.table.declares(name) {
@@ -109,7 +109,7 @@ impl Draft {
     /// `order_end`.
     fn stop(&mut self) -> Result<(), LoadCause>
         ensures ok { OnOk result (Accepts self.old OrderEnd self.new) }
-        ensures err { IfErr result (λ cause. cause ≢ OutOfMemory → RefusesLine self.old OrderEnd cause) }
+        ensures err { IfErr result (λ cause. cause ≢ OutOfMemory → RefusesNext self.old OrderEnd cause) }
         ensures cause { IfErr result IsLineCause }
     {
         if !self.order_open {
@@ -122,7 +122,7 @@ impl Draft {
     /// An order line.
     fn place(&mut self, line: PlainLine) -> Result<(), LoadCause>
         ensures ok { OnOk result (Accepts self.old (Order line) self.new) }
-        ensures err { IfErr result (λ cause. cause ≢ OutOfMemory → RefusesLine self.old (Order line) cause) }
+        ensures err { IfErr result (λ cause. cause ≢ OutOfMemory → RefusesNext self.old (Order line) cause) }
         ensures cause { IfErr result IsLineCause }
     {
         if !self.order_open {
@@ -144,7 +144,7 @@ impl Draft {
     /// `END LC_COLLATE`.
     fn end(&mut self) -> Result<(), LoadCause>
         ensures ok { OnOk result (Accepts self.old EndCategory self.new) }
-        ensures err { IfErr result (λ cause. cause ≢ OutOfMemory → RefusesLine self.old EndCategory cause) }
+        ensures err { IfErr result (λ cause. cause ≢ OutOfMemory → RefusesNext self.old EndCategory cause) }
         ensures cause { IfErr result IsLineCause }
     {
         if self.order_open {

@@ -20,7 +20,7 @@ pub struct Names {
 
 impl Model for Names {
     ghost use Rattle.std.specs.Prelude.{List, ℕ};
-    ghost use Rattle.coll_table.specs.Sound.{texts_of, AreNames};
+    ghost use Rattle.coll_table.specs.LookUps.{texts_of, AreNames};
 
     ghost Value = { List (List ℕ) };
 
@@ -30,7 +30,7 @@ impl Model for Names {
 }
 
 impl Names {
-    ghost use Rattle.coll_table.specs.Sound.{with_name};
+    ghost use Rattle.coll_table.specs.LookUps.{with_name};
 
     /// No names. It takes no memory.
     pub fn new(alloc: Global) -> Names

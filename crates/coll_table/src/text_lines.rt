@@ -10,7 +10,7 @@ ghost use Rattle.coll_lex.specs.LineReading.{no_line};
 ghost use Rattle.coll_lex.specs.LogicalLines.{first_state, number_of, left_open};
 ghost use Rattle.coll_table.specs.Loads.{CountsFault};
 
-use super::taken::Taken;
+use super::steps::Step;
 use crate::{LoadCause, LoadFault};
 use coll_lex::{LexFault, Lexer, Line, LineReader, MOST_LINES, ReadStop, Source};
 use std::alloc::{AllocError, Global};
@@ -38,7 +38,7 @@ impl Model for TextLines {
 }
 
 impl TextLines {
-    ghost use Rattle.coll_table.specs.TextLines.{Advances, Takes, CountsTaken, TakesOutside, CountsOutside, Finds, LeavesOpen, Nexts};
+    ghost use Rattle.coll_table.specs.TextLines.{ReadsOne, FeedsOne, CountsStep, FeedsOutside, CountsOutside, Finds, LeavesOpen, GivesNext};
 
     /// The lines of a text from its first on.
     pub fn new(alloc: Global) -> Result<TextLines, AllocError>
@@ -86,16 +86,16 @@ impl TextLines {
     /// Takes the lines up to the end of the next logical line that has a token, and answers it; none at the end of the text.
     pub fn next_line<R: Source>(&mut self, input: &mut R) -> Result<Option<Line>, LoadFault>
         requires { self.old.reader.stop ≡ None }
-        ensures line { Nexts self.old self.new (R.left input.old) (R.left input.new) result }
+        ensures line { GivesNext self.old self.new (R.left input.old) (R.left input.new) result }
         ensures counts { IfOk result (λ line. IsSome line → self.old.lexer.count < MOST_LINES × (self.old.lexer.count < self.new.lexer.count)) }
         ensures errors { CountsFault (R.failed input.old) (R.failed input.new) result }
         ensures goes_on { OnOk result (self.new.reader.stop ≡ None) }
     {
         'lines: loop {
             match self.take_line(input)? {
-                Taken::Whole(line) => return Ok(Some(line)),
-                Taken::NoLine => {}
-                Taken::End => {
+                Step::Whole(line) => return Ok(Some(line)),
+                Step::NoLine => {}
+                Step::End => {
                     self.end()?;
                     return Ok(None);
                 }
@@ -135,7 +135,7 @@ impl TextLines {
     /// Reads one physical line, if there is one.
     fn read_line<R: Source>(&mut self, input: &mut R) -> Result<bool, LoadFault>
         requires { self.old.reader.stop ≡ None }
-        ensures line { Advances self.old self.new (R.left input.old) (R.left input.new) result }
+        ensures line { ReadsOne self.old self.new (R.left input.old) (R.left input.new) result }
         ensures lexer { self.new.lexer ≡ self.old.lexer }
         ensures errors { CountsFault (R.failed input.old) (R.failed input.new) result }
         ensures goes_on { OnOk result (self.new.reader.stop ≡ None) }
@@ -157,7 +157,7 @@ impl TextLines {
     /// Takes one physical line before the category: whether the category begins with it.
     fn take_outside<R: Source>(&mut self, input: &mut R) -> Result<Option<bool>, LoadFault>
         requires { self.old.reader.stop ≡ None }
-        ensures line { TakesOutside self.old self.new (R.left input.old) (R.left input.new) result }
+        ensures line { FeedsOutside self.old self.new (R.left input.old) (R.left input.new) result }
         ensures counts { IfOk result (CountsOutside self.old self.new) }
         ensures errors { CountsFault (R.failed input.old) (R.failed input.new) result }
         ensures goes_on { OnOk result (self.new.reader.stop ≡ None) }
@@ -178,22 +178,22 @@ impl TextLines {
     }
 
     /// Takes one physical line of the category.
-    fn take_line<R: Source>(&mut self, input: &mut R) -> Result<Taken, LoadFault>
+    fn take_line<R: Source>(&mut self, input: &mut R) -> Result<Step, LoadFault>
         requires { self.old.reader.stop ≡ None }
-        ensures line { Takes self.old self.new (R.left input.old) (R.left input.new) result }
-        ensures counts { IfOk result (CountsTaken self.old self.new) }
+        ensures line { FeedsOne self.old self.new (R.left input.old) (R.left input.new) result }
+        ensures counts { IfOk result (CountsStep self.old self.new) }
         ensures errors { CountsFault (R.failed input.old) (R.failed input.new) result }
         ensures goes_on { OnOk result (self.new.reader.stop ≡ None) }
     {
         if !self.read_line(input)? {
-            return Ok(Taken::End);
+            return Ok(Step::End);
         }
         let number = self.next_number();
         let answer = self.lexer.feed(self.reader.line());
         self.count = one_more(self.count);
         match answer {
-            Ok(Some(line)) => return Ok(Taken::Whole(line)),
-            Ok(None) => return Ok(Taken::NoLine),
+            Ok(Some(line)) => return Ok(Step::Whole(line)),
+            Ok(None) => return Ok(Step::NoLine),
             Err(fault) => return Err(LoadFault {
                 line: number,
                 cause: LoadCause::from(fault),

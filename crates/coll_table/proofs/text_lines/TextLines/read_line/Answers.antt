@@ -1,7 +1,7 @@
 -- What the reader answers, said of the lines of the text.
 use Rattle.std.proofs.Common.{◌≡◌, ◌<◌, None, sym, subst, length, Ok}
 use Rattle.coll_lex.specs.declared.tokens.TheConstants.{MOST_LINE_BYTES}
-use Rattle.coll_table.specs.TextLines.{TextState, Advances, FirstFails}
+use Rattle.coll_table.specs.TextLines.{TextState, ReadsOne, FirstFails}
 use Rattle.coll_table.proofs.TextSteps.{advanced, stops_long}
 use Rattle.coll_table.proofs.text_lines.TextLines.read_line.Goals as goal
 
@@ -11,7 +11,7 @@ returns-in-Ok-clause-line g c =
     let after : TextState = record { reader = c.advance.new.self; lexer = c.self.inside.lexer } in
     let left = g.R.Source.left in
     let failed = g.R.Source.failed in
-    subst (λ t. Advances t after (left c.args.input.now) (left c.advance.new.input) (Ok c.in-Ok.is_line)) c.self.view_is
+    subst (λ t. ReadsOne t after (left c.args.input.now) (left c.advance.new.input) (Ok c.in-Ok.is_line)) c.self.view_is
     (advanced before after (left c.args.input.now) (left c.advance.new.input) (failed c.args.input.now) (failed c.advance.new.input) c.in-Ok.is_line c.in-Ok.ensures)
 
 pub returns-in-Err-LineTooLong-clause-line : goal.returns-in-Err-LineTooLong-clause-line

@@ -2,7 +2,7 @@
 use Rattle.std.proofs.Common.{sym, subst, ◌∙◌}
 use Rattle.coll_table.specs.Record.{fits, turn}
 use Rattle.coll_table.specs.WellFormed.{IsWellFormed}
-use Rattle.coll_table.proofs.Table.apply_block.Goals as goal
+use Rattle.coll_table.proofs.tables.Table.apply_block.Goals as goal
 
 pub returns-clause-fits : goal.returns-clause-fits
 unfolding fits

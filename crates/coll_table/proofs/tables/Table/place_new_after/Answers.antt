@@ -6,7 +6,7 @@ use Rattle.coll_table.specs.Table.{Collation, ids_of, entries_of, is_known, is_p
 use Rattle.coll_table.specs.Limits.{most_entries}
 use Rattle.coll_table.proofs.EntryLemmas.{none_without}
 use Rattle.coll_table.proofs.TableLemmas.{moved_entries, sound_placed, here_moved, apart_when_new}
-use Rattle.coll_table.proofs.Table.place_new_after.Goals as goal
+use Rattle.coll_table.proofs.tables.Table.place_new_after.Goals as goal
 
 -- the entries are those of the definition, as the identifier had no entry to be taken out
 placed_entries : (c : goal.After-put_after) → c.put_after.new.entries.items ≡ moved_entries c.self.inside.entries.items c.args.after.now c.args.id.now

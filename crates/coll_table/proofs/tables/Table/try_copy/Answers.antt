@@ -4,7 +4,7 @@ use Rattle.coll_syntax.specs.Identifier.{same_id}
 use Rattle.coll_table.specs.Table.{Collation, ids_of}
 use Rattle.coll_table.specs.WellFormed.{AreDistinct, AreKnown}
 use Rattle.coll_table.proofs.TableLemmas.{copied_known, copied_new}
-use Rattle.coll_table.proofs.Table.try_copy.Goals as goal
+use Rattle.coll_table.proofs.tables.Table.try_copy.Goals as goal
 
 pub place_last-requires-clause-known : goal.place_last-requires-clause-known
 place_last-requires-clause-known c =

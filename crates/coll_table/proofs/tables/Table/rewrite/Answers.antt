@@ -1,7 +1,7 @@
 -- A line more is placed, or there is no room for it.
 use Rattle.std.proofs.lemmas.Result.{err_from_is_err_and}
 use Rattle.coll_table.proofs.PlacingLemmas.{rewriting_apart, rewriting_more, rewriting_full}
-use Rattle.coll_table.proofs.Table.rewrite.Goals as goal
+use Rattle.coll_table.proofs.tables.Table.rewrite.Goals as goal
 
 pub place_after-requires-clause-apart : goal.place_after-requires-clause-apart
 place_after-requires-clause-apart c =

@@ -4,7 +4,7 @@ use coll_lex::Line;
 
 /// What the lexer gave for one physical line of the category.
 #[derive(Debug, Drop)]
-pub enum Taken {
+pub enum Step {
     /// The logical line that it ends.
     Whole(Line),
     /// No logical line: it is continued, a directive, or has no token.

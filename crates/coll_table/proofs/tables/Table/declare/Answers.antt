@@ -1,10 +1,11 @@
 -- The table with one name more is sound.
 use Rattle.std.proofs.Common.{◌≡◌, ◌<◌, ◌∷◌, ◌++◌, [], false, cond, length, sym, ap, subst, ◌∙◌}
-use Rattle.coll_table.specs.Sound.{with_name, IsSoundTable}
+use Rattle.coll_table.specs.LookUps.{with_name}
+use Rattle.coll_table.specs.Sound.{IsSoundTable}
 use Rattle.coll_table.specs.Table.{Collation, declared_of, is_declared}
 use Rattle.coll_table.specs.Limits.{most_declarations}
 use Rattle.coll_table.proofs.TableLemmas.{sound_declared}
-use Rattle.coll_table.proofs.Table.declare.Goals as goal
+use Rattle.coll_table.proofs.tables.Table.declare.Goals as goal
 
 pub invariant_of-self-2 : goal.invariant_of-self-2
 invariant_of-self-2 c =

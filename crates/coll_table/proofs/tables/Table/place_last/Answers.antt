@@ -3,7 +3,7 @@ use Rattle.std.proofs.Common.{◌≡◌, ◌<◌, false, IsTrue, length, sym, su
 use Rattle.coll_table.specs.Table.{Collation, entries_of, is_known, is_placed}
 use Rattle.coll_table.specs.Limits.{most_entries}
 use Rattle.coll_table.proofs.TableLemmas.{sound_last}
-use Rattle.coll_table.proofs.Table.place_last.Goals as goal
+use Rattle.coll_table.proofs.tables.Table.place_last.Goals as goal
 
 pub invariant_of-self-2 : goal.invariant_of-self-2
 invariant_of-self-2 c =

@@ -3,7 +3,7 @@ use Rattle.std.proofs.Common.{◌≡◌, IsTrue, sym, subst}
 use Rattle.coll_table.specs.Sound.{IsSoundTable}
 use Rattle.coll_table.specs.Table.{Collation, is_placed}
 use Rattle.coll_table.proofs.TableLemmas.{moved_entries, sound_moved, here_moved, target_stays}
-use Rattle.coll_table.proofs.Table.move_after.Goals as goal
+use Rattle.coll_table.proofs.tables.Table.move_after.Goals as goal
 
 pub put_after-requires-clause-placed : goal.put_after-requires-clause-placed
 put_after-requires-clause-placed c =

@@ -1,7 +1,7 @@
 -- A line more is judged.
 use Rattle.std.proofs.Common.{sym, ◌∙◌}
 use Rattle.coll_table.proofs.PlacingLemmas.{judged_more}
-use Rattle.coll_table.proofs.Table.judge_lines.Goals as goal
+use Rattle.coll_table.proofs.tables.Table.judge_lines.Goals as goal
 
 pub loop-line-preserved : goal.loop-line-preserved
 loop-line-preserved c =
