@@ -14,3 +14,4 @@ pub mod SymbolLemmas
 pub mod LineEnds
 pub mod FeedLemmas
 pub mod LineFaults
+pub mod NameLemmas

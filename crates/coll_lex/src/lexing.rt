@@ -5,6 +5,7 @@
 
 ghost use Rattle.std.specs.Prelude.{◌≡◌, IsUtf8, IfOk, IfErr};
 ghost use Rattle.coll_lex.specs.LogicalLines.{line_of};
+ghost use Rattle.coll_lex.specs.Names.{LinesHaveTokens};
 
 #[cfg(test)]
 mod tests;
@@ -82,6 +83,14 @@ fn line_of(number: u32, tokens: ListBuf<Token>) -> Option<Line>
     Some(Line { number, tokens })
 }
 
+/// The law of tokens: a logical line that is given, wherever the lexer stands, has a token; no word is empty, and
+/// each symbol and each name in a string is a name.
+///
+/// It does nothing; its contract is the law.
+pub fn lines_have_tokens()
+    ensures { LinesHaveTokens }
+{}
+
 /// Cuts physical lines into logical lines, and these into tokens.
 #[derive(Debug, Drop)]
 pub struct Lexer {
@@ -109,6 +118,7 @@ impl Lexer {
     ghost use Rattle.coll_lex.specs.Directives.{directive};
     ghost use Rattle.coll_lex.specs.LogicalLines.{first_state, pending, dropped, line_fault, answer_in, fed_as, fed, needs_memory, takes_memory, outside, number_of};
     ghost use Rattle.coll_lex.specs.Lexer.{line_in, added, IsSoundOpen};
+    ghost use Rattle.coll_lex.specs.Names.{AreTokens};
     ghost use Rattle.coll_lex.specs.declared.faults.LexFault.TheVariants.{OutOfMemory, DanglingEscape};
 
     /// A lexer at the beginning of a text, with the comment character `#` and the escape character `\`.
@@ -165,6 +175,7 @@ impl Lexer {
     /// that is too long, one too many, no UTF-8 or a directive, or that has no token, takes none.
     pub fn feed(&mut self, line: &[u8]) -> Result<Option<Line>, LexFault>
         ensures ok { IfOk result (λ answer. fed self.old line.now ≡ Ok (answer, self.new)) }
+        ensures tokens { IfOk result (λ answer. IfSome answer (λ line. AreTokens line.tokens)) }
         ensures err { IfErr result (λ fault. fault ≢ OutOfMemory → fed self.old line.now ≡ Err fault) }
         ensures memory { IfErr result (λ fault. fault ≡ OutOfMemory → IsTrue (takes_memory self.old line.now)) }
         ensures dropped { OnErr result (self.new ≡ dropped self.old) }

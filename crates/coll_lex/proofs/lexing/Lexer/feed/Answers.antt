@@ -2,6 +2,7 @@ use Rattle.std.proofs.Common.{◌≡◌, refl, ap, ◌∙◌}
 use Rattle.std.proofs.lemmas.Result.{err_from_is_err_and}
 use Rattle.coll_lex.specs.LogicalLines.{LexerState}
 use Rattle.coll_lex.proofs.FeedLemmas.{fed_faulty, fed_next_no_text, fed_first_no_text, fed_next, fed_first, taken_as, sound_new}
+use Rattle.coll_lex.proofs.NameLemmas.{answered_tokens}
 use Rattle.coll_lex.proofs.lexing.Lexer.feed.Goals as goal
 
 pub returns-in_err-bytes-in-Some-clause-err : goal.returns-in_err-bytes-in-Some-clause-err
@@ -82,3 +83,11 @@ returns-in_ok-text-in-None-clause-memory c =
     let count : c.self.inside.count ≡ c.args.self.now.count = ap (λ (s : LexerState). s.count) (c.self.view_is ∙ c.take_open.ensures.after) in
     let line = rw count at c.new-open.ensures.line in
     rw (taken_as c.args.self.now c.args.line.now, fed_first c.args.self.now c.args.line.now c.new-open.result c.in-None.ensures.line line e text) f
+
+pub returns-in_ok-text-in-Some-clause-tokens : goal.returns-in_ok-text-in-Some-clause-tokens
+returns-in_ok-text-in-Some-clause-tokens c =
+    answered_tokens c.args.self.now _ c.args.line.now c.feed_text.result (returns-in_ok-text-in-Some-clause-ok c)
+
+pub returns-in_ok-text-in-None-clause-tokens : goal.returns-in_ok-text-in-None-clause-tokens
+returns-in_ok-text-in-None-clause-tokens c =
+    answered_tokens c.args.self.now _ c.args.line.now c.feed_first.result (returns-in_ok-text-in-None-clause-ok c)
