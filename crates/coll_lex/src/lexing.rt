@@ -105,11 +105,11 @@ impl Model for Lexer {
 
     ghost Value = { LexerState };
 
-    ghost use Rattle.coll_lex.specs.Lexer.{state_of, IsSound};
+    ghost use Rattle.coll_lex.specs.Lexer.{state_of, IsSoundLexer};
 
     ghost view = { state_of };
 
-    ghost invariant = { IsSound };
+    ghost invariant = { IsSoundLexer };
 }
 
 impl Lexer {
