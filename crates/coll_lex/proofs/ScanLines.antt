@@ -2,7 +2,7 @@
 use Rattle.std.proofs.Common.{◌≡◌, ◌≢◌, ℕ, ◌+◌, ◌<◌, ◌≤◌, ◌==◌, Bool, true, false, List, [], ◌∷◌, ◌++◌, length, drop, get_or, refl, ap, sym, ◌∙◌}
 use Rattle.std.proofs.lemmas.List.{drop_more, drop_all}
 use Rattle.coll_lex.specs.Marked.{Mark, Plain, Literal, marks, ends_escaped}
-use Rattle.coll_lex.specs.Scanning.{after, Takes, Refuses, TakesCharacter, RefusesCharacter, TakesLine, RefusesLine}
+use Rattle.coll_lex.specs.Scanning.{after, Takes, Refuses, TakesCharacter, RefusesCharacter, TakesLine, RefusesLine, Gathers, GathersCharacter, GathersLine}
 use Rattle.coll_lex.specs.declared.tokens.Chars.{Chars}
 use Rattle.coll_lex.specs.declared.faults.LexFault.{LexFault}
 use Rattle.coll_lex.specs.declared.scanning.Scan.{Scan}
@@ -20,6 +20,10 @@ literal_taken special old new c e t = record {
 pub literal_refused : (special : Chars) (old : Scan) (c : ℕ) (fault : LexFault) → old.escaped ≡ true → Refuses special.comment (record old { escaped = false }) (Literal c) fault → RefusesCharacter special old c fault
 unfolding after marks
 literal_refused special old c fault e t = record { stops = λ cs ms. rw e (t.stops (marks special.escape false cs ++ ms)) }
+
+pub literal_gathers : (special : Chars) (old : Scan) (c : ℕ) → old.escaped ≡ true → Gathers special.comment (record old { escaped = false }) (Literal c) → GathersCharacter special old c
+unfolding after marks
+literal_gathers special old c e t = record { reads = λ cs ms. rw e (t.reads (marks special.escape false cs ++ ms)) }
 
 pub escape_taken : (special : Chars) (old : Scan) (c : ℕ) → old.escaped ≡ false → c ≡ special.escape → TakesCharacter special old c (record old { escaped = true })
 unfolding after marks ends_escaped
@@ -39,6 +43,12 @@ unfolding after marks
 plain_refused special old c fault e f t =
     let not : (c == special.escape) ≡ false = differs c special.escape f in
     record { stops = λ cs ms. rw (e, not) (t.stops (marks special.escape false cs ++ ms)) }
+
+pub plain_gathers : (special : Chars) (old : Scan) (c : ℕ) → old.escaped ≡ false → c ≢ special.escape → Gathers special.comment old (Plain c) → GathersCharacter special old c
+unfolding after marks
+plain_gathers special old c e f t =
+    let not : (c == special.escape) ≡ false = differs c special.escape f in
+    record { reads = λ cs ms. rw (e, not) (t.reads (marks special.escape false cs ++ ms)) }
 
 -- a scan has taken the first characters of a line
 pub record TakesFront (special : Chars) (old : Scan) (line : List ℕ) (n : ℕ) (new : Scan) : Type 0 where
@@ -61,6 +71,11 @@ front_more special old mid new line n c f h t = record {
 pub front_refused : (special : Chars) (old mid : Scan) (line : List ℕ) (n c : ℕ) (fault : LexFault) → TakesFront special old line n mid → (n < length line) × (c ≡ get_or line n c) → RefusesCharacter special mid c fault → RefusesLine special old line fault
 front_refused special old mid line n c fault f h t = record {
   stops = λ ms. rw (f.reads ms, at_front line n c h) (t.stops (drop (n + 1) line) ms);
+}
+
+pub front_gathers : (special : Chars) (old mid : Scan) (line : List ℕ) (n c : ℕ) → TakesFront special old line n mid → (n < length line) × (c ≡ get_or line n c) → GathersCharacter special mid c → GathersLine special old line
+front_gathers special old mid line n c f h t = record {
+  reads = λ ms. rw (f.reads ms, at_front line n c h) (t.reads (drop (n + 1) line) ms);
 }
 
 none_marked : (escape : ℕ) (escaped : Bool) (line : List ℕ) (ms : List Mark) → line ≡ [] → marks escape escaped line ++ ms ≡ ms

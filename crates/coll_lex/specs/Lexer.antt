@@ -34,6 +34,6 @@ pub record IsSoundOpen (special : Chars) (o : Open) : Type 0 where
   pub short : o.bytes ≤ MOST_LINE_BYTES
 
 -- the count is within the limit of lines, and an open line is sound
-pub record IsSound (l : Inside) : Type 0 where
+pub record IsSoundLexer (l : Inside) : Type 0 where
   pub counted : l.count ≤ MOST_LINES
   pub opened : ForSome l.open (IsSoundOpen l.special)

@@ -1,6 +1,6 @@
 -- Logical lines: what a lexer has been handed, its answer to one more physical line, and the logical lines of a
 -- list of physical lines (POSIX.1-2017, 7.3).
-use Rattle.std.specs.Prelude.{ℕ, ◌+◌, min, Bool, true, false, if◌then◌else◌, ◌==◌, nat_lt, List, [], ◌∷◌, ◌++◌, map, length, chars, Option, Some, None, option_map, unwrap_or, Result, Ok, Err}
+use Rattle.std.specs.Prelude.{ℕ, ◌+◌, min, Bool, true, false, if◌then◌else◌, ◌==◌, nat_lt, List, [], ◌∷◌, ◌++◌, map, length, chars, Option, Some, None, is_some, option_map, unwrap_or, Result, Ok, Err}
 use Rattle.std.specs.Str.{is_utf8}
 use Rattle.coll_lex.specs.PhysicalLines.{without_return}
 use Rattle.coll_lex.specs.Marked.{is_joined, joined_marks}
@@ -12,7 +12,7 @@ use Rattle.coll_lex.specs.declared.tokens.Line.{Line}
 use Rattle.coll_lex.specs.declared.tokens.Token.{Token}
 use Rattle.coll_lex.specs.declared.tokens.TheConstants.{MOST_LINES, MOST_LINE_BYTES}
 use Rattle.coll_lex.specs.declared.faults.LexFault.{LexFault}
-use Rattle.coll_lex.specs.declared.faults.LexFault.TheVariants.{NotUtf8, OpenSymbol, OpenString, DanglingEscape, LineTooLong, TooManyLines, OutOfMemory}
+use Rattle.coll_lex.specs.declared.faults.LexFault.TheVariants.{NotUtf8, OpenSymbol, EmptySymbol, BadName, BadCodePoint, OpenString, CharacterConstant, DanglingEscape, LineTooLong, BadCharDirective, TooManyLines, OutOfMemory}
 
 -- a logical line that goes on in the next physical line: its number, its physical lines so far without their
 -- carriage returns, and the sum of the lengths handed in
@@ -156,9 +156,36 @@ abbrev pub later_choices : List Bool → List Bool
 later_choices [] = []
 later_choices (c ∷ cs) = cs
 
--- the answer to a line, which is refused for want of memory where the choice says so
+-- the faults that are met among the tokens of a line, so that tokens may stand before them
+abbrev pub is_among_tokens : LexFault → Bool
+is_among_tokens NotUtf8 = false
+is_among_tokens OpenSymbol = true
+is_among_tokens EmptySymbol = true
+is_among_tokens BadName = true
+is_among_tokens BadCodePoint = true
+is_among_tokens OpenString = true
+is_among_tokens CharacterConstant = true
+is_among_tokens DanglingEscape = false
+is_among_tokens LineTooLong = false
+is_among_tokens BadCharDirective = false
+is_among_tokens TooManyLines = false
+is_among_tokens OutOfMemory = false
+
+-- whether memory may be taken for this answer: it is for a logical line's tokens, for a line that the next one
+-- continues, and for the tokens before a fault among them
+abbrev pub needs_memory : Result (Option Line × LexerState) LexFault → Bool
+needs_memory (Ok (Some whole_line, _)) = true
+needs_memory (Ok (None, next)) = is_some next.line
+needs_memory (Err fault) = is_among_tokens fault
+
+-- whether memory may be taken for a line: never for a directive, nor for one that ends a logical line without tokens,
+-- nor for one that is too long, one too many, no UTF-8 or a directive at fault
+unfoldable pub takes_memory : LexerState → List ℕ → Bool
+takes_memory s line = needs_memory (fed s line)
+
+-- the answer to a line, which is refused for want of memory where the choice says so and memory is taken for it
 unfoldable pub served : (starved : Bool) → LexerState → List ℕ → Result (Option Line × LexerState) LexFault
-served true s line = Err OutOfMemory
+served true s line = if takes_memory s line then Err OutOfMemory else fed s line
 served false s line = fed s line
 
 -- where the lexer stands after this answer
@@ -182,8 +209,3 @@ left_open (Some o) = record { number = o.number; first = first_of o.lines; token
 unfoldable pub logical_lines : (starved : List Bool) → (ends : Bool) → LexerState → List (List ℕ) → List LogicalLine
 logical_lines starved ends s [] = if ends then left_open s.line else []
 logical_lines starved ends s (line ∷ lines) = lines_by s line (served (first_choice starved) s line) ++ logical_lines (later_choices starved) ends (state_by s (served (first_choice starved) s line)) lines
-
--- where the lexer stands after these lines
-unfoldable pub state_after : (starved : List Bool) → LexerState → List (List ℕ) → LexerState
-state_after starved s [] = s
-state_after starved s (line ∷ lines) = state_after (later_choices starved) (state_by s (served (first_choice starved) s line)) lines

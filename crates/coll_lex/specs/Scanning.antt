@@ -1,9 +1,9 @@
 -- What is left to read once a scan has come so far. The state of a scan is private: these words tie it to the
 -- definition of tokens, and only the scan's own contracts cite them.
-use Rattle.std.specs.Prelude.{◌≡◌, ℕ, zero, suc, Bool, true, false, ◌&&◌, List, [], ◌∷◌, ◌++◌, length, Option, Some, None, Result, Ok, Err}
+use Rattle.std.specs.Prelude.{◌≡◌, ℕ, zero, suc, ◌<◌, Bool, true, false, ◌&&◌, List, [], ◌∷◌, ◌++◌, length, Option, Some, None, Result, Ok, Err}
 use Rattle.std.specs.declared.alloc.Global.{Global}
 use Rattle.coll_lex.specs.Marked.{Mark, marks, ends_escaped}
-use Rattle.coll_lex.specs.Tokens.{Atom, Bracketed, Unclosed, before_close, atoms, AtFault, AtComment, Reading, stopped, ahead, Quoted, Closed, Stops, quoted, word_run, reading}
+use Rattle.coll_lex.specs.Tokens.{Atom, Bracketed, Unclosed, before_close, atoms, Stop, AtFault, AtComment, AtEnd, InSymbol, InString, Reading, stopped, ahead, Quoted, Closed, Stops, quoted, word_run, reading}
 use Rattle.coll_lex.specs.declared.tokens.Token.{Token}
 use Rattle.coll_lex.specs.declared.tokens.Token.TheVariants as token
 use Rattle.coll_lex.specs.declared.tokens.Piece.{Piece}
@@ -71,6 +71,27 @@ pub record Takes (comment : ℕ) (old : Scan) (m : Mark) (new : Scan) : Type 0 w
 pub record Refuses (comment : ℕ) (old : Scan) (m : Mark) (fault : LexFault) : Type 0 where
   pub stops : (ms : List Mark) → (after comment old (m ∷ ms)).stop ≡ AtFault fault
 
+-- the reading stopped at a fault, or inside a symbol or a string
+abbrev pub is_cut_short : Stop → Bool
+is_cut_short (AtFault fault) = true
+is_cut_short AtComment = false
+is_cut_short AtEnd = false
+is_cut_short InSymbol = true
+is_cut_short InString = true
+
+-- the reading has a token, or is cut short
+abbrev pub gathers_by : List Token → Stop → Bool
+gathers_by [] stop = is_cut_short stop
+gathers_by (t ∷ ts) stop = true
+
+-- the reading has a token, or is cut short
+abbrev pub gathers : Reading → Bool
+gathers r = gathers_by r.tokens r.stop
+
+-- whatever follows this mark, the text's reading has a token or is cut short
+pub record Gathers (comment : ℕ) (old : Scan) (m : Mark) : Type 0 where
+  pub reads : (ms : List Mark) → gathers (after comment old (m ∷ ms)) ≡ true
+
 -- a scan takes one character off the line
 pub record TakesCharacter (special : Chars) (old : Scan) (c : ℕ) (new : Scan) : Type 0 where
   pub reads : (cs : List ℕ) (ms : List Mark) → after special.comment old (marks special.escape old.escaped (c ∷ cs) ++ ms) ≡ after special.comment new (marks special.escape new.escaped cs ++ ms)
@@ -80,6 +101,10 @@ pub record TakesCharacter (special : Chars) (old : Scan) (c : ℕ) (new : Scan) 
 pub record RefusesCharacter (special : Chars) (old : Scan) (c : ℕ) (fault : LexFault) : Type 0 where
   pub stops : (cs : List ℕ) (ms : List Mark) → (after special.comment old (marks special.escape old.escaped (c ∷ cs) ++ ms)).stop ≡ AtFault fault
 
+-- whatever follows this character, the line's reading has a token or is cut short
+pub record GathersCharacter (special : Chars) (old : Scan) (c : ℕ) : Type 0 where
+  pub reads : (cs : List ℕ) (ms : List Mark) → gathers (after special.comment old (marks special.escape old.escaped (c ∷ cs) ++ ms)) ≡ true
+
 -- a scan takes a physical line
 pub record TakesLine (special : Chars) (old : Scan) (line : List ℕ) (new : Scan) : Type 0 where
   pub reads : (ms : List Mark) → after special.comment old (marks special.escape false line ++ ms) ≡ after special.comment new ms
@@ -88,6 +113,15 @@ pub record TakesLine (special : Chars) (old : Scan) (line : List ℕ) (new : Sca
 -- the reading stops in this physical line
 pub record RefusesLine (special : Chars) (old : Scan) (line : List ℕ) (fault : LexFault) : Type 0 where
   pub stops : (ms : List Mark) → (after special.comment old (marks special.escape false line ++ ms)).stop ≡ AtFault fault
+
+-- whatever follows this physical line, the reading has a token or is cut short
+pub record GathersLine (special : Chars) (old : Scan) (line : List ℕ) : Type 0 where
+  pub reads : (ms : List Mark) → gathers (after special.comment old (marks special.escape false line ++ ms)) ≡ true
+
+-- the scan is in a word
+pub record IsInWord (s : Scan) : Type 0 where
+  pub outside : s.mode ≡ mode.Plain
+  pub begun : 0 < length s.partial
 
 -- a comment isn't continued
 abbrev pub is_continued : Mode → Bool

@@ -5,6 +5,7 @@
 
 ghost use Rattle.std.specs.Prelude.{◌≡◌, IsUtf8, IfOk, IfErr};
 ghost use Rattle.coll_lex.specs.LogicalLines.{line_of};
+ghost use Rattle.coll_lex.specs.Names.{LinesHaveTokens};
 
 #[cfg(test)]
 mod tests;
@@ -82,6 +83,14 @@ fn line_of(number: u32, tokens: ListBuf<Token>) -> Option<Line>
     Some(Line { number, tokens })
 }
 
+/// The law of tokens: a logical line that is given, wherever the lexer stands, has a token; no word is empty, and
+/// each symbol and each name in a string is a name.
+///
+/// It does nothing; its contract is the law.
+pub fn lines_have_tokens()
+    ensures { LinesHaveTokens }
+{}
+
 /// Cuts physical lines into logical lines, and these into tokens.
 #[derive(Debug, Drop)]
 pub struct Lexer {
@@ -96,19 +105,20 @@ impl Model for Lexer {
 
     ghost Value = { LexerState };
 
-    ghost use Rattle.coll_lex.specs.Lexer.{state_of, IsSound};
+    ghost use Rattle.coll_lex.specs.Lexer.{state_of, IsSoundLexer};
 
     ghost view = { state_of };
 
-    ghost invariant = { IsSound };
+    ghost invariant = { IsSoundLexer };
 }
 
 impl Lexer {
-    ghost use Rattle.std.specs.Prelude.{◌≡◌, ◌≢◌, ◌+◌, ◌<◌, ◌≤◌, ◌∷◌, [], length, chars, Ok, Err, None, Some, option_map, IsSome, IfSome, IfOk, IfErr, OnOk, OnErr};
+    ghost use Rattle.std.specs.Prelude.{◌≡◌, ◌≢◌, ◌+◌, ◌<◌, ◌≤◌, ◌∷◌, [], length, chars, Ok, Err, None, Some, option_map, IsSome, IsTrue, IfSome, IfOk, IfErr, OnOk, OnErr};
     ghost use Rattle.coll_lex.specs.PhysicalLines.{without_return};
     ghost use Rattle.coll_lex.specs.Directives.{directive};
-    ghost use Rattle.coll_lex.specs.LogicalLines.{first_state, pending, dropped, line_fault, answer_in, fed_as, fed, outside, number_of};
+    ghost use Rattle.coll_lex.specs.LogicalLines.{first_state, pending, dropped, line_fault, answer_in, fed_as, fed, needs_memory, takes_memory, outside, number_of};
     ghost use Rattle.coll_lex.specs.Lexer.{line_in, added, IsSoundOpen};
+    ghost use Rattle.coll_lex.specs.Names.{AreTokens};
     ghost use Rattle.coll_lex.specs.declared.faults.LexFault.TheVariants.{OutOfMemory, DanglingEscape};
 
     /// A lexer at the beginning of a text, with the comment character `#` and the escape character `\`.
@@ -158,12 +168,16 @@ impl Lexer {
     /// The faults are looked for in this order: the bytes of the logical line up to here are more than
     /// `MOST_LINE_BYTES` (carriage returns and escape characters counted), the line comes after `MOST_LINES`
     /// others, it isn't UTF-8, it is a directive at fault, and then the first fault of its logical line from the
-    /// left. A fault drops the logical line so far, and the next line handed in begins another. Want of memory may
-    /// stand in place of any other answer, but not in place of a line too many.
+    /// left. A fault drops the logical line so far, and the next line handed in begins another.
+    ///
+    /// Memory is taken for tokens and for a line that is continued. So want of memory may stand in place of a
+    /// logical line, of a line that the next one continues, or of a fault among tokens, and of nothing else: a line
+    /// that is too long, one too many, no UTF-8 or a directive, or that has no token, takes none.
     pub fn feed(&mut self, line: &[u8]) -> Result<Option<Line>, LexFault>
         ensures ok { IfOk result (λ answer. fed self.old line.now ≡ Ok (answer, self.new)) }
+        ensures tokens { IfOk result (λ answer. IfSome answer (λ line. AreTokens line.tokens)) }
         ensures err { IfErr result (λ fault. fault ≢ OutOfMemory → fed self.old line.now ≡ Err fault) }
-        ensures room { IfErr result (λ fault. fault ≡ OutOfMemory → self.old.count < MOST_LINES) }
+        ensures memory { IfErr result (λ fault. fault ≡ OutOfMemory → IsTrue (takes_memory self.old line.now)) }
         ensures dropped { OnErr result (self.new ≡ dropped self.old) }
     {
         match self.take_open() {
@@ -268,6 +282,8 @@ impl Lexer {
             ≡ Ok (answer, self.new)) }
         ensures err { IfErr result (λ fault. fault ≢ OutOfMemory
             → fed_as self.old (added (line_in logical) line.now bytes) line.now (directive self.old.special line.now) ≡ Err fault) }
+        ensures memory { IfErr result (λ fault. fault ≡ OutOfMemory
+            → IsTrue (needs_memory (fed_as self.old (added (line_in logical) line.now bytes) line.now (directive self.old.special line.now)))) }
         ensures kept { OnErr result (self.new ≡ self.old) }
     {
         match directive(self.special, line.as_bytes()) {
@@ -292,6 +308,8 @@ impl Lexer {
         ensures ok { IfOk result (λ answer. answer_in self.old (added (line_in logical) line.now bytes) line.now ≡ Ok (answer, self.new)) }
         ensures err { IfErr result (λ fault. fault ≢ OutOfMemory
             → answer_in self.old (added (line_in logical) line.now bytes) line.now ≡ Err fault) }
+        ensures memory { IfErr result (λ fault. fault ≡ OutOfMemory
+            → IsTrue (needs_memory (answer_in self.old (added (line_in logical) line.now bytes) line.now))) }
         ensures kept { OnErr result (self.new ≡ self.old) }
     {
         logical.scan.take_line(self.special, line)?;

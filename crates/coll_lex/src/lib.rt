@@ -21,7 +21,7 @@ pub use buffers::{ListBuf, TextBuf};
 pub use devices::{Counted, Sink, Source};
 pub use directives::{past_blanks, without_return};
 pub use faults::{LexFault, ReadStop, WriteStop};
-pub use lexing::Lexer;
+pub use lexing::{Lexer, lines_have_tokens};
 pub use line_reading::LineReader;
 pub use spelling::{spellings_are_read_back, write_bytes, write_char, write_symbol};
 pub use tokens::{Chars, Line, MOST_LINE_BYTES, MOST_LINES, MOST_NAME_CHARS, Piece, Token};

@@ -1,7 +1,8 @@
 use Rattle.std.proofs.Common.{◌≡◌, refl, ap, ◌∙◌}
 use Rattle.std.proofs.lemmas.Result.{err_from_is_err_and}
 use Rattle.coll_lex.specs.LogicalLines.{LexerState}
-use Rattle.coll_lex.proofs.FeedLemmas.{fed_faulty, fed_next_no_text, fed_first_no_text, fed_next, fed_first, sound_new}
+use Rattle.coll_lex.proofs.FeedLemmas.{fed_faulty, fed_next_no_text, fed_first_no_text, fed_next, fed_first, taken_as, sound_new}
+use Rattle.coll_lex.proofs.NameLemmas.{answered_tokens}
 use Rattle.coll_lex.proofs.lexing.Lexer.feed.Goals as goal
 
 pub returns-in_err-bytes-in-Some-clause-err : goal.returns-in_err-bytes-in-Some-clause-err
@@ -66,3 +67,27 @@ returns-in_ok-text-in-None-clause-err c =
     let count : c.self.inside.count ≡ c.args.self.now.count = ap (λ (s : LexerState). s.count) (c.self.view_is ∙ c.take_open.ensures.after) in
     let line = rw count at c.new-open.ensures.line in
     rw (fed_first c.args.self.now c.args.line.now c.new-open.result c.in-None.ensures.line line e text) f
+
+pub returns-in_ok-text-in-Some-clause-memory : goal.returns-in_ok-text-in-Some-clause-memory
+returns-in_ok-text-in-Some-clause-memory c =
+    let e = rw c.take_open.ensures.after at c.in_ok-bytes-in-Some.ensures.passes in
+    let text = rw c.in_ok-bytes-in-Some.ensures.ok at c.in_ok-text-in-Some.ensures.ok.1 in
+    let f = rw (c.in_ok-bytes-in-Some.ensures.counted, c.take_open.ensures.after, c.in_ok-text-in-Some.ensures.ok.0, c.in_ok-bytes-in-Some.ensures.ok) at c.feed_text.ensures.memory in
+    rw (taken_as c.args.self.now c.args.line.now, fed_next c.args.self.now c.args.line.now c.in-Some.open c.in-Some.ensures.line e text) f
+
+pub returns-in_ok-text-in-None-clause-memory : goal.returns-in_ok-text-in-None-clause-memory
+returns-in_ok-text-in-None-clause-memory c =
+    let e = rw c.take_open.ensures.after at c.in_ok-bytes-in-None.ensures.passes in
+    let text = rw c.in_ok-bytes-in-None.ensures.ok at c.in_ok-text-in-None.ensures.ok.1 in
+    let f = rw (c.in_ok-bytes-in-None.ensures.counted, c.take_open.ensures.after, c.in_ok-text-in-None.ensures.ok.0, c.in_ok-bytes-in-None.ensures.ok) at c.feed_first.ensures.memory in
+    let count : c.self.inside.count ≡ c.args.self.now.count = ap (λ (s : LexerState). s.count) (c.self.view_is ∙ c.take_open.ensures.after) in
+    let line = rw count at c.new-open.ensures.line in
+    rw (taken_as c.args.self.now c.args.line.now, fed_first c.args.self.now c.args.line.now c.new-open.result c.in-None.ensures.line line e text) f
+
+pub returns-in_ok-text-in-Some-clause-tokens : goal.returns-in_ok-text-in-Some-clause-tokens
+returns-in_ok-text-in-Some-clause-tokens c =
+    answered_tokens c.args.self.now _ c.args.line.now c.feed_text.result (returns-in_ok-text-in-Some-clause-ok c)
+
+pub returns-in_ok-text-in-None-clause-tokens : goal.returns-in_ok-text-in-None-clause-tokens
+returns-in_ok-text-in-None-clause-tokens c =
+    answered_tokens c.args.self.now _ c.args.line.now c.feed_first.result (returns-in_ok-text-in-None-clause-ok c)

@@ -1,6 +1,7 @@
 use Rattle.std.proofs.Common.{sym, ◌∙◌, refl}
 use Rattle.std.proofs.lemmas.Result.{err_from_is_err_and}
-use Rattle.coll_lex.proofs.FeedLemmas.{text_refused, text_ends, text_ends_open, text_goes_on, sound_more, some_open}
+use Rattle.coll_lex.proofs.FeedLemmas.{text_refused, text_starved, text_ends, text_ends_open, text_word_starved, text_goes_on, text_joined_starved, sound_more, some_open}
+use Rattle.coll_lex.proofs.GatherLemmas.{where_refused}
 use Rattle.coll_lex.proofs.lexing.Lexer.feed_text.Goals as goal
 
 pub returns-in_err-take_line-clause-err : goal.returns-in_err-take_line-clause-err
@@ -37,3 +38,21 @@ returns-clause-ok c =
     let line = rw c.as_bytes.ensures.value at c.in_ok-keep.ensures.line in
     rw (← c.self.view_is)
     (text_goes_on _ c.args.logical c.args.line.now c.args.bytes c.take_line.new.self sound c.in_ok-take_line.ensures.ok (sym c.if-not-goes_on.ensures) ∙ rw line refl)
+
+pub returns-in_err-take_line-clause-memory : goal.returns-in_err-take_line-clause-memory
+returns-in_err-take_line-clause-memory c =
+    let p = err_from_is_err_and c.from_residual.result c.from_residual.ensures.1 in
+    let sound = rw (← c.self.view_is) at c.requires.sound in
+    rw (p.1, p.2, ← c.self.view_is) (λ want. text_starved _ c.args.logical c.args.line.now c.args.bytes sound (c.in_err-take_line.ensures.memory want))
+
+pub returns-in_err-tokens-clause-memory : goal.returns-in_err-tokens-clause-memory
+returns-in_err-tokens-clause-memory c =
+    let p = err_from_is_err_and c.from_residual-in_err-tokens.result c.from_residual-in_err-tokens.ensures.1 in
+    let sound = rw (← c.self.view_is) at c.requires.sound in
+    rw (p.1, p.2, ← c.self.view_is)
+    (λ want. text_word_starved _ c.args.logical c.args.line.now c.args.bytes c.take_line.new.self sound c.in_ok-take_line.ensures.ok (c.in_err-tokens.ensures.memory want))
+
+pub returns-in_err-keep-clause-memory : goal.returns-in_err-keep-clause-memory
+returns-in_err-keep-clause-memory c =
+    let sound = rw (← c.self.view_is) at c.requires.sound in
+    where_refused _ _ (rw (← c.self.view_is) (text_joined_starved _ c.args.logical c.args.line.now c.args.bytes c.take_line.new.self sound c.in_ok-take_line.ensures.ok (sym c.if-not-goes_on.ensures)))
