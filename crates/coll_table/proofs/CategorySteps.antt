@@ -13,14 +13,14 @@ use Rattle.coll_table.specs.Drafts.{DraftState, draft_of, Accepts}
 use Rattle.coll_table.specs.Reading.{Decided, Undecided, outcome_within, at_fault, by_tokens, by_grammar, line_judged, accepted, line_cause, table_from, is_end, declared_by, placed_by, declared_in, entries_in}
 use Rattle.coll_table.specs.Sound.{collation_of}
 use Rattle.coll_table.specs.PlainTableLines.{plain_table_line}
-use Rattle.coll_table.specs.TextLines.{TextState, unread_text, ReadsLines, GivesNext, NextFails}
+use Rattle.coll_table.specs.TextLines.{TextState, IsUnread, ReadsLines, GivesNext, NextFails}
 use Rattle.coll_table.specs.declared.plain.table_lines.PlainTableLine.{PlainTableLine}
 use Rattle.coll_table.specs.declared.plain.table_lines.PlainTableLine.TheVariants.{EndCategory}
 use Rattle.coll_syntax.specs.declared.faults.SyntaxFault.{SyntaxFault}
 use Rattle.coll_syntax.specs.declared.faults.SyntaxFault.TheVariants as syntax
 use Rattle.coll_table.specs.declared.load_faults.LoadCause.{LoadCause}
 use Rattle.coll_table.specs.declared.load_faults.LoadCause.TheVariants.{Lex, Syntax, NoCategory, NoRules, DeclaredTwice, NotDeclared, PlacedTwice, OutsideOrder, Full, NoEnd, ReadFault, OutOfMemory}
-use Rattle.coll_table.proofs.TextSteps.{ends_behind}
+use Rattle.coll_table.proofs.TextSteps.{feeds_both, ends_both}
 
 -- without a line nothing is decided
 outcome_within-nil : (before : List PlainTableLine) → outcome_within before [] ≡ Undecided NoEnd
@@ -65,27 +65,27 @@ end_adds before _ e = absurd (false≢true e)
 -- the lines read so far decide nothing, and leave it to the later ones
 abbrev pub ReadSoFar : TextState → TextState → Option (List ℕ) → Option (List ℕ) → DraftState → Type 0
 ReadSoFar start now left left_now draft =
-    (text : List ℕ) → unread_text start left ≡ Some text →
+    (text : List ℕ) → IsUnread start left text →
     (whole : List (List ℕ)) × (rest : List ℕ) × (before : List PlainTableLine) × ReadsLines start now left_now text whole rest × (draft ≡ draft_of before)
     × ((ends : Bool) (more : List (List ℕ)) → outcome_within [] (logical_lines [] ends start.lexer (whole ++ more)) ≡ outcome_within before (logical_lines [] ends now.lexer more))
 
 -- before the first line
 pub reading_starts : (start : TextState) (left : Option (List ℕ)) → ReadSoFar start start left left (draft_of [])
-reading_starts start left = λ text e. ([], text, [], (e, refl, ([], refl), omega arith), refl, λ ends more. refl)
+reading_starts start left = λ text e. ([], text, [], (e, refl, λ n. (n, refl), omega arith), refl, λ ends more. refl)
 
 -- lines of two parts
 takes_both : (start now next : TextState) (left_now left_next : Option (List ℕ)) (text : List ℕ) (whole : List (List ℕ)) (rest : List ℕ) (more : List (List ℕ)) (later : List ℕ) → ReadsLines start now left_now text whole rest → ReadsLines now next left_next rest more later → ReadsLines start next left_next text (whole ++ more) later
 takes_both start now next left_now left_next text whole rest more later h k = (
   k.0,
   h.1 ∙ (ap (λ lines. whole ++ lines) k.1 ∙ sym (append_assoc whole more (lines_of later))),
-  ends_behind text rest later h.2 k.2,
+  ends_both start now next text whole rest more later h.2 k.2,
   omega (arith, h.3, k.3, length-append whole more),
 )
 
 module _ (start now : TextState) (left left_now : Option (List ℕ)) (draft : DraftState) (h : ReadSoFar start now left left_now draft) where
   module _ (next : TextState) (left_next : Option (List ℕ)) (given : Line) (nexts : GivesNext now next left_now left_next (Ok (Some given))) where
     -- the outcome once the next logical line was given
-    given_line : (text : List ℕ) (e : unread_text start left ≡ Some text) → let at = h text e in let line = nexts at.1 at.3.0 in
+    given_line : (text : List ℕ) (e : IsUnread start left text) → let at = h text e in let line = nexts at.1 at.3.0 in
         (ends : Bool) (more : List (List ℕ)) → outcome_within [] (logical_lines [] ends start.lexer ((at.0 ++ line.0) ++ more)) ≡ outcome_within at.2 (record { number = given.number; first = line.2; tokens = Ok given.tokens } ∷ logical_lines [] ends next.lexer more)
     given_line text e ends more =
         let at = h text e in
@@ -108,14 +108,14 @@ module _ (start now : TextState) (left left_now : Option (List ℕ)) (draft : Dr
         )
 
     -- all lines of the text, up to those behind the line given
-    all_given : (text : List ℕ) (e : unread_text start left ≡ Some text) → let at = h text e in let line = nexts at.1 at.3.0 in lines_of text ≡ (at.0 ++ line.0) ++ lines_of line.1
+    all_given : (text : List ℕ) (e : IsUnread start left text) → let at = h text e in let line = nexts at.1 at.3.0 in lines_of text ≡ (at.0 ++ line.0) ++ lines_of line.1
     all_given text e =
         let at = h text e in
         let line = nexts at.1 at.3.0 in
         (takes_both start now next left_now left_next text at.0 at.1 line.0 line.1 at.3 line.3).1
 
     -- the line that ends the category
-    pub read_whole : (draft_after : DraftState) (read : PlainTableLine) (ended : Bool) → plain_table_line given.tokens ≡ Ok read → Accepts draft read draft_after → ended ≡ is_end read → ended ≡ true → (text : List ℕ) → unread_text start left ≡ Some text → outcome_within [] (logical_lines [] true start.lexer (lines_of text)) ≡ Decided (Ok draft_after.table)
+    pub read_whole : (draft_after : DraftState) (read : PlainTableLine) (ended : Bool) → plain_table_line given.tokens ≡ Ok read → Accepts draft read draft_after → ended ≡ is_end read → ended ≡ true → (text : List ℕ) → IsUnread start left text → outcome_within [] (logical_lines [] true start.lexer (lines_of text)) ≡ Decided (Ok draft_after.table)
     read_whole draft_after read ended said accepts is last text e =
         let at = h text e in
         let line = nexts at.1 at.3.0 in
@@ -127,7 +127,7 @@ module _ (start now : TextState) (left left_now : Option (List ℕ)) (draft : Dr
         ∙ ap (λ t. Decided (Ok t)) (sym table)))
 
     -- a line that the grammar refuses
-    read_refused : (number : ℕ) (fault : SyntaxFault) → number ≡ given.number → plain_table_line given.tokens ≡ Err fault → (text : List ℕ) → unread_text start left ≡ Some text → outcome_within [] (logical_lines [] true start.lexer (lines_of text)) ≡ at_fault number (Syntax fault)
+    read_refused : (number : ℕ) (fault : SyntaxFault) → number ≡ given.number → plain_table_line given.tokens ≡ Err fault → (text : List ℕ) → IsUnread start left text → outcome_within [] (logical_lines [] true start.lexer (lines_of text)) ≡ at_fault number (Syntax fault)
     read_refused number fault same said text e =
         let at = h text e in
         let line = nexts at.1 at.3.0 in
@@ -137,7 +137,7 @@ module _ (start now : TextState) (left left_now : Option (List ℕ)) (draft : Dr
         ∙ ap (λ n. at_fault n (Syntax fault)) (sym same)))
 
     -- a line that is refused after those before
-    line_refused : (number : ℕ) (cause : LoadCause) → (number ≡ given.number) × (read : PlainTableLine) × (plain_table_line given.tokens ≡ Ok read) × ((before : List PlainTableLine) → draft ≡ draft_of before → line_cause before read ≡ Some cause) → (text : List ℕ) → unread_text start left ≡ Some text → outcome_within [] (logical_lines [] true start.lexer (lines_of text)) ≡ at_fault number cause
+    line_refused : (number : ℕ) (cause : LoadCause) → (number ≡ given.number) × (read : PlainTableLine) × (plain_table_line given.tokens ≡ Ok read) × ((before : List PlainTableLine) → draft ≡ draft_of before → line_cause before read ≡ Some cause) → (text : List ℕ) → IsUnread start left text → outcome_within [] (logical_lines [] true start.lexer (lines_of text)) ≡ at_fault number cause
     line_refused number cause refused text e =
         let at = h text e in
         let line = nexts at.1 at.3.0 in
@@ -172,7 +172,7 @@ module _ (start now : TextState) (left left_now : Option (List ℕ)) (draft : Dr
         omega (arith, counted, last.1, at.3.3, ap length lines, length-append at.0 (lines_of at.1)),
       )
 
-  lexed : (line : ℕ) (fault : LexFault) → ((text : List ℕ) → unread_text now left_now ≡ Some text → (first : List ℕ) × (later : List LogicalLine) × (logical_lines [] true now.lexer (lines_of text) ≡ record { number = line; first = first; tokens = Err fault } ∷ later)) → (text : List ℕ) → unread_text start left ≡ Some text → outcome_within [] (logical_lines [] true start.lexer (lines_of text)) ≡ at_fault line (Lex fault)
+  lexed : (line : ℕ) (fault : LexFault) → ((text : List ℕ) → IsUnread now left_now text → (first : List ℕ) × (later : List LogicalLine) × (logical_lines [] true now.lexer (lines_of text) ≡ record { number = line; first = first; tokens = Err fault } ∷ later)) → (text : List ℕ) → IsUnread start left text → outcome_within [] (logical_lines [] true start.lexer (lines_of text)) ≡ at_fault line (Lex fault)
   lexed line fault fails text e =
       let at = h text e in
       let next = fails at.1 at.3.0 in
@@ -189,9 +189,10 @@ module _ (start now : TextState) (left left_now : Option (List ℕ)) (draft : Dr
     λ text e.
         let at = h text e in
         let cut = f.1 at.1 at.3.0 in
-        let behind = cut.1 in (
+        let behind = cut.1 in
+        let fed = at.3.2 behind.6 in (
           at.0 ++ cut.0,
-          (behind.0, behind.1, behind.2, ends_behind text at.1 (behind.0 ++ behind.1) at.3.2 behind.3, at.3.1 ∙ (ap (λ ls. at.0 ++ ls) behind.4 ∙ sym (append_assoc at.0 cut.0 (lines_of (behind.0 ++ behind.1)))), behind.5),
+          (behind.0, behind.1, behind.2, feeds_both text at.0 at.1 cut.0 (behind.0 ++ behind.1) fed.1 behind.3, at.3.1 ∙ (ap (λ ls. at.0 ++ ls) behind.4 ∙ sym (append_assoc at.0 cut.0 (lines_of (behind.0 ++ behind.1)))), behind.5, fed.0),
           at.5 false cut.0 ∙ (ap (outcome_within at.2) cut.2 ∙ outcome_within-nil at.2),
         ),
   )

@@ -1,5 +1,5 @@
 -- The lines of the category, one after another: what is known after some of them, and what one more adds.
-use Rattle.std.proofs.Common.{◌≡◌, ℕ, ◌+◌, Bool, true, false, List, [], ◌∷◌, ◌++◌, length, Option, Some, None, Ok, Err, sym, ap, subst, ◌∙◌, refl, arith, append-nil}
+use Rattle.std.proofs.Common.{◌≡◌, ℕ, ◌+◌, Bool, true, false, List, [], ◌∷◌, ◌++◌, length, Option, Some, None, Ok, Err, sym, ap, ◌∙◌, refl, arith, append-nil}
 use Rattle.std.specs.Prelude.{IsSome, option_map, unwrap_or}
 use Rattle.coll_lex.specs.PhysicalLines.{lines_of}
 use Rattle.coll_lex.specs.LogicalLines.{LexerState, LogicalLine, OpenLine, number_of, pending, first_of, fed, first_line, dropped, logical_lines, left_open}
@@ -7,7 +7,7 @@ use Rattle.coll_lex.specs.declared.tokens.Line.{Line}
 use Rattle.coll_lex.specs.declared.faults.LexFault.{LexFault}
 use Rattle.coll_lex.specs.declared.faults.LexFault.TheVariants as lex
 use Rattle.coll_lex.proofs.LineSteps.{logical_lines-nil, logical_lines-none, logical_lines-whole, logical_lines-fault}
-use Rattle.coll_table.specs.TextLines.{TextState, unread_text, EndsIn, GivesFirst, WasLast, CountsOne, FailsFed, FeedFails, ReadsLines, NextFails, GivesNext}
+use Rattle.coll_table.specs.TextLines.{TextState, IsUnread, with_feeds, GivesFirst, WasLast, CountsOne, FailsFed, FeedFails, ReadsLines, NextFails, GivesNext}
 use Rattle.coll_table.specs.declared.load_faults.LoadCause.{LoadCause}
 use Rattle.coll_table.specs.declared.load_faults.LoadCause.TheVariants.{Lex, ReadFault, OutOfMemory}
 use Rattle.coll_table.proofs.FindSteps.{one_behind, takes_more}
@@ -15,13 +15,13 @@ use Rattle.coll_table.proofs.FindSteps.{one_behind, takes_more}
 -- the lines taken so far end no logical line, and leave it to the later ones
 abbrev pub Nexting : TextState → TextState → Option (List ℕ) → Option (List ℕ) → Type 0
 Nexting start now left left_now =
-    (text : List ℕ) → unread_text start left ≡ Some text →
+    (text : List ℕ) → IsUnread start left text →
     (whole : List (List ℕ)) × (rest : List ℕ) × ReadsLines start now left_now text whole rest
     × ((ends : Bool) (more : List (List ℕ)) → logical_lines [] ends start.lexer (whole ++ more) ≡ logical_lines [] ends now.lexer more)
 
 -- before the first line
 pub nexting_starts : (start : TextState) (left : Option (List ℕ)) → Nexting start start left left
-nexting_starts start left = λ text e. ([], text, (e, refl, ([], refl), omega arith), λ ends more. refl)
+nexting_starts start left = λ text e. ([], text, (e, refl, λ n. (n, refl), omega arith), λ ends more. refl)
 
 module _ (start now : TextState) (left left_now : Option (List ℕ)) (h : Nexting start now left left_now) where
   -- a line more that ends no logical line
@@ -48,7 +48,7 @@ module _ (start now : TextState) (left left_now : Option (List ℕ)) (h : Nextin
       )
 
   -- all lines, where none is left
-  all_taken : WasLast now left_now → (text : List ℕ) → (e : unread_text start left ≡ Some text) → lines_of text ≡ (h text e).0 ++ []
+  all_taken : WasLast now left_now → (text : List ℕ) → (e : IsUnread start left text) → lines_of text ≡ (h text e).0 ++ []
   all_taken last text e = let at = h text e in at.2.1 ∙ ap (λ lines. at.0 ++ lines) (last at.1 at.2.0)
 
   -- no line more, and none open
@@ -69,8 +69,8 @@ module _ (start now : TextState) (left left_now : Option (List ℕ)) (h : Nextin
         ap (logical_lines [] true start.lexer) (all_taken last text e) ∙ (at.3 true [] ∙ (logical_lines-nil [] true now.lexer ∙ behind.1)),
       )
 
-  at_fault_here : (line : ℕ) (fault : LexFault) → (line ≡ number_of now.lexer) → ((text : List ℕ) → unread_text now left_now ≡ Some text → (first : List ℕ) × (later : List (List ℕ)) × (lines_of text ≡ first ∷ later) × FailsFed now.lexer first fault)
-      → (text : List ℕ) → unread_text start left ≡ Some text → (first : List ℕ) × (later : List LogicalLine) × (logical_lines [] true start.lexer (lines_of text) ≡ record { number = line; first = first; tokens = Err fault } ∷ later)
+  at_fault_here : (line : ℕ) (fault : LexFault) → (line ≡ number_of now.lexer) → ((text : List ℕ) → IsUnread now left_now text → (first : List ℕ) × (later : List (List ℕ)) × (lines_of text ≡ first ∷ later) × FailsFed now.lexer first fault)
+      → (text : List ℕ) → IsUnread start left text → (first : List ℕ) × (later : List LogicalLine) × (logical_lines [] true start.lexer (lines_of text) ≡ record { number = line; first = first; tokens = Err fault } ∷ later)
   at_fault_here line fault number fails text e =
       let at = h text e in
       let first = fails at.1 at.2.0 in
@@ -91,9 +91,10 @@ module _ (start now : TextState) (left left_now : Option (List ℕ)) (h : Nextin
     f.0,
     λ text e.
         let at = h text e in
-        let cut = f.1 at.1 at.2.0 in (
+        let cut = f.1 at.1 at.2.0 in
+        let fed = at.2.2 cut.5 in (
           at.0,
-          (cut.0, cut.1, cut.2, subst (EndsIn text) cut.3 at.2.2, at.2.1 ∙ ap (λ rest. at.0 ++ lines_of rest) cut.3, cut.4),
+          (cut.0, cut.1, cut.2, fed.1 ∙ ap (λ rest. with_feeds at.0 ++ rest) cut.3, at.2.1 ∙ ap (λ rest. at.0 ++ lines_of rest) cut.3, cut.4, fed.0),
           ap (logical_lines [] false start.lexer) (sym (append-nil at.0)) ∙ (at.3 false [] ∙ logical_lines-nil [] false now.lexer),
         ),
   )

@@ -1,5 +1,5 @@
--- The lines of a category, read one after another: what an answer says of the text that was ahead.
-use Rattle.std.specs.Prelude.{◌≡◌, ℕ, ◌+◌, Bool, true, false, List, [], length, Option, Some, Result, Ok, Err}
+-- The lines of a category, read one after another: what an answer says of the text that was unread.
+use Rattle.std.specs.Prelude.{◌≡◌, ℕ, ◌+◌, Bool, true, false, List, [], length, Option, Result, Ok, Err}
 use Rattle.coll_lex.specs.LogicalLines.{logical_lines}
 use Rattle.coll_lex.specs.PhysicalLines.{lines_of}
 use Rattle.coll_lex.specs.declared.tokens.Line.{Line}
@@ -8,7 +8,7 @@ use Rattle.coll_table.specs.Drafts.{DraftState, Accepts, RefusesNext}
 use Rattle.coll_table.specs.Reading.{Decided, Undecided, outcome_within, at_fault, is_end}
 use Rattle.coll_table.specs.Table.{Collation}
 use Rattle.coll_table.specs.PlainTableLines.{plain_table_line}
-use Rattle.coll_table.specs.TextLines.{TextState, unread_text, StopsAfter}
+use Rattle.coll_table.specs.TextLines.{TextState, IsUnread, StopsAfter}
 use Rattle.coll_table.specs.declared.plain.table_lines.PlainTableLine.{PlainTableLine}
 use Rattle.coll_syntax.specs.declared.faults.SyntaxFault.TheVariants as syntax
 use Rattle.coll_table.specs.declared.load_faults.LoadFault.{LoadFault}
@@ -43,18 +43,18 @@ CategoryFails old left left_after line (Lex lex.OutOfMemory) = ⊥
 CategoryFails old left left_after line (Syntax syntax.OutOfMemory) = ⊥
 CategoryFails old left left_after line NoCategory = ⊥
 CategoryFails old left left_after line NoEnd =
-    (text : List ℕ) → unread_text old left ≡ Some text →
+    (text : List ℕ) → IsUnread old left text →
     (outcome_within [] (logical_lines [] true old.lexer (lines_of text)) ≡ Undecided NoEnd) × (line ≡ old.lexer.count + length (lines_of text))
 CategoryFails old left left_after line ReadFault =
-    (line ≡ 0) × ((text : List ℕ) → unread_text old left ≡ Some text →
-    (whole : List (List ℕ)) × StopsAfter left_after text whole × (outcome_within [] (logical_lines [] false old.lexer whole) ≡ Undecided NoEnd))
+    (line ≡ 0) × ((text : List ℕ) → IsUnread old left text →
+    (whole : List (List ℕ)) × StopsAfter old left_after text whole × (outcome_within [] (logical_lines [] false old.lexer whole) ≡ Undecided NoEnd))
 CategoryFails old left left_after line cause =
-    (text : List ℕ) → unread_text old left ≡ Some text →
+    (text : List ℕ) → IsUnread old left text →
     outcome_within [] (logical_lines [] true old.lexer (lines_of text)) ≡ at_fault line cause
 
 -- a category was read
 abbrev pub ReadsCategory : TextState → Option (List ℕ) → Option (List ℕ) → Result Collation LoadFault → Type 0
 ReadsCategory old left left_after (Ok table) =
-    (text : List ℕ) → unread_text old left ≡ Some text →
+    (text : List ℕ) → IsUnread old left text →
     outcome_within [] (logical_lines [] true old.lexer (lines_of text)) ≡ Decided (Ok table)
 ReadsCategory old left left_after (Err fault) = CategoryFails old left left_after fault.line fault.cause

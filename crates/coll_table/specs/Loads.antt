@@ -4,7 +4,7 @@ use Rattle.coll_lex.specs.Devices.{raised}
 use Rattle.coll_lex.specs.PhysicalLines.{lines_of, IsInLine}
 use Rattle.coll_lex.specs.declared.faults.LexFault.TheVariants as lex
 use Rattle.coll_table.specs.Table.{TableValue, collation}
-use Rattle.coll_table.specs.TextLines.{EndsIn}
+use Rattle.coll_table.specs.TextLines.{with_feeds}
 use Rattle.coll_table.specs.Reading.{Outcome, Decided, Undecided, outcome_of, reads}
 use Rattle.coll_syntax.specs.declared.faults.SyntaxFault.TheVariants as syntax
 use Rattle.coll_table.specs.declared.load_faults.LoadFault.{LoadFault}
@@ -16,11 +16,11 @@ abbrev pub IsUndecided : Outcome → Type 0
 IsUndecided (Decided answer) = ⊥
 IsUndecided (Undecided cause) = Unit {0}
 
--- a read failed behind a part of a line: the lines read whole before it decide nothing. That part and the rest are the
--- last bytes of the text, so that a line feed that was read belongs to the lines read whole
+-- a read failed behind a part of a line: the text begins with the lines read before it, each with its line feed, and these
+-- decide nothing; behind them stand that part and the rest
 abbrev pub StopsWithin : List ℕ → Option (List ℕ) → Type 0
 StopsWithin text left =
-    (whole : List (List ℕ)) × (part : List ℕ) × (rest : List ℕ) × (left ≡ Some rest) × EndsIn text (part ++ rest)
+    (whole : List (List ℕ)) × (part : List ℕ) × (rest : List ℕ) × (left ≡ Some rest) × (text ≡ with_feeds whole ++ (part ++ rest))
     × (lines_of text ≡ whole ++ lines_of (part ++ rest)) × IsInLine part × IsUndecided (outcome_of false whole)
 
 -- what a fault says of the text, by its cause; a want of memory says nothing, and has one spelling

@@ -1,7 +1,7 @@
 //! The lines of a table text, taken from a device one after another.
 //!
 //! `TextLines` joins a reader of physical lines and a lexer, and counts the physical lines. Its contracts
-//! speak of the text that is ahead: which of its lines were taken, and what the definition of reading says of them
+//! speak of the text that is unread: which of its lines were taken, and what the definition of reading says of them
 //! (`specs/TextLines.antt`). Each call takes lines up to the next one that matters: the one at which the category
 //! begins, or the next logical line.
 
