@@ -1,5 +1,6 @@
 -- What a line of a table says, read from its tokens (POSIX.1-2017, 7.3.2).
 use Rattle.std.specs.Prelude.{if◌then◌else◌, List, [], ◌∷◌, Result, Ok, Err, codes}
+use Rattle.coll_lex.specs.Names.{IsName}
 use Rattle.coll_lex.specs.declared.tokens.Token.{Token}
 use Rattle.coll_lex.specs.declared.tokens.Token.TheVariants as token
 use Rattle.coll_syntax.specs.Identifier.{is_word}
@@ -10,6 +11,11 @@ use Rattle.coll_table.specs.declared.plain.table_lines.PlainTableLine.{PlainTabl
 use Rattle.coll_table.specs.declared.plain.table_lines.PlainTableLine.TheVariants.{Symbol, OrderStart, OrderEnd, Order, EndCategory}
 use Rattle.coll_syntax.specs.declared.faults.SyntaxFault.{SyntaxFault}
 use Rattle.coll_syntax.specs.declared.faults.SyntaxFault.TheVariants.{UnknownStatement, MissingOperand, BadRule, BadOperand}
+
+-- what a line declares is a name
+abbrev pub DeclaresName : PlainTableLine → Type 0
+DeclaresName (Symbol name) = IsName name
+DeclaresName _ = Unit {0}
 
 -- the one operand of `collating-symbol`, a symbol
 abbrev pub declaration : List Token → Result PlainTableLine SyntaxFault

@@ -1,5 +1,5 @@
 -- Reading a table text: the table, or the first line at fault (POSIX.1-2017, 7.3.2).
-use Rattle.std.specs.Prelude.{ℕ, Bool, true, false, if◌then◌else◌, not, nat_le, List, [], ◌∷◌, ◌++◌, length, fold, Option, Some, None, Result, Ok, Err}
+use Rattle.std.specs.Prelude.{◌≡◌, ℕ, Bool, true, false, if◌then◌else◌, not, nat_le, List, [], ◌∷◌, ◌++◌, length, fold, Option, Some, None, Result, Ok, Err}
 use Rattle.std.specs.List.{flat_map, list_any}
 use Rattle.coll_lex.specs.PhysicalLines.{lines_of}
 use Rattle.coll_lex.specs.LogicalLines.{LexerState, LogicalLine, first_state, number_of, outside, logical_lines}
@@ -9,6 +9,7 @@ use Rattle.coll_syntax.specs.Identifier.{has_name, has_id}
 use Rattle.coll_table.specs.PlainTableLines.{plain_table_line}
 use Rattle.coll_table.specs.Table.{Collation, ids_of, is_known_among}
 use Rattle.coll_table.specs.Sound.{collation_of}
+use Rattle.coll_table.specs.WellFormed.{IsWellFormed}
 use Rattle.coll_table.specs.declared.plain.table_lines.PlainTableLine.{PlainTableLine}
 use Rattle.coll_table.specs.declared.plain.table_lines.PlainTableLine.TheVariants.{Symbol, OrderStart, OrderEnd, Order, EndCategory}
 use Rattle.coll_syntax.specs.declared.faults.SyntaxFault.{SyntaxFault}
@@ -144,3 +145,7 @@ answer_at_end count (Undecided cause) = Err (record { line = count; cause = caus
 -- the table that a text is, or the first fault in it; nothing after the end of the category is looked at
 unfoldable pub reads : List ℕ → Result Collation LoadFault
 reads text = answer_at_end (length (lines_of text)) (outcome_of true (lines_of text))
+
+-- whatever text is a table, that table is well formed
+abbrev pub TextsAreWellFormed : Type 0
+TextsAreWellFormed = (text : List ℕ) (table : Collation) → reads text ≡ Ok table → IsWellFormed table

@@ -4,6 +4,7 @@ use Rattle.coll_lex.specs.LineReading as reading
 use Rattle.coll_lex.specs.LogicalLines.{LexerState, LogicalLine, number_of, fed, outside, left_open, logical_lines}
 use Rattle.std.specs.List.{flat_map}
 use Rattle.coll_lex.specs.PhysicalLines.{line_feed, lines_of, IsInLine}
+use Rattle.coll_lex.specs.Names.{AreTokens}
 use Rattle.coll_lex.specs.declared.tokens.Line.{Line}
 use Rattle.coll_lex.specs.declared.tokens.TheConstants.{MOST_LINE_BYTES, MOST_LINES}
 use Rattle.coll_lex.specs.declared.faults.LexFault.{LexFault}
@@ -102,6 +103,11 @@ abbrev pub CountsStep : TextState → TextState → Step → Type 0
 CountsStep old new (Whole line) = CountsOne old.lexer new.lexer
 CountsStep old new NoLine = CountsOne old.lexer new.lexer
 CountsStep old new End = Unit {0}
+
+-- the tokens of a logical line that was given are as the lexer makes them
+abbrev pub HasTokens : Step → Type 0
+HasTokens (Whole line) = AreTokens line.tokens
+HasTokens _ = Unit {0}
 
 -- one physical line before the category was taken, or none was unread
 abbrev pub FeedsOutside : TextState → TextState → Option (List ℕ) → Option (List ℕ) → Result (Option Bool) LoadFault → Type 0

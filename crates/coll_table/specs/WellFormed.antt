@@ -1,6 +1,7 @@
 -- What is true of every table.
-use Rattle.std.specs.Prelude.{◌≡◌, ◌≤◌, ℕ, Bool, false, IsTrue, List, [], ◌∷◌, length}
+use Rattle.std.specs.Prelude.{◌≡◌, ◌≤◌, ℕ, Bool, false, IsTrue, List, [], ◌∷◌, length, All}
 use Rattle.std.specs.List.{list_any}
+use Rattle.coll_lex.specs.Names.{IsName}
 use Rattle.coll_syntax.specs.Identifier.{same_name, same_id}
 use Rattle.coll_table.specs.Table.{Collation, ids_of, entries_of, is_known_among}
 use Rattle.coll_syntax.specs.declared.identifiers.Id.{Id}
@@ -16,8 +17,9 @@ abbrev pub AreKnown : List (List ℕ) → List Id → Type 0
 AreKnown declared [] = Unit {0}
 AreKnown declared (id ∷ ids) = IsTrue (is_known_among declared id) × AreKnown declared ids
 
--- names declared are distinct, identifiers placed are distinct, each name placed is declared, and the limits hold
+-- what is declared are names, each once; identifiers placed are distinct, each name placed is declared, and the limits hold
 pub record IsWellFormed (table : Collation) : Type 0 where
+  pub names : All IsName table.declared
   pub distinct_names : AreDistinct same_name table.declared
   pub distinct_entries : AreDistinct same_id (ids_of (entries_of table))
   pub known : AreKnown table.declared (ids_of (entries_of table))

@@ -5,6 +5,8 @@
 //! the lines before it. After a refusal the draft is given up.
 
 ghost use Rattle.std.specs.Prelude.{◌≡◌, ◌≢◌, [], Ok, Err, IfOk, IfErr, OnOk};
+ghost use Rattle.coll_lex.specs.Names.{IsName};
+ghost use Rattle.coll_table.specs.PlainTableLines.{DeclaresName};
 ghost use Rattle.coll_table.specs.Reading.{is_end};
 ghost use Rattle.coll_table.specs.declared.plain.table_lines.PlainTableLine.TheVariants.{Symbol, OrderStart, OrderEnd, Order, EndCategory};
 ghost use Rattle.coll_table.specs.declared.load_faults.LoadCause.TheVariants.{OutOfMemory};
@@ -53,6 +55,7 @@ impl Draft {
 
     /// Judges one more line, and keeps what it says. The answer tells whether it ends the category.
     pub fn take(&mut self, line: PlainTableLine) -> Result<bool, LoadCause>
+        requires { DeclaresName line }
         ensures ok { OnOk result (Accepts self.old line self.new) }
         ensures ended { IfOk result (λ ended. ended ≡ is_end line) }
         ensures err { IfErr result (λ cause. cause ≢ OutOfMemory → RefusesNext self.old line cause) }
@@ -84,6 +87,7 @@ impl Draft {
 
     /// A declaration.
     fn declare(&mut self, name: &TextBuf) -> Result<(), LoadCause>
+        requires { IsName name.now }
         ensures ok { OnOk result (Accepts self.old (Symbol name.now) self.new) }
         ensures err { IfErr result (λ cause. cause ≢ OutOfMemory → RefusesNext self.old (Symbol name.now) cause) }
         ensures cause { IfErr result IsLineCause }

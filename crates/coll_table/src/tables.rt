@@ -41,6 +41,7 @@ impl Model for Table {
 }
 
 impl Table {
+    ghost use Rattle.coll_lex.specs.Names.{IsName};
     ghost use Rattle.coll_table.specs.Limits.{most_declarations, most_entries};
     ghost use Rattle.coll_table.specs.Table.{collation, declared_of, entries_of, is_declared, is_known, is_placed};
     ghost use Rattle.coll_table.specs.Sound.{collation_of, with_declared, with_last};
@@ -108,6 +109,7 @@ impl Table {
 
     /// Declares a name.
     pub(crate) fn declare(&mut self, name: &TextBuf) -> Result<(), AllocError>
+        requires name { IsName name.now }
         requires new { is_declared self.old name.now ≡ false }
         requires room { length (declared_of self.old) < most_declarations }
         ensures ok { OnOk result (self.new ≡ with_declared self.old name.now) }

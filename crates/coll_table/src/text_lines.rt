@@ -5,8 +5,9 @@
 //! (`specs/TextLines.antt`). Each call takes lines up to the next one that matters: the one at which the category
 //! begins, or the next logical line.
 
-ghost use Rattle.std.specs.Prelude.{◌≡◌, ◌≢◌, ◌≤◌, ◌+◌, ◌<◌, [], None, min, IsSome, IfOk, IfErr, OnOk};
+ghost use Rattle.std.specs.Prelude.{◌≡◌, ◌≢◌, ◌≤◌, ◌+◌, ◌<◌, [], None, min, IsSome, IfSome, IfOk, IfErr, OnOk};
 ghost use Rattle.coll_lex.specs.LineReading.{no_line};
+ghost use Rattle.coll_lex.specs.Names.{AreTokens};
 ghost use Rattle.coll_lex.specs.LogicalLines.{first_state, number_of, left_open};
 ghost use Rattle.coll_table.specs.Loads.{CountsFault};
 
@@ -38,7 +39,7 @@ impl Model for TextLines {
 }
 
 impl TextLines {
-    ghost use Rattle.coll_table.specs.TextLines.{ReadsOne, FeedsOne, CountsStep, FeedsOutside, CountsOutside, Finds, LeavesOpen, GivesNext};
+    ghost use Rattle.coll_table.specs.TextLines.{ReadsOne, FeedsOne, CountsStep, FeedsOutside, CountsOutside, Finds, LeavesOpen, GivesNext, HasTokens};
 
     /// The lines of a text from its first on.
     pub fn new(alloc: Global) -> Result<TextLines, AllocError>
@@ -87,6 +88,7 @@ impl TextLines {
     pub fn next_line<R: Source>(&mut self, input: &mut R) -> Result<Option<Line>, LoadFault>
         requires { self.old.reader.stop ≡ None }
         ensures line { GivesNext self.old self.new (R.left input.old) (R.left input.new) result }
+        ensures tokens { IfOk result (λ line. IfSome line (λ given. AreTokens given.tokens)) }
         ensures counts { IfOk result (λ line. IsSome line → self.old.lexer.count < MOST_LINES × (self.old.lexer.count < self.new.lexer.count)) }
         ensures errors { CountsFault (R.failed input.old) (R.failed input.new) result }
         ensures goes_on { OnOk result (self.new.reader.stop ≡ None) }
@@ -181,6 +183,7 @@ impl TextLines {
     fn take_line<R: Source>(&mut self, input: &mut R) -> Result<Step, LoadFault>
         requires { self.old.reader.stop ≡ None }
         ensures line { FeedsOne self.old self.new (R.left input.old) (R.left input.new) result }
+        ensures tokens { IfOk result HasTokens }
         ensures counts { IfOk result (CountsStep self.old self.new) }
         ensures errors { CountsFault (R.failed input.old) (R.failed input.new) result }
         ensures goes_on { OnOk result (self.new.reader.stop ≡ None) }

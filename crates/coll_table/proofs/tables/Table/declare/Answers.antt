@@ -16,4 +16,4 @@ invariant_of-self-2 c =
     let more : c.insert.new.self ≡ names ++ c.args.name.now ∷ [] =
     c.in_ok-insert.ensures.ok ∙ (ap (with_name names) c.get.ensures.characters ∙ ap (λ b. cond b names (names ++ c.args.name.now ∷ [])) new) in
     subst (λ ns. IsSoundTable ns c.self.inside.entries.items c.self.inside.placed) (sym more)
-    (sound_declared names c.self.inside.entries.items c.self.inside.placed c.args.name.now c.self.invariant new room)
+    (sound_declared names c.self.inside.entries.items c.self.inside.placed c.args.name.now c.self.invariant c.requires.name new room)
