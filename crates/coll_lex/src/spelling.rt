@@ -120,6 +120,3 @@ fn upper_hex_digit(digit: u32) -> u8
         b'A' - 10 + digit as u8
     }
 }
-
-#[cfg(test)]
-mod tests;
