@@ -1,5 +1,5 @@
 -- The lines `comment_char` and `escape_char`, which choose a text's two characters (POSIX.1-2017, 7.3).
-use Rattle.std.specs.Prelude.{ℕ, Bool, true, if◌then◌else◌, ◌==◌, ◌&&◌, nat_eq, List, [], ◌∷◌, length, drop, codes, Option, Some, None, Result, Ok, Err}
+use Rattle.std.specs.Prelude.{ℕ, Bool, if◌then◌else◌, ◌==◌, ◌&&◌, nat_eq, List, [], ◌∷◌, length, drop, codes, Option, Some, None, Result, Ok, Err}
 use Rattle.std.specs.List.{list_any, starts_with}
 use Rattle.coll_lex.specs.Blanks.{past_blanks, begins_apart}
 use Rattle.coll_lex.specs.declared.tokens.Chars.{Chars}

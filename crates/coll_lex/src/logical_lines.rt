@@ -7,7 +7,6 @@ ghost use Rattle.std.specs.Prelude.{◌≡◌, IsUtf8, IfOk, IfErr};
 ghost use Rattle.coll_lex.specs.LogicalLines.{line_of};
 ghost use Rattle.coll_lex.specs.Names.{LinesHaveTokens};
 
-
 use crate::category::begins_category;
 use crate::directives::directive;
 use crate::physical_lines::without_return;

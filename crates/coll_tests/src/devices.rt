@@ -1,7 +1,7 @@
 //! Devices that give and take little at a time and fail where they are told to.
 //!
 //! `ShortReader` and `ShortWriter` fail once; `ScriptedReader` and `ScriptedWriter` do at each call what a script of
-//! four steps says, and count their own calls and errors.
+//! four steps says, and count their own calls and errors; `WholeWriter` takes everything.
 
 use std::io;
 use std::io::{ErrorKind, Read, Write};
@@ -243,6 +243,31 @@ impl Write for ScriptedWriter {
             self.errors = self.errors.saturating_add(1);
             return Err(io::Error::from(ErrorKind::BrokenPipe));
         }
+        Ok(())
+    }
+}
+
+/// Takes all bytes, and counts the writes.
+#[derive(Debug, Drop)]
+pub struct WholeWriter {
+    /// The writes so far.
+    pub writes: usize,
+}
+
+impl WholeWriter {
+    /// A writer that has taken nothing.
+    pub fn new() -> Self {
+        WholeWriter { writes: 0 }
+    }
+}
+
+impl Write for WholeWriter {
+    fn write(&mut self, buf: &[u8]) -> io::Result<usize> {
+        self.writes = self.writes.saturating_add(1);
+        Ok(buf.len())
+    }
+
+    fn flush(&mut self) -> io::Result<()> {
         Ok(())
     }
 }

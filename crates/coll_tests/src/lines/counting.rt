@@ -41,7 +41,11 @@ fn a_flush_is_one_flush_of_the_device(rt: HostRuntime) {
         let mut out = Counted::new(ScriptedWriter::new(script));
         for call in 0..4_usize {
             let answer = out.flush();
-            assert_eq!(rt; answer.is_err(), script.step(call) == Step::Error, "{number}");
+            assert_eq!(rt;
+                answer.is_err(),
+                script.step(call) == Step::Error,
+                "{number}"
+            );
             assert_eq!(rt; out.device().calls, call.saturating_add(1), "{number}");
             assert_eq!(rt; out.errors(), out.device().errors, "{number} {call}");
         }
@@ -54,7 +58,10 @@ const TEXT: &[u8; 10] = b"a\n\nbc\nrest";
 // How many line feeds stand before these last bytes of the text.
 fn ended_lines(rest: &[u8]) -> usize {
     let read = TEXT.len().saturating_sub(rest.len());
-    TEXT.iter().take(read).filter(|byte| **byte == b'\n').count()
+    TEXT.iter()
+        .take(read)
+        .filter(|byte| **byte == b'\n')
+        .count()
 }
 
 #[test]

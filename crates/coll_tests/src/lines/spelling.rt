@@ -1,6 +1,6 @@
 //! Spellings as they are written, read back, and cut off where a device fails.
 
-use crate::devices::{Failure, ShortWriter};
+use crate::devices::{Failure, ShortWriter, WholeWriter};
 use coll_lex::{Counted, Lexer, Sink, Token, WriteStop, write_bytes, write_char, write_symbol};
 use std::alloc::Global;
 use std::test::Fail;
@@ -78,7 +78,7 @@ fn characters_are_read_back(rt: HostRuntime) -> Result<(), Fail> {
 #[test]
 fn a_write_that_fails_stops_the_writing(rt: HostRuntime) -> Result<(), Fail> {
     for failure in [Failure::Error, Failure::TakesNothing] {
-        for fails_at in 1..7 {
+        for fails_at in 1..5 {
             let writer = ShortWriter::new(Vec::new(rt.alloc()), fails_at, failure);
             let mut out = Counted::new(writer);
             let result = write_symbol(&mut out, "one/two>");
@@ -88,6 +88,32 @@ fn a_write_that_fails_stops_the_writing(rt: HostRuntime) -> Result<(), Fail> {
             assert!(rt; b"<one//two/>>".starts_with(taken), "at {fails_at}");
         }
     }
+    Ok(())
+}
+
+// Names of no character, plain, with escapes, and of the most bytes.
+#[test]
+fn a_spelling_is_one_write(rt: HostRuntime) -> Result<(), Fail> {
+    let most = String::from_utf8(vec![in rt.alloc(); b'>'; 256]?).or(Err("no text"))?;
+    for name in ["", "BASE", "a>b/c", most.as_str()] {
+        let mut out = Counted::new(WholeWriter::new());
+        write_symbol(&mut out, name)?;
+        assert_eq!(rt; out.device().writes, 1, "{name}");
+    }
+    for c in ['a', '\u{10ffff}'] {
+        let mut out = Counted::new(WholeWriter::new());
+        write_char(&mut out, c)?;
+        assert_eq!(rt; out.device().writes, 1, "{c}");
+    }
+    Ok(())
+}
+
+#[test]
+fn a_text_longer_than_any_name_is_spelled(rt: HostRuntime) -> Result<(), Fail> {
+    let long = String::from_utf8(vec![in rt.alloc(); b'a'; 257]?).or(Err("no text"))?;
+    let mut out = Counted::new(Vec::new(rt.alloc()));
+    write_symbol(&mut out, long.as_str())?;
+    assert_eq!(rt; out.device().len(), 259);
     Ok(())
 }
 
