@@ -11,37 +11,37 @@ use Rattle.coll_lex.specs.Marked.{Mark, marks, is_joined, joined_marks}
 use Rattle.coll_lex.specs.Tokens.{before_close, atoms, Stop, AtFault, AtComment, AtEnd, InSymbol, InString, Reading, quoted, word_run, reading, reading_of}
 use Rattle.coll_lex.specs.Directives.{directive}
 use Rattle.coll_lex.specs.LogicalLines.{OpenLine, LexerState, dropped, line_of, continued, answer_at, answer_to, needs_memory, takes_memory, reading_in, answer_in, line_fault, fed_as, fed_text, fed, bytes_before}
-use Rattle.coll_lex.specs.Scanning.{fresh, after, left, TakesLine, RefusesLine, gathers_by, GathersLine, IsInWord, is_continued, goes_on, word_token, ending_in, ending}
+use Rattle.coll_lex.specs.Scanning.{fresh, reading_left, left_in_mode, TakesLine, RefusesLine, gathers_by, GathersLine, IsInWord, is_continued, goes_on, word_token, ending_in, ending}
 use Rattle.coll_lex.specs.Lexer.{lines_in, line_in, added, IsSoundOpen}
 use Rattle.coll_lex.specs.declared.tokens.Chars.{Chars}
 use Rattle.coll_lex.specs.declared.tokens.Piece.{Piece}
 use Rattle.coll_lex.specs.declared.tokens.Token.{Token}
 use Rattle.coll_lex.specs.declared.tokens.Line.{Line}
-use Rattle.coll_lex.specs.declared.tokens.TheConstants.{MOST_LINES, MOST_LINE_BYTES}
+use Rattle.coll_lex.specs.Limits.{most_lines, most_line_bytes}
 use Rattle.coll_lex.specs.declared.faults.LexFault.{LexFault}
 use Rattle.coll_lex.specs.declared.faults.LexFault.TheVariants.{NotUtf8, OpenSymbol, OpenString, LineTooLong}
 use Rattle.coll_lex.specs.declared.scanning.Scan.{Scan}
 use Rattle.coll_lex.specs.declared.scanning.Mode.{Mode}
 use Rattle.coll_lex.specs.declared.scanning.Mode.TheVariants as mode
-use Rattle.coll_lex.specs.declared.lexing.Open.{Open}
+use Rattle.coll_lex.specs.declared.logical_lines.Open.{Open}
 use Rattle.coll_lex.proofs.ScanRows.{differs}
 use Rattle.coll_lex.proofs.LineFaults.{stop_among, reading_in_faults}
 
 -- the tests before a line is read
 
-pub line_passes : (count bytes : ℕ) → bytes ≤ MOST_LINE_BYTES → count ≢ MOST_LINES → line_fault count bytes ≡ None
+pub line_passes : (count bytes : ℕ) → bytes ≤ most_line_bytes → count ≢ most_lines → line_fault count bytes ≡ None
 line_passes count bytes short more =
-    let within : nat_lt MOST_LINE_BYTES bytes ≡ false = grind (arith, nat_tests) in
-    rw (within, differs count MOST_LINES more) refl
+    let within : nat_lt most_line_bytes bytes ≡ false = grind (arith, nat_tests) in
+    rw (within, differs count most_lines more) refl
 
 long_fails : (t : Bool) (rest : Option LexFault) → (if t then Some LineTooLong else rest) ≡ None → t ≡ false
 long_fails true rest e = cc
 long_fails false rest e = refl
 
 -- a line that passes the tests is short enough
-pub passes_short : (count bytes : ℕ) → line_fault count bytes ≡ None → bytes ≤ MOST_LINE_BYTES
+pub passes_short : (count bytes : ℕ) → line_fault count bytes ≡ None → bytes ≤ most_line_bytes
 passes_short count bytes e =
-    let t = long_fails (nat_lt MOST_LINE_BYTES bytes) _ e in
+    let t = long_fails (nat_lt most_line_bytes bytes) _ e in
     grind (arith, nat_tests)
 
 not_text : (t : Bool) (line : List ℕ) → is_utf8 line ≡ t → (IsUtf8 line → ⊥) → is_utf8 line ≡ false
@@ -61,13 +61,13 @@ joined_marks-push escape (l ∷ ls) line = ap (λ ms. marks escape false (chars 
 
 -- the marked text of one more physical line, and what follows it
 marks_more : (special : Chars) (o : Open) (line : List ℕ) (ms : List Mark) → IsSoundOpen special o
-    → reading_of special.comment (joined_marks special.escape (map chars (lines_in o.lines.items ++ line ∷ [])) ++ ms) ≡ after special.comment o.scan (marks special.escape false (chars line) ++ ms)
+    → reading_of special.comment (joined_marks special.escape (map chars (lines_in o.lines.items ++ line ∷ [])) ++ ms) ≡ reading_left special.comment o.scan (marks special.escape false (chars line) ++ ms)
 marks_more special o line ms h =
     rw (joined_marks-push special.escape (lines_in o.lines.items) line, append_assoc (joined_marks special.escape (map chars (lines_in o.lines.items))) (marks special.escape false (chars line)) ms)
     (h.reads (marks special.escape false (chars line) ++ ms))
 
 reading_more : (special : Chars) (o : Open) (line : List ℕ) → IsSoundOpen special o
-    → reading_in special (lines_in o.lines.items ++ line ∷ []) ≡ after special.comment o.scan (marks special.escape false (chars line) ++ [])
+    → reading_in special (lines_in o.lines.items ++ line ∷ []) ≡ reading_left special.comment o.scan (marks special.escape false (chars line) ++ [])
 unfolding reading_in
 reading_more special o line h =
     ap (reading_of special.comment) (sym (append-nil (joined_marks special.escape (map chars (lines_in o.lines.items ++ line ∷ []))))) ∙ marks_more special o line [] h
@@ -123,7 +123,7 @@ tokens_in mode.Text partial = []
 tokens_in mode.SymbolInText partial = []
 tokens_in mode.Comment partial = []
 
-left_at_end : (comment : ℕ) (m : Mode) (partial : List ℕ) (pieces : List Piece) → left comment m partial pieces [] ≡ record { tokens = tokens_in m partial; stop = stop_in m }
+left_at_end : (comment : ℕ) (m : Mode) (partial : List ℕ) (pieces : List Piece) → left_in_mode comment m partial pieces [] ≡ record { tokens = tokens_in m partial; stop = stop_in m }
 unfolding reading atoms word_run quoted before_close
 left_at_end comment mode.Plain [] pieces = refl
 left_at_end comment mode.Plain (c ∷ cs) pieces = rw (append-nil cs) refl
@@ -132,8 +132,8 @@ left_at_end comment mode.Text partial pieces = refl
 left_at_end comment mode.SymbolInText partial pieces = refl
 left_at_end comment mode.Comment partial pieces = refl
 
-after_at_end : (comment : ℕ) (s : Scan) → after comment s [] ≡ record { tokens = s.tokens ++ tokens_in s.mode s.partial; stop = stop_in s.mode }
-unfolding after
+after_at_end : (comment : ℕ) (s : Scan) → reading_left comment s [] ≡ record { tokens = s.tokens ++ tokens_in s.mode s.partial; stop = stop_in s.mode }
+unfolding reading_left
 after_at_end comment s = rw (left_at_end comment s.mode s.partial s.pieces) refl
 
 text_read : (special : Chars) (o : Open) (line : List ℕ) (scan : Scan) → IsSoundOpen special o → TakesLine special o.scan (chars line) scan
@@ -226,18 +226,18 @@ text_joined_starved next o line bytes scan h t f = rw (text_goes_on next o line 
 -- an open line stays sound
 
 pub sound_new : (special : Chars) (o : Open) (alloc : Global) (number : ℕ) → line_in o ≡ record { number = number; lines = []; bytes = 0 } → o.scan ≡ fresh alloc → IsSoundOpen special o
-unfolding joined_marks after
+unfolding joined_marks reading_left
 sound_new special o alloc number e f =
     let none : lines_in o.lines.items ≡ [] = ap (λ (l : OpenLine). l.lines) e in
     let bytes : o.bytes ≡ 0 = ap (λ (l : OpenLine). l.bytes) e in
     record { reads = λ ms. rw (none, f) refl; unescaped = rw f refl; short = omega arith }
 
-after_unescaped : (comment : ℕ) (s : Scan) (ms : List Mark) → after comment s ms ≡ after comment (record s { escaped = false }) ms
-unfolding after
+after_unescaped : (comment : ℕ) (s : Scan) (ms : List Mark) → reading_left comment s ms ≡ reading_left comment (record s { escaped = false }) ms
+unfolding reading_left
 after_unescaped comment s ms = refl
 
 pub sound_more : (special : Chars) (old new : Open) (line : List ℕ) (bytes : ℕ) (scan : Scan) → IsSoundOpen special old → TakesLine special old.scan (chars line) scan
-    → line_in new ≡ added (line_in old) line bytes → new.scan ≡ record scan { escaped = false } → old.bytes + bytes ≤ MOST_LINE_BYTES → IsSoundOpen special new
+    → line_in new ≡ added (line_in old) line bytes → new.scan ≡ record scan { escaped = false } → old.bytes + bytes ≤ most_line_bytes → IsSoundOpen special new
 sound_more special old new line bytes scan h t e f short =
     let lines : lines_in new.lines.items ≡ lines_in old.lines.items ++ line ∷ [] = ap (λ (l : OpenLine). l.lines) e in
     let sum : new.bytes ≡ old.bytes + bytes = ap (λ (l : OpenLine). l.bytes) e in

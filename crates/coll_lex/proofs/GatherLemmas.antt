@@ -2,7 +2,7 @@
 use Rattle.std.proofs.Common.{◌≡◌, ℕ, zero, suc, ◌<◌, ◌==◌, Bool, true, false, if◌then◌else◌, List, [], ◌∷◌, ◌++◌, length, Option, Some, None, Result, Ok, Err, IfErr, OnErr, refl, arith}
 use Rattle.coll_lex.specs.Marked.{Mark, Plain, Literal}
 use Rattle.coll_lex.specs.Tokens.{is_constant, symbol_of, Atom, Bracketed, Unclosed, Bare, before_close, symbol_then, atoms, AtFault, Reading, after_symbol, Quoted, Closed, Stops, with_piece, with_symbol, quoted, word_run, after_word, after_string, reading}
-use Rattle.coll_lex.specs.Scanning.{prefixed, symbol_rest, word_rest, word_left, string_rest, after, is_cut_short, gathers, Gathers}
+use Rattle.coll_lex.specs.Scanning.{prefixed, symbol_rest, word_rest, word_left, string_rest, reading_left, is_cut_short, gathers, Gathers}
 use Rattle.coll_lex.specs.declared.tokens.Token.{Token}
 use Rattle.coll_lex.specs.declared.tokens.Piece.{Piece}
 use Rattle.coll_lex.specs.declared.tokens.Piece.TheVariants as piece
@@ -43,7 +43,7 @@ symbol_begun_gathers comment None rest = refl
 symbol_begun_gathers comment (Some name) rest = after_symbol_gathers (symbol_of name) (reading comment zero (rest (suc (length name))))
 
 pub gathers_in_symbol : (comment : ℕ) (s : Scan) (m : Mark) → s.mode ≡ mode.Symbol → Gathers comment s m
-unfolding after
+unfolding reading_left
 gathers_in_symbol comment s m e = record {
   reads = λ ms. rw e (prefixed_gathers s.tokens _ (symbol_gathers comment s.partial (before_close (m ∷ ms)) (λ skip. atoms skip (m ∷ ms))));
 }
@@ -84,13 +84,13 @@ string_begun_gathers (Closed pieces) rest e = refl
 string_begun_gathers (Stops stop) rest e = e
 
 pub gathers_in_text : (comment : ℕ) (s : Scan) (m : Mark) → s.mode ≡ mode.Text → Gathers comment s m
-unfolding after
+unfolding reading_left
 gathers_in_text comment s m e = record {
   reads = λ ms. rw e (prefixed_gathers s.tokens _ (string_gathers s.pieces (quoted (atoms zero (m ∷ ms))) (λ skip. reading comment skip (atoms zero (m ∷ ms))) (quoted_is_cut (atoms zero (m ∷ ms)))));
 }
 
 pub gathers_in_text_symbol : (comment : ℕ) (s : Scan) (m : Mark) → s.mode ≡ mode.SymbolInText → Gathers comment s m
-unfolding after
+unfolding reading_left
 gathers_in_text_symbol comment s m e = record {
   reads = λ ms.
       let xs = symbol_rest s.partial (before_close (m ∷ ms)) (λ skip. atoms skip (m ∷ ms)) in
@@ -117,14 +117,14 @@ in_word_gathers comment [] xs e = absurd (omega (arith, e))
 in_word_gathers comment (c ∷ cs) xs e = word_gathers (c ∷ cs) (word_run comment xs) (λ skip. reading comment skip xs)
 
 pub gathers_in_word : (comment : ℕ) (s : Scan) (m : Mark) → s.mode ≡ mode.Plain → 0 < length s.partial → Gathers comment s m
-unfolding after
+unfolding reading_left
 gathers_in_word comment s m e f = record {
   reads = λ ms. rw e (prefixed_gathers s.tokens _ (in_word_gathers comment s.partial (atoms zero (m ∷ ms)) f));
 }
 
 -- what gathers outside symbols and strings, whatever stands before it
 outside_gathers : (comment : ℕ) (s : Scan) (m : Mark) → s.mode ≡ mode.Plain → ((ms : List Mark) → gathers (reading comment zero (atoms zero (m ∷ ms))) ≡ true) → Gathers comment s m
-unfolding after
+unfolding reading_left
 outside_gathers comment s m e f = record {
   reads = λ ms. rw e (prefixed_gathers s.tokens _ (word_left_gathers comment s.partial (atoms zero (m ∷ ms)) (f ms)));
 }

@@ -3,10 +3,13 @@
 use Rattle.std.proofs.Common.{◌≡◌, ℕ, zero, suc, Bool, true, false, List, [], ◌∷◌, length, map, Option, Some, None, Result, Ok, Err, refl, sym, ap, ◌∙◌, inl, inr, eq-eqb}
 use Rattle.std.specs.Prelude.{◌⊎◌, ◌==◌, ◌||◌, nat_lt, if◌then◌else◌, chars}
 use Rattle.std.specs.Str.{is_utf8}
+use Rattle.coll_lex.specs.Characters.{quotation_mark}
+use Rattle.coll_lex.specs.Kinds.{Kind, kind_of, ends_word}
+use Rattle.coll_lex.specs.Kinds as kind
 use Rattle.coll_lex.specs.Faults.{lex_fault_number}
 use Rattle.coll_lex.specs.PhysicalLines.{without_return}
 use Rattle.coll_lex.specs.Marked.{Plain, Literal, is_joined, joined_marks}
-use Rattle.coll_lex.specs.Tokens.{Atom, Bracketed, Unclosed, Bare, Stop, AtFault, AtComment, AtEnd, InSymbol, InString, Reading, Quoted, Closed, Stops, is_blank, is_constant, is_name, code_point_of, symbol_by, symbol_of, ahead, after_symbol, with_piece, with_symbol, quoted, after_string, ends_word, with_letter, word_run, after_word, atoms, reading, stopped}
+use Rattle.coll_lex.specs.Tokens.{Atom, Bracketed, Unclosed, Bare, Stop, AtFault, AtComment, AtEnd, InSymbol, InString, Reading, Quoted, Closed, Stops, is_constant, is_name, code_point_of, symbol_by, symbol_of, after_symbol, with_piece, with_symbol, quoted, after_string, with_letter, word_run, after_word, after_plain, atoms, reading, stopped}
 use Rattle.coll_lex.specs.Directives.{with_comment, with_escape, asked, directive}
 use Rattle.coll_lex.specs.LogicalLines.{OpenLine, LexerState, extended, dropped, whole, answer_at, answer_in, reading_in, directive_where, fed_as, line_fault, fed_text, unless_fault, is_among_tokens, fed}
 use Rattle.coll_lex.specs.declared.tokens.Chars.{Chars}
@@ -14,8 +17,7 @@ use Rattle.coll_lex.specs.declared.tokens.Line.{Line}
 use Rattle.coll_lex.specs.declared.tokens.Piece.{Piece}
 use Rattle.coll_lex.specs.declared.tokens.Piece.TheVariants as piece
 use Rattle.coll_lex.specs.declared.tokens.Token.{Token}
-use Rattle.coll_lex.specs.declared.tokens.Token.TheVariants as token
-use Rattle.coll_lex.specs.declared.tokens.TheConstants.{MOST_LINES, MOST_LINE_BYTES}
+use Rattle.coll_lex.specs.Limits.{most_lines, most_line_bytes}
 use Rattle.coll_lex.specs.declared.faults.LexFault.{LexFault}
 use Rattle.coll_lex.specs.declared.faults.LexFault.TheVariants.{NotUtf8, OpenSymbol, EmptySymbol, BadName, BadCodePoint, OpenString, CharacterConstant, DanglingEscape, LineTooLong, BadCharDirective, TooManyLines, OutOfMemory}
 
@@ -67,7 +69,7 @@ unfolding quoted
 quoted_faults [] = refl
 quoted_faults (Bracketed name ∷ xs) = with_symbol_faults (symbol_of name) (quoted xs) (symbol_faults name) (quoted_faults xs)
 quoted_faults (Unclosed ∷ xs) = refl
-quoted_faults (Bare (Plain c) ∷ xs) = chosen quoted_among (c == 34) (Closed []) (with_piece (piece.Char c) (quoted xs)) refl (with_piece_faults (piece.Char c) (quoted xs) (quoted_faults xs))
+quoted_faults (Bare (Plain c) ∷ xs) = chosen quoted_among (c == quotation_mark) (Closed []) (with_piece (piece.Char c) (quoted xs)) refl (with_piece_faults (piece.Char c) (quoted xs) (quoted_faults xs))
 quoted_faults (Bare (Literal c) ∷ xs) = chosen quoted_among (is_constant c) (Stops (AtFault CharacterConstant)) (with_piece (piece.Char c) (quoted xs)) refl (with_piece_faults (piece.Char c) (quoted xs) (quoted_faults xs))
 
 with_letter_faults : (c : ℕ) (r : Result (List ℕ) LexFault) → answer_among r ≡ true → answer_among (with_letter c r) ≡ true
@@ -79,7 +81,7 @@ unfolding word_run
 word_faults comment [] = refl
 word_faults comment (Bracketed name ∷ xs) = refl
 word_faults comment (Unclosed ∷ xs) = refl
-word_faults comment (Bare (Plain c) ∷ xs) = chosen answer_among (ends_word comment c) (Ok []) (with_letter c (word_run comment xs)) refl (with_letter_faults c (word_run comment xs) (word_faults comment xs))
+word_faults comment (Bare (Plain c) ∷ xs) = chosen answer_among (ends_word (kind_of comment c)) (Ok []) (with_letter c (word_run comment xs)) refl (with_letter_faults c (word_run comment xs) (word_faults comment xs))
 word_faults comment (Bare (Literal c) ∷ xs) = chosen answer_among (is_constant c) (Err CharacterConstant) (with_letter c (word_run comment xs)) refl (with_letter_faults c (word_run comment xs) (word_faults comment xs))
 
 -- the same of a reading
@@ -98,6 +100,15 @@ after_word_faults : (c : ℕ) (r : Result (List ℕ) LexFault) (rest : ℕ → R
 after_word_faults c (Ok word) rest r_ok e = e (length word)
 after_word_faults c (Err fault) rest r_ok e = r_ok
 
+after_plain_faults : (k : Kind) (c : ℕ) (string : Quoted) (word : Result (List ℕ) LexFault) (rest : ℕ → Reading) → quoted_among string ≡ true → answer_among word ≡ true
+    → ((skip : ℕ) → reading_among (rest skip) ≡ true) → reading_among (after_plain k c string word rest) ≡ true
+after_plain_faults kind.Blank c string word rest string_ok word_ok e = e zero
+after_plain_faults kind.Semicolon c string word rest string_ok word_ok e = e zero
+after_plain_faults kind.Comma c string word rest string_ok word_ok e = e zero
+after_plain_faults kind.CommentCharacter c string word rest string_ok word_ok e = refl
+after_plain_faults kind.QuotationMark c string word rest string_ok word_ok e = after_string_faults string rest string_ok e
+after_plain_faults kind.Letter c string word rest string_ok word_ok e = after_word_faults c word rest word_ok e
+
 reading_faults : (comment skip : ℕ) (xs : List Atom) → reading_among (reading comment skip xs) ≡ true
 unfolding reading
 reading_faults comment zero [] = refl
@@ -106,14 +117,7 @@ reading_faults comment (suc skip) (a ∷ xs) = reading_faults comment skip xs
 reading_faults comment zero (Bracketed name ∷ xs) = after_symbol_faults (symbol_of name) (reading comment zero xs) (symbol_faults name) (reading_faults comment zero xs)
 reading_faults comment zero (Unclosed ∷ xs) = refl
 reading_faults comment zero (Bare (Plain c) ∷ xs) =
-    let rest = reading_faults comment zero xs in
-    let string = after_string_faults (quoted xs) (λ skip. reading comment skip xs) (quoted_faults xs) (λ skip. reading_faults comment skip xs) in
-    let word = after_word_faults c (word_run comment xs) (λ skip. reading comment skip xs) (word_faults comment xs) (λ skip. reading_faults comment skip xs) in
-    chosen reading_among (is_blank c) (reading comment zero xs) _ rest
-    (chosen reading_among (c == 59) (ahead token.Semicolon (reading comment zero xs)) _ rest
-    (chosen reading_among (c == 44) (ahead token.Comma (reading comment zero xs)) _ rest
-    (chosen reading_among (c == comment) (stopped AtComment) _ refl
-    (chosen reading_among (c == 34) (after_string (quoted xs) (λ skip. reading comment skip xs)) (after_word c (word_run comment xs) (λ skip. reading comment skip xs)) string word))))
+    after_plain_faults (kind_of comment c) c (quoted xs) (word_run comment xs) (λ skip. reading comment skip xs) (quoted_faults xs) (word_faults comment xs) (λ skip. reading_faults comment skip xs)
 reading_faults comment zero (Bare (Literal c) ∷ xs) =
     chosen reading_among (is_constant c) (stopped (AtFault CharacterConstant)) (after_word c (word_run comment xs) (λ skip. reading comment skip xs)) refl
     (after_word_faults c (word_run comment xs) (λ skip. reading comment skip xs) (word_faults comment xs) (λ skip. reading_faults comment skip xs))
@@ -197,7 +201,7 @@ unless_faults (Some fault) answer f e = f
 
 line_faults : (count bytes : ℕ) → fault_dangles (line_fault count bytes) ≡ false
 line_faults count bytes =
-    neither fault_dangles (nat_lt MOST_LINE_BYTES bytes) (Some LineTooLong) _ refl (neither fault_dangles (count == MOST_LINES) (Some TooManyLines) None refl refl)
+    neither fault_dangles (nat_lt most_line_bytes bytes) (Some LineTooLong) _ refl (neither fault_dangles (count == most_lines) (Some TooManyLines) None refl refl)
 
 fed_text_faults : (next : LexerState) (o : OpenLine) (line : List ℕ) (d : Option (Result Chars LexFault)) → asked_dangles d ≡ false → answer_dangles (fed_text next o line d) ≡ false
 fed_text_faults next o line d e = neither answer_dangles (is_utf8 line) (fed_as next o line d) (Err NotUtf8) (fed_as_faults next o line d e) refl
@@ -243,8 +247,8 @@ full_cases true answer fault e = inl cc
 full_cases false answer fault e = inr cc
 
 -- past the most lines each line has this fault, if it isn't too long
-pub fed-full : (s : LexerState) (line : List ℕ) (fault : LexFault) → fed s line ≡ Err fault → s.count ≡ MOST_LINES → (fault ≡ LineTooLong) ⊎ (fault ≡ TooManyLines)
+pub fed-full : (s : LexerState) (line : List ℕ) (fault : LexFault) → fed s line ≡ Err fault → s.count ≡ most_lines → (fault ≡ LineTooLong) ⊎ (fault ≡ TooManyLines)
 unfolding fed
 fed-full s line fault e full =
-    let test = eq-eqb s.count MOST_LINES full in
-    full_cases (nat_lt MOST_LINE_BYTES (extended s line).bytes) _ fault (rw test at e)
+    let test = eq-eqb s.count most_lines full in
+    full_cases (nat_lt most_line_bytes (extended s line).bytes) _ fault (rw test at e)

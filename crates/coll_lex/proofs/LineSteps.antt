@@ -4,7 +4,7 @@ use Rattle.std.proofs.Common.{◌≡◌, ℕ, Bool, true, false, if◌then◌els
 use Rattle.std.specs.Str.{is_utf8}
 use Rattle.coll_lex.specs.PhysicalLines.{without_return}
 use Rattle.coll_lex.specs.Directives.{directive}
-use Rattle.coll_lex.specs.LogicalLines.{OpenLine, LexerState, number_of, lines_before, extended, directive_where, answer_at, fed_as, line_fault, unless_fault, first_of, first_line, dropped, fed, served, left_open, first_choice, later_choices, takes_memory, logical_lines}
+use Rattle.coll_lex.specs.LogicalLines.{OpenLine, LexerState, number_of, lines_before, extended, directive_where, answer_at, fed_as, line_fault, unless_fault, first_of, first_line, dropped, fed, served, line_left_open, first_choice, later_choices, takes_memory, logical_lines}
 use Rattle.coll_lex.specs.Tokens.{Stop, AtFault, AtComment, AtEnd, InSymbol, InString}
 use Rattle.coll_lex.specs.declared.tokens.Line.{Line}
 use Rattle.coll_lex.specs.declared.tokens.Token.{Token}
@@ -13,7 +13,7 @@ use Rattle.coll_lex.specs.declared.faults.LexFault.{LexFault}
 use Rattle.coll_lex.specs.declared.faults.LexFault.TheVariants.{OutOfMemory, NotUtf8}
 
 -- at the end a line that is open is at fault, if the text ends there
-pub logical_lines-nil : (starved : List Bool) (ends : Bool) (s : LexerState) → logical_lines starved ends s [] ≡ (if ends then left_open s.line else [])
+pub logical_lines-nil : (starved : List Bool) (ends : Bool) (s : LexerState) → logical_lines starved ends s [] ≡ (if ends then line_left_open s.line else [])
 unfolding logical_lines
 logical_lines-nil starved ends s = refl
 

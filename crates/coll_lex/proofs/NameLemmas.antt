@@ -3,9 +3,11 @@ use Rattle.std.proofs.Common.{◌≡◌, ℕ, zero, suc, ◌<◌, ◌==◌, Bool
 use Rattle.std.proofs.lemmas.List.Elements.{All-nil, All-cons}
 use Rattle.std.specs.Str.{is_utf8}
 use lib.Utf8.{scalar}
+use Rattle.coll_lex.specs.Kinds.{Kind, kind_of}
+use Rattle.coll_lex.specs.Kinds as kind
 use Rattle.coll_lex.specs.PhysicalLines.{without_return}
 use Rattle.coll_lex.specs.Marked.{Plain, Literal, is_joined, joined_marks}
-use Rattle.coll_lex.specs.Tokens.{Atom, Bracketed, Unclosed, Bare, atoms, Stop, AtFault, AtComment, AtEnd, InSymbol, InString, Reading, Quoted, Closed, Stops, is_blank, is_constant, is_name, code_point_of, symbol_by, symbol_of, ahead, after_symbol, with_piece, with_symbol, quoted, after_string, word_run, after_word, reading, stopped}
+use Rattle.coll_lex.specs.Tokens.{Atom, Bracketed, Unclosed, Bare, atoms, Stop, AtFault, AtComment, AtEnd, InSymbol, InString, Reading, Quoted, Closed, Stops, is_constant, is_name, code_point_of, symbol_by, symbol_of, with_token, after_symbol, with_piece, with_symbol, quoted, after_string, word_run, after_word, after_plain, reading, stopped}
 use Rattle.coll_lex.specs.Directives.{directive}
 use Rattle.coll_lex.specs.LogicalLines.{OpenLine, LexerState, extended, dropped, whole, answer_at, answer_in, reading_in, directive_where, fed_as, line_fault, fed_text, unless_fault, fed}
 use Rattle.coll_lex.specs.Names.{IsPiece, IsToken, AreTokens}
@@ -81,24 +83,33 @@ quoted_pieces (Bare (Literal c) ∷ xs) = either HasPieces (is_constant c) (Stop
 abbrev HasTokens : Reading → Type 0
 HasTokens r = All IsToken r.tokens
 
-ahead_tokens : (t : Token) (rest : Reading) → IsToken t → HasTokens rest → HasTokens (ahead t rest)
-ahead_tokens t rest h k = All-cons IsToken t rest.tokens h k
+with_token_tokens : (t : Token) (rest : Reading) → IsToken t → HasTokens rest → HasTokens (with_token t rest)
+with_token_tokens t rest h k = All-cons IsToken t rest.tokens h k
 
 after_symbol_tokens : (r : Result Piece LexFault) (rest : Reading) → MakesPiece r → HasTokens rest → HasTokens (after_symbol r rest)
-after_symbol_tokens (Ok (piece.Char c)) rest h k = ahead_tokens (token.Char c) rest tt k
-after_symbol_tokens (Ok (piece.Name name)) rest h k = ahead_tokens (token.Symbol name) rest h k
+after_symbol_tokens (Ok (piece.Char c)) rest h k = with_token_tokens (token.Char c) rest tt k
+after_symbol_tokens (Ok (piece.Name name)) rest h k = with_token_tokens (token.Symbol name) rest h k
 after_symbol_tokens (Err fault) rest h k = All-nil IsToken
 
 after_string_tokens : (q : Quoted) (rest : ℕ → Reading) → HasPieces q → ((skip : ℕ) → HasTokens (rest skip)) → HasTokens (after_string q rest)
-after_string_tokens (Closed ps) rest h k = ahead_tokens (token.Text ps) (rest (suc (length ps))) h (k (suc (length ps)))
+after_string_tokens (Closed ps) rest h k = with_token_tokens (token.Text ps) (rest (suc (length ps))) h (k (suc (length ps)))
 after_string_tokens (Stops stop) rest h k = All-nil IsToken
 
 word_begun : (c : ℕ) (word : List ℕ) → 0 < length (c ∷ word)
 word_begun c word = omega arith
 
 after_word_tokens : (c : ℕ) (r : Result (List ℕ) LexFault) (rest : ℕ → Reading) → ((skip : ℕ) → HasTokens (rest skip)) → HasTokens (after_word c r rest)
-after_word_tokens c (Ok word) rest k = ahead_tokens (token.Word (c ∷ word)) (rest (length word)) (word_begun c word) (k (length word))
+after_word_tokens c (Ok word) rest k = with_token_tokens (token.Word (c ∷ word)) (rest (length word)) (word_begun c word) (k (length word))
 after_word_tokens c (Err fault) rest k = All-nil IsToken
+
+after_plain_tokens : (k : Kind) (c : ℕ) (string : Quoted) (word : Result (List ℕ) LexFault) (rest : ℕ → Reading) → HasPieces string → ((skip : ℕ) → HasTokens (rest skip))
+    → HasTokens (after_plain k c string word rest)
+after_plain_tokens kind.Blank c string word rest h k = k zero
+after_plain_tokens kind.Semicolon c string word rest h k = with_token_tokens token.Semicolon (rest zero) tt (k zero)
+after_plain_tokens kind.Comma c string word rest h k = with_token_tokens token.Comma (rest zero) tt (k zero)
+after_plain_tokens kind.CommentCharacter c string word rest h k = All-nil IsToken
+after_plain_tokens kind.QuotationMark c string word rest h k = after_string_tokens string rest h k
+after_plain_tokens kind.Letter c string word rest h k = after_word_tokens c word rest k
 
 reading_tokens : (comment skip : ℕ) (xs : List Atom) → HasTokens (reading comment skip xs)
 unfolding reading
@@ -108,14 +119,7 @@ reading_tokens comment (suc skip) (a ∷ xs) = reading_tokens comment skip xs
 reading_tokens comment zero (Bracketed name ∷ xs) = after_symbol_tokens (symbol_of name) (reading comment zero xs) (symbol_makes_piece name) (reading_tokens comment zero xs)
 reading_tokens comment zero (Unclosed ∷ xs) = All-nil IsToken
 reading_tokens comment zero (Bare (Plain c) ∷ xs) =
-    let rest = reading_tokens comment zero xs in
-    let string = after_string_tokens (quoted xs) (λ skip. reading comment skip xs) (quoted_pieces xs) (λ skip. reading_tokens comment skip xs) in
-    let word = after_word_tokens c (word_run comment xs) (λ skip. reading comment skip xs) (λ skip. reading_tokens comment skip xs) in
-    either HasTokens (is_blank c) (reading comment zero xs) _ rest
-    (either HasTokens (c == 59) (ahead token.Semicolon (reading comment zero xs)) _ (ahead_tokens token.Semicolon (reading comment zero xs) tt rest)
-    (either HasTokens (c == 44) (ahead token.Comma (reading comment zero xs)) _ (ahead_tokens token.Comma (reading comment zero xs) tt rest)
-    (either HasTokens (c == comment) (stopped AtComment) _ (All-nil IsToken)
-    (either HasTokens (c == 34) (after_string (quoted xs) (λ skip. reading comment skip xs)) (after_word c (word_run comment xs) (λ skip. reading comment skip xs)) string word))))
+    after_plain_tokens (kind_of comment c) c (quoted xs) (word_run comment xs) (λ skip. reading comment skip xs) (quoted_pieces xs) (λ skip. reading_tokens comment skip xs)
 reading_tokens comment zero (Bare (Literal c) ∷ xs) =
     either HasTokens (is_constant c) (stopped (AtFault CharacterConstant)) (after_word c (word_run comment xs) (λ skip. reading comment skip xs)) (All-nil IsToken)
     (after_word_tokens c (word_run comment xs) (λ skip. reading comment skip xs) (λ skip. reading_tokens comment skip xs))

@@ -5,7 +5,7 @@ use Rattle.std.specs.Borrow.{Bor}
 use Rattle.std.specs.Io.KnownBytes.{prepend_known, Keeps, Consumes, IsAtEnd}
 use Rattle.coll_lex.specs.declared.faults.ReadStop.{ReadStop}
 use Rattle.coll_lex.specs.declared.faults.ReadStop.TheVariants.{LineTooLong, ReadFault}
-use Rattle.coll_lex.specs.declared.tokens.TheConstants.{MOST_LINE_BYTES}
+use Rattle.coll_lex.specs.Limits.{most_line_bytes}
 use Rattle.coll_lex.specs.Devices.{raised}
 use Rattle.coll_lex.specs.PhysicalLines.{line_feed, IsInLine}
 
@@ -40,7 +40,7 @@ Cuts ended (Some all) (Some rest) line = CutsLine ended all line rest
 pub record GivesLine (old new : ReaderState) (left left_after : Option (List ℕ)) (failed failed_after : ℕ) : Type 0 where
   pub cut : Cuts new.ended (unread old left) (unread new left_after) new.line
   pub whole : IsInLine new.line
-  pub short : length new.line ≤ MOST_LINE_BYTES
+  pub short : length new.line ≤ most_line_bytes
   pub at_end : OnTrue new.ended (IsAtEnd left_after)
   pub count : failed_after ≡ failed
   pub went_on : old.stop ≡ None
@@ -69,13 +69,13 @@ pub record EndsAgain (old new : ReaderState) (left left_after : Option (List ℕ
 
 -- the bytes begin a line that is longer than a line may be
 pub record IsLongLine (bytes : List ℕ) : Type 0 where
-  pub long : MOST_LINE_BYTES < length bytes
-  pub whole : IsInLine (take (MOST_LINE_BYTES + 1) bytes)
+  pub long : most_line_bytes < length bytes
+  pub whole : IsInLine (take (most_line_bytes + 1) bytes)
 
 -- the reader has stopped for this reason: it holds more of one line than is allowed, or a part of a line behind which a read failed
 abbrev pub HasStop : ReaderState → ReadStop → Type 0
 HasStop r LineTooLong = (r.stop ≡ Some LineTooLong) × IsLongLine r.held
-HasStop r ReadFault = (r.stop ≡ Some ReadFault) × IsInLine r.held × (length r.held ≤ MOST_LINE_BYTES)
+HasStop r ReadFault = (r.stop ≡ Some ReadFault) × IsInLine r.held × (length r.held ≤ most_line_bytes)
 
 -- a read error was counted where it is the reason, and none elsewhere
 abbrev pub counted : ReadStop → ℕ → ℕ
@@ -118,9 +118,9 @@ Fills old new left left_after r =
     (λ _. (new ≡ record old { line = [] }) × Keeps left left_after)
 
 -- the line at the front of the bytes held back was taken off, with its line feed
-pub record TakesLine (old new : ReaderState) : Type 0 where
+pub record TakesFirstLine (old new : ReaderState) : Type 0 where
   pub cut : old.held ≡ new.line ++ line_feed ∷ new.held
   pub whole : IsInLine new.line
-  pub short : length new.line ≤ MOST_LINE_BYTES
+  pub short : length new.line ≤ most_line_bytes
   pub stop : new.stop ≡ old.stop
   pub ended : new.ended ≡ old.ended

@@ -53,7 +53,7 @@ impl Model for LineReader {
 }
 
 impl LineReader {
-    ghost use Rattle.coll_lex.specs.LineReading.{no_line, Advances, Nexts, Fills, TakesLine};
+    ghost use Rattle.coll_lex.specs.LineReading.{no_line, Advances, Nexts, Fills, TakesFirstLine};
     ghost use Rattle.std.specs.Borrow.{sem};
     ghost use Rattle.std.specs.Io.BufRead.{Rests};
     ghost use Rattle.coll_lex.specs.contracts.line_reading.LineReader.{the_row};
@@ -131,7 +131,7 @@ impl LineReader {
         requires within { searched ≤ MOST_LINE_BYTES }
         requires held { searched ≤ length self.old.held }
         requires none { IsInLine (take searched self.old.held) }
-        ensures found { OnTrue result (TakesLine self.old self.new) }
+        ensures found { OnTrue result (TakesFirstLine self.old self.new) }
         ensures unchanged { OnFalse result (self.new ≡ self.old) }
         ensures not_found { OnFalse result (IsInLine (take (MOST_LINE_BYTES + 1) self.old.held)) }
     {
@@ -251,6 +251,3 @@ fn read_at<R: Source>(input: &mut R, buffer: &mut [u8], at: usize) -> io::Result
 {
     input.read(&mut buffer[at..])
 }
-
-#[cfg(test)]
-mod tests;

@@ -4,7 +4,7 @@
 //! then hands it to the mode. The modules below have the moves of the modes: `word` outside symbols and strings,
 //! `symbol` inside symbols, `text` inside strings. A new kind of token needs a move in one of them, and perhaps a
 //! mode. No contract above this module sees the state: each move is proved to keep what is left to read
-//! (`after` in `specs/Scanning.antt`), so a mode with a new field needs its case there.
+//! (`reading_left` in `specs/Scanning.antt`), so a mode with a new field needs its case there.
 
 ghost use Rattle.std.specs.Prelude.{◌≡◌, ◌≢◌, ◌&&◌, not, ℕ, [], chars, OnOk, IfOk, IfErr, false, IfErr};
 ghost use Rattle.coll_lex.specs.Marked.{Plain, Literal};
@@ -57,7 +57,7 @@ fn is_constant(c: char) -> bool
 }
 
 impl Scan {
-    ghost use Rattle.coll_lex.specs.Scanning.{fresh, goes_on, Takes, Refuses, TakesCharacter, RefusesCharacter, TakesLine, RefusesLine, Gathers, GathersCharacter, GathersLine, IsInWord, ending};
+    ghost use Rattle.coll_lex.specs.Scanning.{fresh, goes_on, TakesMark, Refuses, TakesCharacter, RefusesCharacter, TakesLine, RefusesLine, Gathers, GathersCharacter, GathersLine, IsInWord, ending};
 
     /// The scan at the beginning of a logical line. It takes no memory.
     pub(crate) fn new(alloc: Global) -> Scan
@@ -140,7 +140,7 @@ impl Scan {
 
     // Reads a character that is not escaped.
     fn take_plain(&mut self, comment: char, c: char) -> Result<(), LexFault>
-        ensures ok { OnOk result (Takes comment self.old (Plain c) self.new) }
+        ensures ok { OnOk result (TakesMark comment self.old (Plain c) self.new) }
         ensures err { IfErr result (λ fault. fault ≢ OutOfMemory → Refuses comment self.old (Plain c) fault) }
         ensures memory { IfErr result (λ fault. fault ≡ OutOfMemory → Gathers comment self.old (Plain c)) }
     {
@@ -156,7 +156,7 @@ impl Scan {
 
     // Reads a character that is escaped.
     fn take_literal(&mut self, c: char) -> Result<(), LexFault>
-        ensures ok { OnOk result ((comment : ℕ) → Takes comment self.old (Literal c) self.new) }
+        ensures ok { OnOk result ((comment : ℕ) → TakesMark comment self.old (Literal c) self.new) }
         ensures err { IfErr result
             (λ fault. fault ≢ OutOfMemory → (comment : ℕ) → Refuses comment self.old (Literal c) fault) }
         ensures memory { IfErr result (λ fault. fault ≡ OutOfMemory → (comment : ℕ) → Gathers comment self.old (Literal c)) }

@@ -2,7 +2,7 @@
 use Rattle.std.proofs.Common.{◌≡◌, ℕ, ◌+◌, Bool, true, false, List, [], ◌∷◌, ◌++◌, length, Option, Some, None, Ok, Err, sym, ap, ◌∙◌, refl, arith, append-nil}
 use Rattle.std.specs.Prelude.{IsSome, option_map, unwrap_or}
 use Rattle.coll_lex.specs.PhysicalLines.{lines_of}
-use Rattle.coll_lex.specs.LogicalLines.{LexerState, LogicalLine, OpenLine, number_of, pending, first_of, fed, first_line, dropped, logical_lines, left_open}
+use Rattle.coll_lex.specs.LogicalLines.{LexerState, LogicalLine, OpenLine, number_of, pending, first_of, fed, first_line, dropped, logical_lines, line_left_open}
 use Rattle.coll_lex.specs.declared.tokens.Line.{Line}
 use Rattle.coll_lex.specs.declared.faults.LexFault.{LexFault}
 use Rattle.coll_lex.specs.declared.faults.LexFault.TheVariants as lex
@@ -52,7 +52,7 @@ module _ (start now : TextState) (left left_now : Option (List ℕ)) (h : Nextin
   all_taken last text e = let at = h text e in at.2.1 ∙ ap (λ lines. at.0 ++ lines) (last at.1 at.2.0)
 
   -- no line more, and none open
-  pub none_next : (next : TextState) (left_next : Option (List ℕ)) → WasLast now left_now → left_open now.lexer.line ≡ [] → next.lexer.count ≡ now.lexer.count → GivesNext start next left left_next (Ok None)
+  pub none_next : (next : TextState) (left_next : Option (List ℕ)) → WasLast now left_now → line_left_open now.lexer.line ≡ [] → next.lexer.count ≡ now.lexer.count → GivesNext start next left left_next (Ok None)
   none_next next left_next last none count = λ text e.
       let at = h text e in
       let all = all_taken last text e in (
@@ -61,7 +61,7 @@ module _ (start now : TextState) (left left_now : Option (List ℕ)) (h : Nextin
       )
 
   -- no line more, and one open
-  pub left_behind : (left_next : Option (List ℕ)) (line : ℕ) → WasLast now left_now → (first : List ℕ) × (left_open now.lexer.line ≡ record { number = line; first = first; tokens = Err lex.DanglingEscape } ∷ []) → NextFails start left left_next line (Lex lex.DanglingEscape)
+  pub left_behind : (left_next : Option (List ℕ)) (line : ℕ) → WasLast now left_now → (first : List ℕ) × (line_left_open now.lexer.line ≡ record { number = line; first = first; tokens = Err lex.DanglingEscape } ∷ []) → NextFails start left left_next line (Lex lex.DanglingEscape)
   left_behind left_next line last behind = λ text e.
       let at = h text e in (
         behind.0,
@@ -101,10 +101,10 @@ module _ (start now : TextState) (left left_now : Option (List ℕ)) (h : Nextin
   next_fails left_next line _ f = absurd f
 
 -- the line that is open where the text ends
-open_left : (o : Option OpenLine) (count number : ℕ) → IsSome (option_map (λ (l : OpenLine). l.number) o) → number ≡ unwrap_or (option_map (λ (l : OpenLine). l.number) o) (count + 1) → (first : List ℕ) × (left_open o ≡ record { number = number; first = first; tokens = Err lex.DanglingEscape } ∷ [])
+open_left : (o : Option OpenLine) (count number : ℕ) → IsSome (option_map (λ (l : OpenLine). l.number) o) → number ≡ unwrap_or (option_map (λ (l : OpenLine). l.number) o) (count + 1) → (first : List ℕ) × (line_left_open o ≡ record { number = number; first = first; tokens = Err lex.DanglingEscape } ∷ [])
 open_left None count number some is = cc
 open_left (Some l) count number some is =
     (first_of l.lines, ap (λ n. record { number = n; first = first_of l.lines; tokens = Err lex.DanglingEscape } ∷ []) (sym is))
 
-pub leaves_open : (s : LexerState) (number : ℕ) → IsSome (pending s) → number ≡ number_of s → (first : List ℕ) × (left_open s.line ≡ record { number = number; first = first; tokens = Err lex.DanglingEscape } ∷ [])
+pub leaves_open : (s : LexerState) (number : ℕ) → IsSome (pending s) → number ≡ number_of s → (first : List ℕ) × (line_left_open s.line ≡ record { number = number; first = first; tokens = Err lex.DanglingEscape } ∷ [])
 leaves_open s number some is = open_left s.line s.count number some is

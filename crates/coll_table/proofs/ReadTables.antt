@@ -4,7 +4,7 @@ use Rattle.std.proofs.lemmas.Bool.{leb-false}
 use Rattle.std.proofs.lemmas.List.Elements.{All-nil, All-cons, All-append, All-head, All-tail}
 use Rattle.std.proofs.lemmas.Grind.{flat_map-append}
 use Rattle.std.specs.Prelude.{nat_le}
-use Rattle.coll_lex.specs.LogicalLines.{LexerState, LogicalLine, OpenLine, left_open, first_of, fed, served, lines_by, state_by, first_line, number_of, first_state, outside, logical_lines}
+use Rattle.coll_lex.specs.LogicalLines.{LexerState, LogicalLine, OpenLine, line_left_open, first_of, fed, served, lines_by, state_by, first_line, number_of, first_state, outside, logical_lines}
 use Rattle.coll_lex.specs.Names.{IsName, AreTokens}
 use Rattle.coll_lex.specs.PhysicalLines.{lines_of}
 use Rattle.coll_lex.specs.declared.faults.LexFault.{LexFault}
@@ -108,7 +108,7 @@ one_lexed s line (Ok (Some given, after)) e = All-cons IsLexed (record { number 
 one_lexed s line (Err fault) e = All-cons IsLexed (record { number = number_of s; first = first_line s line; tokens = Err fault }) [] (lexed_fault (number_of s) (first_line s line) fault) (All-nil IsLexed)
 
 -- the line that is open where the text ends
-open_lexed : (ends : Bool) (o : Option OpenLine) → All IsLexed (cond ends (left_open o) [])
+open_lexed : (ends : Bool) (o : Option OpenLine) → All IsLexed (cond ends (line_left_open o) [])
 open_lexed true None = All-nil IsLexed
 open_lexed true (Some o) = All-cons IsLexed (record { number = o.number; first = first_of o.lines; tokens = Err lex.DanglingEscape }) [] (lexed_fault o.number (first_of o.lines) lex.DanglingEscape) (All-nil IsLexed)
 open_lexed false o = All-nil IsLexed

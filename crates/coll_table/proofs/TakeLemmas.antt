@@ -1,6 +1,6 @@
 -- Where a line could not be read, it could not be taken.
 use Rattle.std.proofs.Common.{◌≡◌, ◌≢◌, ℕ, ◌+◌, ◌<◌, ◌≤◌, Bool, List, length, min, Option, Result, sym, ap, subst, ◌∙◌, arith}
-use Rattle.coll_lex.specs.declared.tokens.TheConstants.{MOST_LINE_BYTES, MOST_LINES}
+use Rattle.coll_lex.specs.Limits.{most_line_bytes, most_lines}
 use Rattle.coll_lex.specs.declared.faults.LexFault.TheVariants as lex
 use Rattle.coll_lex.specs.PhysicalLines.{lines_of}
 use Rattle.coll_lex.specs.LogicalLines.{LexerState, number_of, fed, outside}
@@ -20,14 +20,14 @@ fails_by old left P Q f h = λ text e. let at = h text e in (at.0, at.1, at.2, f
 -- a line of the category that could not be read
 pub taken_fails : (old : TextState) (left left_after : Option (List ℕ)) (line : ℕ) (cause : LoadCause) → ReadFails old left left_after line cause → FeedFails FailsFed old left left_after line cause
 taken_fails old left left_after line (Lex lex.LineTooLong) h =
-    (h.0, fails_by old left (λ first. MOST_LINE_BYTES < length first) (λ first. FailsFed old.lexer first lex.LineTooLong) (λ first long. fed-too_long old.lexer first long) h.1)
+    (h.0, fails_by old left (λ first. most_line_bytes < length first) (λ first. FailsFed old.lexer first lex.LineTooLong) (λ first long. fed-too_long old.lexer first long) h.1)
 taken_fails old left left_after line ReadFault h = h
 taken_fails old left left_after line _ h = absurd h
 
 -- a line before the category that could not be read
 pub outside_fails : (old : TextState) (left left_after : Option (List ℕ)) (line : ℕ) (cause : LoadCause) → ReadFails old left left_after line cause → FeedFails FailsOutside old left left_after line cause
 outside_fails old left left_after line (Lex lex.LineTooLong) h =
-    (h.0, fails_by old left (λ first. MOST_LINE_BYTES < length first) (λ first. FailsOutside old.lexer first lex.LineTooLong) (λ first long. outside_too_long old.lexer first long) h.1)
+    (h.0, fails_by old left (λ first. most_line_bytes < length first) (λ first. FailsOutside old.lexer first lex.LineTooLong) (λ first long. outside_too_long old.lexer first long) h.1)
 outside_fails old left left_after line ReadFault h = h
 outside_fails old left left_after line _ h = absurd h
 
@@ -53,11 +53,11 @@ lexed_fails Fails old left left_after line lex.OutOfMemory n h = tt
 lexed_fails Fails old left left_after line _ n h = (n, h (λ e. cc))
 
 -- the count kept beside the lexer's is the lexer's
-pub count_kept : (count before after : ℕ) (result : ℕ) → count ≡ before → result ≡ min (count + 1) MOST_LINES → after ≡ min (before + 1) MOST_LINES → (result ≡ after) × (result ≤ MOST_LINES)
-count_kept count before after result e r a = (r ∙ (ap (λ n. min (n + 1) MOST_LINES) e ∙ sym a), omega arith)
+pub count_kept : (count before after : ℕ) (result : ℕ) → count ≡ before → result ≡ min (count + 1) most_lines → after ≡ min (before + 1) most_lines → (result ≡ after) × (result ≤ most_lines)
+count_kept count before after result e r a = (r ∙ (ap (λ n. min (n + 1) most_lines) e ∙ sym a), omega arith)
 
 -- a line that was taken is counted
-pub counts_one : (count : ℕ) (before after : LexerState) → count ≡ before.count → count ≤ MOST_LINES → after.count ≡ min (before.count + 1) MOST_LINES → (before.count ≡ MOST_LINES → ⊥) → CountsOne before after
+pub counts_one : (count : ℕ) (before after : LexerState) → count ≡ before.count → count ≤ most_lines → after.count ≡ min (before.count + 1) most_lines → (before.count ≡ most_lines → ⊥) → CountsOne before after
 counts_one count before after e few a room =
-    let ne : before.count ≢ MOST_LINES = room in
+    let ne : before.count ≢ most_lines = room in
     (omega arith, omega arith)

@@ -5,7 +5,7 @@ use Rattle.std.proofs.lemmas.Grind.{flat_map-append}
 use Rattle.std.specs.Io.KnownBytes.{prepend_known, Keeps, IsAtEnd}
 use Rattle.coll_lex.specs.LineReading as reading
 use Rattle.coll_lex.specs.PhysicalLines.{line_feed, lines_of}
-use Rattle.coll_lex.specs.declared.tokens.TheConstants.{MOST_LINE_BYTES}
+use Rattle.coll_lex.specs.Limits.{most_line_bytes}
 use Rattle.coll_lex.specs.declared.faults.ReadStop.{ReadStop}
 use Rattle.coll_lex.specs.declared.faults.ReadStop.TheVariants as stop
 use Rattle.coll_lex.proofs.PhysicalLinesLemmas.{lines_of-nil, lines_of-cut, lines_of-long}
@@ -85,7 +85,7 @@ module _ (old new : TextState) (left left_after : Option (List ℕ)) (failed fai
       known_behind left_after new.reader.held text (known_kept (unread_text new left_after) text (subst (λ o. Keeps o (unread_text new left_after)) e.0 h.kept))
 
   -- at a line that is too long, the first one unread is
-  pub first_long : reading.StopsNow old.reader new.reader left left_after failed failed_after stop.LineTooLong → FirstFails old left (λ first. MOST_LINE_BYTES < length first)
+  pub first_long : reading.StopsNow old.reader new.reader left left_after failed failed_after stop.LineTooLong → FirstFails old left (λ first. most_line_bytes < length first)
   first_long h = λ text e.
       let at = stopped_at stop.LineTooLong h text e in
       let long = lines_of-long new.reader.held at.0 h.cause.1 in
@@ -107,7 +107,7 @@ module _ (old new : TextState) (left left_after : Option (List ℕ)) (failed fai
   stops_now s none h = ⊎_elim (λ now. now) (λ again. let both : None ≡ Some s = sym none ∙ again.stopped in cc) h
 
   -- a reader that stops at a line that is too long
-  pub stops_long : (s : ReadStop) → s ≡ stop.LineTooLong → old.reader.stop ≡ None → reading.StopsNow old.reader new.reader left left_after failed failed_after s ⊎ reading.StopsAgain old.reader new.reader left left_after failed failed_after s → FirstFails old left (λ first. MOST_LINE_BYTES < length first)
+  pub stops_long : (s : ReadStop) → s ≡ stop.LineTooLong → old.reader.stop ≡ None → reading.StopsNow old.reader new.reader left left_after failed failed_after s ⊎ reading.StopsAgain old.reader new.reader left left_after failed failed_after s → FirstFails old left (λ first. most_line_bytes < length first)
   stops_long s e none h =
       first_long (subst (λ t. reading.StopsNow old.reader new.reader left left_after failed failed_after t) e (stops_now s none h))
 

@@ -1,4 +1,4 @@
--- The limits of a table, as numbers: the code has constants of the same names, and a constant that differs is refused.
+-- The limits of a table, as numbers. The constants of the code are proved to be these (`limits_are_stated`).
 use Rattle.std.specs.Prelude.{ℕ}
 
 -- the most entries of a table, in all sections together

@@ -1,12 +1,12 @@
 -- The lines of a text, taken one after another: physical ones by a reader, and logical ones by a lexer.
 use Rattle.std.specs.Prelude.{◌≡◌, ℕ, ◌+◌, ◌<◌, Bool, true, false, List, [], ◌∷◌, ◌++◌, length, Option, Some, None, Result, Ok, Err}
 use Rattle.coll_lex.specs.LineReading as reading
-use Rattle.coll_lex.specs.LogicalLines.{LexerState, LogicalLine, number_of, fed, outside, left_open, logical_lines}
+use Rattle.coll_lex.specs.LogicalLines.{LexerState, LogicalLine, number_of, fed, outside, line_left_open, logical_lines}
 use Rattle.std.specs.List.{flat_map}
 use Rattle.coll_lex.specs.PhysicalLines.{line_feed, lines_of, IsInLine}
 use Rattle.coll_lex.specs.Names.{AreTokens}
 use Rattle.coll_lex.specs.declared.tokens.Line.{Line}
-use Rattle.coll_lex.specs.declared.tokens.TheConstants.{MOST_LINE_BYTES, MOST_LINES}
+use Rattle.coll_lex.specs.Limits.{most_line_bytes, most_lines}
 use Rattle.coll_lex.specs.declared.faults.LexFault.{LexFault}
 use Rattle.coll_lex.specs.declared.faults.LexFault.TheVariants as lex
 use Rattle.coll_table.specs.Reading.{Undecided, outcome_before, outcome_within, at_fault}
@@ -62,7 +62,7 @@ CutShort old left left_after =
 -- a line could not be read
 abbrev pub ReadFails : TextState → Option (List ℕ) → Option (List ℕ) → ℕ → LoadCause → Type 0
 ReadFails old left left_after line (Lex lex.LineTooLong) =
-    (line ≡ number_of old.lexer) × FirstFails old left (λ first. MOST_LINE_BYTES < length first)
+    (line ≡ number_of old.lexer) × FirstFails old left (λ first. most_line_bytes < length first)
 ReadFails old left left_after line ReadFault = (line ≡ 0) × CutShort old left left_after
 ReadFails old left left_after line _ = ⊥
 
@@ -91,7 +91,7 @@ FailsFed s line fault = fed s line ≡ Err fault
 
 -- one physical line more was handed to the lexer, which takes no more than the most lines of a text
 abbrev pub CountsOne : LexerState → LexerState → Type 0
-CountsOne old new = (old.count < MOST_LINES) × (new.count ≡ old.count + 1)
+CountsOne old new = (old.count < most_lines) × (new.count ≡ old.count + 1)
 
 -- a physical line before the category that was taken is counted
 abbrev pub CountsOutside : TextState → TextState → Option Bool → Type 0
@@ -185,4 +185,4 @@ GivesNext old new left left_after (Err fault) = NextFails old left left_after fa
 abbrev pub LeavesOpen : LexerState → LoadFault → Type 0
 LeavesOpen s fault =
     (fault.cause ≡ Lex lex.DanglingEscape)
-    × (first : List ℕ) × (left_open s.line ≡ record { number = fault.line; first = first; tokens = Err lex.DanglingEscape } ∷ [])
+    × (first : List ℕ) × (line_left_open s.line ≡ record { number = fault.line; first = first; tokens = Err lex.DanglingEscape } ∷ [])

@@ -17,7 +17,7 @@ use std::alloc::Global;
 use std::marker::Model;
 
 /// A table that is being read.
-#[derive(Debug, Drop)]
+#[derive(Drop)]
 pub struct Draft {
     order_open: bool,
     started: bool,

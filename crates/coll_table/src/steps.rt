@@ -3,7 +3,7 @@
 use coll_lex::Line;
 
 /// What the lexer gave for one physical line of the category.
-#[derive(Debug, Drop)]
+#[derive(Drop)]
 pub enum Step {
     /// The logical line that it ends.
     Whole(Line),

@@ -6,9 +6,10 @@
 //! begins, or the next logical line.
 
 ghost use Rattle.std.specs.Prelude.{◌≡◌, ◌≢◌, ◌≤◌, ◌+◌, ◌<◌, [], None, min, IsSome, IfSome, IfOk, IfErr, OnOk};
+ghost use Rattle.coll_lex.specs.Limits.{most_lines};
 ghost use Rattle.coll_lex.specs.LineReading.{no_line};
 ghost use Rattle.coll_lex.specs.Names.{AreTokens};
-ghost use Rattle.coll_lex.specs.LogicalLines.{first_state, number_of, left_open};
+ghost use Rattle.coll_lex.specs.LogicalLines.{first_state, number_of, line_left_open};
 ghost use Rattle.coll_table.specs.Loads.{CountsFault};
 
 use super::steps::Step;
@@ -18,7 +19,7 @@ use std::alloc::{AllocError, Global};
 use std::marker::Model;
 
 /// The lines of a text, taken one after another.
-#[derive(Debug, Drop)]
+#[derive(Drop)]
 pub struct TextLines {
     reader: LineReader,
     lexer: Lexer,
@@ -28,14 +29,14 @@ pub struct TextLines {
 
 impl Model for TextLines {
     ghost use Rattle.std.specs.Prelude.{◌≡◌, ◌≤◌};
-    ghost use Rattle.coll_lex.specs.declared.tokens.TheConstants.{MOST_LINES};
+    ghost use Rattle.coll_lex.specs.Limits.{most_lines};
     ghost use Rattle.coll_table.specs.TextLines.{TextState};
 
     ghost Value = { TextState };
 
     ghost view = { λ t. record { reader = t.reader; lexer = t.lexer } };
 
-    ghost invariant = { λ t. (t.count ≡ t.lexer.count) × (t.count ≤ MOST_LINES) };
+    ghost invariant = { λ t. (t.count ≡ t.lexer.count) × (t.count ≤ most_lines) };
 }
 
 impl TextLines {
@@ -57,7 +58,7 @@ impl TextLines {
     /// The number of physical lines taken so far.
     pub fn count(&self) -> u32
         ensures count { result ≡ self.now.lexer.count }
-        ensures limit { result ≤ MOST_LINES }
+        ensures limit { result ≤ most_lines }
     {
         self.count
     }
@@ -89,7 +90,7 @@ impl TextLines {
         requires { self.old.reader.stop ≡ None }
         ensures line { GivesNext self.old self.new (R.left input.old) (R.left input.new) result }
         ensures tokens { IfOk result (λ line. IfSome line (λ given. AreTokens given.tokens)) }
-        ensures counts { IfOk result (λ line. IsSome line → self.old.lexer.count < MOST_LINES × (self.old.lexer.count < self.new.lexer.count)) }
+        ensures counts { IfOk result (λ line. IsSome line → self.old.lexer.count < most_lines × (self.old.lexer.count < self.new.lexer.count)) }
         ensures errors { CountsFault (R.failed input.old) (R.failed input.new) result }
         ensures goes_on { OnOk result (self.new.reader.stop ≡ None) }
     {
@@ -117,7 +118,7 @@ impl TextLines {
 
     /// Ends the text: a line that a continuation keeps open is at fault.
     fn end(&mut self) -> Result<(), LoadFault>
-        ensures ok { OnOk result (left_open self.old.lexer.line ≡ []) }
+        ensures ok { OnOk result (line_left_open self.old.lexer.line ≡ []) }
         ensures err { IfErr result (LeavesOpen self.old.lexer) }
         ensures count { self.new.lexer.count ≡ self.old.lexer.count }
         ensures reader { self.new.reader ≡ self.old.reader }
@@ -207,8 +208,8 @@ impl TextLines {
 
 /// The count of physical lines, one higher; the lexer counts no further than `MOST_LINES`.
 fn one_more(count: u32) -> u32
-    requires { count ≤ MOST_LINES }
-    ensures { result ≡ min (count + 1) MOST_LINES }
+    requires { count ≤ most_lines }
+    ensures { result ≡ min (count + 1) most_lines }
 {
     (count + 1).min(MOST_LINES)
 }

@@ -13,7 +13,7 @@ use coll_syntax::{SyntaxFault, copied_name, ended, is_word};
 use std::alloc::Global;
 
 /// A line of a table's category (POSIX.1-2017, 7.3.2).
-#[derive(Debug, Drop)]
+#[derive(Drop)]
 pub enum PlainTableLine {
     /// `collating-symbol <X>`: declares the name.
     Symbol(TextBuf),

@@ -2,7 +2,7 @@
 use Rattle.std.proofs.Common.{◌≡◌, [], refl, sym, ap, subst, ◌∙◌, arith, rules}
 use Rattle.std.specs.Prelude.{Ok}
 use Rattle.std.proofs.lemmas.Result.{err_from_is_err_and}
-use Rattle.coll_lex.specs.LogicalLines.{LexerState, left_open}
+use Rattle.coll_lex.specs.LogicalLines.{LexerState, line_left_open}
 use Rattle.coll_table.specs.TextLines.{FeedsOne, CountsStep, NextFails, LeavesOpen}
 use Rattle.coll_table.specs.declared.load_faults.LoadCause.{LoadCause}
 use Rattle.coll_table.specs.declared.steps.Step.{Step}
@@ -55,6 +55,6 @@ pub returns-in-End-clause-line : goal.returns-in-End-clause-line
 returns-in-End-clause-line g c =
     let left = g.R.Source.left in
     let line = subst (λ (t : Step). FeedsOne c.lines.self c.take_line.new.self (left c.lines.input) (left c.take_line.new.input) (Ok t)) c.in-End.is c.in_ok-line.ensures.line in
-    let none = subst (λ (s : LexerState). left_open s.line ≡ []) line.1 c.in_ok-end-in-End.ensures.ok in
+    let none = subst (λ (s : LexerState). line_left_open s.line ≡ []) line.1 c.in_ok-end-in-End.ensures.ok in
     none_next c.args.self.now c.lines.self (left c.args.input.now) (left c.lines.input) c.lines.invariant.next c.end.new.self (left c.take_line.new.input) line.0 none
     (c.end.ensures.count ∙ ap (λ (s : LexerState). s.count) line.1)

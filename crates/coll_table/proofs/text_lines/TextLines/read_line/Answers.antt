@@ -1,6 +1,6 @@
 -- What the reader answers, said of the lines of the text.
 use Rattle.std.proofs.Common.{◌≡◌, ◌<◌, None, sym, subst, length, Ok}
-use Rattle.coll_lex.specs.declared.tokens.TheConstants.{MOST_LINE_BYTES}
+use Rattle.coll_lex.specs.Limits.{most_line_bytes}
 use Rattle.coll_table.specs.TextLines.{TextState, ReadsOne, FirstFails}
 use Rattle.coll_table.proofs.TextSteps.{advanced, stops_long}
 use Rattle.coll_table.proofs.text_lines.TextLines.read_line.Goals as goal
@@ -22,6 +22,6 @@ returns-in-Err-LineTooLong-clause-line g c =
     let failed = g.R.Source.failed in
     let none = subst (λ (t : TextState). t.reader.stop ≡ None) (sym c.self.view_is) c.requires in (
       c.next_number-number.ensures,
-      subst (λ t. FirstFails t (left c.args.input.now) (λ first. MOST_LINE_BYTES < length first)) c.self.view_is
+      subst (λ t. FirstFails t (left c.args.input.now) (λ first. most_line_bytes < length first)) c.self.view_is
           (stops_long before after (left c.args.input.now) (left c.advance.new.input) (failed c.args.input.now) (failed c.advance.new.input) c.in-Err-LineTooLong.field-0 c.in-Err-LineTooLong.field-0-is none c.in-Err-LineTooLong.ensures),
     )
