@@ -1,7 +1,8 @@
 //! Statements rewrite a table.
 //!
 //! `apply` is `delta` of `specs/Delta.antt`: it judges the statement first, then rewrites a copy and puts it in the table's
-//! place. So a refusal, want of memory included, changes nothing.
+//! place. So a refusal, want of memory included, changes nothing. How the rewriting is done may change; a new statement, or a
+//! new refusal of one, is a case of `delta` first.
 
 ghost use Rattle.std.specs.Prelude.{◌≡◌, ◌≢◌, ◌<◌, ◌∷◌, [], length, true, false, None, Some, Ok, Err, IsTrue, IfOk, IfErr, OnOk, OnErr, position, vec_len, vec_capacity};
 ghost use Rattle.coll_syntax.specs.Identifier.{same_id, has_id};

@@ -2,7 +2,8 @@
 //!
 //! A `Draft` keeps of the lines accepted so far what the next one is judged by: whether an order is open, whether there
 //! was one, and the table. Each method judges one kind of line, as `line_cause` of `specs/Reading.antt` does from the list of
-//! the lines before it. After a refusal the draft is given up.
+//! the lines before it. After a refusal the draft is given up. What may stand where is changed in `line_cause` first; what a
+//! draft keeps may change as long as it says as much of the lines before (`draft_of` of `specs/Drafts.antt`).
 
 ghost use Rattle.std.specs.Prelude.{◌≡◌, ◌≢◌, [], Ok, Err, IfOk, IfErr, OnOk};
 ghost use Rattle.coll_lex.specs.Names.{IsName};

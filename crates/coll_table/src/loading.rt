@@ -2,7 +2,7 @@
 //!
 //! The answer is `reads` of `specs/Reading.antt`: the lines up to the category are looked at alone, those of the category
 //! as logical lines, each judged from the lines accepted before it, and the first line at fault decides. The lines come
-//! from `TextLines`, and `Draft` keeps what the next one is judged by.
+//! from `TextLines`, and `Draft` keeps what the next one is judged by. A new cause of a refused load is a case of `reads` first.
 
 ghost use Rattle.std.specs.Prelude.{◌≡◌, None, IfOk, IfErr, OnOk};
 ghost use Rattle.coll_lex.specs.Names.{AreTokens};

@@ -1,7 +1,8 @@
 //! Records: what undoes a statement that a table accepted, and does it again.
 //!
 //! A record fits the table that it came with, and turning it twice gives the same table (`specs/Record.antt`). It keeps the
-//! other table whole, and turning exchanges the two.
+//! other table whole, and turning exchanges the two. What a record keeps may change: callers know it by `fits`, `turn` and
+//! `Extends` alone.
 
 ghost use Rattle.std.specs.Prelude.{◌≡◌};
 ghost use Rattle.coll_table.specs.Record.{Extends, fits, turn};

@@ -1,4 +1,6 @@
 //! What one physical line gave.
+//!
+//! In a file of its own, since the definitions that `text_lines` cites name it.
 
 use coll_lex::Line;
 

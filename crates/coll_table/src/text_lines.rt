@@ -3,7 +3,8 @@
 //! `TextLines` joins a reader of physical lines and a lexer, and counts the physical lines. Its contracts
 //! speak of the text that is unread: which of its lines were taken, and what the definition of reading says of them
 //! (`specs/TextLines.antt`). Each call takes lines up to the next one that matters: the one at which the category
-//! begins, or the next logical line.
+//! begins, or the next logical line. What a line is belongs to the lexer, and what it means to `loading`: here lines are only
+//! passed on and counted.
 
 ghost use Rattle.std.specs.Prelude.{◌≡◌, ◌≢◌, ◌≤◌, ◌+◌, ◌<◌, [], None, min, IsSome, IfSome, IfOk, IfErr, OnOk};
 ghost use Rattle.coll_lex.specs.Limits.{most_lines};
