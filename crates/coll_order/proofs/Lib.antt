@@ -1,8 +1,10 @@
+mod Calls
+pub mod LayoutLemmas
 mod Linking
-mod ListLemmas
-mod RingLemmas
+pub mod ListLemmas
+pub mod RingLemmas
 mod Runs
-mod Sameness
+pub mod Sameness
 mod StoreLemmas
 mod Tags
 mod Unlinking

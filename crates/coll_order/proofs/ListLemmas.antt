@@ -1,14 +1,13 @@
 -- Lists of nodes and of rings: what taking a node out and putting it in do to what stands where.
-use Rattle.std.proofs.Common.{◌≡◌, ℕ, zero, suc, ◌+◌, ◌<◌, ◌≤◌, Bool, true, false, ◌||◌, cond, List, [], ◌∷◌, ◌++◌, Option, Some, None, IsSome, length, get_or, map, sym, ap, subst, ◌∙◌, refl, arith, ◌⊎◌, inl, inr}
+use Rattle.std.proofs.Common.{◌≡◌, ℕ, suc, Bool, true, false, ◌||◌, cond, List, [], ◌∷◌, Option, Some, None, sym, ap, ◌∙◌, refl}
 use Rattle.std.specs.List.{list_any}
 use Rattle.std.specs.Option.{option_or}
 use Rattle.coll_order.specs.Lists.{same_node, same_place, has_node, first_in, next_in, place_in, without, put_after}
-use Rattle.coll_order.specs.Layout.{head_of, is_in, place_from, next_among, rings_without, rings_with}
-use Rattle.coll_order.specs.Sound.{AreDistinct, AreApart, StandOnce}
+use Rattle.coll_order.specs.Layout.{head_of, is_in, next_among, rings_without}
 use Rattle.coll_order.specs.declared.places.NodeId.{NodeId}
 use Rattle.coll_order.specs.declared.places.Place.{Place}
-use Rattle.coll_order.specs.declared.places.Place.TheVariants.{Head, After}
-use Rattle.coll_order.proofs.Sameness.{by_test, not_both, same_node_is, same_node_itself, other_node, other_node_turned, same_place_is, same_place_itself, other_place}
+use Rattle.coll_order.specs.declared.places.Place.TheVariants.{After}
+use Rattle.coll_order.proofs.Sameness.{by_test, not_both, same_node_is, same_node_itself, same_place_is, same_place_itself}
 
 -- neither of two tests that are false together is true
 pub neither : (a b : Bool) → (a || b) ≡ false → (a ≡ false) × (b ≡ false)
@@ -121,7 +120,7 @@ without_put place start node (first ∷ rest) absent =
     by_test (λ b. without node (cond b (node ∷ first ∷ rest) (first ∷ put_after place node (After first) rest)) ≡ first ∷ rest) (same_place place start)
     (λ here. ap (λ b. cond b (without node (first ∷ rest)) (node ∷ without node (first ∷ rest))) (same_node_itself node) ∙ without_absent node (first ∷ rest) absent)
     (λ off. ap (λ b. cond b (without node (put_after place node (After first) rest)) (first ∷ without node (put_after place node (After first) rest))) apart.0
-        ∙ ap (λ nodes. first ∷ nodes) (without_put place (After first) node rest apart.1))
+    ∙ ap (λ nodes. first ∷ nodes) (without_put place (After first) node rest apart.1))
 
 -- the place of a node that was put after a place is that place
 pub place_put : (place start : Place) (node : NodeId) (nodes : List NodeId) → has_node nodes node ≡ false → is_on place start nodes ≡ true → place_in start (put_after place node start nodes) node ≡ Some place
@@ -134,7 +133,7 @@ place_put place start node (first ∷ rest) absent on =
     by_test (λ b. same_place place start ≡ b → place_in start (cond b (node ∷ first ∷ rest) (first ∷ put_after place node (After first) rest)) node ≡ Some place) (same_place place start)
     (λ here e. ap (λ b. cond b (Some start) (place_in (After node) (first ∷ rest) node)) (same_node_itself node) ∙ ap Some (sym (same_place_is place start here)))
     (λ off e. ap (λ b. cond b (Some start) (place_in (After first) (put_after place node (After first) rest) node)) apart.0
-        ∙ place_put place (After first) node rest apart.1 (sym (ap (λ b. b || is_on place (After first) rest) off) ∙ on)) refl
+    ∙ place_put place (After first) node rest apart.1 (sym (ap (λ b. b || is_on place (After first) rest) off) ∙ on)) refl
 
 -- a node that isn't in a list has no place there
 pub place_absent : (start : Place) (nodes : List NodeId) (node : NodeId) → has_node nodes node ≡ false → place_in start nodes node ≡ None
@@ -149,3 +148,22 @@ absent_place start [] node none = refl
 absent_place start (first ∷ rest) node none =
     by_test (λ b. cond b (Some start) (place_in (After first) rest node) ≡ None → (b || has_node rest node) ≡ false) (same_node node first)
     (λ on e. cc) (λ off e. absent_place (After first) rest node e) none
+
+-- a node that isn't in a list has no node after it there
+pub next_absent : (nodes : List NodeId) (node : NodeId) → has_node nodes node ≡ false → next_in nodes node ≡ None
+next_absent [] node absent = refl
+next_absent (first ∷ rest) node absent =
+    let apart = neither (same_node node first) (has_node rest node) absent in
+    ap (λ b. cond b (first_in rest) (next_in rest node)) apart.0 ∙ next_absent rest node apart.1
+
+-- nor is there one in rings that haven't it
+pub next_among_absent : (rings : List (List NodeId)) (node : NodeId) → is_in rings node ≡ false → next_among rings node ≡ None
+next_among_absent [] node absent = refl
+next_among_absent (nodes ∷ rings) node absent =
+    let apart = neither (has_node nodes node) (is_in rings node) absent in
+    ap (λ found. option_or found (next_among rings node)) (next_absent nodes node apart.0) ∙ next_among_absent rings node apart.1
+
+-- the first of two options is the one where the second is none
+pub or_none : (found : Option NodeId) → option_or found None ≡ found
+or_none None = refl
+or_none (Some node) = refl

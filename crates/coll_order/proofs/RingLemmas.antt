@@ -1,5 +1,5 @@
 -- Rings of nodes: the two laws of taking a node out and putting it in.
-use Rattle.std.proofs.Common.{◌≡◌, ℕ, zero, suc, ◌+◌, ◌<◌, ◌≤◌, Bool, true, false, ◌||◌, cond, List, [], ◌∷◌, Option, Some, None, length, eqb, sym, ap, subst, ◌∙◌, refl, arith, ◌⊎◌, inl, inr}
+use Rattle.std.proofs.Common.{◌≡◌, ℕ, zero, suc, ◌+◌, ◌<◌, ◌≤◌, true, false, ◌||◌, cond, List, [], ◌∷◌, Some, None, length, eqb, sym, ap, subst, ◌∙◌, refl, arith, ◌⊎◌, inl, inr}
 use Rattle.std.proofs.lemmas.Bool.Decides.{Decides-eqb}
 use Rattle.std.specs.Option.{option_or}
 use Rattle.coll_order.specs.Lists.{same_node, same_place, has_node, place_in, without, put_after}
@@ -33,24 +33,31 @@ among_head index first (nodes ∷ rings) low high =
     by_test (λ b. eqb index first ≡ b → is_among (head_of index) first (nodes ∷ rings) ≡ true) (eqb index first)
     (λ on e. or_first (is_on (head_of index) (head_of first) nodes) _ (or_first (eqb index first) _ on))
     (λ off e.
-      let differ : index ≡ first → ⊥ = λ same. not_both ((Decides-eqb index first).1 same) off in
-      let above : suc first ≤ index = grind arith in
-      let below : index < suc first + length rings = omega arith in
-      or_second (is_on (head_of index) (head_of first) nodes) _ (among_head index (suc first) rings above below))
+    let differ : index ≡ first → ⊥ = λ same. not_both ((Decides-eqb index first).1 same) off in
+    let above : suc first ≤ index = grind arith in
+    let below : index < suc first + length rings = omega arith in
+    or_second (is_on (head_of index) (head_of first) nodes) _ (among_head index (suc first) rings above below))
     refl
+
+-- the head of a ring is after no node
+head_off : (index : ℕ) (nodes : List NodeId) (start : Place) → same_place (head_of index) start ≡ false → is_on (head_of index) start nodes ≡ false
+head_off index [] start off = nor (same_place (head_of index) start) false off refl
+head_off index (node ∷ nodes) start off = nor (same_place (head_of index) start) _ off (neither (same_place (head_of index) start) _ (head_off index nodes start off)).1
+
+-- heads of different rings differ
+pub heads_differ : (a b : ℕ) → a < b → head_of a ≡ head_of b → ⊥
+heads_differ a b below same = let equal : a ≡ b = ap number same in absurd (omega arith) where
+  number : Place → ℕ
+  number (Head ring) = ring.index
+  number (After node) = zero
 
 -- the head of an earlier ring isn't in rings
 pub among_earlier : (index first : ℕ) (rings : List (List NodeId)) → index < first → is_among (head_of index) first rings ≡ false
 among_earlier index first [] low = refl
 among_earlier index first (nodes ∷ rings) low =
-    nor (is_on (head_of index) (head_of first) nodes) _ (earlier_off index first nodes low) (among_earlier index (suc first) rings (omega arith)) where
-      no_after : (index : ℕ) (nodes : List NodeId) (start : Place) → same_place (head_of index) start ≡ false → is_on (head_of index) start nodes ≡ false
-      no_after index [] start off = nor (same_place (head_of index) start) false off refl
-      no_after index (node ∷ nodes) start off = nor (same_place (head_of index) start) _ off (neither (same_place (head_of index) start) _ (no_after index nodes start off)).1
-      earlier_off : (index first : ℕ) (nodes : List NodeId) → index < first → is_on (head_of index) (head_of first) nodes ≡ false
-      earlier_off index first nodes low =
-          no_after index nodes (head_of first) (by_test (λ b. eqb index first ≡ b → b ≡ false) (eqb index first)
-          (λ on e. let same : index ≡ first = (Decides-eqb index first).0 on in absurd (omega arith)) (λ off e. refl) refl)
+    nor (is_on (head_of index) (head_of first) nodes) _
+    (head_off index nodes (head_of first) (other_place (head_of index) (head_of first) (heads_differ index first low)))
+    (among_earlier index (suc first) rings (omega arith))
 
 -- rings with a node put in, without it, are the rings that hadn't it
 pub rings_without_put : (place : Place) (node : NodeId) (first : ℕ) (rings : List (List NodeId)) → is_in rings node ≡ false → rings_without node (rings_with place node first rings) ≡ rings
@@ -67,7 +74,7 @@ is_in_put_itself place node first (nodes ∷ rings) on =
     by_test (λ b. is_on place (head_of first) nodes ≡ b → is_in (rings_with place node first (nodes ∷ rings)) node ≡ true) (is_on place (head_of first) nodes)
     (λ here e. or_first (has_node (put_after place node (head_of first) nodes) node) _ (has_put_itself place (head_of first) node nodes here))
     (λ off e. or_second (has_node (put_after place node (head_of first) nodes) node) _
-        (is_in_put_itself place node (suc first) rings (sym (ap (λ b. b || is_among place (suc first) rings) off) ∙ on)))
+    (is_in_put_itself place node (suc first) rings (sym (ap (λ b. b || is_among place (suc first) rings) off) ∙ on)))
     refl
 
 -- the others are in them where they were
@@ -86,8 +93,8 @@ place_from_put place node first (nodes ∷ rings) absent on =
     by_test (λ b. is_on place (head_of first) nodes ≡ b → place_from first (rings_with place node first (nodes ∷ rings)) node ≡ Some place) (is_on place (head_of first) nodes)
     (λ here e. ap (λ found. option_or found later) (place_put place (head_of first) node nodes apart.0 here))
     (λ off e. ap (λ nodes. option_or (place_in (head_of first) nodes node) later) (put_nowhere place (head_of first) node nodes off)
-        ∙ (ap (λ found. option_or found later) (place_absent (head_of first) nodes node apart.0)
-        ∙ place_from_put place node (suc first) rings apart.1 (sym (ap (λ b. b || is_among place (suc first) rings) off) ∙ on)))
+    ∙ (ap (λ found. option_or found later) (place_absent (head_of first) nodes node apart.0)
+    ∙ place_from_put place node (suc first) rings apart.1 (sym (ap (λ b. b || is_among place (suc first) rings) off) ∙ on)))
     refl
 
 -- after a place that isn't in rings nothing is put
@@ -122,16 +129,16 @@ put_back place start node [] e distinct fresh = cc
 put_back place start node (first ∷ rest) e distinct fresh =
     by_test (λ b. same_node node first ≡ b → cond b (Some start) (place_in (After first) rest node) ≡ Some place → put_after place node start (cond b (without node rest) (first ∷ without node rest)) ≡ first ∷ rest) (same_node node first)
     (λ on t e.
-      let same : node ≡ first = same_node_is node first on in
-      let here : place ≡ start = cc in
-      let absent : has_node rest node ≡ false = subst (λ n. has_node rest n ≡ false) (sym same) distinct.0 in
-      ap (put_after place node start) (without_absent node rest absent) ∙ (ap (λ p. put_after p node start rest) here ∙ (put_first start node rest ∙ ap (λ n. n ∷ rest) same)))
+    let same : node ≡ first = same_node_is node first on in
+    let here : place ≡ start = cc in
+    let absent : has_node rest node ≡ false = subst (λ n. has_node rest n ≡ false) (sym same) distinct.0 in
+    ap (put_after place node start) (without_absent node rest absent) ∙ (ap (λ p. put_after p node start rest) here ∙ (put_first start node rest ∙ ap (λ n. n ∷ rest) same)))
     (λ off t e.
-      let stands = place_after first rest node place e in
-      let elsewhere : same_place place start ≡ false = other_place place start (λ same. not_both stands.2 (fresh stands.0 (sym same ∙ stands.1))) in
-      let later : (y : NodeId) → After first ≡ After y → has_node rest y ≡ false = λ y same. subst (λ n. has_node rest n ≡ false) (cc) distinct.0 in
-      ap (λ b. cond b (node ∷ first ∷ without node rest) (first ∷ put_after place node (After first) (without node rest))) elsewhere
-      ∙ ap (λ nodes. first ∷ nodes) (put_back place (After first) node rest e distinct.1 later)) refl e
+    let stands = place_after first rest node place e in
+    let elsewhere : same_place place start ≡ false = other_place place start (λ same. not_both stands.2 (fresh stands.0 (sym same ∙ stands.1))) in
+    let later : (y : NodeId) → After first ≡ After y → has_node rest y ≡ false = λ y same. subst (λ n. has_node rest n ≡ false) (cc) distinct.0 in
+    ap (λ b. cond b (node ∷ first ∷ without node rest) (first ∷ put_after place node (After first) (without node rest))) elsewhere
+    ∙ ap (λ nodes. first ∷ nodes) (put_back place (After first) node rest e distinct.1 later)) refl e
 
 -- a place in rings is the head of one of them, or after one of their nodes
 place_of_rings : (first : ℕ) (rings : List (List NodeId)) (node : NodeId) (place : Place) → place_from first rings node ≡ Some place
@@ -139,7 +146,7 @@ place_of_rings : (first : ℕ) (rings : List (List NodeId)) (node : NodeId) (pla
 place_of_rings first [] node place e = cc
 place_of_rings first (nodes ∷ rings) node place e =
     elim (place_in (head_of first) nodes node) as (λ found. place_in (head_of first) nodes node ≡ found → option_or found (place_from (suc first) rings node) ≡ Some place
-        → ((index : ℕ) × (place ≡ head_of index) × (first ≤ index)) ⊎ ((y : NodeId) × (place ≡ After y) × (is_in (nodes ∷ rings) y ≡ true))) [
+    → ((index : ℕ) × (place ≡ head_of index) × (first ≤ index)) ⊎ ((y : NodeId) × (place ≡ After y) × (is_in (nodes ∷ rings) y ≡ true))) [
       | Some p ↦ λ here e. elim (place_of_list (head_of first) nodes node place (here ∙ e)) [
         | inl at ↦ inl (first, at, omega arith)
         | inr at ↦ inr (at.0, at.1, or_first (has_node nodes at.0) _ at.2)
@@ -151,16 +158,9 @@ place_of_rings first (nodes ∷ rings) node place e =
     ] refl e
 
 -- a node in none of two lists' rings can't be in the second where it is in the first
-not_apart : (nodes : List NodeId) (rings : List (List NodeId)) (node : NodeId) → AreApart nodes rings → is_in rings node ≡ true → has_node nodes node ≡ false
+pub not_apart : (nodes : List NodeId) (rings : List (List NodeId)) (node : NodeId) → AreApart nodes rings → is_in rings node ≡ true → has_node nodes node ≡ false
 not_apart nodes rings node apart there =
     by_test (λ b. has_node nodes node ≡ b → b ≡ false) (has_node nodes node) (λ here e. not_both there (apart node here)) (λ off e. refl) refl
-
--- heads of different rings differ
-pub heads_differ : (a b : ℕ) → a < b → head_of a ≡ head_of b → ⊥
-heads_differ a b below same = let equal : a ≡ b = ap number same in absurd (omega arith) where
-  number : Place → ℕ
-  number (Head ring) = ring.index
-  number (After node) = zero
 
 -- a node that was taken out of rings goes back to its place
 pub rings_put_back : (place : Place) (node : NodeId) (first : ℕ) (rings : List (List NodeId)) → place_from first rings node ≡ Some place → StandOnce rings
@@ -168,28 +168,22 @@ pub rings_put_back : (place : Place) (node : NodeId) (first : ℕ) (rings : List
 rings_put_back place node first [] e once = cc
 rings_put_back place node first (nodes ∷ rings) e once =
     elim (place_in (head_of first) nodes node) as (λ found. place_in (head_of first) nodes node ≡ found → option_or found (place_from (suc first) rings node) ≡ Some place
-        → put_after place node (head_of first) (without node nodes) ∷ rings_with place node (suc first) (rings_without node rings) ≡ nodes ∷ rings) [
+    → put_after place node (head_of first) (without node nodes) ∷ rings_with place node (suc first) (rings_without node rings) ≡ nodes ∷ rings) [
       | Some p ↦ λ here e.
-        let at : place_in (head_of first) nodes node ≡ Some place = here ∙ e in
-        let there : has_node nodes node ≡ true = by_test (λ b. has_node nodes node ≡ b → b ≡ true) (has_node nodes node) (λ on t. refl) (λ off t. let none = place_absent (head_of first) nodes node off in cc) refl in
-        let nowhere : is_among place (suc first) rings ≡ false = elim (place_of_list (head_of first) nodes node place at) [
-          | inl same ↦ ap (λ p. is_among p (suc first) rings) same ∙ among_earlier first (suc first) rings (omega arith)
-          | inr same ↦ ap (λ p. is_among p (suc first) rings) same.1 ∙ (among_after same.0 (suc first) rings ∙ once.1 same.0 same.2)
-        ] in
-        ap (λ list. list ∷ rings_with place node (suc first) (rings_without node rings)) (put_back place (head_of first) node nodes at once.0 (λ y same. cc))
-        ∙ ap (λ rest. nodes ∷ rest) (ap (rings_with place node (suc first)) (rings_without_absent node rings (once.1 node there)) ∙ rings_put_nowhere place node (suc first) rings nowhere)
+          let at : place_in (head_of first) nodes node ≡ Some place = here ∙ e in
+          let there : has_node nodes node ≡ true = by_test (λ b. has_node nodes node ≡ b → b ≡ true) (has_node nodes node) (λ on t. refl) (λ off t. let none = place_absent (head_of first) nodes node off in cc) refl in
+          let nowhere : is_among place (suc first) rings ≡ false = elim (place_of_list (head_of first) nodes node place at) [
+            | inl same ↦ ap (λ p. is_among p (suc first) rings) same ∙ among_earlier first (suc first) rings (omega arith)
+            | inr same ↦ ap (λ p. is_among p (suc first) rings) same.1 ∙ (among_after same.0 (suc first) rings ∙ once.1 same.0 same.2)
+          ] in
+          ap (λ list. list ∷ rings_with place node (suc first) (rings_without node rings)) (put_back place (head_of first) node nodes at once.0 (λ y same. cc))
+          ∙ ap (λ rest. nodes ∷ rest) (ap (rings_with place node (suc first)) (rings_without_absent node rings (once.1 node there)) ∙ rings_put_nowhere place node (suc first) rings nowhere)
       | None ↦ λ here e.
-        let off : is_on place (head_of first) nodes ≡ false = elim (place_of_rings (suc first) rings node place e) [
-          | inl same ↦ ap (λ p. is_on p (head_of first) nodes) same.1 ∙ later_off same.0 first nodes same.2
-          | inr same ↦ ap (λ p. is_on p (head_of first) nodes) same.1 ∙ not_apart nodes rings same.0 once.1 same.2
-        ] in
-        ap (λ list. put_after place node (head_of first) list ∷ rings_with place node (suc first) (rings_without node rings)) (without_absent node nodes (absent_place (head_of first) nodes node here))
-        ∙ (ap (λ list. list ∷ rings_with place node (suc first) (rings_without node rings)) (put_nowhere place (head_of first) node nodes off)
-        ∙ ap (λ rest. nodes ∷ rest) (rings_put_back place node (suc first) rings e once.2))
-    ] refl e where
-      no_after : (index : ℕ) (nodes : List NodeId) (start : Place) → same_place (head_of index) start ≡ false → is_on (head_of index) start nodes ≡ false
-      no_after index [] start off = nor (same_place (head_of index) start) false off refl
-      no_after index (node ∷ nodes) start off = nor (same_place (head_of index) start) _ off (neither (same_place (head_of index) start) _ (no_after index nodes start off)).1
-      later_off : (index first : ℕ) (nodes : List NodeId) → suc first ≤ index → is_on (head_of index) (head_of first) nodes ≡ false
-      later_off index first nodes high =
-          no_after index nodes (head_of first) (other_place (head_of index) (head_of first) (λ same. heads_differ first index (omega arith) (sym same)))
+          let off : is_on place (head_of first) nodes ≡ false = elim (place_of_rings (suc first) rings node place e) [
+            | inl same ↦ ap (λ p. is_on p (head_of first) nodes) same.1 ∙ head_off same.0 nodes (head_of first) (other_place (head_of same.0) (head_of first) (λ e. heads_differ first same.0 same.2 (sym e)))
+            | inr same ↦ ap (λ p. is_on p (head_of first) nodes) same.1 ∙ not_apart nodes rings same.0 once.1 same.2
+          ] in
+          ap (λ list. put_after place node (head_of first) list ∷ rings_with place node (suc first) (rings_without node rings)) (without_absent node nodes (absent_place (head_of first) nodes node here))
+          ∙ (ap (λ list. list ∷ rings_with place node (suc first) (rings_without node rings)) (put_nowhere place (head_of first) node nodes off)
+          ∙ ap (λ rest. nodes ∷ rest) (rings_put_back place node (suc first) rings e once.2))
+    ] refl e

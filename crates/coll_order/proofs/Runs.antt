@@ -1,5 +1,5 @@
 -- Runs of nodes along links.
-use Rattle.std.proofs.Common.{◌≡◌, ℕ, zero, suc, ◌+◌, ◌<◌, ◌≤◌, Bool, true, false, ◌||◌, eqb, map, cond, get_or, List, [], ◌∷◌, Option, Some, None, length, sym, ap, subst, ◌∙◌, refl, arith, ◌⊎◌, inl, inr}
+use Rattle.std.proofs.Common.{◌≡◌, ℕ, zero, suc, ◌+◌, ◌<◌, ◌≤◌, true, false, ◌||◌, eqb, map, cond, get_or, List, [], ◌∷◌, Option, Some, None, length, sym, ap, subst, ◌∙◌, refl, arith, ◌⊎◌, inl, inr}
 use Rattle.std.specs.Option.{option_map_or, option_and_then, option_or}
 use Rattle.std.specs.List.{list_any, IsDistinct, AllByRecursion}
 use Rattle.std.proofs.lemmas.Map.Steps.{length-le_from_distinct_below}
@@ -10,10 +10,10 @@ use Rattle.coll_order.specs.Sound.{AreDistinct, AreApart, StandOnce}
 use Rattle.coll_order.specs.Store.{Links, slot_at, next_at, before_at}
 use Rattle.coll_order.specs.declared.places.NodeId.{NodeId}
 use Rattle.coll_order.specs.declared.places.Place.{Place}
-use Rattle.coll_order.specs.declared.places.Place.TheVariants.{Head, After}
+use Rattle.coll_order.specs.declared.places.Place.TheVariants.{After}
 use Rattle.coll_order.specs.declared.store.Node.{Node}
-use Rattle.coll_order.proofs.Sameness.{by_test, not_both, same_node_is, same_node_itself, other_node}
-use Rattle.coll_order.proofs.ListLemmas.{neither, nor, or_first, or_second, absent_place}
+use Rattle.coll_order.proofs.Sameness.{by_test, not_both, same_node_is, same_node_itself}
+use Rattle.coll_order.proofs.ListLemmas.{neither, nor, or_first, or_second, absent_place, next_absent, next_among_absent, or_none}
 use Rattle.coll_order.proofs.RingLemmas.{heads_differ}
 
 -- each node knows the place that leads to it
@@ -53,15 +53,15 @@ unfolding IsRun
 run_distinct links back start [] run fresh = tt
 run_distinct links back start (first ∷ rest) run fresh =
     let once : has_node rest first ≡ false = by_test (λ b. has_node rest first ≡ b → b ≡ false) (has_node rest first)
-        (λ there e. elim (run_place links (After first) rest first run.1 there) [
-          | inl at ↦ not_both (or_first (same_node first first) _ (same_node_itself first)) (fresh first (same_before links back start (After first) first run.0 at))
-          | inr at ↦ not_both (or_second (same_node at.0 first) _ at.1) (fresh at.0 (same_before links back start (After at.0) first run.0 at.2))
-        ])
-        (λ off e. refl) refl in
+    (λ there e. elim (run_place links (After first) rest first run.1 there) [
+      | inl at ↦ not_both (or_first (same_node first first) _ (same_node_itself first)) (fresh first (same_before links back start (After first) first run.0 at))
+      | inr at ↦ not_both (or_second (same_node at.0 first) _ at.1) (fresh at.0 (same_before links back start (After at.0) first run.0 at.2))
+    ])
+    (λ off e. refl) refl in
     (once, run_distinct links back (After first) rest run.1 (λ y same. subst (λ n. has_node rest n ≡ false) (cc) once))
 
 -- a slot with a node has a key below their number
-within : {X : Type 0} (slots : List (Option X)) (key : ℕ) (value : X) → get_or slots key None ≡ Some value → key < length slots
+pub within : {X : Type 0} (slots : List (Option X)) (key : ℕ) (value : X) → get_or slots key None ≡ Some value → key < length slots
 within [] key value e = cc
 within (slot ∷ slots) zero value e = omega arith
 within (slot ∷ slots) (suc key) value e = let later = within slots key value e in omega arith
@@ -137,11 +137,11 @@ unfolding IsRun
 apart_runs links back start [] index others run other_run elsewhere fresh node there = not_both there refl
 apart_runs links back start (first ∷ rest) index others run other_run elsewhere fresh node there =
     let off : has_node others first ≡ false = by_test (λ b. has_node others first ≡ b → b ≡ false) (has_node others first)
-        (λ on e. elim (run_place links (head_of index) others first other_run on) [
-          | inl at ↦ absurd (elsewhere (same_before links back start (head_of index) first run.0 at))
-          | inr at ↦ not_both at.1 (fresh at.0 (same_before links back start (After at.0) first run.0 at.2))
-        ])
-        (λ off e. refl) refl in
+    (λ on e. elim (run_place links (head_of index) others first other_run on) [
+      | inl at ↦ absurd (elsewhere (same_before links back start (head_of index) first run.0 at))
+      | inr at ↦ not_both at.1 (fresh at.0 (same_before links back start (After at.0) first run.0 at.2))
+    ])
+    (λ off e. refl) refl in
     by_test (λ b. same_node node first ≡ b → (b || has_node rest node) ≡ true → has_node others node ≡ false) (same_node node first)
     (λ on e t. subst (λ n. has_node others n ≡ false) (sym (same_node_is node first on)) off)
     (λ no e t. apart_runs links back (After first) rest index others run.1 other_run (λ same. cc) (λ y same. subst (λ n. has_node others n ≡ false) (cc) off) node t) refl there
@@ -163,7 +163,7 @@ stand_once links back first [] runs = tt
 stand_once links back first (nodes ∷ rings) runs = (
   run_distinct links back (head_of first) nodes runs.0 (λ y same. cc),
   apart_rings links back first nodes (suc first) rings (omega arith) runs.0 runs.1,
-  stand_once links back (suc first) rings runs.1
+  stand_once links back (suc first) rings runs.1,
 )
 
 -- the first node of a list that links run through is where its beginning leads
@@ -232,20 +232,6 @@ next_leads links start (first ∷ rest) node run there =
     (λ on e t. first_leads links (After first) rest run.1 ∙ ap (λ n. next_at links (After n)) (sym (same_node_is node first on)))
     (λ off e t. next_leads links (After first) rest node run.1 t) refl there
 
--- a node that isn't in a list has no node after it there
-next_absent : (nodes : List NodeId) (node : NodeId) → has_node nodes node ≡ false → next_in nodes node ≡ None
-next_absent [] node absent = refl
-next_absent (first ∷ rest) node absent =
-    let apart = neither (same_node node first) (has_node rest node) absent in
-    ap (λ b. cond b (first_in rest) (next_in rest node)) apart.0 ∙ next_absent rest node apart.1
-
--- nor is there one in rings that haven't it
-next_among_absent : (rings : List (List NodeId)) (node : NodeId) → is_in rings node ≡ false → next_among rings node ≡ None
-next_among_absent [] node absent = refl
-next_among_absent (nodes ∷ rings) node absent =
-    let apart = neither (has_node nodes node) (is_in rings node) absent in
-    ap (λ found. option_or found (next_among rings node)) (next_absent nodes node apart.0) ∙ next_among_absent rings node apart.1
-
 -- the node after one in rings that links run through is where its link leads
 next_among_leads : (links : Links) (first : ℕ) (rings : List (List NodeId)) (node : NodeId) → AreRuns links first rings → StandOnce rings → is_in rings node ≡ true → next_among rings node ≡ next_at links (After node)
 unfolding AreRuns
@@ -253,12 +239,9 @@ next_among_leads links first [] node runs once there = not_both there refl
 next_among_leads links first (nodes ∷ rings) node runs once there =
     by_test (λ b. has_node nodes node ≡ b → (b || is_in rings node) ≡ true → option_or (next_in nodes node) (next_among rings node) ≡ next_at links (After node)) (has_node nodes node)
     (λ on e t.
-      let leads = next_leads links (head_of first) nodes node runs.0 on in
-      ap (λ later. option_or (next_in nodes node) later) (next_among_absent rings node (once.1 node on)) ∙ (or_none (next_in nodes node) ∙ leads))
-    (λ off e t. ap (λ found. option_or found (next_among rings node)) (next_absent nodes node off) ∙ next_among_leads links (suc first) rings node runs.1 once.2 t) refl there where
-      or_none : (found : Option NodeId) → option_or found None ≡ found
-      or_none None = refl
-      or_none (Some n) = refl
+    let leads = next_leads links (head_of first) nodes node runs.0 on in
+    ap (λ later. option_or (next_in nodes node) later) (next_among_absent rings node (once.1 node on)) ∙ (or_none (next_in nodes node) ∙ leads))
+    (λ off e t. ap (λ found. option_or found (next_among rings node)) (next_absent nodes node off) ∙ next_among_leads links (suc first) rings node runs.1 once.2 t) refl there
 
 -- the node directly after a linked one is where its link leads
 pub next_is : (links : Links) (rings : List (List NodeId)) → Holds links rings → (node : NodeId) → is_in rings node ≡ true → next_among rings node ≡ next_at links (After node)

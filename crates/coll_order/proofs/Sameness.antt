@@ -1,5 +1,5 @@
 -- When two names or two places are the same.
-use Rattle.std.proofs.Common.{◌≡◌, ℕ, Bool, true, false, Decides, sym, ap, subst, ◌∙◌, refl}
+use Rattle.std.proofs.Common.{◌≡◌, ℕ, Bool, true, false, Decides, sym, ap, ◌∙◌, refl}
 use Rattle.std.proofs.lemmas.Bool.{false≢true}
 use Rattle.std.proofs.lemmas.Bool.Decides.{Decides-like, Decides-eqb}
 use Rattle.coll_order.specs.Lists.{same_node, same_place}

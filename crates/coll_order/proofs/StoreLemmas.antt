@@ -1,9 +1,8 @@
 -- What writes of links come to, one after another.
-use Rattle.std.proofs.Common.{◌≡◌, false, None, sym, ap, ◌∙◌, refl}
-use Rattle.coll_order.specs.Lists.{same_node, same_place}
+use Rattle.std.proofs.Common.{None, ◌∙◌}
 use Rattle.coll_order.specs.Store.{Links, KeepsNodes, SetsNext, SetsBefore, Detaches}
 use Rattle.coll_order.specs.declared.places.NodeId.{NodeId}
-use Rattle.coll_order.specs.declared.places.Place.TheVariants.{Head, After}
+use Rattle.coll_order.specs.declared.places.Place.TheVariants.{After}
 
 -- what two steps keep, both keep
 pub keeps_both : (old between new : Links) → KeepsNodes old between → KeepsNodes between new → KeepsNodes old new

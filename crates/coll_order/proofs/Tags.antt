@@ -1,17 +1,16 @@
 -- The tags of nodes, as a map.
-use Rattle.std.proofs.Common.{◌≡◌, ℕ, zero, suc, ◌+◌, ◌<◌, ◌≤◌, Bool, true, false, cond, eqb, get_or, List, [], ◌∷◌, Option, Some, None, length, sym, ap, subst, ◌∙◌, refl, arith}
+use Rattle.std.proofs.Common.{◌≡◌, ℕ, zero, suc, ◌+◌, ◌<◌, false, cond, eqb, get_or, List, [], ◌∷◌, Option, Some, None, sym, ap, ◌∙◌, refl, arith}
 use Rattle.std.specs.Option.{option_map}
-use Rattle.std.specs.Ordering.{nat_cmp, eq_by_cmp}
+use Rattle.std.specs.Ordering.{nat_cmp}
 use Rattle.std.specs.Cmp.{nat_cmp_total, unsigned_tied}
 use Rattle.std.specs.FinMap as map
 use Rattle.std.specs.FinMap.{nat_cmp-IsAntisymmetric}
 use Rattle.std.proofs.lemmas.Bool.Decides.{Decides-eqb}
 use Rattle.coll_order.specs.Laid.{tags_from}
-use Rattle.coll_order.specs.Lists.{same_node}
-use Rattle.coll_order.specs.Store.{Links, tag_at, slot_at, Inserts, Removes}
+use Rattle.coll_order.specs.Store.{Links, tag_at, Inserts, Removes}
 use Rattle.coll_order.specs.declared.places.NodeId.{NodeId}
 use Rattle.coll_order.specs.declared.store.Node.{Node}
-use Rattle.coll_order.proofs.Sameness.{by_test, not_both, other_node}
+use Rattle.coll_order.proofs.Sameness.{by_test}
 
 -- what a map has at a key once one key more is in it
 get_inserted : (tags : map.FinMap nat_cmp ℕ) (key tag at : ℕ) → map.get (map.insert tags key tag) at ≡ cond (eqb at key) (Some tag) (map.get tags at)

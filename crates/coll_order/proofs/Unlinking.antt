@@ -1,5 +1,5 @@
 -- Taking a node out: what the writes make of the links, and of the rings that they hold.
-use Rattle.std.proofs.Common.{◌≡◌, ℕ, zero, suc, Bool, true, false, ◌||◌, cond, List, [], ◌∷◌, Option, Some, None, length, sym, ap, subst, ◌∙◌, refl}
+use Rattle.std.proofs.Common.{◌≡◌, ℕ, suc, true, false, ◌||◌, cond, List, [], ◌∷◌, Option, Some, None, length, sym, ap, subst, ◌∙◌, refl}
 use Rattle.coll_order.specs.Laid.{IsRun, AreRuns, Holds}
 use Rattle.coll_order.specs.Lists.{same_node, same_place, has_node, without}
 use Rattle.coll_order.specs.Layout.{head_of, is_in, rings_without}
@@ -7,7 +7,7 @@ use Rattle.coll_order.specs.Sound.{AreDistinct, StandOnce}
 use Rattle.coll_order.specs.Store.{Links, next_at, before_at, is_node, Joins, Detaches}
 use Rattle.coll_order.specs.declared.places.NodeId.{NodeId}
 use Rattle.coll_order.specs.declared.places.Place.{Place}
-use Rattle.coll_order.specs.declared.places.Place.TheVariants.{Head, After}
+use Rattle.coll_order.specs.declared.places.Place.TheVariants.{After}
 use Rattle.coll_order.proofs.Sameness.{by_test, not_both, same_node_is, same_node_itself, other_node, other_node_turned, same_place_is, same_place_itself, other_place}
 use Rattle.coll_order.proofs.ListLemmas.{neither, without_absent, is_in_without}
 use Rattle.coll_order.proofs.RingLemmas.{length_rings_without}
@@ -49,10 +49,10 @@ not_after_itself links start (first ∷ []) node run distinct there own =
 not_after_itself links start (first ∷ second ∷ rest) node run distinct there own =
     by_test (λ b. same_node node first ≡ b → (b || has_node (second ∷ rest) node) ≡ true → ⊥) (same_node node first)
     (λ on e t.
-      let same : node ≡ first = same_node_is node first on in
-      let next : next_at links (After node) ≡ Some second = ap (λ n. next_at links (After n)) same ∙ run.1.0 in
-      let twice : first ≡ second = cc in
-      not_both (subst (λ n. same_node first n ≡ true) twice (same_node_itself first)) (neither (same_node first second) _ distinct.0).0)
+    let same : node ≡ first = same_node_is node first on in
+    let next : next_at links (After node) ≡ Some second = ap (λ n. next_at links (After n)) same ∙ run.1.0 in
+    let twice : first ≡ second = cc in
+    not_both (subst (λ n. same_node first n ≡ true) twice (same_node_itself first)) (neither (same_node first second) _ distinct.0).0)
     (λ off e t. not_after_itself links (After first) (second ∷ rest) node run.1 distinct.1 t own) refl there
 
 -- nor in rings
@@ -84,7 +84,7 @@ unlinks old between new rings node place holds at first second =
       others = λ other apart differ. second.next_others other apart ∙ first.next_others other differ;
       gone = second.before;
       after = λ other next.
-        second.before_others other (other_node other node (λ same. not_own_place old rings holds node (next ∙ ap Some same))) ∙ first.before other next;
+          second.before_others other (other_node other node (λ same. not_own_place old rings holds node (next ∙ ap Some same))) ∙ first.before other next;
       befores = λ other apart differ. second.before_others other apart ∙ first.before_others other differ;
     }
 
@@ -97,9 +97,9 @@ kept_run old new node place start [] step run absent apart =
 kept_run old new node place start (first ∷ rest) step run absent apart =
     let elsewhere = neither (same_node node first) (has_node rest node) absent in
     let differ : same_place start place ≡ false = other_place start place (λ same.
-        let led : next_at old start ≡ Some node = ap (next_at old) same ∙ step.led in
-        let found : next_at old start ≡ Some first = run.0 in
-        let twice : node ≡ first = cc in not_both (subst (λ n. same_node node n ≡ true) twice (same_node_itself node)) elsewhere.0) in
+    let led : next_at old start ≡ Some node = ap (next_at old) same ∙ step.led in
+    let found : next_at old start ≡ Some first = run.0 in
+    let twice : node ≡ first = cc in not_both (subst (λ n. same_node node n ≡ true) twice (same_node_itself node)) elsewhere.0) in
     (step.others start apart differ ∙ run.0, kept_run old new node place (After first) rest step run.1 elsewhere.1 (other_node_turned node first elsewhere.0))
 
 -- a run without the node is a run
@@ -110,17 +110,17 @@ taken_run old new node place start [] back step run distinct apart = kept_run ol
 taken_run old new node place start (first ∷ rest) back step run distinct apart =
     by_test (λ b. IsRun new start (cond b (without node rest) (first ∷ without node rest))) (same_node node first)
     (λ on.
-      let same : node ≡ first = same_node_is node first on in
-      let absent : has_node rest node ≡ false = subst (λ n. has_node rest n ≡ false) (sym same) distinct.0 in
-      let here : place ≡ start = let at = step.at in let from_start : before_at old node ≡ Some start = back start node (run.0 ∙ ap Some (sym same)) in cc in
-      let joined : next_at new start ≡ next_at old (After first) = ap (next_at new) (sym here) ∙ (step.joined ∙ ap (λ n. next_at old (After n)) same) in
-      subst (λ nodes. IsRun new start nodes) (sym (without_absent node rest absent)) (after_taken rest run.1 absent joined))
+    let same : node ≡ first = same_node_is node first on in
+    let absent : has_node rest node ≡ false = subst (λ n. has_node rest n ≡ false) (sym same) distinct.0 in
+    let here : place ≡ start = let at = step.at in let from_start : before_at old node ≡ Some start = back start node (run.0 ∙ ap Some (sym same)) in cc in
+    let joined : next_at new start ≡ next_at old (After first) = ap (next_at new) (sym here) ∙ (step.joined ∙ ap (λ n. next_at old (After n)) same) in
+    subst (λ nodes. IsRun new start nodes) (sym (without_absent node rest absent)) (after_taken rest run.1 absent joined))
     (λ off.
-      let differ : same_place start place ≡ false = other_place start place (λ same.
-          let led : next_at old start ≡ Some node = ap (next_at old) same ∙ step.led in
-          let found : next_at old start ≡ Some first = run.0 in
-          let twice : node ≡ first = cc in not_both (subst (λ n. same_node node n ≡ true) twice (same_node_itself node)) off) in
-      (step.others start apart differ ∙ run.0, taken_run old new node place (After first) rest back step run.1 distinct.1 (other_node_turned node first off))) where
+    let differ : same_place start place ≡ false = other_place start place (λ same.
+    let led : next_at old start ≡ Some node = ap (next_at old) same ∙ step.led in
+    let found : next_at old start ≡ Some first = run.0 in
+    let twice : node ≡ first = cc in not_both (subst (λ n. same_node node n ≡ true) twice (same_node_itself node)) off) in
+    (step.others start apart differ ∙ run.0, taken_run old new node place (After first) rest back step run.1 distinct.1 (other_node_turned node first off))) where
       after_taken : (rest : List NodeId) → IsRun old (After first) rest → has_node rest node ≡ false → next_at new start ≡ next_at old (After first) → IsRun new start rest
       after_taken [] run absent joined = joined ∙ run
       after_taken (second ∷ rest) run absent joined =
@@ -148,56 +148,60 @@ unlinked_holds old new rings node place holds step heads = record {
 } where
   none_after : (other : Place) → next_at old (After node) ≡ None → next_at old (After node) ≡ Some node → ⊥
   none_after other p q = cc
+
   back : (other : Place) (x : NodeId) → next_at new other ≡ Some x → before_at new x ≡ Some other
   back other x e =
       by_test (λ b. before_at new x ≡ Some other) (same_place other (After node))
       (λ on. let same : other ≡ After node = same_place_is other (After node) on in let none : next_at new other ≡ None = ap (next_at new) same ∙ step.own in cc)
       (λ apart. by_test (λ b. before_at new x ≡ Some other) (same_place other place)
-        (λ on. let same : other ≡ place = same_place_is other place on in
-          step.after x (sym step.joined ∙ (ap (next_at new) (sym same) ∙ e)) ∙ ap Some (sym same))
-        (λ differ.
-          let was : next_at old other ≡ Some x = sym (step.others other apart differ) ∙ e in
-          let known : before_at old x ≡ Some other = holds.back other x was in
-          let not_node : same_node x node ≡ false = other_node x node (λ same.
-              let at = step.at in let known_too : before_at old node ≡ Some other = ap (before_at old) (sym same) ∙ known in
-              let twice : other ≡ place = cc in not_both (subst (λ p. same_place other p ≡ true) twice (same_place_itself other)) differ) in
-          let not_next : is_node (next_at old (After node)) x ≡ false = is_other (next_at old (After node)) x (λ next.
-              let known_too : before_at old x ≡ Some (After node) = holds.back (After node) x next in
-              let twice : other ≡ After node = cc in not_both (subst (λ p. same_place other p ≡ true) twice (same_place_itself other)) apart) in
-          step.befores x not_node not_next ∙ known))
+      (λ on. let same : other ≡ place = same_place_is other place on in
+      step.after x (sym step.joined ∙ (ap (next_at new) (sym same) ∙ e)) ∙ ap Some (sym same))
+      (λ differ.
+      let was : next_at old other ≡ Some x = sym (step.others other apart differ) ∙ e in
+      let known : before_at old x ≡ Some other = holds.back other x was in
+      let not_node : same_node x node ≡ false = other_node x node (λ same.
+      let at = step.at in let known_too : before_at old node ≡ Some other = ap (before_at old) (sym same) ∙ known in
+      let twice : other ≡ place = cc in not_both (subst (λ p. same_place other p ≡ true) twice (same_place_itself other)) differ) in
+      let not_next : is_node (next_at old (After node)) x ≡ false = is_other (next_at old (After node)) x (λ next.
+      let known_too : before_at old x ≡ Some (After node) = holds.back (After node) x next in
+      let twice : other ≡ After node = cc in not_both (subst (λ p. same_place other p ≡ true) twice (same_place_itself other)) apart) in
+      step.befores x not_node not_next ∙ known))
+
   forth : (x : NodeId) (other : Place) → before_at new x ≡ Some other → next_at new other ≡ Some x
   forth x other e =
       by_test (λ b. next_at new other ≡ Some x) (same_node x node)
       (λ on. let same : x ≡ node = same_node_is x node on in let none : before_at new x ≡ None = ap (before_at new) same ∙ step.gone in cc)
       (λ apart. by_test (λ b. next_at new other ≡ Some x) (is_node (next_at old (After node)) x)
-        (λ on.
-          let next : next_at old (After node) ≡ Some x = is_node_is _ x on in
-          let at : before_at new x ≡ Some place = step.after x next in
-          let same : other ≡ place = cc in
-          ap (next_at new) same ∙ (step.joined ∙ next))
-        (λ off.
-          let known : before_at old x ≡ Some other = sym (step.befores x apart off) ∙ e in
-          let led : next_at old other ≡ Some x = holds.forth x other known in
-          let not_own : same_place other (After node) ≡ false = other_place other (After node) (λ same.
-              not_both (is_node_of _ x (ap (next_at old) (sym same) ∙ led)) off) in
-          let not_place : same_place other place ≡ false = other_place other place (λ same.
-              let led_too : next_at old other ≡ Some node = ap (next_at old) same ∙ step.led in
-              let twice : x ≡ node = cc in not_both (subst (λ n. same_node x n ≡ true) twice (same_node_itself x)) apart) in
-          step.others other not_own not_place ∙ led))
+      (λ on.
+      let next : next_at old (After node) ≡ Some x = is_node_is _ x on in
+      let at : before_at new x ≡ Some place = step.after x next in
+      let same : other ≡ place = cc in
+      ap (next_at new) same ∙ (step.joined ∙ next))
+      (λ off.
+      let known : before_at old x ≡ Some other = sym (step.befores x apart off) ∙ e in
+      let led : next_at old other ≡ Some x = holds.forth x other known in
+      let not_own : same_place other (After node) ≡ false = other_place other (After node) (λ same.
+      not_both (is_node_of _ x (ap (next_at old) (sym same) ∙ led)) off) in
+      let not_place : same_place other place ≡ false = other_place other place (λ same.
+      let led_too : next_at old other ≡ Some node = ap (next_at old) same ∙ step.led in
+      let twice : x ≡ node = cc in not_both (subst (λ n. same_node x n ≡ true) twice (same_node_itself x)) apart) in
+      step.others other not_own not_place ∙ led))
+
   loose : (x : NodeId) → before_at new x ≡ None → next_at new (After x) ≡ None
   loose x e =
       by_test (λ b. next_at new (After x) ≡ None) (same_node x node)
       (λ on. ap (λ n. next_at new (After n)) (same_node_is x node on) ∙ step.own)
       (λ apart.
-        let not_next : is_node (next_at old (After node)) x ≡ false = is_other (next_at old (After node)) x (λ next. let at : before_at new x ≡ Some place = step.after x next in cc) in
-        let was : next_at old (After x) ≡ None = holds.loose x (sym (step.befores x apart not_next) ∙ e) in
-        let not_place : same_place (After x) place ≡ false = other_place (After x) place (λ same. let led : next_at old (After x) ≡ Some node = ap (next_at old) same ∙ step.led in cc) in
-        step.others (After x) apart not_place ∙ was)
+      let not_next : is_node (next_at old (After node)) x ≡ false = is_other (next_at old (After node)) x (λ next. let at : before_at new x ≡ Some place = step.after x next in cc) in
+      let was : next_at old (After x) ≡ None = holds.loose x (sym (step.befores x apart not_next) ∙ e) in
+      let not_place : same_place (After x) place ≡ false = other_place (After x) place (λ same. let led : next_at old (After x) ≡ Some node = ap (next_at old) same ∙ step.led in cc) in
+      step.others (After x) apart not_place ∙ was)
+
   covers : (x : NodeId) (other : Place) → before_at new x ≡ Some other → is_in (rings_without node rings) x ≡ true
   covers x other e =
       by_test (λ b. is_in (rings_without node rings) x ≡ true) (same_node x node)
       (λ on. let same : x ≡ node = same_node_is x node on in let none : before_at new x ≡ None = ap (before_at new) same ∙ step.gone in cc)
       (λ apart. is_in_without node x rings apart ∙
-        by_test (λ b. is_in rings x ≡ true) (is_node (next_at old (After node)) x)
-        (λ on. holds.covers x (After node) (holds.back (After node) x (is_node_is _ x on)))
-        (λ off. holds.covers x other (sym (step.befores x apart off) ∙ e)))
+      by_test (λ b. is_in rings x ≡ true) (is_node (next_at old (After node)) x)
+      (λ on. holds.covers x (After node) (holds.back (After node) x (is_node_is _ x on)))
+      (λ off. holds.covers x other (sym (step.befores x apart off) ∙ e)))

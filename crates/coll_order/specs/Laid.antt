@@ -1,13 +1,13 @@
 -- How links hold a layout: each head begins a run of nodes, and each node knows what stands before it.
 --
 -- No public clause cites this module: it is the view and the invariant of a store.
-use Rattle.std.specs.Prelude.{◌≡◌, ℕ, zero, suc, ◌+◌, true, List, [], ◌∷◌, Option, Some, None, IsSome, length}
+use Rattle.std.specs.Prelude.{◌≡◌, ℕ, zero, suc, true, List, [], ◌∷◌, Option, Some, None, length}
 use Rattle.std.specs.Option.{option_map_or}
 use Rattle.std.specs.Ordering.{nat_cmp}
 use Rattle.std.specs.FinMap as map
 use Rattle.coll_order.specs.declared.places.NodeId.{NodeId}
 use Rattle.coll_order.specs.declared.places.Place.{Place}
-use Rattle.coll_order.specs.declared.places.Place.TheVariants.{Head, After}
+use Rattle.coll_order.specs.declared.places.Place.TheVariants.{After}
 use Rattle.coll_order.specs.declared.store.Node.{Node}
 use Rattle.coll_order.specs.Layout.{Layout, head_of, is_in}
 use Rattle.coll_order.specs.Store.{Links, next_at, before_at}

@@ -1,9 +1,10 @@
 -- What a store of rings holds: the list of nodes of each ring, and a tag for each node.
-use Rattle.std.specs.Prelude.{◌≡◌, ℕ, zero, suc, ◌+◌, ◌%◌, ◌^◌, ◌<◌, Bool, true, false, List, [], ◌∷◌, ◌++◌, Option, Some, None, IsSome, length, map, slice_index_or}
+use Rattle.std.specs.Prelude.{◌≡◌, ℕ, suc, ◌<◌, Bool, true, false, List, [], ◌∷◌, Option, None, IsSome, length, map, slice_index_or, refl}
 use Rattle.std.specs.List.{list_any}
 use Rattle.std.specs.Option.{option_or}
 use Rattle.std.specs.Ordering.{nat_cmp}
 use Rattle.std.specs.FinMap as map
+use Rattle.std.specs.Coded.{Coded, code_by, coded×, coded_ℕ, coded_list}
 use Rattle.coll_order.specs.declared.places.NodeId.{NodeId}
 use Rattle.coll_order.specs.declared.places.RingId.{RingId}
 use Rattle.coll_order.specs.declared.places.Place.{Place}
@@ -19,6 +20,25 @@ pub record Layout : Type 0 where
 pub record RingStore : Type 0 where
   pub layout : Layout
   pub steps : ℕ
+
+-- a name is stored as its number
+abbrev pub node_code : Coded NodeId
+node_code = code_by ℕ coded_ℕ (λ node. node.key) (λ key. record { key = key }) (λ _. refl)
+
+-- a layout is stored as the pair of its parts
+abbrev pub layout_code : Coded Layout
+layout_code =
+    code_by
+    (List (List NodeId) × map.FinMap nat_cmp ℕ)
+    (coded× (coded_list (coded_list node_code)) (map.code coded_ℕ coded_ℕ))
+    (λ layout. (layout.rings, layout.tags))
+    (λ parts. record { rings = parts.0; tags = parts.1 })
+    (λ _. refl)
+
+-- so is a store
+abbrev pub ring_store_code : Coded RingStore
+ring_store_code =
+    code_by (Layout × ℕ) (coded× layout_code coded_ℕ) (λ store. (store.layout, store.steps)) (λ parts. record { layout = parts.0; steps = parts.1 }) (λ _. refl)
 
 -- the head of the ring with a number
 abbrev pub head_of : ℕ → Place

@@ -1,5 +1,6 @@
 pub mod Changes
 pub mod Laid
+pub mod Laws
 pub mod Layout
 pub mod Lists
 pub mod Sound

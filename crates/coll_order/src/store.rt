@@ -5,7 +5,7 @@
 //! (`specs/Store.antt`); that the links together are lists is the business of `Rings`. Whoever adds a field to `Node`
 //! has to say in each of these contracts that it stays.
 
-ghost use Rattle.std.specs.Prelude.{◌≡◌, ◌∷◌, [], ◌++◌, Some, None, IfOk, OnOk, OnErr};
+ghost use Rattle.std.specs.Prelude.{◌≡◌, ◌∷◌, [], ◌++◌, length, nat_lt, Some, None, IfOk, OnOk, OnErr};
 ghost use Rattle.coll_order.specs.Store.{slot_at, next_at, IsStored, IsStoredIfAny, HasPlace, SetsNext, SetsBefore, Joins, Detaches, Inserts, Removes};
 
 use crate::places::{NodeId, Place, RingId};
@@ -63,7 +63,8 @@ impl Store {
 
     /// Makes a ring of no nodes.
     pub(crate) fn add_ring(&mut self) -> Result<RingId, AllocError>
-        ensures ok { IfOk result (λ ring. links_of self.new ≡ record (links_of self.old) { heads = self.old.heads.items ++ None ∷ [] }) }
+        ensures ring { IfOk result (λ ring. ring.index ≡ length self.old.heads.items) }
+        ensures ok { OnOk result (links_of self.new ≡ record (links_of self.old) { heads = self.old.heads.items ++ None ∷ [] }) }
         ensures err { OnErr result (links_of self.new ≡ links_of self.old) }
     {
         let ring = RingId {
@@ -90,6 +91,20 @@ impl Store {
         ensures { Removes (links_of self.old) (links_of self.new) node }
     {
         self.nodes.remove(node.key);
+    }
+
+    /// Whether a ring is there.
+    pub(crate) fn has_ring(&self, ring: RingId) -> bool
+        ensures { result ≡ nat_lt ring.index (length self.now.heads.items) }
+    {
+        ring.index < self.heads.len()
+    }
+
+    /// The node of this name, if there is one.
+    pub(crate) fn find(&self, node: NodeId) -> Option<Node>
+        ensures { result ≡ slot_at (links_of self.now) node }
+    {
+        self.nodes.get(node.key).copied()
     }
 
     /// The node of this name.

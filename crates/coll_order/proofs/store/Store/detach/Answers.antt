@@ -1,4 +1,3 @@
-use Rattle.coll_order.specs.Stored.{links_of}
 use Rattle.coll_order.proofs.StoreLemmas.{detached}
 use Rattle.coll_order.proofs.store.Store.detach.Goals as goal
 

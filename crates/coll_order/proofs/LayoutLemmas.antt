@@ -1,0 +1,77 @@
+-- Layouts, for this crate and its callers: the laws, and what a change leaves of the conditions of the next call.
+use Rattle.std.proofs.Common.{◌≡◌, ℕ, zero, suc, ◌++◌, true, false, cond, get_or, List, [], ◌∷◌, sym, ap, subst, ◌∙◌, refl, arith}
+use Rattle.std.specs.Option.{option_or}
+use Rattle.coll_order.specs.Changes.{unlinked, linked}
+use Rattle.coll_order.specs.Laws.{LinkTakesBackUnlink, UnlinkTakesBackLink}
+use Rattle.coll_order.specs.Layout.{Layout, is_in, nodes_of, next_of, next_among, IsLinked, IsLoose, IsPlace}
+use Rattle.coll_order.specs.Lists.{same_node, has_node, first_in, next_in}
+use Rattle.coll_order.specs.Sound.{AreDistinct, StandOnce, IsSound}
+use Rattle.coll_order.specs.declared.places.RingId.{RingId}
+use Rattle.coll_order.proofs.Sameness.{not_both, same_node_itself, other_node}
+use Rattle.coll_order.specs.declared.places.NodeId.{NodeId}
+use Rattle.coll_order.specs.declared.places.Place.{Place}
+use Rattle.coll_order.specs.declared.places.Place.TheVariants.{Head, After}
+use Rattle.coll_order.proofs.ListLemmas.{is_among, is_in_without_itself, or_first, or_second, next_absent, next_among_absent, or_none}
+use Rattle.coll_order.proofs.RingLemmas.{not_apart, among_after, among_head, rings_without_put, place_from_put, rings_put_back, is_in_put_itself}
+
+-- a place where a node may be put is in the rings
+pub place_among : (layout : Layout) (place : Place) → IsPlace layout place → is_among place 0 layout.rings ≡ true
+place_among layout (Head ring) there = among_head ring.index 0 layout.rings (omega arith) (omega arith)
+place_among layout (After node) there = among_after node 0 layout.rings ∙ there
+
+-- a node that is taken out and put back gives back the layout
+pub link_takes_back : LinkTakesBackUnlink
+link_takes_back layout node place sound at = ap (λ rings. record layout { rings = rings }) (rings_put_back place node 0 layout.rings at sound.once)
+
+-- a node that is put in stands there, and taken out again gives back the layout
+pub unlink_takes_back : UnlinkTakesBackLink
+unlink_takes_back layout node place loose there = (
+  place_from_put place node 0 layout.rings loose.apart (place_among layout place there),
+  ap (λ rings. record layout { rings = rings }) (rings_without_put place node 0 layout.rings loose.apart),
+)
+
+-- a linked node that was taken out is loose
+pub loose_unlinked : (layout : Layout) (node : NodeId) → IsSound layout → IsLinked layout node → IsLoose (unlinked layout node) node
+loose_unlinked layout node sound there = record { made = sound.made node there; apart = is_in_without_itself node layout.rings }
+
+-- a node that was put in is linked
+pub linked_linked : (layout : Layout) (node : NodeId) (place : Place) → IsPlace layout place → IsLinked (linked layout node place) node
+linked_linked layout node place there = is_in_put_itself place node 0 layout.rings (place_among layout place there)
+
+-- a list has the node that stands between two parts of it
+has_between : (front rest : List NodeId) (node : NodeId) → has_node (front ++ node ∷ rest) node ≡ true
+has_between [] rest node = or_first (same_node node node) (has_node rest node) (same_node_itself node)
+has_between (first ∷ front) rest node = or_second (same_node node first) (has_node (front ++ node ∷ rest) node) (has_between front rest node)
+
+-- directly after it stands the first node of the second part
+next_between : (front rest : List NodeId) (node : NodeId) → AreDistinct (front ++ node ∷ rest) → next_in (front ++ node ∷ rest) node ≡ first_in rest
+next_between [] rest node distinct = ap (λ b. cond b (first_in rest) (next_in rest node)) (same_node_itself node)
+next_between (first ∷ front) rest node distinct =
+    let differ : same_node node first ≡ false = other_node node first (λ same. not_both (subst (λ n. has_node (front ++ node ∷ rest) n ≡ true) same (has_between front rest node)) distinct.0) in
+    ap (λ b. cond b (first_in (front ++ node ∷ rest)) (next_in (front ++ node ∷ rest) node)) differ ∙ next_between front rest node distinct.1
+
+-- a node of one of the rings is in them
+pub is_in_ring : (rings : List (List NodeId)) (index : ℕ) (node : NodeId) → has_node (get_or rings index []) node ≡ true → is_in rings node ≡ true
+is_in_ring [] index node there = not_both there refl
+is_in_ring (nodes ∷ rings) zero node there = or_first (has_node nodes node) (is_in rings node) there
+is_in_ring (nodes ∷ rings) (suc index) node there = or_second (has_node nodes node) (is_in rings node) (is_in_ring rings index node there)
+
+-- directly after a node stands the next of its ring
+next_among_between : (rings : List (List NodeId)) (index : ℕ) (front rest : List NodeId) (node : NodeId) → StandOnce rings → get_or rings index [] ≡ front ++ node ∷ rest → next_among rings node ≡ first_in rest
+next_among_between [] index front rest node once at =
+    not_both (subst (λ nodes. has_node nodes node ≡ true) (sym at) (has_between front rest node)) refl
+next_among_between (nodes ∷ rings) zero front rest node once at =
+    let there : has_node nodes node ≡ true = subst (λ nodes. has_node nodes node ≡ true) (sym at) (has_between front rest node) in
+    ap (λ later. option_or (next_in nodes node) later) (next_among_absent rings node (once.1 node there))
+    ∙ (or_none (next_in nodes node) ∙ (ap (λ nodes. next_in nodes node) at ∙ next_between front rest node (subst AreDistinct at once.0)))
+next_among_between (nodes ∷ rings) (suc index) front rest node once at =
+    let there : is_in rings node ≡ true = is_in_ring rings index node (subst (λ nodes. has_node nodes node ≡ true) (sym at) (has_between front rest node)) in
+    ap (λ found. option_or found (next_among rings node)) (next_absent nodes node (not_apart nodes rings node once.1 there)) ∙ next_among_between rings index front rest node once.2 at
+
+-- a node in the list of a ring is linked
+pub linked_between : (layout : Layout) (ring : RingId) (front rest : List NodeId) (node : NodeId) → nodes_of layout ring ≡ front ++ node ∷ rest → IsLinked layout node
+linked_between layout ring front rest node at = is_in_ring layout.rings ring.index node (subst (λ nodes. has_node nodes node ≡ true) (sym at) (has_between front rest node))
+
+-- directly after a node in the list of a ring stands the next of the list
+pub next_of_between : (layout : Layout) (ring : RingId) (front rest : List NodeId) (node : NodeId) → IsSound layout → nodes_of layout ring ≡ front ++ node ∷ rest → next_of layout node ≡ first_in rest
+next_of_between layout ring front rest node sound at = next_among_between layout.rings ring.index front rest node sound.once at
