@@ -1,12 +1,12 @@
 -- What each call of a store makes of its links, and so of its layout.
-use Rattle.std.proofs.Common.{◌≡◌, ℕ, zero, suc, ◌<◌, ◌+◌, ◌++◌, true, false, Bool, not, ◌||◌, get_or, is_some, IsTrue, List, [], ◌∷◌, Option, Some, None, IsSome, length, sym, ap, subst, ◌∙◌, refl, arith, length-append}
+use Rattle.std.proofs.Common.{◌≡◌, ℕ, zero, suc, ◌<◌, ◌+◌, ◌++◌, true, false, Bool, not, get_or, is_some, IsTrue, List, [], ◌∷◌, Option, Some, None, IsSome, length, sym, ap, subst, ◌∙◌, refl, arith, length-append}
 use Rattle.std.specs.Option.{option_map, option_and_then}
 use Rattle.std.proofs.lemmas.List.{get_or_past}
 use Rattle.std.specs.FinMap as map
 use Rattle.coll_order.specs.Changes.{with_ring, with_node, without_node, unlinked, linked}
 use Rattle.coll_order.specs.Laid.{tags_from, walks, rings_at, layout_at, IsRun, AreRuns, Holds, IsHeld}
-use Rattle.coll_order.specs.Layout.{Layout, head_of, is_in, rings_with, rings_without, tag_of, first_of, IsLinked, IsLoose, IsNode, IsPlace, IsRing}
-use Rattle.coll_order.specs.Lists.{same_node, same_place, has_node}
+use Rattle.coll_order.specs.Layout.{Layout, head_of, is_in, place_of, rings_with, rings_without, tag_of, first_of, IsLinked, IsLoose, IsNode, IsPlace, IsRing}
+use Rattle.coll_order.specs.Lists.{same_node, same_place}
 use Rattle.coll_order.specs.Sound.{IsSound}
 use Rattle.coll_order.specs.Store.{Links, slot_at, next_at, before_at, tag_at, IsStored, IsStoredIfAny, HasPlace, KeepsNodes, Joins, Detaches, Inserts, Removes}
 use Rattle.coll_order.specs.declared.places.NodeId.{NodeId}
@@ -15,9 +15,10 @@ use Rattle.coll_order.specs.declared.places.Place.{Place}
 use Rattle.coll_order.specs.declared.places.Place.TheVariants.{Head, After}
 use Rattle.coll_order.specs.declared.store.Node.{Node}
 use Rattle.coll_order.proofs.Sameness.{by_test, not_both, same_node_is, other_place}
-use Rattle.coll_order.proofs.LayoutLemmas.{place_among}
+use Rattle.coll_order.proofs.LayoutLemmas.{place_among, loose_unlinked, linked_linked, place_unlinked}
+use Rattle.coll_order.proofs.RingLemmas.{is_in_push}
 use Rattle.coll_order.proofs.StoreLemmas.{keeps_both}
-use Rattle.coll_order.proofs.Runs.{within, rings_are, held, apart_is, linked_is, first_leads_in, stand_once}
+use Rattle.coll_order.proofs.Runs.{place_is, within, rings_are, held, apart_is, linked_is, first_leads_in, stand_once}
 use Rattle.coll_order.proofs.Tags.{tag_is, same_tags, inserted_tags, removed_tags}
 use Rattle.coll_order.proofs.Unlinking.{unlinks, unlinked_holds}
 use Rattle.coll_order.proofs.Linking.{links_in, linked_holds}
@@ -89,26 +90,61 @@ sound_layout links holds = record {
   made = λ node there. stored_node links node (linked_stored links node holds there);
 }
 
+-- what a node that was read knows is what stands before it
+pub before_read : (links : Links) (node : NodeId) (found : Node) → slot_at links node ≡ Some found → before_at links node ≡ found.before
+before_read links node found at = ap (option_and_then (λ (n : Node). n.before)) at
+
+-- a node was taken out of the layout: it stood after the place, and may be put there again
+pub record IsUnlinked (old new : Links) (node : NodeId) (place : Place) : Type 0 where
+  pub held : IsHeld new
+  pub layout : layout_at new ≡ unlinked (layout_at old) node
+  pub stood : place_of (layout_at old) node ≡ Some place
+  pub loose : IsLoose (layout_at new) node
+  pub back : IsPlace (layout_at new) place
+
 -- unlinking takes the node out of the layout
-pub unlink_done : (old between new : Links) (node : NodeId) (place : Place) → IsHeld old → before_at old node ≡ Some place → Joins old between place (next_at old (After node)) → Detaches between new node
-    → IsHeld new × (layout_at new ≡ unlinked (layout_at old) node)
-unlink_done old between new node place holds at first second =
+pub unlink_done : (old between new : Links) (node : NodeId) (found : Node) (place : Place) → IsHeld old → slot_at old node ≡ Some found → found.before ≡ Some place → Joins old between place found.after → Detaches between new node
+    → IsUnlinked old new node place
+unlink_done old between new node found place holds read stands joined second =
+    let at : before_at old node ≡ Some place = before_read old node found read ∙ stands in
+    let first : Joins old between place (next_at old (After node)) =
+    subst (λ (after : Option NodeId). Joins old between place after) (sym (ap (option_and_then (λ (n : Node). n.after)) read)) joined in
     let step = unlinks old between new (rings_at old) node place holds at first second in
     let keeps = keeps_both old between new first.keeps second.keeps in
     let then = unlinked_holds old new (rings_at old) node place holds step keeps.heads in
-    (held new (rings_without node (rings_at old)) then, laid old new (rings_without node (rings_at old)) then keeps.tags)
+    let same = laid old new (rings_without node (rings_at old)) then keeps.tags in
+    let stood : place_of (layout_at old) node ≡ Some place = place_is old (rings_at old) holds node ∙ at in
+    record {
+      held = held new (rings_without node (rings_at old)) then;
+      layout = same;
+      stood = stood;
+      loose = subst (λ layout. IsLoose layout node) (sym same) (loose_unlinked (layout_at old) node (sound_layout old holds) (holds.covers node place at));
+      back = subst (λ layout. IsPlace layout place) (sym same) (place_unlinked (layout_at old) node place stood);
+    }
+
+-- a node was put into the layout
+pub record IsLinkedIn (old new : Links) (node : NodeId) (place : Place) : Type 0 where
+  pub held : IsHeld new
+  pub layout : layout_at new ≡ linked (layout_at old) node place
+  pub there : IsLinked (layout_at new) node
 
 -- linking puts the node into the layout
-pub link_done : (old between new : Links) (node : NodeId) (place : Place) → IsHeld old → IsLoose (layout_at old) node → IsPlace (layout_at old) place
-    → Joins old between place (Some node) → Joins between new (After node) (next_at old place) → IsHeld new × (layout_at new ≡ linked (layout_at old) node place)
-link_done old between new node place holds loose there first second =
+pub link_done : (old between new : Links) (node : NodeId) (place : Place) (found : Option NodeId) → IsHeld old → IsLoose (layout_at old) node → IsPlace (layout_at old) place
+    → found ≡ next_at old place → Joins old between place (Some node) → Joins between new (After node) found → IsLinkedIn old new node place
+link_done old between new node place found holds loose there read first joined =
+    let second : Joins between new (After node) (next_at old place) = subst (λ (after : Option NodeId). Joins between new (After node) after) read joined in
     let was = loose_before old node holds loose in
     let elsewhere : same_place place (After node) ≡ false = other_place place (After node) (λ same. not_both (subst (λ p. IsPlace (layout_at old) p) same there) loose.apart) in
     let step = links_in old between new (rings_at old) node place holds was elsewhere first second in
     let keeps = keeps_both old between new first.keeps second.keeps in
     let then = linked_holds old new (rings_at old) node place holds step keeps.heads (place_among (layout_at old) place there)
     (λ other same. linked_is old (rings_at old) holds other (subst (λ p. IsPlace (layout_at old) p) same there)) in
-    (held new (rings_with place node 0 (rings_at old)) then, laid old new (rings_with place node 0 (rings_at old)) then keeps.tags)
+    let same = laid old new (rings_with place node 0 (rings_at old)) then keeps.tags in
+    record {
+      held = held new (rings_with place node 0 (rings_at old)) then;
+      layout = same;
+      there = subst (λ layout. IsLinked layout node) (sym same) (linked_linked (layout_at old) node place there);
+    }
 
 -- runs stay where the links lead where they led
 same_run : (old new : Links) → ((place : Place) → next_at new place ≡ next_at old place) → (start : Place) (nodes : List NodeId) → IsRun old start nodes → IsRun new start nodes
@@ -198,11 +234,6 @@ runs_push links first (nodes ∷ rings) runs none =
     let same : suc first + length rings ≡ first + suc (length rings) = omega arith in
     (runs.0, runs_push links (suc first) rings runs.1 (ap (λ i. next_at links (head_of i)) same ∙ none))
 
--- a ring of no nodes has none
-is_in_push : (rings : List (List NodeId)) (node : NodeId) → is_in (rings ++ [] ∷ []) node ≡ is_in rings node
-is_in_push [] node = refl
-is_in_push (nodes ∷ rings) node = ap (λ b. has_node nodes node || b) (is_in_push rings node)
-
 -- one head more, which leads nowhere, is one ring more
 pub ring_done : (old new : Links) → IsHeld old → new ≡ record old { heads = old.heads ++ None ∷ [] } → IsHeld new × (layout_at new ≡ with_ring (layout_at old))
 ring_done old new holds pushed =
@@ -284,10 +315,6 @@ pub first_is : (links : Links) → IsHeld links → (ring : RingId) → IsRing (
 first_is links holds ring there =
     let same : 0 + ring.index ≡ ring.index = omega arith in
     first_leads_in links 0 (rings_at links) ring.index holds.runs there ∙ ap (λ i. next_at links (head_of i)) same
-
--- what a node that was read knows is what stands before it
-pub before_read : (links : Links) (node : NodeId) (found : Node) → slot_at links node ≡ Some found → before_at links node ≡ found.before
-before_read links node found at = ap (option_and_then (λ (n : Node). n.before)) at
 
 -- a linked node that was read knows a place
 pub knows_place : (links : Links) (node : NodeId) (found : Node) → IsHeld links → IsLinked (layout_at links) node → slot_at links node ≡ Some found → found.before ≡ None → ⊥

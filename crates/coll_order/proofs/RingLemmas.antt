@@ -1,5 +1,5 @@
 -- Rings of nodes: the two laws of taking a node out and putting it in.
-use Rattle.std.proofs.Common.{◌≡◌, ℕ, zero, suc, ◌+◌, ◌<◌, ◌≤◌, true, false, ◌||◌, cond, List, [], ◌∷◌, Some, None, length, eqb, sym, ap, subst, ◌∙◌, refl, arith, ◌⊎◌, inl, inr}
+use Rattle.std.proofs.Common.{◌≡◌, ℕ, zero, suc, ◌+◌, ◌<◌, ◌≤◌, ◌++◌, true, false, ◌||◌, cond, List, [], ◌∷◌, Some, None, length, eqb, sym, ap, subst, ◌∙◌, refl, arith, ◌⊎◌, inl, inr}
 use Rattle.std.proofs.lemmas.Bool.Decides.{Decides-eqb}
 use Rattle.std.specs.Option.{option_or}
 use Rattle.coll_order.specs.Lists.{same_node, same_place, has_node, place_in, without, put_after}
@@ -141,18 +141,18 @@ put_back place start node (first ∷ rest) e distinct fresh =
     ∙ ap (λ nodes. first ∷ nodes) (put_back place (After first) node rest e distinct.1 later)) refl e
 
 -- a place in rings is the head of one of them, or after one of their nodes
-place_of_rings : (first : ℕ) (rings : List (List NodeId)) (node : NodeId) (place : Place) → place_from first rings node ≡ Some place
-    → ((index : ℕ) × (place ≡ head_of index) × (first ≤ index)) ⊎ ((y : NodeId) × (place ≡ After y) × (is_in rings y ≡ true))
+pub place_of_rings : (first : ℕ) (rings : List (List NodeId)) (node : NodeId) (place : Place) → place_from first rings node ≡ Some place
+    → ((index : ℕ) × (place ≡ head_of index) × (first ≤ index) × (index < first + length rings)) ⊎ ((y : NodeId) × (place ≡ After y) × (is_in rings y ≡ true))
 place_of_rings first [] node place e = cc
 place_of_rings first (nodes ∷ rings) node place e =
     elim (place_in (head_of first) nodes node) as (λ found. place_in (head_of first) nodes node ≡ found → option_or found (place_from (suc first) rings node) ≡ Some place
-    → ((index : ℕ) × (place ≡ head_of index) × (first ≤ index)) ⊎ ((y : NodeId) × (place ≡ After y) × (is_in (nodes ∷ rings) y ≡ true))) [
+    → ((index : ℕ) × (place ≡ head_of index) × (first ≤ index) × (index < first + suc (length rings))) ⊎ ((y : NodeId) × (place ≡ After y) × (is_in (nodes ∷ rings) y ≡ true))) [
       | Some p ↦ λ here e. elim (place_of_list (head_of first) nodes node place (here ∙ e)) [
-        | inl at ↦ inl (first, at, omega arith)
+        | inl at ↦ inl (first, at, omega arith, omega arith)
         | inr at ↦ inr (at.0, at.1, or_first (has_node nodes at.0) _ at.2)
       ]
       | None ↦ λ here e. elim (place_of_rings (suc first) rings node place e) [
-        | inl at ↦ inl (at.0, at.1, let above = at.2 in omega arith)
+        | inl at ↦ inl (at.0, at.1, let above = at.2 in omega arith, let below = at.3 in omega arith)
         | inr at ↦ inr (at.0, at.1, or_second (has_node nodes at.0) _ at.2)
       ]
     ] refl e
@@ -187,3 +187,25 @@ rings_put_back place node first (nodes ∷ rings) e once =
           ∙ (ap (λ list. list ∷ rings_with place node (suc first) (rings_without node rings)) (put_nowhere place (head_of first) node nodes off)
           ∙ ap (λ rest. nodes ∷ rest) (rings_put_back place node (suc first) rings e once.2))
     ] refl e
+
+-- no node stands directly after itself
+place_other : (start : Place) (nodes : List NodeId) (node : NodeId) (place : Place) → place_in start nodes node ≡ Some place → (start ≡ After node → ⊥) → place ≡ After node → ⊥
+place_other start [] node place e fresh same = cc
+place_other start (first ∷ rest) node place e fresh same =
+    by_test (λ b. same_node node first ≡ b → cond b (Some start) (place_in (After first) rest node) ≡ Some place → ⊥) (same_node node first)
+    (λ on t e. fresh (let here : place ≡ start = cc in sym here ∙ same))
+    (λ off t e. place_other (After first) rest node place e (λ own. not_both (subst (λ n. same_node node n ≡ true) (cc) (same_node_itself node)) off) same) refl e
+
+-- nor in rings
+pub place_from_other : (first : ℕ) (rings : List (List NodeId)) (node : NodeId) (place : Place) → place_from first rings node ≡ Some place → place ≡ After node → ⊥
+place_from_other first [] node place e same = cc
+place_from_other first (nodes ∷ rings) node place e same =
+    elim (place_in (head_of first) nodes node) as (λ found. place_in (head_of first) nodes node ≡ found → option_or found (place_from (suc first) rings node) ≡ Some place → ⊥) [
+      | Some p ↦ λ here e. place_other (head_of first) nodes node place (here ∙ e) (λ own. cc) same
+      | None ↦ λ here e. place_from_other (suc first) rings node place e same
+    ] refl e
+
+-- a ring of no nodes has none
+pub is_in_push : (rings : List (List NodeId)) (node : NodeId) → is_in (rings ++ [] ∷ []) node ≡ is_in rings node
+is_in_push [] node = refl
+is_in_push (nodes ∷ rings) node = ap (λ b. has_node nodes node || b) (is_in_push rings node)

@@ -13,11 +13,11 @@ use Rattle.coll_order.specs.declared.store.Node.{Node}
 use Rattle.coll_order.proofs.Sameness.{by_test}
 
 -- what a map has at a key once one key more is in it
-get_inserted : (tags : map.FinMap nat_cmp ℕ) (key tag at : ℕ) → map.get (map.insert tags key tag) at ≡ cond (eqb at key) (Some tag) (map.get tags at)
+pub get_inserted : (tags : map.FinMap nat_cmp ℕ) (key tag at : ℕ) → map.get (map.insert tags key tag) at ≡ cond (eqb at key) (Some tag) (map.get tags at)
 get_inserted tags key tag at = map.get-insert nat_cmp_total tags key tag at ∙ ap (λ b. cond b (Some tag) (map.get tags at)) (unsigned_tied at key)
 
 -- and once a key is out of it
-get_removed : (tags : map.FinMap nat_cmp ℕ) (key at : ℕ) → map.get (map.remove tags key) at ≡ cond (eqb at key) None (map.get tags at)
+pub get_removed : (tags : map.FinMap nat_cmp ℕ) (key at : ℕ) → map.get (map.remove tags key) at ≡ cond (eqb at key) None (map.get tags at)
 get_removed tags key at = map.get-remove nat_cmp_total tags key at ∙ ap (λ b. cond b None (map.get tags at)) (unsigned_tied at key)
 
 -- numbers that differ fail the test

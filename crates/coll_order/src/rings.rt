@@ -83,13 +83,14 @@ impl Rings {
         ensures place { place_of self.old.layout node ≡ Some result }
         ensures layout { self.new.layout ≡ unlinked self.old.layout node }
         ensures loose { IsLoose self.new.layout node }
+        ensures back { IsPlace self.new.layout result }
         ensures steps { self.new.steps ≡ one_step_more self.old.steps }
     {
-        let Some(place) = self.store.node(node).before else {
+        let found = self.store.node(node);
+        let Some(place) = found.before else {
             unreachable!();
         };
-        let after = self.store.next(Place::After(node));
-        self.store.join(place, after);
+        self.store.join(place, found.after);
         self.store.detach(node);
         self.steps = self.steps.wrapping_add(1);
         place

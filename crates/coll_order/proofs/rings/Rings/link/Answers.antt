@@ -1,11 +1,7 @@
 use Rattle.coll_order.specs.Stored.{links_of}
 use Rattle.std.proofs.Common.{sym, subst, Option}
-use Rattle.coll_order.specs.Laid.{layout_at}
-use Rattle.coll_order.specs.Layout.{IsLinked}
-use Rattle.coll_order.proofs.LayoutLemmas.{linked_linked}
-use Rattle.coll_order.specs.Store.{Joins, IsStoredIfAny}
+use Rattle.coll_order.specs.Store.{IsStoredIfAny}
 use Rattle.coll_order.specs.declared.places.NodeId.{NodeId}
-use Rattle.coll_order.specs.declared.places.Place.TheVariants.{After}
 use Rattle.coll_order.proofs.Calls.{place_stored, node_stored, next_stored, any_stays_stored, link_done}
 use Rattle.coll_order.proofs.rings.Rings.link.Goals as goal
 
@@ -34,20 +30,16 @@ pub invariant_of-self : goal.invariant_of-self
 invariant_of-self c =
     let loose = rw (← c.self.view_is) at c.requires.loose in
     let there = rw (← c.self.view_is) at c.requires.place in
-    let joined = subst (λ (found : Option NodeId). Joins (links_of c.join.new.self) (links_of c.join-2.new.self) (After c.args.node) found) c.next-after.ensures c.join-2.ensures in
-    (link_done (links_of c.self.inside.store) (links_of c.join.new.self) (links_of c.join-2.new.self) c.args.node c.args.place c.self.invariant loose there c.join.ensures joined).0
+    (link_done (links_of c.self.inside.store) (links_of c.join.new.self) (links_of c.join-2.new.self) c.args.node c.args.place c.next-after.result c.self.invariant loose there c.next-after.ensures c.join.ensures c.join-2.ensures).held
 
 pub returns-clause-layout : goal.returns-clause-layout
 returns-clause-layout c =
     let loose = rw (← c.self.view_is) at c.requires.loose in
     let there = rw (← c.self.view_is) at c.requires.place in
-    let joined = subst (λ (found : Option NodeId). Joins (links_of c.join.new.self) (links_of c.join-2.new.self) (After c.args.node) found) c.next-after.ensures c.join-2.ensures in
-    rw (← c.self.view_is) (link_done (links_of c.self.inside.store) (links_of c.join.new.self) (links_of c.join-2.new.self) c.args.node c.args.place c.self.invariant loose there c.join.ensures joined).1
+    rw (← c.self.view_is) (link_done (links_of c.self.inside.store) (links_of c.join.new.self) (links_of c.join-2.new.self) c.args.node c.args.place c.next-after.result c.self.invariant loose there c.next-after.ensures c.join.ensures c.join-2.ensures).layout
 
 pub returns-clause-linked : goal.returns-clause-linked
 returns-clause-linked c =
     let loose = rw (← c.self.view_is) at c.requires.loose in
     let there = rw (← c.self.view_is) at c.requires.place in
-    let joined = subst (λ (found : Option NodeId). Joins (links_of c.join.new.self) (links_of c.join-2.new.self) (After c.args.node) found) c.next-after.ensures c.join-2.ensures in
-    let done = link_done (links_of c.self.inside.store) (links_of c.join.new.self) (links_of c.join-2.new.self) c.args.node c.args.place c.self.invariant loose there c.join.ensures joined in
-    subst (λ layout. IsLinked layout c.args.node) (sym done.1) (linked_linked (layout_at (links_of c.self.inside.store)) c.args.node c.args.place there)
+    (link_done (links_of c.self.inside.store) (links_of c.join.new.self) (links_of c.join-2.new.self) c.args.node c.args.place c.next-after.result c.self.invariant loose there c.next-after.ensures c.join.ensures c.join-2.ensures).there
