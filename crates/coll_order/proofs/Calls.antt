@@ -2,7 +2,7 @@
 use Rattle.std.proofs.Common.{◌≡◌, ℕ, zero, suc, ◌<◌, ◌+◌, ◌++◌, true, false, Bool, not, get_or, is_some, IsTrue, List, [], ◌∷◌, Option, Some, None, IsSome, length, sym, ap, subst, ◌∙◌, refl, arith, length-append}
 use Rattle.std.specs.Option.{option_map, option_and_then}
 use Rattle.std.proofs.lemmas.List.{get_or_past}
-use Rattle.std.specs.FinMap as map
+use Rattle.std.specs.FinMap as finmap
 use Rattle.coll_order.specs.Changes.{with_ring, with_node, without_node, unlinked, linked}
 use Rattle.coll_order.specs.Laid.{tags_from, walks, rings_at, layout_at, IsRun, AreRuns, Holds, IsHeld}
 use Rattle.coll_order.specs.Layout.{Layout, head_of, is_in, place_of, rings_with, rings_without, tag_of, first_of, IsLinked, IsLoose, IsNode, IsPlace, IsRing}
@@ -259,9 +259,9 @@ ring_done old new holds pushed =
           ap (λ i. next_at old (head_of i)) same ∙ get_or_past old.heads (length old.heads) None (omega arith)
 
 -- links of nothing hold nothing
-pub none_held : (links : Links) → links ≡ record { heads = []; slots = [] } → IsHeld links × (layout_at links ≡ record { rings = []; tags = map.empty })
+pub none_held : (links : Links) → links ≡ record { heads = []; slots = [] } → IsHeld links × (layout_at links ≡ record { rings = []; tags = finmap.empty })
 unfolding AreRuns walks tags_from
-none_held links none = subst (λ (links : Links). IsHeld links × (layout_at links ≡ record { rings = []; tags = map.empty })) (sym none) (empty, refl) where
+none_held links none = subst (λ (links : Links). IsHeld links × (layout_at links ≡ record { rings = []; tags = finmap.empty })) (sym none) (empty, refl) where
   nowhere : (place : Place) (node : NodeId) → next_at (record { heads = []; slots = [] }) place ≡ Some node → ⊥
   nowhere (Head ring) node e = cc
   nowhere (After other) node e = cc

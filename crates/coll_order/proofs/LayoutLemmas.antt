@@ -1,7 +1,7 @@
 -- Layouts, for this crate and its callers: the laws, and what a change leaves of the conditions of the next call.
 use Rattle.std.proofs.Common.{◌≡◌, ℕ, zero, suc, ◌++◌, true, false, cond, eqb, Some, None, get_or, inl, inr, List, [], ◌∷◌, sym, ap, subst, ◌∙◌, refl, arith}
 use Rattle.std.specs.Option.{option_or}
-use Rattle.std.specs.FinMap as map
+use Rattle.std.specs.FinMap as finmap
 use Rattle.std.specs.Cmp.{nat_cmp_total}
 use Rattle.std.proofs.lemmas.Bool.Decides.{Decides-eqb}
 use Rattle.coll_order.specs.Changes.{with_ring, with_node, without_node, unlinked, linked}
@@ -73,10 +73,10 @@ tag_without_node layout node other = get_removed layout.tags node.key other.key
 
 -- a node that is made and dropped gives back the layout
 pub made_and_dropped : (layout : Layout) (node : NodeId) (tag : ℕ) → tag_of layout node ≡ None → without_node (with_node layout node tag) node ≡ layout
-made_and_dropped layout node tag fresh = ap (λ tags. record layout { tags = tags }) (map.same_map nat_cmp_total map.nat_cmp-IsAntisymmetric _ _ (λ key.
-    get_removed (map.insert layout.tags node.key tag) node.key key ∙ by_test (λ b. eqb key node.key ≡ b → cond b None (map.get (map.insert layout.tags node.key tag) key) ≡ map.get layout.tags key) (eqb key node.key)
-    (λ on e. let same : key ≡ node.key = (Decides-eqb key node.key).0 on in sym (ap (map.get layout.tags) same ∙ fresh))
-    (λ off e. get_inserted layout.tags node.key tag key ∙ ap (λ b. cond b (Some tag) (map.get layout.tags key)) off) refl))
+made_and_dropped layout node tag fresh = ap (λ tags. record layout { tags = tags }) (finmap.same_map nat_cmp_total finmap.nat_cmp-IsAntisymmetric _ _ (λ key.
+    get_removed (finmap.insert layout.tags node.key tag) node.key key ∙ by_test (λ b. eqb key node.key ≡ b → cond b None (finmap.get (finmap.insert layout.tags node.key tag) key) ≡ finmap.get layout.tags key) (eqb key node.key)
+    (λ on e. let same : key ≡ node.key = (Decides-eqb key node.key).0 on in sym (ap (finmap.get layout.tags) same ∙ fresh))
+    (λ off e. get_inserted layout.tags node.key tag key ∙ ap (λ b. cond b (Some tag) (finmap.get layout.tags key)) off) refl))
 
 -- a list has the node that stands between two parts of it
 has_between : (front rest : List NodeId) (node : NodeId) → has_node (front ++ node ∷ rest) node ≡ true

@@ -4,7 +4,7 @@
 use Rattle.std.specs.Prelude.{◌≡◌, ℕ, zero, suc, true, List, [], ◌∷◌, Option, Some, None, length}
 use Rattle.std.specs.Option.{option_map_or}
 use Rattle.std.specs.Ordering.{nat_cmp}
-use Rattle.std.specs.FinMap as map
+use Rattle.std.specs.FinMap as finmap
 use Rattle.coll_order.specs.declared.places.NodeId.{NodeId}
 use Rattle.coll_order.specs.declared.places.Place.{Place}
 use Rattle.coll_order.specs.declared.places.Place.TheVariants.{After}
@@ -27,10 +27,10 @@ abbrev pub rings_at : Links → List (List NodeId)
 rings_at links = walks links (length links.slots) 0 (length links.heads)
 
 -- the tags of the nodes in these slots, of which the first has this key
-unfoldable pub tags_from : ℕ → List (Option Node) → map.FinMap nat_cmp ℕ
-tags_from key [] = map.empty
+unfoldable pub tags_from : ℕ → List (Option Node) → finmap.FinMap nat_cmp ℕ
+tags_from key [] = finmap.empty
 tags_from key (None ∷ slots) = tags_from (suc key) slots
-tags_from key (Some node ∷ slots) = map.insert (tags_from (suc key) slots) key node.tag
+tags_from key (Some node ∷ slots) = finmap.insert (tags_from (suc key) slots) key node.tag
 
 -- the layout that links hold
 abbrev pub layout_at : Links → Layout

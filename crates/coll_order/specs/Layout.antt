@@ -3,7 +3,7 @@ use Rattle.std.specs.Prelude.{◌≡◌, ℕ, suc, ◌<◌, Bool, true, false, L
 use Rattle.std.specs.List.{list_any}
 use Rattle.std.specs.Option.{option_or}
 use Rattle.std.specs.Ordering.{nat_cmp}
-use Rattle.std.specs.FinMap as map
+use Rattle.std.specs.FinMap as finmap
 use Rattle.std.specs.Coded.{Coded, code_by, coded×, coded_ℕ, coded_list}
 use Rattle.coll_order.specs.declared.places.NodeId.{NodeId}
 use Rattle.coll_order.specs.declared.places.RingId.{RingId}
@@ -14,7 +14,7 @@ use Rattle.coll_order.specs.Lists.{has_node, first_in, next_in, place_in, withou
 -- the list of nodes of each ring, by the ring's number, and the tags of the nodes that are there
 pub record Layout : Type 0 where
   pub rings : List (List NodeId)
-  pub tags : map.FinMap nat_cmp ℕ
+  pub tags : finmap.FinMap nat_cmp ℕ
 
 -- a store: its layout, and the number of ring steps taken
 pub record RingStore : Type 0 where
@@ -29,8 +29,8 @@ node_code = code_by ℕ coded_ℕ (λ node. node.key) (λ key. record { key = ke
 abbrev pub layout_code : Coded Layout
 layout_code =
     code_by
-    (List (List NodeId) × map.FinMap nat_cmp ℕ)
-    (coded× (coded_list (coded_list node_code)) (map.code coded_ℕ coded_ℕ))
+    (List (List NodeId) × finmap.FinMap nat_cmp ℕ)
+    (coded× (coded_list (coded_list node_code)) (finmap.code coded_ℕ coded_ℕ))
     (λ layout. (layout.rings, layout.tags))
     (λ parts. record { rings = parts.0; tags = parts.1 })
     (λ _. refl)
@@ -82,7 +82,7 @@ first_of layout ring = first_in (nodes_of layout ring)
 
 -- the tag of a node that is there
 abbrev pub tag_of : Layout → NodeId → Option ℕ
-tag_of layout node = map.get layout.tags node.key
+tag_of layout node = finmap.get layout.tags node.key
 
 -- a node is there
 abbrev pub IsNode : Layout → NodeId → Type 0
