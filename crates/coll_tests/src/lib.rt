@@ -1,10 +1,23 @@
-//! The tests of the crates below: texts and numbers worked out by hand, printed text, and devices that fail.
+//! Tests of the crates below, through their public calls alone.
 //!
-//! What a contract says needs no test here. A module stands for the crate that it shows, and `devices` has the
-//! devices that all of them use.
+//! A module shows each crate: `lines` is of `coll_lex`, `ordered_rings` of `coll_order`, `grammar` of `coll_syntax`, `tables`
+//! of `coll_table`, `sessions` of `coll_bench`, and `faults` of the shown text of the faults of all of them; `devices` has
+//! the devices that they use. Expected values come from POSIX.1-2017 (7.3.2), from ISO/IEC 14651 and from docs/, and never
+//! from what a program wrote. What no public call shows is proved, and has no test. The crates below have no tests of their
+//! own, since a crate with tests is proved twice.
 #![tactic(auto)]
 
 #[cfg(test)]
 mod devices;
 #[cfg(test)]
+mod faults;
+#[cfg(test)]
+mod grammar;
+#[cfg(test)]
 mod lines;
+#[cfg(test)]
+mod ordered_rings;
+#[cfg(test)]
+mod sessions;
+#[cfg(test)]
+mod tables;

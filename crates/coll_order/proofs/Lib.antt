@@ -1,0 +1,10 @@
+mod Calls
+pub mod LayoutLemmas
+mod Linking
+pub mod ListLemmas
+pub mod RingLemmas
+mod Runs
+pub mod Sameness
+mod StoreLemmas
+mod Tags
+mod Unlinking

@@ -1,0 +1,28 @@
+//! The names of rings and nodes, and the places where a node may stand.
+//!
+//! They are plain numbers, copied freely. Only the store that handed a name out can say what it stands for: each call
+//! asks, in its `requires`, that the name is one of its own. A new kind of place is a new case of `Place`, of
+//! `specs/Lists.antt` and of `Store::next` and `Store::set_next`.
+
+/// The name of a ring. It stays valid as long as its store.
+#[derive(Clone, Copy, Debug, PartialEq, Eq)]
+pub struct RingId {
+    /// The ring's number, from 0 in the order in which the rings were made.
+    pub(crate) index: usize,
+}
+
+/// The name of a node. It stays valid until the node is dropped; a later node may then get the same name.
+#[derive(Clone, Copy, Debug, PartialEq, Eq)]
+pub struct NodeId {
+    /// The node's key in the slab.
+    pub(crate) key: usize,
+}
+
+/// What stands directly before a node.
+#[derive(Clone, Copy, Debug, PartialEq, Eq)]
+pub enum Place {
+    /// The node is the first of this ring.
+    Head(RingId),
+    /// The node stands directly after this one.
+    After(NodeId),
+}
