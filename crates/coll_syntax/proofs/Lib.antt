@@ -1,0 +1,4 @@
+pub mod ElementLemmas
+pub mod ListReading
+pub mod Reading
+pub mod Spellings

@@ -1,0 +1,9 @@
+pub mod Elements
+pub mod Identifier
+pub mod Keywords
+pub mod Operands
+pub mod OrderLines
+pub mod Rules
+pub mod SyntaxFaults
+pub mod TableLines
+pub mod Weights

@@ -1,0 +1,51 @@
+//! What stands in an order: characters, names that a table declares, and `UNDEFINED`.
+//!
+//! An `Id` is plain data. Two are the same where `same_id` of `specs/Identifier.antt` says so; how a token spells one
+//! is said there too.
+
+ghost use Rattle.std.specs.Prelude.{◌≡◌, IfOk};
+
+use crate::operands::copied_name;
+use coll_lex::TextBuf;
+use std::alloc::{AllocError, Global};
+
+/// An identifier of an order (POSIX.1-2017, 7.3.2.4).
+#[derive(Debug, Drop)]
+pub enum Id {
+    /// A character, which needs no declaration.
+    Char(char),
+    /// A name that the table declares. It has 1 to 64 characters.
+    Named(TextBuf),
+    /// The word `UNDEFINED`: all characters that have no entry.
+    Undefined,
+}
+
+impl Id {
+    ghost use Rattle.coll_syntax.specs.Identifier.{same_id};
+
+    /// Whether two identifiers are the same: the same character, the same name, or both `UNDEFINED`.
+    pub fn is_same(&self, other: &Id) -> bool
+        ensures { result ≡ same_id self.now other.now }
+    {
+        match (self, other) {
+            (Id::Char(a), Id::Char(b)) => *a == *b,
+            (Id::Named(a), Id::Named(b)) => a.get() == b.get(),
+            (Id::Undefined, Id::Undefined) => true,
+            _ => false,
+        }
+    }
+
+    /// A copy of the identifier, in new memory.
+    pub fn try_copy(&self, alloc: Global) -> Result<Id, AllocError>
+        ensures { IfOk result (λ copy. copy ≡ self.now) }
+    {
+        match self {
+            Id::Char(c) => Ok(Id::Char(*c)),
+            Id::Named(name) => {
+                let name = copied_name(alloc, name)?;
+                Ok(Id::Named(name))
+            }
+            Id::Undefined => Ok(Id::Undefined),
+        }
+    }
+}
