@@ -1,4 +1,7 @@
 pub mod ElementLemmas
 pub mod ListReading
+pub mod NameLemmas
+pub mod ProperOperands
+pub mod ProperTests
 pub mod Reading
 pub mod Spellings

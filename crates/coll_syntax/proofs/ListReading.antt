@@ -49,6 +49,10 @@ length-judged zero ops = simp length-map
 length-judged (suc m) [] = refl
 length-judged (suc m) (op ∷ ops) = ap (λ n. suc n) (length-judged m ops)
 
+-- each operand is judged
+pub length-judged_levels : (ops : List (List Token)) → length (judged_levels ops) ≡ length ops
+length-judged_levels ops = length-judged 4 ops
+
 judged-low : (m n : ℕ) (ops : List (List Token)) (x : List Token) (d : Result Rule SyntaxFault) → n < length ops → n < m → get_or (judged m ops) n d ≡ rule (get_or ops n x)
 judged-low zero n ops x d l k = absurd (omega (arith, k))
 judged-low (suc m) n [] x d l k = absurd (omega (arith, l))

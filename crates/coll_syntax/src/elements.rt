@@ -3,9 +3,10 @@
 //! Each call is the definition of its name in `specs/Elements.antt`. The string is read whole before its length is
 //! looked at, since a name in it comes first among its faults.
 
-ghost use Rattle.std.specs.Prelude.{◌≡◌, ◌≢◌, [], ◌∷◌, ◌++◌, Ok, Err, IfOk, IfErr, OnOk, chars, string_bytes};
+ghost use Rattle.std.specs.Prelude.{◌≡◌, ◌≢◌, [], ◌∷◌, ◌++◌, ◌&&◌, nat_le, Ok, Err, IfOk, IfErr, OnOk, chars, string_bytes};
 ghost use Rattle.coll_syntax.specs.Operands.{only, wanted};
 ghost use Rattle.coll_syntax.specs.Elements.{element as spelled_element, from_text as spelled_from, text_in, element_text as spelled_text, characters_of};
+ghost use Rattle.coll_syntax.specs.Proper.{is_element_text as may_be_text};
 ghost use Rattle.coll_syntax.specs.declared.syntax_faults.SyntaxFault.TheVariants.{OutOfMemory};
 
 use crate::SyntaxFault;
@@ -111,4 +112,21 @@ fn push(text: &mut String, c: char) -> Result<(), AllocError>
 {
     text.push(c)?;
     Ok(())
+}
+
+/// Whether a text may be that of a collating element: 2 to 16 characters.
+pub(crate) fn is_element_text(text: &str) -> bool
+    ensures { result ≡ may_be_text (chars text.now) }
+{
+    is_element_length(text.chars().count())
+}
+
+/// Whether a text of so many characters may be that of a collating element.
+fn is_element_length(count: usize) -> bool
+    ensures { result ≡ (nat_le 2 count && nat_le count 16) }
+{
+    if count < LEAST_ELEMENT_CHARS {
+        return false;
+    }
+    count <= MOST_ELEMENT_CHARS
 }

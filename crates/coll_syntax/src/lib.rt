@@ -9,10 +9,12 @@
 //! the parser.
 #![tactic(auto)]
 
+mod delta_lines;
 mod elements;
 mod identifiers;
 mod keywords;
 mod lines;
+mod names;
 mod operands;
 mod order_lines;
 mod rule_lists;
@@ -23,6 +25,7 @@ mod table_lines;
 mod weight_lists;
 mod weights;
 
+pub use delta_lines::parse_delta_line;
 pub use elements::{LEAST_ELEMENT_CHARS, MOST_ELEMENT_CHARS};
 pub use identifiers::Id;
 pub use keywords::is_word;

@@ -6,6 +6,8 @@
 ghost use Rattle.std.specs.Prelude.{◌≡◌, ◌∷◌, ◌≢◌, Ok, Err, IfOk, IfErr};
 ghost use Rattle.coll_syntax.specs.declared.syntax_faults.SyntaxFault.TheVariants.{OutOfMemory};
 ghost use Rattle.coll_syntax.specs.TableLines.{table_line, table_row, keyword_row as spelled_row, order_start as spelled_start, section_rules as spelled_section_rules};
+ghost use Rattle.coll_lex.specs.Names.{AreTokens};
+ghost use Rattle.coll_syntax.specs.Proper.{IsProperTableLine};
 
 use crate::elements::element;
 use crate::keywords::{Keyword, keyword_of};
@@ -16,13 +18,17 @@ use crate::{Rules, SyntaxFault, TableLine};
 use coll_lex::{Line, Token};
 use std::alloc::Global;
 
-/// What a line of a table says, read from its tokens.
+/// What a line of a table says, read from its tokens. What it gives is proper.
 ///
-/// A line without tokens is `UnknownStatement`. The names in the answer are copies, in new memory.
+/// A token that doesn't fit is the fault of the first such token from the left: 20 for the first token, 21 for one that
+/// is wanted and missing, 29 for one of the wrong kind, 22 for one that is left over, and those of rules, strings and
+/// weights. The names in the answer are copies, in new memory; 70 where that is refused.
 #[tactic(auto, unfolding(crate::specs::TableLines::table_line))]
 pub fn parse_table_line(alloc: Global, line: &Line) -> Result<TableLine, SyntaxFault>
+    requires { AreTokens line.now.tokens }
     ensures ok { IfOk result (λ read. table_line line.now.tokens ≡ Ok read) }
     ensures err { IfErr result (λ fault. fault ≢ OutOfMemory → table_line line.now.tokens ≡ Err fault) }
+    ensures proper { IfOk result IsProperTableLine }
 {
     let Some((first, rest)) = line.tokens.get().split_first() else {
         return Err(SyntaxFault::UnknownStatement);

@@ -2,6 +2,10 @@
 //!
 //! A `Weight` is plain data; which one a token spells is `weight` of `specs/Weights.antt`.
 
+ghost use Rattle.std.specs.Prelude.{◌≡◌};
+ghost use Rattle.std.specs.List.{list_all};
+ghost use Rattle.coll_syntax.specs.Proper.{is_weight_id};
+
 use crate::Id;
 use coll_lex::ListBuf;
 
@@ -19,4 +23,31 @@ pub enum Weight {
     Own,
     /// 1 to 32 characters and names. A string of one is that one.
     Names(ListBuf<Id>),
+}
+
+impl Weight {
+    ghost use Rattle.coll_syntax.specs.Proper.{is_proper_weight};
+
+    /// Whether a list of identifiers has 1 to 32 of them, without `UNDEFINED`, and its names are names.
+    pub(crate) fn is_proper(&self) -> bool
+        ensures { result ≡ is_proper_weight self.now }
+    {
+        let Weight::Names(ids) = self else {
+            return true;
+        };
+        if ids.get().is_empty() {
+            return false;
+        }
+        if ids.get().len() > MOST_WEIGHT_IDS {
+            return false;
+        }
+        are_weight_ids(ids.get())
+    }
+}
+
+/// Whether all of these may stand in a weight.
+fn are_weight_ids(ids: &[Id]) -> bool
+    ensures { result ≡ list_all is_weight_id ids.now }
+{
+    ids.iter().all(|id| id.is_weight_id())
 }
