@@ -57,7 +57,7 @@ name_in-name token.Semicolon h = tt
 name_in-name token.Comma h = tt
 
 -- an identifier that is none is not read
-abbrev OnSomeId : (Id → Type 0) → Option Id → Type 0
+abbrev pub OnSomeId : (Id → Type 0) → Option Id → Type 0
 OnSomeId P None = Unit {0}
 OnSomeId P (Some id) = P id
 
