@@ -135,8 +135,8 @@ pub element-proper : (ts : List Token) → All IsToken ts → IfOk (element ts) 
 element-proper ts a =
     if_operand IsName (λ read. IsName read.0 × IsElementText read.1) name_in ts _ a name_in-name
     (λ name rest q b. if_as IsElementText (λ read. IsName read.0 × IsElementText read.1) (λ text. (name, text)) (from_text rest)
-        (if_operand (λ _. Unit {0}) IsElementText (word_in (codes "from")) rest _ b (λ t _. any_word (codes "from") t) (λ _ more _ d. if_only IsElementText text_in more d (λ t _. text_in-proper t)))
-        (λ text p. (q, p)))
+    (if_operand (λ _. Unit {0}) IsElementText (word_in (codes "from")) rest _ b (λ t _. any_word (codes "from") t) (λ _ more _ d. if_only IsElementText text_in more d (λ t _. text_in-proper t)))
+    (λ text p. (q, p)))
 
 -- lists of operands
 
@@ -146,7 +146,7 @@ if_all_read P [] a = (refl, All-nil P)
 if_all_read P (r ∷ rs) a =
     if_then P (λ xs. (length xs ≡ length (r ∷ rs)) × All P xs) r _ (All-head (λ r. IfOk r P) r rs a)
     (λ x p. if_as (λ xs. (length xs ≡ length rs) × All P xs) (λ xs. (length xs ≡ length (r ∷ rs)) × All P xs) (λ more. x ∷ more) (all_read rs) (if_all_read P rs (All-tail (λ r. IfOk r P) r rs a))
-        (λ xs q. (ap (λ n. suc n) q.0, All-cons P x xs p q.1)))
+    (λ xs q. (ap (λ n. suc n) q.0, All-cons P x xs p q.1)))
 
 onto-first : {X : Type 0} (P : X → Type 0) (x : X) (parts : List (List X)) → P x → All (All P) parts → All (All P) (onto_first x parts)
 onto-first P x [] p a = All-cons (All P) (x ∷ []) [] (All-cons P x [] p (All-nil P)) (All-nil (All P))

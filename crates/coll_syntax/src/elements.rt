@@ -22,13 +22,11 @@ pub const LEAST_ELEMENT_CHARS: usize = 2;
 pub const MOST_ELEMENT_CHARS: usize = 16;
 
 const _: () = prove!(LEAST_ELEMENT_CHARS == 2);
+
 const _: () = prove!(MOST_ELEMENT_CHARS == 16);
 
 /// The name of a collating element and its characters, in new memory.
-pub(crate) fn element(
-    alloc: Global,
-    operands: &[Token],
-) -> Result<(TextBuf, TextBuf), SyntaxFault>
+pub(crate) fn element(alloc: Global, operands: &[Token]) -> Result<(TextBuf, TextBuf), SyntaxFault>
     ensures ok { IfOk result (λ read. spelled_element operands.now ≡ Ok (read.0, read.1)) }
     ensures err { IfErr result (λ fault. fault ≢ OutOfMemory → spelled_element operands.now ≡ Err fault) }
 {

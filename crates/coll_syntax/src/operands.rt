@@ -102,10 +102,7 @@ pub(crate) fn only_name(operands: &[Token]) -> Result<&TextBuf, SyntaxFault>
 }
 
 /// The one operand of a line, a symbol: a copy of its name, in new memory.
-pub(crate) fn only_copied_name(
-    alloc: Global,
-    operands: &[Token],
-) -> Result<TextBuf, SyntaxFault>
+pub(crate) fn only_copied_name(alloc: Global, operands: &[Token]) -> Result<TextBuf, SyntaxFault>
     ensures ok { IfOk result (λ name. only name_in operands.now ≡ Ok name) }
     ensures err { IfErr result (λ fault. fault ≢ OutOfMemory → only name_in operands.now ≡ Err fault) }
 {

@@ -3,7 +3,7 @@
 //! `Rules` holds one to four rules in place, so that it takes no memory; contracts see the list of them. How operands
 //! spell them is `rules` of `specs/Rules.antt`.
 
-ghost use Rattle.std.specs.Prelude.{◌≡◌, ◌≤◌, length, take, [], ◌∷◌};
+ghost use Rattle.std.specs.Prelude.{◌≡◌, ◌≤◌, ◌↔◌, IsTrue, length, take, [], ◌∷◌};
 
 use std::marker::Model;
 
@@ -66,5 +66,22 @@ impl Rules {
         ensures within { length self.now ≤ 4 }
     {
         &self.slots[..self.levels]
+    }
+
+    /// Whether two tables have the same rules: as many, and the same at each level.
+    pub fn is_same(&self, other: &Rules) -> bool
+        ensures { IsTrue result ↔ (self.now ≡ other.now) }
+    {
+        self.get() == other.get()
+    }
+
+    /// The same rules once more. It takes no memory.
+    pub fn copied(&self) -> Rules
+        ensures { result ≡ self.now }
+    {
+        Rules {
+            slots: self.slots,
+            levels: self.levels,
+        }
     }
 }
