@@ -95,10 +95,7 @@ pub(crate) fn only_name(operands: &[Token]) -> Result<&TextBuf, SyntaxFault>
     let Token::Symbol(name) = operand else {
         return Err(SyntaxFault::BadOperand);
     };
-    if !rest.is_empty() {
-        return Err(SyntaxFault::ExtraOperand);
-    }
-    Ok(name)
+    ended(name, rest)
 }
 
 /// The one operand of a line, a symbol: a copy of its name, in new memory.
@@ -169,8 +166,5 @@ pub(crate) fn only_string(operands: &[Token]) -> Result<&[Piece], SyntaxFault>
     let Token::Text(pieces) = operand else {
         return Err(SyntaxFault::BadOperand);
     };
-    if !rest.is_empty() {
-        return Err(SyntaxFault::ExtraOperand);
-    }
-    Ok(pieces.get())
+    ended(pieces.get(), rest)
 }
