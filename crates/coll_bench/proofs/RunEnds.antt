@@ -20,7 +20,7 @@ use Rattle.coll_bench.specs.Serving.{heard_at, stop_at}
 use Rattle.coll_bench.specs.Run.{written_from, is_last, last_line}
 use Rattle.coll_table.specs.declared.plain.delta_lines.PlainDeltaLine.{PlainDeltaLine}
 use Rattle.coll_table.specs.declared.plain.delta_lines.PlainDeltaLine.TheVariants as delta_lines
-use Rattle.coll_syntax.specs.declared.faults.SyntaxFault.{SyntaxFault}
+use Rattle.coll_syntax.specs.declared.syntax_faults.SyntaxFault.{SyntaxFault}
 use Rattle.coll_bench.specs.declared.faults.Fault.{Fault}
 use Rattle.coll_bench.specs.declared.commands.Command.{Command}
 use Rattle.coll_bench.specs.declared.hearing.Opening.{Opening}

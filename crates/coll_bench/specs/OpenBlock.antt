@@ -8,7 +8,7 @@ use Rattle.coll_bench.specs.declared.blocks.TheConstants.{MOST_BLOCK_LINES}
 use Rattle.coll_syntax.specs.declared.identifiers.Id.{Id}
 use Rattle.coll_table.specs.declared.plain.statements.PlainLine.{PlainLine}
 use Rattle.coll_table.specs.declared.plain.statements.PlainStatement.TheVariants as statement
-use Rattle.coll_syntax.specs.declared.faults.SyntaxFault.TheVariants as syntax
+use Rattle.coll_syntax.specs.declared.syntax_faults.SyntaxFault.TheVariants as syntax
 use Rattle.coll_bench.specs.declared.faults.Fault.{Fault}
 use Rattle.coll_bench.specs.declared.faults.Fault.TheVariants as fault
 use Rattle.coll_bench.specs.declared.blocks.OpenBlock.{OpenBlock}

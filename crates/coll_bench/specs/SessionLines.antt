@@ -11,8 +11,8 @@ use Rattle.coll_syntax.specs.Identifier.{is_word}
 use Rattle.coll_table.specs.PlainDeltaLines.{plain_delta_line}
 use Rattle.coll_table.specs.declared.plain.delta_lines.PlainDeltaLine.{PlainDeltaLine}
 use Rattle.coll_table.specs.declared.plain.delta_lines.PlainDeltaLine.TheVariants as delta_lines
-use Rattle.coll_syntax.specs.declared.faults.SyntaxFault.{SyntaxFault}
-use Rattle.coll_syntax.specs.declared.faults.SyntaxFault.TheVariants as syntax
+use Rattle.coll_syntax.specs.declared.syntax_faults.SyntaxFault.{SyntaxFault}
+use Rattle.coll_syntax.specs.declared.syntax_faults.SyntaxFault.TheVariants as syntax
 use Rattle.coll_bench.specs.declared.faults.Fault.TheVariants as fault
 use Rattle.coll_bench.specs.declared.commands.Command.{Command}
 use Rattle.coll_bench.specs.declared.commands.Command.TheVariants as command

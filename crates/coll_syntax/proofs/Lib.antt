@@ -1,1 +1,8 @@
+pub mod ElementLemmas
+pub mod ListReading
+pub mod NameLemmas
+pub mod ProperLines
+pub mod ProperOperands
+pub mod ProperTests
+pub mod Reading
 pub mod Spellings

@@ -1,5 +1,5 @@
--- Identifiers: when two are the same, and how a token spells one.
-use Rattle.std.specs.Prelude.{ℕ, ◌==◌, Bool, true, false, List, [], ◌∷◌, Option, Some, None}
+-- Identifiers: when two are the same, and how a token spells one (POSIX.1-2017, 7.3.2.4).
+use Rattle.std.specs.Prelude.{ℕ, ◌==◌, Bool, true, false, if◌then◌else◌, List, [], ◌∷◌, Option, Some, None, codes}
 use Rattle.std.specs.Str.{bytes_eq}
 use Rattle.std.specs.List.{list_any}
 use Rattle.std.specs.Option.{option_map}
@@ -32,19 +32,23 @@ same_id Undefined Undefined = true
 abbrev pub has_id : List Id → Id → Bool
 has_id ids id = list_any (same_id id) ids
 
+-- a token is a word, spelled so
+abbrev pub is_word : Token → List ℕ → Bool
+is_word (token.Word word) spelling = same_name word spelling
+is_word _ spelling = false
+
 -- the one character of a word that has no other
 abbrev pub only_char : List ℕ → Option ℕ
 only_char (c ∷ []) = Some c
 only_char _ = None
 
--- the identifier that a token spells: a code point, a symbol, or a word of one character
-abbrev pub id_of : Token → Option Id
-id_of (token.Char c) = Some (Char c)
-id_of (token.Symbol name) = Some (Named name)
-id_of (token.Word word) = option_map Char (only_char word)
-id_of _ = None
+-- the character or the name that a token spells: a code point, a symbol, or a word of one character
+abbrev pub char_or_name : Token → Option Id
+char_or_name (token.Char c) = Some (Char c)
+char_or_name (token.Symbol name) = Some (Named name)
+char_or_name (token.Word word) = option_map Char (only_char word)
+char_or_name _ = None
 
--- a token is a word, spelled so
-abbrev pub is_word : Token → List ℕ → Bool
-is_word (token.Word word) spelling = same_name word spelling
-is_word _ spelling = false
+-- the identifier that a token spells: the word UNDEFINED, or a character or a name
+abbrev pub id_of : Token → Option Id
+id_of t = if is_word t (codes "UNDEFINED") then Some Undefined else char_or_name t

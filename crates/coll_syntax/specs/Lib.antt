@@ -1,3 +1,11 @@
+pub mod DeltaLines
+pub mod Elements
 pub mod Identifier
+pub mod Keywords
 pub mod Operands
+pub mod OrderLines
+pub mod Proper
+pub mod Rules
 pub mod SyntaxFaults
+pub mod TableLines
+pub mod Weights

@@ -1,11 +1,12 @@
-//! What stands in an order: characters, and names that a table declares.
+//! What stands in an order: characters, names that a table declares, and `UNDEFINED`.
 //!
 //! An `Id` is plain data. Two are the same where `same_id` of `specs/Identifier.antt` says so; how a token spells one
 //! is said there too.
 
 ghost use Rattle.std.specs.Prelude.{◌≡◌, IfOk};
 
-use crate::keywords::copied_name;
+use crate::names::is_name;
+use crate::operands::copied_name;
 use coll_lex::TextBuf;
 use std::alloc::{AllocError, Global};
 
@@ -22,6 +23,7 @@ pub enum Id {
 
 impl Id {
     ghost use Rattle.coll_syntax.specs.Identifier.{same_id};
+    ghost use Rattle.coll_syntax.specs.Proper.{is_proper_id, is_weight_id};
 
     /// Whether two identifiers are the same: the same character, the same name, or both `UNDEFINED`.
     pub fn is_same(&self, other: &Id) -> bool
@@ -46,6 +48,27 @@ impl Id {
                 Ok(Id::Named(name))
             }
             Id::Undefined => Ok(Id::Undefined),
+        }
+    }
+
+    /// Whether a name in it is a name.
+    pub(crate) fn is_proper(&self) -> bool
+        ensures { result ≡ is_proper_id self.now }
+    {
+        match self {
+            Id::Char(_) | Id::Undefined => true,
+            Id::Named(name) => is_name(name.get()),
+        }
+    }
+
+    /// Whether it may stand in a weight: a character or a name.
+    pub(crate) fn is_weight_id(&self) -> bool
+        ensures { result ≡ is_weight_id self.now }
+    {
+        match self {
+            Id::Char(_) => true,
+            Id::Named(name) => is_name(name.get()),
+            Id::Undefined => false,
         }
     }
 }

@@ -1,16 +1,31 @@
-//! How the parsers look at tokens: as a keyword, as an identifier, as what is left over.
+//! The words that begin a line.
 //!
-//! The parsers of tables and of deltas share these; each is the definition of its name in `specs/Identifier.antt` or
-//! `specs/Operands.antt`.
+//! `keyword_of` looks at the first token once, for tables and deltas alike; each kind of line then takes the keywords of
+//! its own. A new keyword is a variant here, and a line in `keyword_of`, here and in `specs/Keywords.antt`.
 
-ghost use Rattle.std.specs.Prelude.{◌≡◌, ◌≢◌, Ok, Err, IsTrue, IfOk, IfErr, chars, nat_lt};
+ghost use Rattle.std.specs.Prelude.{◌≡◌, IsTrue, nat_lt};
 ghost use Rattle.std.specs.List.{list_all};
-ghost use Rattle.coll_syntax.specs.Identifier.{id_of as spelled_id, is_word as spells_word, only_char};
-ghost use Rattle.coll_syntax.specs.Operands.{ended};
+ghost use Rattle.coll_syntax.specs.Identifier.{is_word as spells_word};
+ghost use Rattle.coll_syntax.specs.Keywords.{keyword_of as spelled_keyword};
 
-use crate::{Id, SyntaxFault};
-use coll_lex::{TextBuf, Token};
-use std::alloc::{AllocError, Global};
+use coll_lex::Token;
+
+/// A word that begins a line of a table or of a delta.
+#[derive(Clone, Copy, Debug)]
+pub(crate) enum Keyword {
+    CollatingSymbol,
+    CollatingElement,
+    OrderStart,
+    OrderEnd,
+    Section,
+    Script,
+    Category,
+    End,
+    Copy,
+    ReorderAfter,
+    ReorderEnd,
+    ReorderSectionAfter,
+}
 
 /// Whether a token is the word that is spelled so, in ASCII.
 pub fn is_word(token: &Token, spelling: &str) -> bool
@@ -23,50 +38,46 @@ pub fn is_word(token: &Token, spelling: &str) -> bool
     }
 }
 
-/// A copy of a name, in new memory.
-pub fn copied_name(alloc: Global, name: &TextBuf) -> Result<TextBuf, AllocError>
-    ensures { IfOk result (λ copy. copy ≡ name.now) }
+/// The keyword that a token spells, if it spells one.
+#[tactic(auto, unfolding(crate::specs::Keywords::keyword_of))]
+pub(crate) fn keyword_of(token: &Token) -> Option<Keyword>
+    ensures { result ≡ spelled_keyword token.now }
 {
-    let text = String::from_str(alloc, name.get())?;
-    Ok(TextBuf::new(text))
-}
-
-/// The one character of a text that has no other.
-fn only_char(text: &str) -> Option<char>
-    ensures { result ≡ only_char (chars text.now) }
-{
-    let mut rest = text.chars();
-    let first = rest.next()?;
-    match rest.next() {
-        Some(_) => None,
-        None => Some(first),
+    if is_word(token, "collating-symbol") {
+        return Some(Keyword::CollatingSymbol);
     }
-}
-
-/// The identifier that a token spells, if it spells one. A name in it is a copy, in new memory.
-pub fn id_of(alloc: Global, token: &Token) -> Result<Option<Id>, AllocError>
-    ensures { IfOk result (λ id. id ≡ spelled_id token.now) }
-{
-    match token {
-        Token::Char(c) => Ok(Some(Id::Char(*c))),
-        Token::Symbol(name) => {
-            let name = copied_name(alloc, name)?;
-            Ok(Some(Id::Named(name)))
-        }
-        Token::Word(word) => match only_char(word.get()) {
-            Some(c) => Ok(Some(Id::Char(c))),
-            None => Ok(None),
-        },
-        _ => Ok(None),
+    if is_word(token, "collating-element") {
+        return Some(Keyword::CollatingElement);
     }
-}
-
-/// What is read, where no token is left over.
-pub fn ended<T: Drop>(read: T, rest: &[Token]) -> Result<T, SyntaxFault>
-    ensures { result ≡ ended read rest.now }
-{
-    if !rest.is_empty() {
-        return Err(SyntaxFault::ExtraOperand);
+    if is_word(token, "order_start") {
+        return Some(Keyword::OrderStart);
     }
-    Ok(read)
+    if is_word(token, "order_end") {
+        return Some(Keyword::OrderEnd);
+    }
+    if is_word(token, "section") {
+        return Some(Keyword::Section);
+    }
+    if is_word(token, "script") {
+        return Some(Keyword::Script);
+    }
+    if is_word(token, "LC_COLLATE") {
+        return Some(Keyword::Category);
+    }
+    if is_word(token, "END") {
+        return Some(Keyword::End);
+    }
+    if is_word(token, "copy") {
+        return Some(Keyword::Copy);
+    }
+    if is_word(token, "reorder-after") {
+        return Some(Keyword::ReorderAfter);
+    }
+    if is_word(token, "reorder-end") {
+        return Some(Keyword::ReorderEnd);
+    }
+    if is_word(token, "reorder-section-after") {
+        return Some(Keyword::ReorderSectionAfter);
+    }
+    None
 }

@@ -1,12 +1,38 @@
-//! The grammar of the lines of a table and of a delta (POSIX.1-2017, 7.3.2, and `reorder-after` of ISO/IEC 14651).
+//! The grammar of collation tables: what each line of a table and of a delta says (POSIX.1-2017, 7.3.2).
 //!
-//! What the parsers share: identifiers, keywords, and the faults of lines that don't say anything.
+//! A line comes from the lexer as its tokens, and leaves as plain data: `parse_table_line` and `parse_delta_line` read
+//! it from left to right, and the first token that doesn't fit gives the fault. The types come first (`identifiers`,
+//! `weights`, `rules`, `statements`, `lines`), then the reading of tokens (`keywords`, `operands`, `elements`,
+//! `weight_lists`, `rule_lists`, `order_lines`) and of whole lines (`table_lines`, `delta_lines`); `syntax_faults` has the
+//! faults. What a line says is defined in the file of the same name in `specs/`. A new kind of line is a variant of
+//! `TableLine` or `DeltaLine`, its keyword, its case in `specs/TableLines.antt` or `specs/DeltaLines.antt`, and its arm in
+//! the parser.
 #![tactic(auto)]
 
-mod faults;
+mod delta_lines;
+mod elements;
 mod identifiers;
 mod keywords;
+mod lines;
+mod names;
+mod operands;
+mod order_lines;
+mod rule_lists;
+mod rules;
+mod statements;
+mod syntax_faults;
+mod table_lines;
+mod weight_lists;
+mod weights;
 
-pub use faults::SyntaxFault;
+pub use delta_lines::parse_delta_line;
+pub use elements::{LEAST_ELEMENT_CHARS, MOST_ELEMENT_CHARS};
 pub use identifiers::Id;
-pub use keywords::{copied_name, ended, id_of, is_word};
+pub use keywords::is_word;
+pub use lines::{DeltaLine, TableLine};
+pub use operands::{copied_name, ended, id_of};
+pub use rules::{MOST_LEVELS, Rule, Rules};
+pub use statements::{MOST_BLOCK_LINES, OrderLine, Statement};
+pub use syntax_faults::SyntaxFault;
+pub use table_lines::parse_table_line;
+pub use weights::{MOST_WEIGHT_IDS, Weight};

@@ -16,8 +16,8 @@ use Rattle.coll_table.specs.PlainTableLines.{plain_table_line}
 use Rattle.coll_table.specs.TextLines.{TextState, IsUnread, ReadsLines, GivesNext, NextFails}
 use Rattle.coll_table.specs.declared.plain.table_lines.PlainTableLine.{PlainTableLine}
 use Rattle.coll_table.specs.declared.plain.table_lines.PlainTableLine.TheVariants.{EndCategory}
-use Rattle.coll_syntax.specs.declared.faults.SyntaxFault.{SyntaxFault}
-use Rattle.coll_syntax.specs.declared.faults.SyntaxFault.TheVariants as syntax
+use Rattle.coll_syntax.specs.declared.syntax_faults.SyntaxFault.{SyntaxFault}
+use Rattle.coll_syntax.specs.declared.syntax_faults.SyntaxFault.TheVariants as syntax
 use Rattle.coll_table.specs.declared.load_faults.LoadCause.{LoadCause}
 use Rattle.coll_table.specs.declared.load_faults.LoadCause.TheVariants.{Lex, Syntax, NoCategory, NoRules, DeclaredTwice, NotDeclared, PlacedTwice, OutsideOrder, Full, NoEnd, ReadFault, OutOfMemory}
 use Rattle.coll_table.proofs.TextSteps.{feeds_both, ends_both}

@@ -11,7 +11,7 @@ use Rattle.coll_table.specs.Loads.{IsUndecided, FaultSays, Loads}
 use Rattle.coll_table.specs.Reading.{Outcome, Decided, Undecided, outcome_of, outcome_within, at_fault, answer_at_end, reads}
 use Rattle.coll_table.specs.Table.{Collation}
 use Rattle.coll_table.specs.TextLines.{TextState, IsUnread, FindFails, Finds}
-use Rattle.coll_syntax.specs.declared.faults.SyntaxFault.TheVariants as syntax
+use Rattle.coll_syntax.specs.declared.syntax_faults.SyntaxFault.TheVariants as syntax
 use Rattle.coll_table.specs.declared.load_faults.LoadFault.{LoadFault}
 use Rattle.coll_table.specs.declared.load_faults.LoadCause.{LoadCause}
 use Rattle.coll_table.specs.declared.load_faults.LoadCause.TheVariants.{Lex, Syntax, NoCategory, NoEnd, ReadFault, OutOfMemory}

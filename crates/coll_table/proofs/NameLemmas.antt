@@ -7,7 +7,7 @@ use Rattle.coll_lex.specs.declared.tokens.Token.{Token}
 use Rattle.coll_lex.specs.declared.tokens.Token.TheVariants as token
 use Rattle.coll_syntax.specs.Identifier.{is_word}
 use Rattle.coll_syntax.specs.Operands.{ended}
-use Rattle.coll_syntax.specs.declared.faults.SyntaxFault.{SyntaxFault}
+use Rattle.coll_syntax.specs.declared.syntax_faults.SyntaxFault.{SyntaxFault}
 use Rattle.coll_table.specs.PlainOrderLines.{plain_id, plain_line}
 use Rattle.coll_table.specs.PlainTableLines.{DeclaresName, declaration, order_rules, category_end, placing, plain_table_line}
 use Rattle.coll_table.specs.declared.plain.statements.PlainLine.{PlainLine}

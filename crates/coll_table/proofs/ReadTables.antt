@@ -13,7 +13,7 @@ use Rattle.coll_lex.specs.declared.tokens.Line.{Line}
 use Rattle.coll_lex.specs.declared.tokens.Token.{Token}
 use Rattle.coll_lex.proofs.NameLemmas.{fed-tokens}
 use Rattle.coll_syntax.specs.Identifier.{has_name, has_id}
-use Rattle.coll_syntax.specs.declared.faults.SyntaxFault.{SyntaxFault}
+use Rattle.coll_syntax.specs.declared.syntax_faults.SyntaxFault.{SyntaxFault}
 use Rattle.coll_table.specs.Limits.{most_entries, most_declarations}
 use Rattle.coll_table.specs.PlainTableLines.{DeclaresName, plain_table_line}
 use Rattle.coll_table.specs.Reading.{declared_by, declared_in, placed_by, entries_in, is_open, is_end, table_from, refused_if, line_cause, Outcome, Decided, Undecided, accepted, line_judged, by_grammar, by_tokens, outcome_within, by_begin, outcome_before, outcome_of, answer_at_end, reads, TextsAreWellFormed}

@@ -10,7 +10,7 @@ use Rattle.coll_table.specs.Table.{Collation}
 use Rattle.coll_table.specs.PlainTableLines.{plain_table_line}
 use Rattle.coll_table.specs.TextLines.{TextState, IsUnread, StopsAfter}
 use Rattle.coll_table.specs.declared.plain.table_lines.PlainTableLine.{PlainTableLine}
-use Rattle.coll_syntax.specs.declared.faults.SyntaxFault.TheVariants as syntax
+use Rattle.coll_syntax.specs.declared.syntax_faults.SyntaxFault.TheVariants as syntax
 use Rattle.coll_table.specs.declared.load_faults.LoadFault.{LoadFault}
 use Rattle.coll_table.specs.declared.load_faults.LoadCause.{LoadCause}
 use Rattle.coll_table.specs.declared.load_faults.LoadCause.TheVariants.{Lex, Syntax, NoCategory, NoEnd, ReadFault, OutOfMemory}

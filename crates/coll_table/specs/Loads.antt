@@ -6,7 +6,7 @@ use Rattle.coll_lex.specs.declared.faults.LexFault.TheVariants as lex
 use Rattle.coll_table.specs.Table.{TableValue, collation}
 use Rattle.coll_table.specs.TextLines.{with_feeds}
 use Rattle.coll_table.specs.Reading.{Outcome, Decided, Undecided, outcome_of, reads}
-use Rattle.coll_syntax.specs.declared.faults.SyntaxFault.TheVariants as syntax
+use Rattle.coll_syntax.specs.declared.syntax_faults.SyntaxFault.TheVariants as syntax
 use Rattle.coll_table.specs.declared.load_faults.LoadFault.{LoadFault}
 use Rattle.coll_table.specs.declared.load_faults.LoadCause.{LoadCause}
 use Rattle.coll_table.specs.declared.load_faults.LoadCause.TheVariants.{Lex, Syntax, ReadFault, OutOfMemory}

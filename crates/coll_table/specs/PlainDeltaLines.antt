@@ -8,8 +8,8 @@ use Rattle.coll_syntax.specs.declared.identifiers.Id.{Id}
 use Rattle.coll_table.specs.declared.plain.statements.PlainLine.{PlainLine}
 use Rattle.coll_table.specs.declared.plain.delta_lines.PlainDeltaLine.{PlainDeltaLine}
 use Rattle.coll_table.specs.declared.plain.delta_lines.PlainDeltaLine.TheVariants.{ReorderAfter, ReorderEnd, Order}
-use Rattle.coll_syntax.specs.declared.faults.SyntaxFault.{SyntaxFault}
-use Rattle.coll_syntax.specs.declared.faults.SyntaxFault.TheVariants.{UnknownStatement, MissingOperand, BadOperand}
+use Rattle.coll_syntax.specs.declared.syntax_faults.SyntaxFault.{SyntaxFault}
+use Rattle.coll_syntax.specs.declared.syntax_faults.SyntaxFault.TheVariants.{UnknownStatement, MissingOperand, BadOperand}
 
 -- a block that opens after an identifier; a token that is none doesn't fit
 abbrev pub opening : Option Id → List Token → Result PlainDeltaLine SyntaxFault

@@ -4,8 +4,8 @@ use Rattle.coll_lex.specs.declared.tokens.Token.{Token}
 use Rattle.coll_syntax.specs.Identifier.{id_of, is_word}
 use Rattle.coll_syntax.specs.Operands.{ended}
 use Rattle.coll_syntax.specs.declared.identifiers.Id.{Id}
-use Rattle.coll_syntax.specs.declared.faults.SyntaxFault.{SyntaxFault}
-use Rattle.coll_syntax.specs.declared.faults.SyntaxFault.TheVariants.{UnknownStatement}
+use Rattle.coll_syntax.specs.declared.syntax_faults.SyntaxFault.{SyntaxFault}
+use Rattle.coll_syntax.specs.declared.syntax_faults.SyntaxFault.TheVariants.{UnknownStatement}
 use Rattle.coll_table.specs.declared.plain.statements.PlainLine.{PlainLine}
 
 -- the identifier that a token spells, which the word UNDEFINED is not

@@ -9,8 +9,8 @@ use Rattle.coll_table.specs.PlainOrderLines.{plain_id, plain_line}
 use Rattle.coll_table.specs.declared.plain.statements.PlainLine.{PlainLine}
 use Rattle.coll_table.specs.declared.plain.table_lines.PlainTableLine.{PlainTableLine}
 use Rattle.coll_table.specs.declared.plain.table_lines.PlainTableLine.TheVariants.{Symbol, OrderStart, OrderEnd, Order, EndCategory}
-use Rattle.coll_syntax.specs.declared.faults.SyntaxFault.{SyntaxFault}
-use Rattle.coll_syntax.specs.declared.faults.SyntaxFault.TheVariants.{UnknownStatement, MissingOperand, BadRule, BadOperand}
+use Rattle.coll_syntax.specs.declared.syntax_faults.SyntaxFault.{SyntaxFault}
+use Rattle.coll_syntax.specs.declared.syntax_faults.SyntaxFault.TheVariants.{UnknownStatement, MissingOperand, BadRule, BadOperand}
 
 -- what a line declares is a name
 abbrev pub DeclaresName : PlainTableLine → Type 0

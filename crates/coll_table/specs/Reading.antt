@@ -12,7 +12,7 @@ use Rattle.coll_table.specs.Sound.{collation_of}
 use Rattle.coll_table.specs.WellFormed.{IsWellFormed}
 use Rattle.coll_table.specs.declared.plain.table_lines.PlainTableLine.{PlainTableLine}
 use Rattle.coll_table.specs.declared.plain.table_lines.PlainTableLine.TheVariants.{Symbol, OrderStart, OrderEnd, Order, EndCategory}
-use Rattle.coll_syntax.specs.declared.faults.SyntaxFault.{SyntaxFault}
+use Rattle.coll_syntax.specs.declared.syntax_faults.SyntaxFault.{SyntaxFault}
 use Rattle.coll_table.specs.declared.entries.Entry.{Entry}
 use Rattle.coll_table.specs.Limits.{most_entries, most_declarations}
 use Rattle.coll_table.specs.declared.load_faults.LoadFault.{LoadFault}

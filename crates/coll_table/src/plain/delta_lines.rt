@@ -4,7 +4,7 @@
 //! A new line is a case there and a variant here.
 
 ghost use Rattle.std.specs.Prelude.{◌≡◌, ◌∷◌, ◌≢◌, Ok, Err, IfOk, IfErr};
-ghost use Rattle.coll_syntax.specs.declared.faults.SyntaxFault.TheVariants.{OutOfMemory};
+ghost use Rattle.coll_syntax.specs.declared.syntax_faults.SyntaxFault.TheVariants.{OutOfMemory};
 ghost use Rattle.coll_table.specs.PlainDeltaLines.{plain_delta_line, block_start as spelled_start};
 
 use crate::PlainLine;

@@ -4,7 +4,7 @@
 //! A new line is a case there and a variant here.
 
 ghost use Rattle.std.specs.Prelude.{◌≡◌, ◌∷◌, ◌≢◌, Ok, Err, IfOk, IfErr};
-ghost use Rattle.coll_syntax.specs.declared.faults.SyntaxFault.TheVariants.{OutOfMemory};
+ghost use Rattle.coll_syntax.specs.declared.syntax_faults.SyntaxFault.TheVariants.{OutOfMemory};
 ghost use Rattle.coll_table.specs.PlainTableLines.{plain_table_line, declaration as spelled_declaration, order_rules as spelled_rules, category_end as spelled_end};
 
 use crate::PlainLine;

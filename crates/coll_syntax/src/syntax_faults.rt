@@ -5,7 +5,7 @@
 
 ghost use Rattle.std.specs.Prelude.{◌≡◌};
 ghost use Rattle.coll_syntax.specs.SyntaxFaults.{syntax_fault_number, syntax_fault_name};
-ghost use Rattle.coll_syntax.specs.declared.faults.SyntaxFault.TheVariants.{OutOfMemory};
+ghost use Rattle.coll_syntax.specs.declared.syntax_faults.SyntaxFault.TheVariants.{OutOfMemory};
 
 use std::alloc::{AllocError, AllocFailed};
 use thiserror::Error;
@@ -20,10 +20,18 @@ pub enum SyntaxFault {
     MissingOperand,
     /// A token is left over.
     ExtraOperand,
-    /// What stands after `order_start` isn't a rule.
+    /// What stands between two semicolons after `order_start` is no rule.
     BadRule,
+    /// A fifth rule.
+    TooManyLevels,
+    /// A weight has more than 32 identifiers.
+    WeightTooLong,
+    /// The string of a collating element has fewer than 2 or more than 16 characters.
+    ElementLength,
     /// A block has more lines than allowed. Whoever gathers the block answers it.
     BlockTooLong,
+    /// A string that has to spell something is empty.
+    EmptyString,
     /// A token is of the wrong kind.
     BadOperand,
     /// Memory was refused.
@@ -40,7 +48,11 @@ impl SyntaxFault {
             SyntaxFault::MissingOperand => 21,
             SyntaxFault::ExtraOperand => 22,
             SyntaxFault::BadRule => 23,
+            SyntaxFault::TooManyLevels => 24,
+            SyntaxFault::WeightTooLong => 25,
+            SyntaxFault::ElementLength => 26,
             SyntaxFault::BlockTooLong => 27,
+            SyntaxFault::EmptyString => 28,
             SyntaxFault::BadOperand => 29,
             SyntaxFault::OutOfMemory => 70,
         }
@@ -55,7 +67,11 @@ impl SyntaxFault {
             SyntaxFault::MissingOperand => "MissingOperand",
             SyntaxFault::ExtraOperand => "ExtraOperand",
             SyntaxFault::BadRule => "BadRule",
+            SyntaxFault::TooManyLevels => "TooManyLevels",
+            SyntaxFault::WeightTooLong => "WeightTooLong",
+            SyntaxFault::ElementLength => "ElementLength",
             SyntaxFault::BlockTooLong => "BlockTooLong",
+            SyntaxFault::EmptyString => "EmptyString",
             SyntaxFault::BadOperand => "BadOperand",
             SyntaxFault::OutOfMemory => "OutOfMemory",
         }

@@ -1,0 +1,131 @@
+//! The lines of a table.
+//!
+//! The grammar is `table_line` of `specs/TableLines.antt`, by the keyword that the first token spells and the operands
+//! after it.
+
+ghost use Rattle.std.specs.Prelude.{◌≡◌, ◌∷◌, ◌≢◌, Ok, Err, IfOk, IfErr};
+ghost use Rattle.coll_syntax.specs.declared.syntax_faults.SyntaxFault.TheVariants.{OutOfMemory};
+ghost use Rattle.coll_syntax.specs.TableLines.{table_line, table_row, keyword_row as spelled_row, order_start as spelled_start, section_rules as spelled_section_rules};
+ghost use Rattle.coll_lex.specs.Names.{AreTokens};
+ghost use Rattle.coll_syntax.specs.Proper.{IsProperTableLine};
+
+use crate::elements::element;
+use crate::keywords::{Keyword, keyword_of};
+use crate::operands::{copied_name, ended, only_copied_name, only_name, only_word};
+use crate::order_lines::order_line;
+use crate::rule_lists::rules;
+use crate::{Rules, SyntaxFault, TableLine};
+use coll_lex::{Line, Token};
+use std::alloc::Global;
+
+/// What a line of a table says, read from its tokens. What it gives is proper.
+///
+/// A token that doesn't fit is the fault of the first such token from the left: 20 for the first token, 21 for one that
+/// is wanted and missing, 29 for one of the wrong kind, 22 for one that is left over, and those of rules, strings and
+/// weights. The names in the answer are copies, in new memory; 70 where that is refused.
+#[tactic(auto, unfolding(crate::specs::TableLines::table_line))]
+pub fn parse_table_line(alloc: Global, line: &Line) -> Result<TableLine, SyntaxFault>
+    requires { AreTokens line.now.tokens }
+    ensures ok { IfOk result (λ read. table_line line.now.tokens ≡ Ok read) }
+    ensures err { IfErr result (λ fault. fault ≢ OutOfMemory → table_line line.now.tokens ≡ Err fault) }
+    ensures proper { IfOk result IsProperTableLine }
+{
+    let Some((first, rest)) = line.tokens.get().split_first() else {
+        return Err(SyntaxFault::UnknownStatement);
+    };
+    row(alloc, first, rest)
+}
+
+/// What a line says by its first token and those after it.
+fn row(alloc: Global, first: &Token, rest: &[Token]) -> Result<TableLine, SyntaxFault>
+    ensures ok { IfOk result (λ read. table_row first.now rest.now ≡ Ok read) }
+    ensures err { IfErr result (λ fault. fault ≢ OutOfMemory → table_row first.now rest.now ≡ Err fault) }
+{
+    let Some(keyword) = keyword_of(first) else {
+        let line = order_line(alloc, first, rest)?;
+        return Ok(TableLine::Order(line));
+    };
+    keyword_row(alloc, keyword, rest)
+}
+
+/// What a line says by its keyword and its operands.
+fn keyword_row(
+    alloc: Global,
+    keyword: Keyword,
+    operands: &[Token],
+) -> Result<TableLine, SyntaxFault>
+    ensures ok { IfOk result (λ read. spelled_row keyword operands.now ≡ Ok read) }
+    ensures err { IfErr result (λ fault. fault ≢ OutOfMemory → spelled_row keyword operands.now ≡ Err fault) }
+{
+    match keyword {
+        Keyword::CollatingSymbol => {
+            let name = only_copied_name(alloc, operands)?;
+            Ok(TableLine::Symbol(name))
+        }
+        Keyword::CollatingElement => {
+            let (name, text) = element(alloc, operands)?;
+            Ok(TableLine::Element { name, text })
+        }
+        Keyword::OrderStart => order_start(alloc, operands),
+        Keyword::OrderEnd => ended(TableLine::OrderEnd, operands),
+        Keyword::Section => {
+            let name = only_copied_name(alloc, operands)?;
+            Ok(TableLine::Section(name))
+        }
+        Keyword::Script => {
+            let _name = only_name(operands)?;
+            Ok(TableLine::Script)
+        }
+        Keyword::End => {
+            only_word(operands, "LC_COLLATE")?;
+            Ok(TableLine::EndCategory)
+        }
+        _ => Err(SyntaxFault::UnknownStatement),
+    }
+}
+
+/// The operands of `order_start`.
+fn order_start(alloc: Global, operands: &[Token]) -> Result<TableLine, SyntaxFault>
+    ensures ok { IfOk result (λ read. spelled_start operands.now ≡ Ok read) }
+    ensures err { IfErr result (λ fault. fault ≢ OutOfMemory → spelled_start operands.now ≡ Err fault) }
+{
+    let Some((operand, rest)) = operands.split_first() else {
+        return Ok(TableLine::OrderStart {
+            section: None,
+            rules: None,
+        });
+    };
+    match operand {
+        Token::Symbol(name) => {
+            let rules = section_rules(rest)?;
+            let name = copied_name(alloc, name)?;
+            Ok(TableLine::OrderStart {
+                section: Some(name),
+                rules,
+            })
+        }
+        Token::Char(_) => Err(SyntaxFault::BadOperand),
+        _ => {
+            let rules = rules(operands)?;
+            Ok(TableLine::OrderStart {
+                section: None,
+                rules: Some(rules),
+            })
+        }
+    }
+}
+
+/// What stands behind the name of a section: nothing, or a semicolon and the rules.
+fn section_rules(operands: &[Token]) -> Result<Option<Rules>, SyntaxFault>
+    ensures ok { IfOk result (λ read. spelled_section_rules operands.now ≡ Ok read) }
+    ensures err { IfErr result (λ fault. spelled_section_rules operands.now ≡ Err fault) }
+{
+    let Some((operand, rest)) = operands.split_first() else {
+        return Ok(None);
+    };
+    let Token::Semicolon = operand else {
+        return Err(SyntaxFault::ExtraOperand);
+    };
+    let rules = rules(rest)?;
+    Ok(Some(rules))
+}

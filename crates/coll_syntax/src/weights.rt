@@ -1,0 +1,80 @@
+//! What an order line gives an entry at each level.
+//!
+//! A `Weight` is plain data; which one a token spells is `weight` of `specs/Weights.antt`.
+
+ghost use Rattle.std.specs.Prelude.{◌≡◌, IfOk};
+ghost use Rattle.std.specs.List.{list_all};
+ghost use Rattle.coll_syntax.specs.Proper.{is_weight_id};
+
+use crate::Id;
+use coll_lex::ListBuf;
+use std::alloc::{AllocError, Global};
+
+/// Most identifiers of one weight.
+pub const MOST_WEIGHT_IDS: usize = 32;
+
+const _: () = prove!(MOST_WEIGHT_IDS == 32);
+
+/// A weight of an entry at one level (POSIX.1-2017, 7.3.2.4).
+#[derive(Debug, Drop)]
+pub enum Weight {
+    /// `IGNORE`: the entry counts for nothing at this level.
+    Ignore,
+    /// An empty operand: the entry itself.
+    Own,
+    /// 1 to 32 characters and names. A string of one is that one.
+    Names(ListBuf<Id>),
+}
+
+impl Weight {
+    ghost use Rattle.coll_syntax.specs.Proper.{is_proper_weight};
+
+    /// A copy of the weight, in new memory.
+    pub fn try_copy(&self, alloc: Global) -> Result<Weight, AllocError>
+        ensures { IfOk result (λ copy. copy ≡ self.now) }
+    {
+        match self {
+            Weight::Ignore => Ok(Weight::Ignore),
+            Weight::Own => Ok(Weight::Own),
+            Weight::Names(ids) => {
+                let ids = copied_ids(alloc, ids.get())?;
+                Ok(Weight::Names(ids))
+            }
+        }
+    }
+
+    /// Whether a list of identifiers has 1 to 32 of them, without `UNDEFINED`, and its names are names.
+    pub(crate) fn is_proper(&self) -> bool
+        ensures { result ≡ is_proper_weight self.now }
+    {
+        let Weight::Names(ids) = self else {
+            return true;
+        };
+        if ids.get().is_empty() {
+            return false;
+        }
+        if ids.get().len() > MOST_WEIGHT_IDS {
+            return false;
+        }
+        are_weight_ids(ids.get())
+    }
+}
+
+/// Whether all of these may stand in a weight.
+fn are_weight_ids(ids: &[Id]) -> bool
+    ensures { result ≡ list_all is_weight_id ids.now }
+{
+    ids.iter().all(|id| id.is_weight_id())
+}
+
+/// Copies of these identifiers, in new memory.
+fn copied_ids(alloc: Global, ids: &[Id]) -> Result<ListBuf<Id>, AllocError>
+    ensures { IfOk result (λ copies. copies ≡ ids.now) }
+{
+    let mut copies = Vec::with_capacity(alloc, ids.len())?;
+    for id in ids {
+        let copy = id.try_copy(alloc)?;
+        copies.push(copy)?;
+    }
+    Ok(ListBuf::new(copies))
+}

@@ -1,0 +1,95 @@
+//! The grammar of lines: what each line says, or its fault, as the language has it.
+//!
+//! A line is written here as a text, lexed, read, and shown again in short: its keyword and operands, with weights between
+//! parentheses, `-` for an entry's own, and `I` for `IGNORE`. A fault is shown by its number. A new kind of line is a row of
+//! the tables in `table_lines` and `delta_lines`.
+
+mod copies;
+mod delta_lines;
+mod shown_faults;
+mod table_lines;
+
+use coll_lex::{Lexer, Line};
+use coll_syntax::{Id, OrderLine, Rule, Rules, SyntaxFault, Weight};
+use std::alloc::{AllocError, Global};
+use std::test::Fail;
+
+// The one logical line of a text.
+fn line_of(alloc: Global, text: &str) -> Result<Line, Fail> {
+    let mut lexer = Lexer::new(alloc)?;
+    let line = lexer.feed(text.as_bytes())?;
+    Ok(line.ok_or("a line with a token")?)
+}
+
+// The number of a fault, as a text.
+fn show_fault(alloc: Global, fault: SyntaxFault) -> Result<String, AllocError> {
+    format!(in alloc; "{}", fault.number())
+}
+
+// A name between its brackets, after a blank.
+fn show_name(out: &mut String, name: &str) -> Result<(), AllocError> {
+    out.push_str(" <")?;
+    out.push_str(name)?;
+    out.push('>')?;
+    Ok(())
+}
+
+fn show_id(out: &mut String, id: &Id) -> Result<(), AllocError> {
+    match id {
+        Id::Char(c) => out.push(*c)?,
+        Id::Named(name) => {
+            out.push('<')?;
+            out.push_str(name.get())?;
+            out.push('>')?;
+        }
+        Id::Undefined => out.push_str("UNDEFINED")?,
+    }
+    Ok(())
+}
+
+fn show_weight(out: &mut String, weight: &Weight) -> Result<(), AllocError> {
+    match weight {
+        Weight::Ignore => out.push('I')?,
+        Weight::Own => out.push('-')?,
+        Weight::Names(ids) => {
+            out.push('(')?;
+            for id in ids.get() {
+                show_id(out, id)?;
+            }
+            out.push(')')?;
+        }
+    }
+    Ok(())
+}
+
+fn show_order(out: &mut String, line: &OrderLine) -> Result<(), AllocError> {
+    out.push_str("order ")?;
+    show_id(out, &line.id)?;
+    if let Some(weights) = &line.weights {
+        out.push_str(" with")?;
+        for weight in weights.get() {
+            out.push(' ')?;
+            show_weight(out, weight)?;
+        }
+    }
+    Ok(())
+}
+
+fn show_rule(out: &mut String, rule: Rule) -> Result<(), AllocError> {
+    out.push_str(if rule.backward {
+        " backward"
+    } else {
+        " forward"
+    })?;
+    if rule.position {
+        out.push_str(",position")?;
+    }
+    Ok(())
+}
+
+fn show_rules(out: &mut String, rules: &Rules) -> Result<(), AllocError> {
+    for rule in rules.get() {
+        show_rule(out, *rule)?;
+    }
+    Ok(())
+}
