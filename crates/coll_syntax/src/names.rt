@@ -4,7 +4,8 @@
 
 ghost use Rattle.std.specs.Prelude.{◌≡◌, ◌||◌, chars, is_some, not};
 ghost use Rattle.std.specs.List.{list_all};
-ghost use Rattle.coll_lex.specs.Tokens.{is_blank, is_control, is_hex_digit as has_hex_value, is_name as has_only_name_chars, code_point_of};
+ghost use Rattle.coll_lex.specs.Blanks.{is_blank};
+ghost use Rattle.coll_lex.specs.Tokens.{is_control, is_hex_digit as has_hex_value, is_name as has_only_name_chars, code_point_of};
 ghost use Rattle.coll_syntax.specs.Proper.{is_proper_name};
 
 use coll_lex::MOST_NAME_CHARS;
