@@ -7,7 +7,7 @@ use std::io;
 use std::io::{ErrorKind, Read, Write};
 use std::test::Fail;
 
-// Gives one line per read, and keeps how many bytes were flushed when each read began.
+// Gives a line per read, and keeps how many bytes were flushed when each read began.
 #[derive(Drop)]
 struct WatchingReader<'a> {
     lines: &'a [(&'a str, &'a str)],
@@ -17,16 +17,12 @@ struct WatchingReader<'a> {
 
 impl Read for WatchingReader<'_> {
     fn read(&mut self, buf: &mut [u8]) -> io::Result<usize> {
-        if self.seen.push(self.flushed.get()).is_err() {
-            return Err(io::Error::from(ErrorKind::OutOfMemory));
-        }
-        let Some(((line, _), rest)) = self.lines.split_first() else {
-            return Ok(0);
+        let line = match self.lines.get(self.seen.len()) {
+            Some((line, _)) => line.as_bytes(),
+            None => b"",
         };
-        self.lines = rest;
-        let line = line.as_bytes();
-        if line.len() > buf.len() {
-            return Err(io::Error::from(ErrorKind::InvalidInput));
+        if self.seen.push(self.flushed.get()).is_err() || line.len() > buf.len() {
+            return Err(io::Error::from(ErrorKind::OutOfMemory));
         }
         buf[..line.len()].copy_from_slice(line);
         Ok(line.len())
