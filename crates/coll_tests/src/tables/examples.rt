@@ -14,23 +14,20 @@ pub fn loaded(alloc: Global, text: &[u8]) -> Result<Table, LoadFault> {
     load(alloc, &mut Counted::new(text))
 }
 
-/// Writes an identifier: a character as it is, and a name between brackets.
-pub fn write_id(out: &mut String, id: &Id) -> Result<(), AllocError> {
-    match id {
-        Id::Char(c) => out.push(*c)?,
-        Id::Named(name) => write!(out, "<{}>", name.get())?,
-        Id::Undefined => out.push_str("UNDEFINED")?,
-    }
-    Ok(())
-}
-
-/// The identifiers of a table's entries, one after another.
-pub fn order_of(alloc: Global, table: &Table) -> Result<String, AllocError> {
-    let mut order = String::new(alloc);
+/// Whether a table has these identifiers in order, where `<` stands for a name and `?` for UNDEFINED.
+pub fn has_order(table: &Table, order: &str) -> bool {
+    let mut wanted = order.chars();
     for entry in table.entries() {
-        write_id(&mut order, &entry.id)?;
+        let there = match &entry.id {
+            Id::Char(c) => *c,
+            Id::Named(_) => '<',
+            Id::Undefined => '?',
+        };
+        if wanted.next() != Some(there) {
+            return false;
+        }
     }
-    Ok(order)
+    wanted.next().is_none()
 }
 
 /// The identifier of a text: a character, `UNDEFINED`, or else a name.

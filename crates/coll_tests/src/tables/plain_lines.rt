@@ -1,9 +1,9 @@
 //! Lines of tables and of deltas without weights: what each says, or the fault of the first token that doesn't fit.
 
-use crate::tables::examples::write_id;
 use coll_lex::{Lexer, Line};
+use coll_syntax::Id;
 use coll_table::{PlainDeltaLine, PlainTableLine, parse_plain_delta_line, parse_plain_table_line};
-use std::alloc::Global;
+use std::alloc::{AllocError, Global};
 use std::test::Fail;
 
 // The logical line that a text is.
@@ -11,6 +11,16 @@ fn line_of(alloc: Global, text: &str) -> Result<Line, Fail> {
     let mut lexer = Lexer::new(alloc)?;
     let line = lexer.feed(text.as_bytes())?.ok_or("no line")?;
     Ok(line)
+}
+
+// Writes an identifier: a character as it is, and a name between brackets.
+fn write_id(out: &mut String, id: &Id) -> Result<(), AllocError> {
+    match id {
+        Id::Char(c) => out.push(*c)?,
+        Id::Named(name) => write!(out, "<{}>", name.get())?,
+        Id::Undefined => out.push_str("UNDEFINED")?,
+    }
+    Ok(())
 }
 
 // What a line of a delta says, or its fault.
