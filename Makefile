@@ -7,9 +7,7 @@ SESSION := examples/first_session.txt
 .PHONY: program demo test
 
 program:
-	@echo "Proving and building the program. From nothing that takes some minutes; after a change it is quicker."
-	@cd crates/collbench && rt run < /dev/null
-	@echo "The program is proved: crates/collbench/out/collbench"
+	@tests/build_program.py
 
 demo:
 	@echo "Compiling the program without a proof, which takes half a minute. 'make' proves and builds it."
