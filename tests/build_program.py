@@ -12,7 +12,8 @@ from run_program import PROGRAM, ROOT
 
 # Lines on what is proved, and on what was read for it.
 PASSED_OVER = re.compile(
-    r".*: proved(, may abort)?$|(axioms|by-macro:|crate|library|linked|logic /|only=|statements) ?\S|rt: (the quick pass|running)"
+    r".*: proved(, may abort)?$|(\S+: )?note: |rt: (the quick pass|running)"
+    r"|(axioms|by-macro:|crate|library|linked|logic /|only=|statements) ?\S"
 )
 
 
@@ -24,13 +25,12 @@ def main():
         for line in build.stdout:
             begun = re.match(r"rt: chose --jobs \d+ for (\w+)", line)
             so_far = re.match(r"so far: (\d+ of \d+ functions)", line)
-            proved = re.match(r"logic=proved functions=(\d+)", line)
             if begun:
                 crate = begun[1]
             elif so_far:
                 print(f"{crate}: {so_far[1]}", flush=True)
-            elif proved:
-                print(f"{crate}: proved, {proved[1]} functions", flush=True)
+            elif line.startswith("logic=proved"):
+                print(f"{crate}: proved", flush=True)
                 crate = "collbench"
             elif not PASSED_OVER.match(line):
                 print(line, end="", flush=True)
