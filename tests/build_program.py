@@ -20,8 +20,9 @@ PASSED_OVER = re.compile(
 def main():
     crate = "collbench"
     print("Proving and building the program: some minutes from nothing, and less after a change.", flush=True)
-    how = {"stdin": subprocess.DEVNULL, "stdout": subprocess.PIPE, "stderr": subprocess.STDOUT, "text": True}
-    with subprocess.Popen(["rt", "run"], cwd=f"{ROOT}/crates/collbench", **how) as build:
+    how = {"stdin": subprocess.DEVNULL, "stdout": subprocess.PIPE, "stderr": subprocess.STDOUT}
+    text = {"encoding": "utf-8", "errors": "replace"}
+    with subprocess.Popen(["rt", "run"], cwd=f"{ROOT}/crates/collbench", **how, **text) as build:
         for line in build.stdout:
             begun = re.match(r"rt: chose --jobs \d+ for (\w+)", line)
             so_far = re.match(r"so far: (\d+ of \d+ functions)", line)

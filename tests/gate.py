@@ -16,7 +16,13 @@ import run_program
 def proofs_and_tests():
     """Runs `rt ci`, with its lines as they come. Returns how many of its parts passed, and how many failed."""
     counts = None
-    with subprocess.Popen(["rt", "ci"], cwd=run_program.ROOT, stdout=subprocess.PIPE, text=True) as gate:
+    how = {"stdout": subprocess.PIPE, "encoding": "utf-8", "errors": "replace"}
+    try:
+        gate = subprocess.Popen(["rt", "ci"], cwd=run_program.ROOT, **how)
+    except OSError as error:
+        print(f"FAILED: rt ci did not start: {error}", flush=True)
+        return 0, 1
+    with gate:
         for line in gate.stdout:
             last = re.fullmatch(r"(\d+) passed, (\d+) failed\n?", line)
             counts = (int(last[1]), int(last[2])) if last else None
