@@ -44,7 +44,8 @@ fn main(rt: HostRuntime) -> ExitCode {
             return ExitCode::from(exit_status(fault.cause.number()));
         }
     };
-    // Each reply is flushed, so that dropping the buffer has nothing left to write and hides no error.
+    // The run flushes each reply, and answers a write that fails. Only after one does the buffer hold bytes when it is
+    // dropped, and its last try to write them hides no error.
     let Ok(buffered) = BufWriter::new(rt.alloc(), rt.stdout()) else {
         let _ = eprintln!(rt; "-:0: {}", LexFault::OutOfMemory);
         return ExitCode::from(exit_status(LexFault::OutOfMemory.number()));
