@@ -1,6 +1,6 @@
 //! The calls of a session, one after another.
 
-use crate::tables::examples::{FIRST_TABLE, block, has_order, loaded};
+use crate::tables::examples::{FIRST_TABLE, assert_order, block, loaded};
 use coll_bench::{BenchFault, Session};
 use coll_table::Refusal;
 use std::test::Fail;
@@ -14,17 +14,17 @@ fn statements_are_accepted_and_taken_back(rt: HostRuntime) -> Result<(), Fail> {
     let mut session = Session::new(rt.alloc(), table);
     assert_eq!(rt; session.undo(), Err(BenchFault::NothingToUndo));
     assert_eq!(rt; session.statement(first), Ok(1));
-    assert!(rt; has_order(session.table(), "<bca"));
+    assert_order(&rt, session.table(), "<bca");
     let answer = session.statement(refused);
     assert_eq!(rt; answer, Err(BenchFault::Table(Refusal::TargetNotPlaced)));
-    assert!(rt; has_order(session.table(), "<bca"));
+    assert_order(&rt, session.table(), "<bca");
     assert_eq!(rt; session.statement(second), Ok(2));
-    assert!(rt; has_order(session.table(), "<cab"));
+    assert_order(&rt, session.table(), "<cab");
     assert_eq!(rt; session.remaining_len(), 2);
     assert_eq!(rt; session.undo(), Ok(1));
-    assert!(rt; has_order(session.table(), "<bca"));
+    assert_order(&rt, session.table(), "<bca");
     assert_eq!(rt; session.undo(), Ok(0));
-    assert!(rt; has_order(session.table(), "<abc"));
+    assert_order(&rt, session.table(), "<abc");
     assert_eq!(rt; session.remaining_len(), 0);
     Ok(())
 }

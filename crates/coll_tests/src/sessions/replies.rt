@@ -2,7 +2,9 @@
 
 use crate::devices::{Failure, ShortReader, ShortWriter};
 use crate::sessions::run;
+use coll_bench::RunFault;
 use coll_lex::Counted;
+use std::process::Abort;
 use std::test::Fail;
 
 // Texts of whole sessions, and what is written for each.
@@ -148,14 +150,18 @@ const SESSIONS: [(&[u8], &str); 38] = [
     (b"reorder-after <U0063>\r\n<U0061>\r\nreorder-end", "ok 1\n"),
 ];
 
+// Asserts that a session ended with its input, and has written these replies.
+fn assert_replies(rt: &impl Abort, answer: Result<(), RunFault>, written: &[u8], replies: &str) {
+    assert_eq!(rt; answer, Ok(()), "for {replies}");
+    assert_eq!(rt; written, replies.as_bytes(), "for {replies}");
+}
+
 #[test]
 fn each_unit_has_its_reply(rt: HostRuntime) -> Result<(), Fail> {
     for (text, replies) in SESSIONS {
         let mut output = Counted::new(Vec::new(rt.alloc()));
         let answer = run(rt.alloc(), &mut Counted::new(text), &mut output)?;
-        assert_eq!(rt; answer, Ok(()), "for {replies}");
-        let written = output.device().as_slice();
-        assert_eq!(rt; written, replies.as_bytes(), "for {replies}");
+        assert_replies(&rt, answer, output.device().as_slice(), replies);
     }
     Ok(())
 }
@@ -167,9 +173,7 @@ fn short_reads_and_writes_change_no_reply(rt: HostRuntime) -> Result<(), Fail> {
         let writer = ShortWriter::new(Vec::new(rt.alloc()), 0, Failure::Error);
         let mut output = Counted::new(writer);
         let answer = run(rt.alloc(), &mut input, &mut output)?;
-        assert_eq!(rt; answer, Ok(()), "for {replies}");
-        let written = output.device().taken.as_slice();
-        assert_eq!(rt; written, replies.as_bytes(), "for {replies}");
+        assert_replies(&rt, answer, output.device().taken.as_slice(), replies);
     }
     Ok(())
 }

@@ -1,7 +1,8 @@
 //! Statements applied to the first table, and turned back.
 
-use crate::tables::examples::{FIRST_TABLE, block, has_order, id, loaded};
-use coll_table::{PlainLine, PlainStatement, Refusal};
+use crate::tables::examples::{FIRST_TABLE, assert_order, block, id, loaded};
+use coll_table::{PlainLine, PlainStatement, Refusal, Table};
+use std::process::Abort;
 use std::test::Fail;
 
 // A block's target and its lines, and the order after it.
@@ -19,18 +20,17 @@ fn a_block_is_applied_turned_back_and_applied_again(rt: HostRuntime) -> Result<(
         let statement = block(rt.alloc(), target, lines)?;
         let mut table = loaded(rt.alloc(), FIRST_TABLE)?;
         let mut record = table.apply(&statement)?;
-        assert!(rt; has_order(&table, after), "at {after}");
+        assert_order(&rt, &table, after);
         assert_eq!(rt; table.flip(&mut record), 0);
-        assert!(rt; has_order(&table, "<abc"), "at {after}");
+        assert_order(&rt, &table, "<abc");
         assert_eq!(rt; table.flip(&mut record), 0);
         table.forget(record);
-        assert!(rt; has_order(&table, after), "at {after}");
+        assert_order(&rt, &table, after);
     }
     Ok(())
 }
 
-// A block's target and its lines, and why the first table refuses it: the target before each line, and a line that stands
-// twice before a name that isn't declared.
+// A block's target and its lines, and why the first table refuses it: the target is judged first, and then line by line.
 const REFUSED_BLOCKS: [(&str, &[&str], Refusal); 6] = [
     ("q", &["a", "a", "SMALL"], Refusal::TargetNotPlaced),
     ("SMALL", &["a"], Refusal::TargetNotPlaced),
@@ -40,17 +40,23 @@ const REFUSED_BLOCKS: [(&str, &[&str], Refusal); 6] = [
     ("a", &["b", "c", "SMALL"], Refusal::NotDeclared),
 ];
 
+// Asserts that a table, which has the order of the first one, refuses a statement so and is then as it was.
+fn assert_refused(
+    rt: &impl Abort,
+    table: &mut Table,
+    statement: &PlainStatement,
+    refusal: Refusal,
+) {
+    assert_eq!(rt; table.apply(statement).err(), Some(refusal));
+    assert_order(rt, table, "<abc");
+}
+
 #[test]
 fn a_refused_block_changes_nothing(rt: HostRuntime) -> Result<(), Fail> {
     let mut table = loaded(rt.alloc(), FIRST_TABLE)?;
     for (target, lines, refusal) in REFUSED_BLOCKS {
         let statement = block(rt.alloc(), target, lines)?;
-        assert_eq!(rt;
-            table.apply(&statement).err(),
-            Some(refusal),
-            "after {target}"
-        );
-        assert!(rt; has_order(&table, "<abc"), "after {target}");
+        assert_refused(&rt, &mut table, &statement, refusal);
     }
     Ok(())
 }
@@ -67,8 +73,7 @@ fn an_order_line_outside_a_block_is_refused(rt: HostRuntime) -> Result<(), Fail>
     ] {
         let id = id(rt.alloc(), text)?;
         let statement = PlainStatement::Reweight(PlainLine { id });
-        assert_eq!(rt; table.apply(&statement).err(), Some(refusal), "of {text}");
-        assert!(rt; has_order(&table, "<abc"), "of {text}");
+        assert_refused(&rt, &mut table, &statement, refusal);
     }
     Ok(())
 }

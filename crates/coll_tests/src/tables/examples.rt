@@ -4,6 +4,7 @@ use coll_lex::{Counted, ListBuf, TextBuf};
 use coll_syntax::Id;
 use coll_table::{LoadFault, PlainLine, PlainStatement, Table, load};
 use std::alloc::{AllocError, Global};
+use std::process::Abort;
 
 /// A name and three characters.
 pub const FIRST_TABLE: &[u8] =
@@ -14,8 +15,12 @@ pub fn loaded(alloc: Global, text: &[u8]) -> Result<Table, LoadFault> {
     load(alloc, &mut Counted::new(text))
 }
 
-/// Whether a table has these identifiers in order, where `<` stands for a name and `?` for UNDEFINED.
-pub fn has_order(table: &Table, order: &str) -> bool {
+/// Asserts that a table has these identifiers in order, where `<` stands for a name and `?` for UNDEFINED.
+pub fn assert_order(rt: &impl Abort, table: &Table, order: &str) {
+    assert!(rt; has_order(table, order), "another order than {order}");
+}
+
+fn has_order(table: &Table, order: &str) -> bool {
     let mut wanted = order.chars();
     for entry in table.entries() {
         let there = match &entry.id {

@@ -1,7 +1,7 @@
 //! Table texts: the table that each is, or the line and the cause of its first fault.
 
 use crate::devices::ShortReader;
-use crate::tables::examples::{FIRST_TABLE, has_order, loaded};
+use crate::tables::examples::{FIRST_TABLE, assert_order, loaded};
 use coll_lex::{Counted, LexFault, Source};
 use coll_syntax::SyntaxFault;
 use coll_table::{LoadCause, LoadFault, load};
@@ -11,9 +11,9 @@ use std::test::Fail;
 fn the_first_table_gives_its_entries_in_order(rt: HostRuntime) -> Result<(), Fail> {
     let table = loaded(rt.alloc(), FIRST_TABLE)?;
     assert_eq!(rt; table.len(), 4);
-    assert!(rt; has_order(&table, "<abc"));
+    assert_order(&rt, &table, "<abc");
     let copy = table.try_copy()?;
-    assert!(rt; has_order(&copy, "<abc"));
+    assert_order(&rt, &copy, "<abc");
     Ok(())
 }
 
@@ -24,7 +24,7 @@ const SPELLED_IN_MANY_WAYS: &[u8] =
 #[test]
 fn lines_may_be_spelled_in_many_ways(rt: HostRuntime) -> Result<(), Fail> {
     let table = loaded(rt.alloc(), SPELLED_IN_MANY_WAYS)?;
-    assert!(rt; has_order(&table, "b<A"));
+    assert_order(&rt, &table, "b<A");
     Ok(())
 }
 
