@@ -1,17 +1,22 @@
-# make demo   builds the program, proved, and runs a first session on the built-in table
-# make test   passes the gate: every proof, the edits that must fail, the tests and the program
+# make        proves and builds the program, crates/collbench/out/collbench, and says how far it is
+# make demo   compiles the program without a proof, in half a minute, and runs a first session on the built-in table
+# make test   the merge gate: every proof, the edits that must fail, the tests, and runs of the program that was built
 
 SESSION := examples/first_session.txt
 
-.PHONY: demo test
+.PHONY: program demo test
+
+program:
+	@tests/build_program.py
 
 demo:
-	@echo "Proving and building; from nothing that takes some minutes."
-	@cd crates/collbench && rt run < /dev/null
+	@echo "Compiling the program without a proof, which takes half a minute. 'make' proves and builds it."
 	@printf '\nThe lines of the session, %s:\n\n' $(SESSION)
 	@cat $(SESSION)
 	@printf '\nTheir replies:\n\n'
-	@crates/collbench/out/collbench < $(SESSION)
+	@log=$$(mktemp) && trap 'rm -f "$$log"' EXIT && cd crates/collbench && \
+		rt try --steps 1 < $(CURDIR)/$(SESSION) 2> "$$log" || { cat "$$log" >&2; exit 1; }
+	@printf '\nThis build was not proved.\n'
 
 test:
-	@rt ci
+	@tests/gate.py

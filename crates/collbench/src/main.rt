@@ -8,8 +8,9 @@ ghost use Rattle.std.specs.Prelude.{◌≡◌};
 ghost use Rattle.collbench.specs.ExitStatus.{exit_status as stated_status};
 
 use coll_bench::run_session;
-use coll_lex::Counted;
+use coll_lex::{Counted, LexFault};
 use coll_table::load;
+use std::io::BufWriter;
 use std::process::ExitCode;
 
 /// The first table: a collating symbol and three letters, each with its own weight at the one level.
@@ -43,8 +44,14 @@ fn main(rt: HostRuntime) -> ExitCode {
             return ExitCode::from(exit_status(fault.cause.number()));
         }
     };
+    // The run flushes each reply, and answers a write that fails. Only after one does the buffer hold bytes when it is
+    // dropped, and its last try to write them hides no error.
+    let Ok(buffered) = BufWriter::new(rt.alloc(), rt.stdout()) else {
+        let _ = eprintln!(rt; "-:0: {}", LexFault::OutOfMemory);
+        return ExitCode::from(exit_status(LexFault::OutOfMemory.number()));
+    };
     let mut input = Counted::new(rt.stdin());
-    let mut output = Counted::new(rt.stdout());
+    let mut output = Counted::new(buffered);
     match run_session(rt.alloc(), table, &mut input, &mut output) {
         Ok(()) => ExitCode::SUCCESS,
         Err(ended) => {

@@ -1,30 +1,30 @@
-use super::super::test_tables::{FIRST_TABLE, has_order};
-use crate::test_devices::FailingReader;
-use crate::{LoadCause, LoadFault, SyntaxFault, Table, load};
-use coll_lex::{Counted, LexFault, Source};
-use std::alloc::Global;
-use std::test::Fail;
+//! Table texts: the table that each is, or the line and the cause of its first fault.
 
-fn loaded(alloc: Global, text: &[u8]) -> Result<Table, LoadFault> {
-    load(alloc, &mut Counted::new(text))
-}
+use crate::devices::ShortReader;
+use crate::tables::examples::{FIRST_TABLE, assert_order, loaded};
+use coll_lex::{Counted, LexFault, Source};
+use coll_syntax::SyntaxFault;
+use coll_table::{LoadCause, LoadFault, load};
+use std::test::Fail;
 
 #[test]
 fn the_first_table_gives_its_entries_in_order(rt: HostRuntime) -> Result<(), Fail> {
     let table = loaded(rt.alloc(), FIRST_TABLE)?;
     assert_eq!(rt; table.len(), 4);
-    assert!(rt; has_order(&table, "<abc"));
+    assert_order(&rt, &table, "<abc");
     let copy = table.try_copy()?;
-    assert!(rt; has_order(&copy, "<abc"));
+    assert_order(&rt, &copy, "<abc");
     Ok(())
 }
 
+// Escapes, continued lines, comments, carriage returns, and what stands before and behind the category.
+const SPELLED_IN_MANY_WAYS: &[u8] =
+    b"junk \xFF\nLC_COLLATE  # now\r\n\ncollating-symbol \\\n  <a\\>b>\r\norder_start\norder_end\norder_start forward\n  b # trailing\n<a\\>b>\n<U\\0041>\norder_end\nEND \\\nLC_COLLATE\n\xFF\n";
+
 #[test]
 fn lines_may_be_spelled_in_many_ways(rt: HostRuntime) -> Result<(), Fail> {
-    let text =
-        b"junk \xFF\nLC_COLLATE  # now\r\n\ncollating-symbol \\\n  <a\\>b>\r\norder_start\norder_end\norder_start forward\n  b # trailing\n<a\\>b>\n<U\\0041>\norder_end\nEND \\\nLC_COLLATE\n\xFF\n";
-    let table = loaded(rt.alloc(), text.as_slice())?;
-    assert!(rt; has_order(&table, "b<A"));
+    let table = loaded(rt.alloc(), SPELLED_IN_MANY_WAYS)?;
+    assert_order(&rt, &table, "b<A");
     Ok(())
 }
 
@@ -124,22 +124,23 @@ fn the_first_line_at_fault_decides(rt: HostRuntime) {
     }
 }
 
-// The first table has 111 bytes, which 37 reads give; its last line feed is the last of them.
+// The first table has 111 bytes, which 37 reads give; its last line feed is the last of them. A read that fails is the fault
+// unless the lines before it decide, and a read behind the category isn't made.
 #[test]
-fn a_read_that_fails_is_the_fault_unless_the_lines_before_decide(rt: HostRuntime) {
-    for reads in 0..39 {
-        let mut input = Counted::new(FailingReader::new(FIRST_TABLE, reads));
+fn a_read_that_fails_within_the_category_is_the_fault(rt: HostRuntime) {
+    let want = LoadFault {
+        line: 0,
+        cause: LoadCause::ReadFault,
+    };
+    for fails_at in 1..40 {
+        let mut input = Counted::new(ShortReader::new(FIRST_TABLE, fails_at));
         let fault = load(rt.alloc(), &mut input).err();
-        if reads < 37 {
-            let want = LoadFault {
-                line: 0,
-                cause: LoadCause::ReadFault,
-            };
-            assert_eq!(rt; fault, Some(want), "at {reads}");
-            assert_eq!(rt; input.errors(), 1, "at {reads}");
-        } else {
-            assert_eq!(rt; fault, None, "at {reads}");
-            assert_eq!(rt; input.errors(), 0, "at {reads}");
-        }
+        let fails = fails_at <= 37;
+        assert_eq!(rt;
+            fault,
+            if fails { Some(want) } else { None },
+            "at {fails_at}"
+        );
+        assert_eq!(rt; input.errors(), u64::from(fails), "at {fails_at}");
     }
 }

@@ -1,0 +1,179 @@
+//! Texts of whole sessions, and their replies.
+
+use crate::devices::{Failure, ShortReader, ShortWriter};
+use crate::sessions::run;
+use coll_bench::RunFault;
+use coll_lex::Counted;
+use std::process::Abort;
+use std::test::Fail;
+
+// Texts of whole sessions, and what is written for each.
+const SESSIONS: [(&[u8], &str); 38] = [
+    // Each refusal has its number and its name.
+    (
+        b":undo\nreorder-after <Q>\n:list\nreorder-end\nreorder-after a\na\nreorder-end\nb\nreorder-end\n",
+        "refused 60 NothingToUndo\nrefused 62 BlockOpen\nrefused 50 TargetNotPlaced\nrefused 51 TwiceInBlock\nrefused 55 NoWeights\nrefused 69 NoBlock\n",
+    ),
+    (b"", ""),
+    (b"# note\n\n", ""),
+    (b":list \\\n", "refused 9 DanglingEscape\n"),
+    (b":list \\", "refused 9 DanglingEscape\n"),
+    // A block of two order lines is too long, and changes nothing.
+    (
+        b"reorder-after <U0063>\n<U0061>\n<U0062>\nreorder-end\n:list\n",
+        "refused 27 BlockTooLong\n1 <BASE>\n2 <U0061>\n3 <U0062>\n4 <U0063>\nlisted 4\n",
+    ),
+    // Comments, empty lines and directives are no lines of a block.
+    (
+        b"reorder-after <U0063>\n# one\n\n<U0061>\ncomment_char %\n% two\nreorder-end\n",
+        "ok 1\n",
+    ),
+    // A refused line opens a block by the bytes of its first physical line.
+    (
+        b"reorder-afterwards\n:undo\nreorder-end\n",
+        "refused 62 BlockOpen\nrefused 20 UnknownStatement\n",
+    ),
+    (
+        b"reorder-after\"x\n:undo\nreorder-end\n",
+        "refused 62 BlockOpen\nrefused 6 OpenString\n",
+    ),
+    (
+        b" \treorder-after <\n:undo\nreorder-end\n",
+        "refused 62 BlockOpen\nrefused 2 OpenSymbol\n",
+    ),
+    (
+        b"reorder-after \xFF\n:undo\nreorder-end\n",
+        "refused 62 BlockOpen\nrefused 1 NotUtf8\n",
+    ),
+    (
+        b"reorder\\-after <\n:undo\n",
+        "refused 2 OpenSymbol\nrefused 60 NothingToUndo\n",
+    ),
+    (
+        b"\"reorder-after\n:undo\n",
+        "refused 6 OpenString\nrefused 60 NothingToUndo\n",
+    ),
+    (
+        b"reorder-\\\nafter <\n:undo\n",
+        "refused 2 OpenSymbol\nrefused 60 NothingToUndo\n",
+    ),
+    (
+        b"  \\\nreorder-after <\n:undo\n",
+        "refused 2 OpenSymbol\nrefused 60 NothingToUndo\n",
+    ),
+    (
+        b"reorder-section-after <X>\n:undo\n",
+        "refused 20 UnknownStatement\nrefused 60 NothingToUndo\n",
+    ),
+    // An accepted line opens one by its tokens.
+    (
+        b"reorder\\-after <U0063>\n:undo\nreorder-end\n",
+        "refused 62 BlockOpen\nok 1\n",
+    ),
+    (
+        b"reorder-\\\nafter <U0063>\n:undo\nreorder-end\n",
+        "refused 62 BlockOpen\nok 1\n",
+    ),
+    // A refused line that begins with `reorder-end` ends the block, which answers its first fault.
+    (
+        b"reorder-after <U0063>\n<U0061>\nreorder-end <X>\n:undo\n",
+        "refused 22 ExtraOperand\nrefused 60 NothingToUndo\n",
+    ),
+    (
+        b"reorder-after <U0063>\nbogus\nreorder-end <\n:undo\n",
+        "refused 20 UnknownStatement\nrefused 60 NothingToUndo\n",
+    ),
+    // Where no block is open it has its own fault.
+    (b"reorder-endless\n", "refused 20 UnknownStatement\n"),
+    (b"reorder-end <\n", "refused 2 OpenSymbol\n"),
+    // A command that the lexer refuses is none, and spoils the block.
+    (
+        b"reorder-after <U0063>\n:undo \"a\nreorder-end\n",
+        "refused 6 OpenString\n",
+    ),
+    (b":undo \"a\n", "refused 6 OpenString\n"),
+    // What is a command is decided without the escapes.
+    (
+        b"\\:undo\n:\\undo\n:undo x\n:undo\"t\"\n:bogus x\n",
+        "refused 60 NothingToUndo\nrefused 60 NothingToUndo\nrefused 22 ExtraOperand\nrefused 22 ExtraOperand\nrefused 64 UnknownCommand\n",
+    ),
+    (
+        b":\n:;\n",
+        "refused 54 NotPlaced\nrefused 22 ExtraOperand\n",
+    ),
+    // In a block every command is refused alike, and the block stays as it was.
+    (
+        b"reorder-after <U0063>\n:bogus\n:undo x\n:list\nreorder-end\n",
+        "refused 62 BlockOpen\nrefused 62 BlockOpen\nrefused 62 BlockOpen\nok 1\n",
+    ),
+    // A spoiled block isn't judged, and keeps its first fault.
+    (
+        b"reorder-after <Q>\nbogus\n<U0061>\n<U0061>\n<\nreorder-end\n",
+        "refused 20 UnknownStatement\n",
+    ),
+    (
+        b"reorder-after <U0063>\nEND LC_COLLATE\nreorder-end\n",
+        "refused 20 UnknownStatement\n",
+    ),
+    // A further `reorder-after` ends the block and opens the next.
+    (
+        b"reorder-after <U0063>\n<U0061>\nreorder-after <U0061>\n<U0062>\nreorder-end\n:undo\n",
+        "ok 1\nok 2\nundone 1\n",
+    ),
+    (
+        b"reorder-after <Q>\nreorder-after <\nreorder-after <U0061>\nreorder-end\n",
+        "refused 50 TargetNotPlaced\nrefused 2 OpenSymbol\nok 1\n",
+    ),
+    (
+        b"reorder-after <U0063>\nreorder-after <U0061> <X>\nreorder-end\n",
+        "ok 1\nrefused 22 ExtraOperand\n",
+    ),
+    // The text ends in an open block, whether spoiled or not.
+    (
+        b"reorder-after <U0063>\n<U0061>\n",
+        "refused 63 BlockNotEnded\n",
+    ),
+    (
+        b"reorder-after <U0063>\nbogus\n",
+        "refused 63 BlockNotEnded\n",
+    ),
+    (
+        b"reorder-after <U0063>\nreorder-end \\\n",
+        "refused 63 BlockNotEnded\n",
+    ),
+    (b"reorder-after <U0063> \\\n", "refused 9 DanglingEscape\n"),
+    // An order line outside a block is a statement of its own.
+    (
+        b"<Q>\n<U007A>\n<BASE>\n",
+        "refused 34 NotDeclared\nrefused 54 NotPlaced\nrefused 55 NoWeights\n",
+    ),
+    (b"reorder-after <U0063>\r\n<U0061>\r\nreorder-end", "ok 1\n"),
+];
+
+// Asserts that a session ended with its input, and has written these replies.
+fn assert_replies(rt: &impl Abort, answer: Result<(), RunFault>, written: &[u8], replies: &str) {
+    assert_eq!(rt; answer, Ok(()), "for {replies}");
+    assert_eq!(rt; written, replies.as_bytes(), "for {replies}");
+}
+
+#[test]
+fn each_unit_has_its_reply(rt: HostRuntime) -> Result<(), Fail> {
+    for (text, replies) in SESSIONS {
+        let mut output = Counted::new(Vec::new(rt.alloc()));
+        let answer = run(rt.alloc(), &mut Counted::new(text), &mut output)?;
+        assert_replies(&rt, answer, output.device().as_slice(), replies);
+    }
+    Ok(())
+}
+
+#[test]
+fn short_reads_and_writes_change_no_reply(rt: HostRuntime) -> Result<(), Fail> {
+    for (text, replies) in SESSIONS {
+        let mut input = Counted::new(ShortReader::new(text, 0));
+        let writer = ShortWriter::new(Vec::new(rt.alloc()), 0, Failure::Error);
+        let mut output = Counted::new(writer);
+        let answer = run(rt.alloc(), &mut input, &mut output)?;
+        assert_replies(&rt, answer, output.device().taken.as_slice(), replies);
+    }
+    Ok(())
+}

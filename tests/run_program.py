@@ -1,0 +1,118 @@
+#!/usr/bin/env python3
+"""Runs a program, and compares what it writes and how it ends with what is wanted.
+
+usage: tests/run_program.py [PROGRAM [NAME..]]
+
+PROGRAM is crates/collbench/out/collbench where none is given, which `make` and the gate build. Each file
+tests/runs/NAME.json is one run, in an empty folder of its own:
+
+    shows         what the run shows, in a sentence
+    words         the words after the program; none if left out
+    input         standard input, a value; empty if left out
+    input_from    the path that standard input is opened from, in place of `input`
+    output        what the program writes to standard output, a value; empty if left out
+    output_to     the path that standard output is opened at; `output` is then not looked at
+    errors        what it writes to standard error, a value; empty if left out
+    errors_to     the path that standard error is opened at; `errors` is then not looked at
+    status        the exit status; 0 if left out
+
+A value stands for bytes: a string for its UTF-8, a list for its members joined, {"hex": ".."} for those bytes,
+{"repeat": value, "times": n} for a value n times, and {"file": path} for a file of the repository.
+
+For each run that fails, what differs is printed. The last line is 'N passed, M failed', and the status is 1 where one
+failed.
+"""
+
+import contextlib
+import json
+import os
+import subprocess
+import sys
+import tempfile
+
+ROOT = os.path.dirname(os.path.dirname(os.path.abspath(__file__)))
+PROGRAM = f"{ROOT}/crates/collbench/out/collbench"
+RUNS = f"{ROOT}/tests/runs"
+SECONDS = 120
+MEMBERS = {"shows", "words", "input", "input_from", "output", "output_to", "errors", "errors_to", "status"}
+
+
+def bytes_of(value):
+    """Returns the bytes that a value stands for."""
+    if isinstance(value, str):
+        return value.encode()
+    if isinstance(value, list):
+        return b"".join(bytes_of(member) for member in value)
+    if set(value) == {"hex"}:
+        return bytes.fromhex(value["hex"])
+    if set(value) == {"repeat", "times"}:
+        return bytes_of(value["repeat"]) * value["times"]
+    if set(value) == {"file"}:
+        with open(f"{ROOT}/{value['file']}", "rb") as file:
+            return file.read()
+    raise ValueError(f"no value: {value}")
+
+
+def shown(data):
+    """Returns some bytes as text that fits a few lines."""
+    text = repr(data)
+    return text if len(text) <= 600 else f"{text[:300]} .. {text[-300:]} ({len(data)} bytes)"
+
+
+def opened(stack, path, flags):
+    """Opens a path by the system's own call, since a folder may stand there."""
+    descriptor = os.open(path, flags)
+    stack.callback(os.close, descriptor)
+    return descriptor
+
+
+def differences(program, run):
+    """Runs the program, and returns what differs from what is wanted, a line for each."""
+    unknown = set(run) - MEMBERS
+    if unknown or "shows" not in run:
+        return [f"no run: {', '.join(sorted(unknown)) or 'it does not say what it shows'}"]
+    with contextlib.ExitStack() as stack:
+        how = {"stdout": subprocess.PIPE, "stderr": subprocess.PIPE}
+        if "input_from" in run:
+            how["stdin"] = opened(stack, run["input_from"], os.O_RDONLY)
+        else:
+            how["input"] = bytes_of(run.get("input", ""))
+        for stream, to in (("stdout", "output_to"), ("stderr", "errors_to")):
+            if to in run:
+                how[stream] = opened(stack, run[to], os.O_WRONLY)
+        folder = stack.enter_context(tempfile.TemporaryDirectory(prefix="run-program-"))
+        try:
+            ended = subprocess.run([program, *run.get("words", [])], cwd=folder, timeout=SECONDS, check=False, **how)
+        except subprocess.TimeoutExpired:
+            return [f"the program had not ended after {SECONDS} seconds"]
+        except OSError as error:
+            return [f"the program did not start: {error}"]
+    found = [] if "output_to" in run else [("output", ended.stdout)]
+    found += [] if "errors_to" in run else [("errors", ended.stderr)]
+    lines = []
+    for member, wrote in found:
+        wanted = bytes_of(run.get(member, ""))
+        if wrote != wanted:
+            lines += [f"{member} wanted: {shown(wanted)}", f"{member} found:  {shown(wrote)}"]
+    if ended.returncode != run.get("status", 0):
+        lines.append(f"status wanted: {run.get('status', 0)}, found: {ended.returncode}")
+    return lines
+
+
+def run_all(program, names=()):
+    """Runs the program for each name, or for each run there is. Returns how many passed, and how many failed."""
+    program = os.path.abspath(program)
+    passed = failed = 0
+    for name in names or sorted(file[:-5] for file in os.listdir(RUNS) if file.endswith(".json")):
+        with open(f"{RUNS}/{name}.json", encoding="utf-8") as file:
+            lines = differences(program, json.load(file))
+        for line in [f"FAILED: {name}", *(f"  {line}" for line in lines)] if lines else []:
+            print(line, flush=True)
+        passed, failed = passed + (not lines), failed + bool(lines)
+    return passed, failed
+
+
+if __name__ == "__main__":
+    counts = run_all(*sys.argv[1:2] or [PROGRAM], sys.argv[2:])
+    print(f"{counts[0]} passed, {counts[1]} failed")
+    sys.exit(1 if counts[1] or not counts[0] else 0)
