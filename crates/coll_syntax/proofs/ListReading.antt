@@ -4,7 +4,8 @@ use Rattle.std.specs.Prelude.{Result, Ok, Err}
 use Rattle.std.proofs.lemmas.List.{get_or-map, length-map}
 use Rattle.std.proofs.lemmas.List.Splits.{length-slice_split}
 use Rattle.coll_lex.specs.declared.tokens.Token.{Token}
-use Rattle.coll_syntax.specs.Weights.{all_read, operands_of, is_semicolon, operand_weight, weights}
+use Rattle.coll_syntax.specs.Operands.{all_read, operands_of, is_semicolon}
+use Rattle.coll_syntax.specs.Weights.{operand_weight, weights}
 use Rattle.coll_syntax.specs.Rules.{rule, judged_levels, rules}
 use Rattle.coll_syntax.specs.declared.rules.Rule.{Rule}
 use Rattle.coll_syntax.specs.declared.weights.Weight.{Weight}

@@ -1,11 +1,10 @@
 -- The test of a name, by the parts that the code looks at.
-use Rattle.std.proofs.Common.{◌≡◌, ◌≢◌, ℕ, ◌<◌, ◌≤◌, ◌==◌, ◌&&◌, ◌||◌, not, Bool, true, false, if◌then◌else◌, List, [], ◌∷◌, length, chars, IsUtf8, Option, Some, None, option_map, Result, Ok, Err, refl, ap, sym, ◌∙◌}
+use Rattle.std.proofs.Common.{◌≡◌, ◌≢◌, ℕ, ◌<◌, ◌≤◌, ◌==◌, Bool, true, false, if◌then◌else◌, List, [], ◌∷◌, length, chars, IsUtf8, Option, Some, None, option_map, Ok, Err, refl, ap, sym, ◌∙◌}
 use Rattle.std.specs.Prelude.{is_some}
 use Rattle.std.specs.List.{list_all}
 use lib.Utf8.{scalar}
-use Rattle.coll_lex.specs.Tokens.{is_hex_digit, hex_number, is_name, code_point_of, name_of, symbol_by, symbol_of, character_of}
+use Rattle.coll_lex.specs.Tokens.{is_hex_digit, is_name, code_point_of, symbol_by, symbol_of}
 use Rattle.coll_lex.specs.declared.tokens.Piece.TheVariants as piece
-use Rattle.coll_lex.specs.declared.faults.LexFault.{LexFault}
 use Rattle.coll_lex.specs.declared.faults.LexFault.TheVariants.{BadName, BadCodePoint}
 use Rattle.coll_lex.proofs.TextLemmas.{none_chars}
 use Rattle.coll_lex.proofs.SymbolLemmas.{symbol_of_nothing, no_code_in_nothing, no_code_without_u, no_code_in_few, no_code_in_many, code_in_digits}

@@ -5,7 +5,6 @@ use Rattle.std.proofs.lemmas.List.Elements.{All-head, All-tail, All-same}
 use Rattle.coll_lex.specs.Names.{IsName, IsToken, AreTokens}
 use Rattle.coll_lex.specs.declared.tokens.Token.{Token}
 use Rattle.coll_lex.specs.declared.tokens.Token.TheVariants as token
-use Rattle.coll_lex.specs.declared.tokens.Piece.{Piece}
 use Rattle.coll_syntax.specs.Identifier.{id_of}
 use Rattle.coll_syntax.specs.Keywords.{keyword_of}
 use Rattle.coll_syntax.specs.Operands.{read_as, only, name_in, word_in, string_in, id_in, two_names}
@@ -17,11 +16,8 @@ use Rattle.coll_syntax.specs.TableLines as tables
 use Rattle.coll_syntax.specs.DeltaLines as deltas
 use Rattle.coll_syntax.specs.Proper.{IsId, IsProperWeight, IsElementText, IsProperLine, AreRulesIfGiven, IsProperTableLine, IsProperDeltaLine}
 use Rattle.coll_syntax.specs.declared.identifiers.Id.{Id}
-use Rattle.coll_syntax.specs.declared.weights.Weight.{Weight}
-use Rattle.coll_syntax.specs.declared.rules.Rule.{Rule}
 use Rattle.coll_syntax.specs.declared.keywords.Keyword.{Keyword}
 use Rattle.coll_syntax.specs.declared.keywords.Keyword.TheVariants as keyword
-use Rattle.coll_syntax.specs.declared.statements.OrderLine.{OrderLine}
 use Rattle.coll_syntax.specs.declared.lines.TableLine.{TableLine}
 use Rattle.coll_syntax.specs.declared.lines.TableLine.TheVariants as table
 use Rattle.coll_syntax.specs.declared.lines.DeltaLine.{DeltaLine}

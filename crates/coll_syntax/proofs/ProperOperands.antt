@@ -1,27 +1,27 @@
 -- What the grammar gives is proper: operands, strings, rules and weights.
-use Rattle.std.proofs.Common.{◌≡◌, ℕ, zero, suc, ◌+◌, ◌<◌, ◌≤◌, ◌&&◌, nat_le, Bool, true, false, if◌then◌else◌, cond, List, [], ◌∷◌, ◌++◌, length, take, drop, map, Some, None, Ok, Err, refl, ap, sym, ◌∙◌, arith}
+use Rattle.std.proofs.Common.{◌≡◌, ℕ, zero, suc, ◌<◌, ◌≤◌, ◌&&◌, nat_le, Bool, true, false, if◌then◌else◌, cond, List, [], ◌∷◌, ◌++◌, length, take, drop, map, Some, None, Ok, Err, refl, ap, ◌∙◌, arith}
 use Rattle.std.specs.Prelude.{Result, Option, All, IfOk, codes}
 use Rattle.std.specs.List.{slice_split, onto_first}
-use Rattle.std.proofs.lemmas.List.Elements.{All-nil, All-cons, All-head, All-tail, All-map}
+use Rattle.std.proofs.lemmas.List.Elements.{All-nil, All-cons, All-head, All-tail}
 use Rattle.std.proofs.lemmas.List.{length-map}
 use Rattle.coll_lex.specs.Names.{IsName, IsPiece, IsToken}
 use Rattle.coll_lex.specs.declared.tokens.Token.{Token}
 use Rattle.coll_lex.specs.declared.tokens.Token.TheVariants as token
 use Rattle.coll_lex.specs.declared.tokens.Piece.{Piece}
 use Rattle.coll_lex.specs.declared.tokens.Piece.TheVariants as piece
-use Rattle.coll_syntax.specs.Identifier.{is_word, only_char, char_or_name, id_of}
-use Rattle.coll_syntax.specs.Operands.{and_then, read_as, wanted, ended, operand, only, name_in, word_in, string_in, id_in, two_names}
+use Rattle.coll_syntax.specs.Identifier.{is_word, char_or_name, id_of}
+use Rattle.coll_syntax.specs.Operands.{and_then, read_as, wanted, ended, operand, only, name_in, word_in, id_in, two_names, is_semicolon, operands_of, all_read}
 use Rattle.coll_syntax.specs.Elements.{characters_of, short_text, element_text, text_in, from_text, element}
-use Rattle.coll_syntax.specs.Weights.{is_semicolon, operands_of, all_read, piece_id, string_weight, one_id, weight, left_over, operand_weight, weights}
+use Rattle.coll_syntax.specs.Weights.{piece_id, string_weight, one_id, weight, left_over, operand_weight, weights}
 use Rattle.coll_syntax.specs.Rules.{rule, judged_levels, rules}
 use Rattle.coll_syntax.specs.Proper.{IsId, IsWeightId, IsProperWeight, IsElementText}
 use Rattle.coll_syntax.specs.declared.identifiers.Id.{Id}
 use Rattle.coll_syntax.specs.declared.identifiers.Id.TheVariants.{Char, Named, Undefined}
 use Rattle.coll_syntax.specs.declared.weights.Weight.{Weight}
-use Rattle.coll_syntax.specs.declared.weights.Weight.TheVariants.{Ignore, Own, Names}
+use Rattle.coll_syntax.specs.declared.weights.Weight.TheVariants.{Ignore, Names}
 use Rattle.coll_syntax.specs.declared.rules.Rule.{Rule}
 use Rattle.coll_syntax.specs.declared.syntax_faults.SyntaxFault.{SyntaxFault}
-use Rattle.coll_syntax.specs.declared.syntax_faults.SyntaxFault.TheVariants.{BadOperand, ExtraOperand, TooManyLevels, ElementLength, WeightTooLong}
+use Rattle.coll_syntax.specs.declared.syntax_faults.SyntaxFault.TheVariants.{BadOperand, TooManyLevels, ElementLength, WeightTooLong}
 use Rattle.coll_syntax.proofs.ListReading.{some_operand, length-judged_levels}
 use Rattle.coll_syntax.proofs.ProperTests.{text_from_test, count_from_test}
 

@@ -1,6 +1,6 @@
 -- The tests of what is proper tell exactly that.
 use Rattle.std.proofs.Common.{◌≡◌, ℕ, ◌≤◌, ◌==◌, ◌&&◌, not, nat_le, Bool, true, false, if◌then◌else◌, List, [], ◌∷◌, length, map, Some, None, Ok, Err, refl, ap, arith}
-use Rattle.std.specs.Prelude.{Result, Option, All}
+use Rattle.std.specs.Prelude.{Option, All}
 use Rattle.std.specs.Bool.{Decides}
 use Rattle.std.specs.List.{list_all}
 use Rattle.std.proofs.lemmas.Bool.Decides.{Decides-and, Decides-like, Decides-by_and, nat_tests}
@@ -11,7 +11,6 @@ use Rattle.coll_lex.specs.Tokens.{is_name, code_point_of, symbol_by, symbol_of}
 use Rattle.coll_lex.specs.Names.{IsName}
 use Rattle.coll_lex.specs.declared.tokens.Piece.{Piece}
 use Rattle.coll_lex.specs.declared.tokens.Piece.TheVariants as piece
-use Rattle.coll_lex.specs.declared.faults.LexFault.{LexFault}
 use Rattle.coll_lex.specs.declared.faults.LexFault.TheVariants.{BadName, BadCodePoint}
 use Rattle.coll_syntax.specs.Proper.{IsId, IsWeightId, IsProperWeight, AreProperWeights, IsProperLine, IsElementText, IsProper, gives_name, is_proper_name, is_proper_id, is_weight_id, is_proper_weight, are_proper_weights, is_proper_line, is_element_text, is_proper}
 use Rattle.coll_syntax.specs.declared.identifiers.Id.{Id}

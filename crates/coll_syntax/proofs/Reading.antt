@@ -3,8 +3,7 @@ use Rattle.std.proofs.Common.{◌≡◌, ℕ, ◌+◌, ◌<◌, ◌≤◌, List,
 use Rattle.std.specs.Prelude.{Result, Ok, Err}
 use Rattle.std.proofs.lemmas.List.{drop_more, drop_all, append-nil}
 use Rattle.std.proofs.Common.{append_assoc}
-use Rattle.coll_syntax.specs.Operands.{and_then, read_as}
-use Rattle.coll_syntax.specs.Weights.{all_read}
+use Rattle.coll_syntax.specs.Operands.{and_then, read_as, all_read}
 use Rattle.coll_syntax.specs.declared.syntax_faults.SyntaxFault.{SyntaxFault}
 
 -- what was read so far, and then what is still read

@@ -1,6 +1,6 @@
 -- What a line of a delta says, read from its tokens (`reorder-after` and `reorder-end` as in ISO/IEC 14651; declarations
 -- and order lines as in POSIX.1-2017, 7.3.2; the others are the project's own).
-use Rattle.std.specs.Prelude.{List, [], ◌∷◌, Option, Some, None, Result, Ok, Err, codes}
+use Rattle.std.specs.Prelude.{List, [], ◌∷◌, Option, Some, None, Result, Err, codes}
 use Rattle.coll_lex.specs.declared.tokens.Token.{Token}
 use Rattle.coll_syntax.specs.Keywords.{keyword_of}
 use Rattle.coll_syntax.specs.Operands.{read_as, ended, only, name_in, word_in, string_in, id_in, two_names}

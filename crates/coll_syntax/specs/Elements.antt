@@ -1,5 +1,5 @@
 -- The operands of `collating-element` (POSIX.1-2017, 7.3.2.1): a name, the word `from`, and a string of characters.
-use Rattle.std.specs.Prelude.{◌&&◌, if◌then◌else◌, nat_le, List, [], ◌∷◌, length, ℕ, Option, Some, None, Result, Ok, Err, codes}
+use Rattle.std.specs.Prelude.{ℕ, ◌&&◌, if◌then◌else◌, nat_le, List, [], ◌∷◌, length, Option, Some, None, Result, Ok, Err, codes}
 use Rattle.std.specs.Option.{option_map}
 use Rattle.coll_lex.specs.declared.tokens.Token.{Token}
 use Rattle.coll_lex.specs.declared.tokens.Piece.{Piece}

@@ -1,4 +1,4 @@
--- The words that begin a line, of a table or of a delta.
+-- The words that begin a line: of a table (POSIX.1-2017, 7.3.2), of a delta (ISO/IEC 14651), and the project's own.
 use Rattle.std.specs.Prelude.{if◌then◌else◌, Option, Some, None, codes}
 use Rattle.coll_lex.specs.declared.tokens.Token.{Token}
 use Rattle.coll_syntax.specs.Identifier.{is_word}

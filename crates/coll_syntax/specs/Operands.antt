@@ -1,13 +1,13 @@
 -- How operands are read: from left to right, and the first token that doesn't fit gives the fault (the project's own rule).
-use Rattle.std.specs.Prelude.{◌==◌, ◌&&◌, if◌then◌else◌, nat_le, List, [], ◌∷◌, length, ℕ, Option, Some, None, Result, Ok, Err, codes}
+use Rattle.std.specs.Prelude.{ℕ, Bool, true, false, if◌then◌else◌, List, [], ◌∷◌, Option, Some, None, Result, Ok, Err}
+use Rattle.std.specs.List.{slice_split}
 use Rattle.coll_lex.specs.declared.tokens.Token.{Token}
 use Rattle.coll_lex.specs.declared.tokens.Token.TheVariants as token
 use Rattle.coll_lex.specs.declared.tokens.Piece.{Piece}
-use Rattle.coll_lex.specs.declared.tokens.Piece.TheVariants as piece
 use Rattle.coll_syntax.specs.Identifier.{is_word, id_of}
 use Rattle.coll_syntax.specs.declared.identifiers.Id.{Id}
 use Rattle.coll_syntax.specs.declared.syntax_faults.SyntaxFault.{SyntaxFault}
-use Rattle.coll_syntax.specs.declared.syntax_faults.SyntaxFault.TheVariants.{MissingOperand, ExtraOperand, ElementLength, EmptyString, BadOperand}
+use Rattle.coll_syntax.specs.declared.syntax_faults.SyntaxFault.TheVariants.{MissingOperand, ExtraOperand, BadOperand}
 
 -- what was read, and then what comes next; a fault ends the reading
 abbrev pub and_then : {A B : Type 0} → Result A SyntaxFault → (A → Result B SyntaxFault) → Result B SyntaxFault
@@ -59,3 +59,17 @@ id_in t = wanted (id_of t)
 -- two symbols
 abbrev pub two_names : List Token → Result (List ℕ × List ℕ) SyntaxFault
 two_names ts = operand name_in ts (λ first rest. read_as (λ second. (first, second)) (only name_in rest))
+
+-- a semicolon, which separates operands
+abbrev pub is_semicolon : Token → Bool
+is_semicolon token.Semicolon = true
+is_semicolon _ = false
+
+-- the operands: the lists of tokens between the semicolons, perhaps empty
+abbrev pub operands_of : List Token → List (List Token)
+operands_of = slice_split is_semicolon
+
+-- what all of these operands say; the first at fault gives the fault
+unfoldable pub all_read : {A : Type 0} → List (Result A SyntaxFault) → Result (List A) SyntaxFault
+all_read [] = Ok []
+all_read (first ∷ later) = and_then first (λ read. read_as (λ more. read ∷ more) (all_read later))

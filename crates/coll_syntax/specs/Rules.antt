@@ -1,9 +1,9 @@
 -- The rules of `order_start` (POSIX.1-2017, 7.3.2.3): operands separated by semicolons, one for each level.
-use Rattle.std.specs.Prelude.{Bool, true, false, if◌then◌else◌, ◌++◌, List, [], ◌∷◌, map, take, drop, Option, Some, None, Result, Ok, Err, codes}
+use Rattle.std.specs.Prelude.{true, false, if◌then◌else◌, ◌++◌, List, [], ◌∷◌, map, take, drop, Option, Some, None, Result, Ok, Err, codes}
 use Rattle.coll_lex.specs.declared.tokens.Token.{Token}
 use Rattle.coll_lex.specs.declared.tokens.Token.TheVariants as token
 use Rattle.coll_syntax.specs.Identifier.{is_word}
-use Rattle.coll_syntax.specs.Weights.{operands_of, all_read}
+use Rattle.coll_syntax.specs.Operands.{operands_of, all_read}
 use Rattle.coll_syntax.specs.declared.rules.Rule.{Rule}
 use Rattle.coll_syntax.specs.declared.rule_lists.Directive.{Directive}
 use Rattle.coll_syntax.specs.declared.rule_lists.Directive.TheVariants.{Forward, Backward, Position}

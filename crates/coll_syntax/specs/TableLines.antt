@@ -28,7 +28,8 @@ order_start (token.Symbol name ∷ rest) = read_as (OrderStart (Some name)) (sec
 order_start (token.Char c ∷ rest) = Err BadOperand
 order_start ts = read_as (λ given. OrderStart None (Some given)) (rules ts)
 
--- a line that begins with a keyword, by its operands; a keyword of deltas begins no line of a table
+-- a line that begins with a keyword, by its operands: collating-symbol (7.3.2.2), collating-element (7.3.2.1), order_start
+-- (7.3.2.3), order_end (7.3.2.5), END (7.3), and the project's own; a keyword of deltas begins no line of a table
 abbrev pub keyword_row : Keyword → List Token → Result TableLine SyntaxFault
 keyword_row keyword.CollatingSymbol rest = read_as Symbol (only name_in rest)
 keyword_row keyword.CollatingElement rest = read_as (λ read. Element read.0 read.1) (element rest)

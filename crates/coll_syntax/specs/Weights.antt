@@ -1,32 +1,17 @@
 -- The weights of an order line (POSIX.1-2017, 7.3.2.4): operands separated by semicolons.
-use Rattle.std.specs.Prelude.{◌==◌, ◌||◌, Bool, true, false, if◌then◌else◌, nat_le, List, [], ◌∷◌, length, map, Option, Some, None, is_some, Result, Ok, Err, codes}
-use Rattle.std.specs.List.{slice_split}
+use Rattle.std.specs.Prelude.{◌||◌, Bool, true, if◌then◌else◌, nat_le, List, [], ◌∷◌, length, map, is_some, Result, Ok, Err, codes}
 use Rattle.coll_lex.specs.declared.tokens.Token.{Token}
 use Rattle.coll_lex.specs.declared.tokens.Token.TheVariants as token
 use Rattle.coll_lex.specs.declared.tokens.Piece.{Piece}
 use Rattle.coll_lex.specs.declared.tokens.Piece.TheVariants as piece
 use Rattle.coll_syntax.specs.Identifier.{is_word, char_or_name}
-use Rattle.coll_syntax.specs.Operands.{and_then, read_as, wanted}
+use Rattle.coll_syntax.specs.Operands.{and_then, read_as, wanted, operands_of, all_read}
 use Rattle.coll_syntax.specs.declared.identifiers.Id.{Id}
 use Rattle.coll_syntax.specs.declared.identifiers.Id.TheVariants.{Char, Named}
 use Rattle.coll_syntax.specs.declared.weights.Weight.{Weight}
 use Rattle.coll_syntax.specs.declared.weights.Weight.TheVariants.{Ignore, Own, Names}
 use Rattle.coll_syntax.specs.declared.syntax_faults.SyntaxFault.{SyntaxFault}
 use Rattle.coll_syntax.specs.declared.syntax_faults.SyntaxFault.TheVariants.{ExtraOperand, WeightTooLong, EmptyString, BadOperand}
-
--- a semicolon, which separates operands
-abbrev pub is_semicolon : Token → Bool
-is_semicolon token.Semicolon = true
-is_semicolon _ = false
-
--- the operands: the lists of tokens between the semicolons, perhaps empty
-abbrev pub operands_of : List Token → List (List Token)
-operands_of = slice_split is_semicolon
-
--- what all of these operands say; the first at fault gives the fault
-unfoldable pub all_read : {A : Type 0} → List (Result A SyntaxFault) → Result (List A) SyntaxFault
-all_read [] = Ok []
-all_read (first ∷ later) = and_then first (λ read. read_as (λ more. read ∷ more) (all_read later))
 
 -- the character or the name of a piece of a string
 abbrev pub piece_id : Piece → Id

@@ -1,5 +1,5 @@
 -- Each turn takes the next character.
-use Rattle.std.proofs.Common.{sym, ◌∙◌, ap}
+use Rattle.std.proofs.Common.{sym}
 use Rattle.std.specs.Prelude.{chars, string_bytes}
 use Rattle.std.proofs.lemmas.Str.{chars-nil}
 use Rattle.coll_syntax.specs.Elements.{characters_of}

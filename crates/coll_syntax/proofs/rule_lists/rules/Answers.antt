@@ -5,7 +5,7 @@ use Rattle.std.proofs.lemmas.Iterator.Consumers.{YieldsList-turn, YieldsList-end
 use Rattle.std.proofs.lemmas.List.{length_push, take_more_set}
 use Rattle.std.proofs.Math.ListN.{length-set}
 use Rattle.coll_syntax.specs.Rules.{wanted_rule}
-use Rattle.coll_syntax.specs.Weights.{is_semicolon}
+use Rattle.coll_syntax.specs.Operands.{is_semicolon}
 use Rattle.coll_syntax.specs.declared.syntax_faults.SyntaxFault.TheVariants.{BadRule}
 use Rattle.coll_syntax.proofs.ListReading.{stands_at, rules_more, rules_fault, rules_past, rules_all}
 use Rattle.coll_syntax.proofs.rule_lists.rules.Goals as goal

@@ -4,7 +4,7 @@ use Rattle.std.proofs.lemmas.Iterator.Splits.{YieldsList-from_slice_split}
 use Rattle.std.proofs.lemmas.Iterator.Consumers.{YieldsList-turn, YieldsList-end}
 use Rattle.std.proofs.lemmas.List.{length_push}
 use Rattle.std.proofs.lemmas.Result.{err_from_is_err_and}
-use Rattle.coll_syntax.specs.Weights.{is_semicolon}
+use Rattle.coll_syntax.specs.Operands.{is_semicolon}
 use Rattle.coll_syntax.proofs.ListReading.{stands_at, weights_more, weights_fault, weights_all}
 use Rattle.coll_syntax.proofs.weight_lists.weights.Goals as goal
 
