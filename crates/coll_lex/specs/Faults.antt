@@ -1,4 +1,5 @@
--- The numbers and the names of the faults of lines and devices, as replies and messages show them.
+-- The numbers and the names of the faults of lines and devices, as replies and messages show them, and which of them end
+-- a text.
 use Rattle.std.specs.Prelude.{ℕ, Bool, true, false, List, codes}
 use Rattle.coll_lex.specs.declared.faults.ReadStop.{ReadStop}
 use Rattle.coll_lex.specs.declared.faults.ReadStop.TheVariants as read

@@ -12,7 +12,8 @@ pub data Kind : Type 0 where
   QuotationMark : Kind
   Letter : Kind
 
--- the kind of a character; where the comment character is one of the others, the first of the tests decides
+-- the kind of a character; a comment character that is a blank or a separator too is that, and one that is `"` begins a
+-- comment
 abbrev pub kind_of : (comment : ℕ) → ℕ → Kind
 kind_of comment c = if is_blank c then Blank else (if c == semicolon then Semicolon else (if c == comma then Comma else (if c == comment then CommentCharacter else (if c == quotation_mark then QuotationMark else Letter))))
 

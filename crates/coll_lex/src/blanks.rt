@@ -1,6 +1,7 @@
 //! Blanks, spaces and tabs, which are skipped between the words of a line.
 //!
-//! What is a blank is decided here alone, for the scan and for the lines that are recognised by their bytes.
+//! What is a blank is decided here alone, for the scan and for the lines that are recognised by their bytes; all
+//! blanks are ASCII.
 
 ghost use Rattle.std.specs.Prelude.{◌≡◌};
 ghost use Rattle.coll_lex.specs.Blanks.{is_blank, past_blanks, begins_apart};

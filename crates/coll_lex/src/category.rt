@@ -1,7 +1,7 @@
 //! The line that begins the category LC_COLLATE (POSIX.1-2017, 7.3.2).
 //!
 //! It is recognised by its bytes, before any escape is read. The functions here look at one physical line without
-//! its carriage return.
+//! its carriage return. Another category would be another word here and in the definition.
 
 ghost use Rattle.std.specs.Prelude.{◌≡◌};
 ghost use Rattle.coll_lex.specs.Category.{is_over, begins_category};

@@ -2,7 +2,7 @@
 //!
 //! A text's way through this crate: bytes come from a device, are cut into physical lines, are handed to a
 //! `Lexer` one by one, and leave it as logical lines with their tokens. What a part promises stands in its
-//! contracts, in the words that `specs/` defines.
+//! contracts, in the words that `specs/` defines. A module here and a file there with the same name belong together.
 #![tactic(auto)]
 
 mod blanks;

@@ -1,7 +1,8 @@
 //! The lexer: physical lines are handed in one by one, and logical lines come out.
 //!
 //! A `Lexer` stores its two characters, the count of the lines handed in, and the logical line that is open.
-//! Contracts see these as a `LexerState`.
+//! Contracts see these as a `LexerState`. Memory is taken in the scan and where a continued line is kept, and nowhere
+//! else: whoever takes it elsewhere makes `takes_memory` wider, of which every caller knows.
 
 ghost use Rattle.std.specs.Prelude.{◌≡◌, IsUtf8, IfOk, IfErr};
 ghost use Rattle.coll_lex.specs.LogicalLines.{line_of};

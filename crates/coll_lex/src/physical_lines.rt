@@ -1,6 +1,7 @@
 //! The bytes of a physical line: its carriage return.
 //!
-//! What cuts a text into physical lines is in `line_reading`.
+//! What cuts a text into physical lines is in `line_reading`. What else a line's end may hold is decided here, and in
+//! the definition, for all who look at a line's bytes.
 
 ghost use Rattle.std.specs.Prelude.{◌≡◌};
 ghost use Rattle.coll_lex.specs.PhysicalLines.{without_return};

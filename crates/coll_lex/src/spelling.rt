@@ -2,10 +2,10 @@
 //!
 //! A name stands between `<` and `>`, with `/` before each `>` and `/` in it; a character stands as `<U`, its code
 //! point in upper-case hexadecimal, and `>`. Under the comment character `%` and the escape character `/` the
-//! lexer reads both back as what was written. A spelling is gathered on the stack and handed to the device as one write,
-//! where the device takes it whole; only a text longer than any name is written in parts. All output goes through
-//! `write_bytes`, the only loop over `write`. None of this takes memory. A change of a spelling is a change of its definition in `specs/`, and of the law
-//! that it is read back.
+//! lexer reads both back as what was written. A spelling is gathered on the stack and handed to the device as one
+//! write; only a text longer than any name is written in parts. All output goes through `write_bytes`, the only loop
+//! over `write`. None of this takes memory. A change of a spelling is a change of its definition in `specs/`, and of
+//! the law that it is read back.
 ghost use Rattle.arrayvec.specs.ArrayVec.{array_vec_len};
 ghost use Rattle.coll_lex.specs.Characters.{less_than, greater_than};
 ghost use Rattle.std.specs.Prelude.{◌≡◌, ◌+◌, ◌<◌, ◌≤◌, ℕ, [], ◌∷◌, ◌++◌, All, length, take, slice_index, chars, encode_utf8_all, IsTrue, IfNone, IfSome, true, false};

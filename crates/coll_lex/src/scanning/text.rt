@@ -1,4 +1,7 @@
 //! The moves inside strings.
+//!
+//! Symbols in strings are in `symbol`. A character with a new meaning in strings is a test here, in the order of the
+//! definition.
 
 ghost use Rattle.std.specs.Prelude.{◌≡◌, ◌≢◌, ℕ, OnOk, IfErr};
 ghost use Rattle.coll_lex.specs.Marked.{Plain, Literal};
