@@ -8,16 +8,16 @@ use Rattle.coll_lex.specs.LogicalLines.{LexerState, first_state, served, state_b
 use Rattle.coll_lex.specs.declared.faults.ReadStop.{ReadStop}
 use Rattle.coll_lex.proofs.PhysicalLinesLemmas.{lines_of-nil, lines_of-ended, lines_of-part, lines_of-cut}
 use Rattle.coll_table.specs.Table.{Collation}
-use Rattle.coll_bench.specs.History.{History, begun}
-use Rattle.coll_bench.specs.Units.{Block}
-use Rattle.coll_bench.specs.OpenBlock.{StandsFor}
-use Rattle.coll_bench.specs.Serving.{IsBegun, Served, ReadsNone, heard_at, stop_at, line_requests, line_block, history_after, replies_to, line_replies}
-use Rattle.coll_bench.specs.Run.{written_from, last_line, CountsReads}
+use Rattle.coll_bench.specs.Histories.{History, begun}
+use Rattle.coll_bench.specs.Hearing.{heard_at}
+use Rattle.coll_bench.specs.declared.open_blocks.OpenBlock.{OpenBlock}
+use Rattle.coll_bench.specs.Serving.{IsBegun, Served, ReadsNone, stop_at, line_units, line_block, history_after_all, replies_to, line_replies}
+use Rattle.coll_bench.specs.Runs.{last_line, CountsReads}
 use Rattle.std.specs.Result.{IfErr}
 use Rattle.coll_bench.specs.declared.faults.RunFault.{RunFault}
 use Rattle.coll_bench.proofs.ServingLemmas.{counts_none}
-use Rattle.coll_bench.specs.Underway.{IsCut, IsUnderway, Underway}
-use Rattle.coll_bench.specs.declared.runs.Desk.{Desk}
+use Rattle.coll_bench.specs.Underway.{written_from, IsCut, IsUnderway, Underway}
+use Rattle.coll_bench.specs.declared.serving.Desk.{Desk}
 use Rattle.coll_bench.proofs.RunLemmas.{choices_for, written_on}
 use Rattle.coll_bench.proofs.RunEnds.{last_on}
 
@@ -29,17 +29,16 @@ underway_begun table text before ahead taken desk b ahead_is taken_is = (
   [],
   [],
   [],
-  None,
   record {
     text_is = refl;
     cut = inr (λ later. sym (ap (λ (ls : List (List ℕ)). ls ++ lines_of later) lines_of-nil));
     ahead_is = ahead_is;
     taken_is = taken_is ∙ ap Some (sym (append-nil before));
-    block_is = b.block;
     goes_on = λ c d ends later.
         ap (λ (ls : List (List ℕ)). written_from first_state None (begun table) c d ends (ls ++ later)) lines_of-nil
         ∙ ap (λ (s : LexerState). written_from s None (begun table) c d ends later) (sym b.listener)
-        ∙ ap (λ (h : History). written_from desk.listener None h c d ends later) (sym b.session);
+        ∙ ap (λ (o : Option OpenBlock). written_from desk.listener o (begun table) c d ends later) (sym b.block)
+        ∙ ap (λ (h : History). written_from desk.listener desk.block h c d ends later) (sym b.session);
     last = λ c ends later.
         ap (λ (ls : List (List ℕ)). last_line (logical_lines c ends first_state (ls ++ later))) lines_of-nil
         ∙ ap (λ (s : LexerState). last_line (logical_lines c ends s later)) (sym b.listener);
@@ -121,7 +120,7 @@ appended (Some xs) (Some ys) before written bytes is more =
     ap Some (more ∙ ap (λ (l : List ℕ). l ++ bytes) same ∙ append_assoc before written bytes)
 
 -- how a run goes on from what was read and written so far, for all further lines and choices
-abbrev GoesOn : Collation → (read written : List ℕ) → (lines units : List Bool) → LexerState → Option Block → History → Type 0
+abbrev GoesOn : Collation → (read written : List ℕ) → (lines units : List Bool) → LexerState → Option OpenBlock → History → Type 0
 GoesOn table read written lines units s block h = (c d : List Bool) (ends : Bool) (later : List (List ℕ)) → written_from first_state None (begun table) (lines ++ c) (units ++ d) ends (lines_of read ++ later) ≡ written ++ written_from s block h c d ends later
 
 -- the same of a text's last line
@@ -131,19 +130,19 @@ HasLast read lines s = (c : List Bool) (ends : Bool) (later : List (List ℕ)) �
 pub one_more : (read read2 line : List ℕ) (later : List (List ℕ)) → lines_of read2 ≡ lines_of read ++ line ∷ [] → lines_of read2 ++ later ≡ lines_of read ++ line ∷ later
 one_more read read2 line later more = ap (λ (ls : List (List ℕ)). ls ++ later) more ∙ append_assoc (lines_of read) (line ∷ []) later
 
-goes_on_by : (table : Collation) (read read2 written line : List ℕ) (lines units : List Bool) (s s2 : LexerState) (block block2 : Option Block) (h h2 : History) (memory starved : Bool) → GoesOn table read written lines units s block h
-    → lines_of read2 ≡ lines_of read ++ line ∷ [] → stop_at (heard_at memory s line) ≡ None → s2 ≡ state_by s (served memory s line) → block2 ≡ line_block block (heard_at memory s line) → h2 ≡ history_after starved h (line_requests block (heard_at memory s line))
-    → GoesOn table read2 (written ++ replies_to starved h (line_requests block (heard_at memory s line))) (lines ++ memory ∷ []) (units ++ choices_for starved (line_requests block (heard_at memory s line))) s2 block2 h2
+goes_on_by : (table : Collation) (read read2 written line : List ℕ) (lines units : List Bool) (s s2 : LexerState) (block block2 : Option OpenBlock) (h h2 : History) (memory starved : Bool) → GoesOn table read written lines units s block h
+    → lines_of read2 ≡ lines_of read ++ line ∷ [] → stop_at (heard_at memory s line) ≡ None → s2 ≡ state_by s (served memory s line) → block2 ≡ line_block block (heard_at memory s line) → h2 ≡ history_after_all starved h (line_units block (heard_at memory s line))
+    → GoesOn table read2 (written ++ replies_to starved h (line_units block (heard_at memory s line))) (lines ++ memory ∷ []) (units ++ choices_for starved (line_units block (heard_at memory s line))) s2 block2 h2
 goes_on_by table read read2 written line lines units s s2 block block2 h h2 memory starved goes more on s_is block_is h_is c d ends later =
-    let us = line_requests block (heard_at memory s line) in
+    let us = line_units block (heard_at memory s line) in
     let first = written_from first_state None (begun table) in
     ap (λ (ls : List (List ℕ)). first ((lines ++ memory ∷ []) ++ c) ((units ++ choices_for starved us) ++ d) ends ls) (one_more read read2 line later more)
     ∙ ap (λ (l : List Bool). first l ((units ++ choices_for starved us) ++ d) ends (lines_of read ++ line ∷ later)) (append_assoc lines (memory ∷ []) c)
     ∙ ap (λ (l : List Bool). first (lines ++ memory ∷ c) l ends (lines_of read ++ line ∷ later)) (append_assoc units (choices_for starved us) d)
     ∙ goes (memory ∷ c) (choices_for starved us ++ d) ends (line ∷ later)
     ∙ ap (λ (l : List ℕ). written ++ l) (written_on memory starved s block h line c d ends later on
-    ∙ ap (λ (x : LexerState). replies_to starved h us ++ written_from x (line_block block (heard_at memory s line)) (history_after starved h us) c d ends later) (sym s_is)
-    ∙ ap (λ (b : Option Block). replies_to starved h us ++ written_from s2 b (history_after starved h us) c d ends later) (sym block_is)
+    ∙ ap (λ (x : LexerState). replies_to starved h us ++ written_from x (line_block block (heard_at memory s line)) (history_after_all starved h us) c d ends later) (sym s_is)
+    ∙ ap (λ (b : Option OpenBlock). replies_to starved h us ++ written_from s2 b (history_after_all starved h us) c d ends later) (sym block_is)
     ∙ ap (λ (x : History). replies_to starved h us ++ written_from s2 block2 x c d ends later) (sym h_is))
     ∙ sym (append_assoc written (replies_to starved h us) (written_from s2 block2 h2 c d ends later))
 
@@ -156,36 +155,32 @@ has_last_by read read2 line lines s s2 memory last more on s_is c ends later =
     ∙ last_on memory s line c ends later on
     ∙ ap (λ (x : LexerState). last_line (logical_lines c ends x later)) (sym s_is)
 
-served_on : (table : Collation) (text before : List ℕ) (ahead0 ahead1 taken0 taken1 : Option (List ℕ)) (old new : Desk) (read rest written : List ℕ) (lines units : List Bool) (block : Option Block) (memory starved : Bool) (line : List ℕ)
-    → IsUnderway table text before ahead0 taken0 old read rest written lines units block → Cuts ahead0 ahead1 line → IsInLine line → Served memory starved old new line block → Appends taken0 taken1 (line_replies memory starved old line block)
+served_on : (table : Collation) (text before : List ℕ) (ahead0 ahead1 taken0 taken1 : Option (List ℕ)) (old new : Desk) (read rest written : List ℕ) (lines units : List Bool) (memory starved : Bool) (line : List ℕ)
+    → IsUnderway table text before ahead0 taken0 old read rest written lines units → Cuts ahead0 ahead1 line → IsInLine line → Served memory starved old new line → Appends taken0 taken1 (line_replies memory starved old line)
     → Underway table text before ahead1 taken1 new
-served_on table text before ahead0 ahead1 taken0 taken1 old new read rest written lines units block memory starved line u cuts whole served more =
+served_on table text before ahead0 ahead1 taken0 taken1 old new read rest written lines units memory starved line u cuts whole served more =
     let (rest2, ahead_is, cut) = ahead_after ahead0 ahead1 rest line u.ahead_is cuts in
     let (read2, n) = next_line read rest rest2 line whole cut u.cut in (
       read2,
       rest2,
-      written ++ line_replies memory starved old line block,
+      written ++ line_replies memory starved old line,
       lines ++ memory ∷ [],
-      units ++ choices_for starved (line_requests block (heard_at memory old.listener line)),
-      line_block block (heard_at memory old.listener line),
+      units ++ choices_for starved (line_units old.block (heard_at memory old.listener line)),
       record {
         text_is = u.text_is ∙ n.text_is;
         cut = n.cut;
         ahead_is = ahead_is;
-        taken_is = appended taken0 taken1 before written (line_replies memory starved old line block) u.taken_is more;
-        block_is = served.block_is;
-        goes_on = goes_on_by table read read2 written line lines units old.listener new.listener block (line_block block (heard_at memory old.listener line)) old.session new.session memory starved u.goes_on n.lines_are served.goes_on served.listener refl served.session;
+        taken_is = appended taken0 taken1 before written (line_replies memory starved old line) u.taken_is more;
+        goes_on = goes_on_by table read read2 written line lines units old.listener new.listener old.block new.block old.session new.session memory starved u.goes_on n.lines_are served.goes_on served.listener served.block served.session;
         last = has_last_by read read2 line lines old.listener new.listener memory u.last n.lines_are served.goes_on served.listener;
       },
     )
 
 -- one more line was served, and the run goes on
 pub underway_on : (table : Collation) (text before : List ℕ) (ahead0 ahead1 taken0 taken1 : Option (List ℕ)) (old new : Desk) (line : List ℕ) → Underway table text before ahead0 taken0 old → Cuts ahead0 ahead1 line → IsInLine line
-    → (memory : Bool) × (starved : Bool) × ((block : Option Block) → StandsFor old.block block → Served memory starved old new line block × Appends taken0 taken1 (line_replies memory starved old line block))
-    → Underway table text before ahead1 taken1 new
-underway_on table text before ahead0 ahead1 taken0 taken1 old new line (read, rest, written, lines, units, block, u) cuts whole (memory, starved, did) =
-    let (s, more) = did block u.block_is in
-    served_on table text before ahead0 ahead1 taken0 taken1 old new read rest written lines units block memory starved line u cuts whole s more
+    → (memory : Bool) × (starved : Bool) × Served memory starved old new line × Appends taken0 taken1 (line_replies memory starved old line) → Underway table text before ahead1 taken1 new
+underway_on table text before ahead0 ahead1 taken0 taken1 old new line (read, rest, written, lines, units, u) cuts whole (memory, starved, served, more) =
+    served_on table text before ahead0 ahead1 taken0 taken1 old new read rest written lines units memory starved line u cuts whole served more
 
 -- what the reader did, by its answer
 pub gives_line : (old new : Reading) (left left_after : Option (List ℕ)) (failed failed_after : ℕ) (more : Bool) → Advances old new left left_after failed failed_after (Ok more) → more ≡ true → GivesLine old new left left_after failed failed_after

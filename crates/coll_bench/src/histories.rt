@@ -6,7 +6,7 @@
 //! that, and to make the room that every later undo needs before the table changes.
 
 ghost use Rattle.std.specs.Prelude.{◌≡◌, ◌≢◌, ◌↔◌, ◌<◌, ◌≤◌, ◌+◌, [], length, vec_len, vec_capacity, IsOk, IsTrue, Ok, Err, IfOk, IfErr, OnOk, OnErr};
-ghost use Rattle.coll_bench.specs.History.{History, begun, judged, taken_back, table_of, RefusesStatement};
+ghost use Rattle.coll_bench.specs.Histories.{History, begun, judged, taken_back, table_now, RefusesStatement};
 
 use crate::faults::BenchFault;
 use coll_table::{PlainStatement, Record, Refusal, Table};
@@ -15,6 +15,8 @@ use std::marker::Model;
 
 /// Most statements that remain.
 pub const MOST_REMAINING: usize = 65_535;
+
+const _: () = prove!(MOST_REMAINING == 65_535);
 
 /// An accepted statement, with the record that turns the table back, or, once it is undone, forward again.
 #[derive(Debug, Drop)]
@@ -35,7 +37,7 @@ pub struct Session {
 }
 
 impl Model for Session {
-    ghost use Rattle.coll_bench.specs.History.{History};
+    ghost use Rattle.coll_bench.specs.Histories.{History};
 
     ghost Value = { History };
 
@@ -109,7 +111,7 @@ impl Session {
 
     /// The table now: the one at first, rewritten by the statements that remain, in order.
     pub fn table(&self) -> &Table
-        ensures { result.now ≡ table_of self.now }
+        ensures { result.now ≡ table_now self.now }
     {
         &self.table
     }

@@ -5,7 +5,7 @@ use Rattle.std.specs.Prelude.{◌==◌, if◌then◌else◌}
 use Rattle.coll_lex.specs.Devices.{raised}
 use Rattle.coll_lex.specs.PhysicalLines.{IsInLine}
 use Rattle.coll_lex.specs.LineReading.{Reading, Cuts, ahead}
-use Rattle.coll_bench.specs.SessionFaults.{fault_number}
+use Rattle.coll_bench.specs.Faults.{fault_number}
 use Rattle.coll_bench.proofs.ServingLemmas.{counts_after}
 use Rattle.coll_bench.proofs.RunSteps.{underway_begun, underway_on, ahead_begun, gives_line, gives_end, stops_now, reads_kept}
 use Rattle.coll_bench.proofs.RunExits.{line_ended, cut_off_ended, text_ended, never_begun}
