@@ -1,9 +1,9 @@
 -- The directive that a line is, by what stands at its front.
 use Rattle.std.proofs.Common.{◌≡◌, ℕ, ◌+◌, ◌<◌, List, length, drop, get_or, codes, Some, None, true, false, refl, ap, sym, ◌∙◌, arith, ◌≤◌, ◌-◌, take}
 use Rattle.std.proofs.lemmas.List.{drop_more, drop_all, take_rest}
+use Rattle.coll_lex.specs.Blanks.{is_blank, past_blanks}
 use Rattle.coll_lex.specs.declared.tokens.Chars.{Chars}
-use Rattle.coll_lex.specs.Tokens.{is_blank}
-use Rattle.coll_lex.specs.Directives.{past_blanks, operand_of, named_character, with_comment, with_escape, directive}
+use Rattle.coll_lex.specs.Directives.{operand_of, named_character, with_comment, with_escape, directive}
 
 -- a blank is passed
 pub past_blanks_blank : (line : List ℕ) (i : ℕ) → i < length line → is_blank (get_or line i 0) ≡ true → past_blanks (drop i line) ≡ past_blanks line → past_blanks (drop (i + 1) line) ≡ past_blanks line

@@ -1,5 +1,5 @@
 -- The answer to one more physical line, by the scan of its logical line.
-use Rattle.std.proofs.Common.{Result, ◌≡◌, ◌≢◌, ℕ, ◌+◌, ◌≤◌, ◌&&◌, nat_lt, Bool, true, false, if◌then◌else◌, List, [], ◌∷◌, ◌++◌, map, length, chars, IsUtf8, Option, Some, None, option_map, Ok, Err, refl, ap, sym, ◌∙◌, subst, append_assoc, arith}
+use Rattle.std.proofs.Common.{Result, ◌≡◌, ◌≢◌, ℕ, ◌+◌, ◌<◌, ◌≤◌, ◌&&◌, nat_lt, Bool, true, false, if◌then◌else◌, List, [], ◌∷◌, ◌++◌, map, length, chars, IsUtf8, Option, Some, None, option_map, Ok, Err, refl, ap, sym, ◌∙◌, subst, append_assoc, arith}
 use Rattle.std.specs.Option.{ForSome}
 use Rattle.std.specs.Str.{is_utf8}
 use Rattle.std.specs.declared.alloc.Global.{Global}
@@ -7,40 +7,41 @@ use Rattle.std.proofs.lemmas.List.{append-nil}
 use Rattle.std.proofs.lemmas.Bool.Decides.{nat_tests}
 use Rattle.std.proofs.lemmas.Str.{is_utf8-from_IsUtf8, IsUtf8-from_is_utf8}
 use Rattle.coll_lex.specs.PhysicalLines.{without_return}
-use Rattle.coll_lex.specs.Marked.{Mark, marks, joined_marks}
+use Rattle.coll_lex.specs.Marked.{Mark, marks, is_joined, joined_marks}
 use Rattle.coll_lex.specs.Tokens.{before_close, atoms, Stop, AtFault, AtComment, AtEnd, InSymbol, InString, Reading, quoted, word_run, reading, reading_of}
 use Rattle.coll_lex.specs.Directives.{directive}
-use Rattle.coll_lex.specs.LogicalLines.{OpenLine, LexerState, dropped, line_of, continued, answer_to, reading_in, answer_in, line_fault, fed_as, fed_text, fed, bytes_before}
-use Rattle.coll_lex.specs.Scanning.{fresh, after, left, TakesLine, RefusesLine, is_continued, goes_on, word_token, ending_in, ending}
+use Rattle.coll_lex.specs.LogicalLines.{OpenLine, LexerState, dropped, line_of, continued, answer_at, answer_to, needs_memory, takes_memory, reading_in, answer_in, line_fault, fed_as, fed_text, fed, bytes_before}
+use Rattle.coll_lex.specs.Scanning.{fresh, reading_left, left_in_mode, TakesLine, RefusesLine, gathers_by, GathersLine, IsInWord, is_continued, goes_on, word_token, ending_in, ending}
 use Rattle.coll_lex.specs.Lexer.{lines_in, line_in, added, IsSoundOpen}
 use Rattle.coll_lex.specs.declared.tokens.Chars.{Chars}
 use Rattle.coll_lex.specs.declared.tokens.Piece.{Piece}
 use Rattle.coll_lex.specs.declared.tokens.Token.{Token}
 use Rattle.coll_lex.specs.declared.tokens.Line.{Line}
-use Rattle.coll_lex.specs.declared.tokens.TheConstants.{MOST_LINES, MOST_LINE_BYTES}
+use Rattle.coll_lex.specs.Limits.{most_lines, most_line_bytes}
 use Rattle.coll_lex.specs.declared.faults.LexFault.{LexFault}
 use Rattle.coll_lex.specs.declared.faults.LexFault.TheVariants.{NotUtf8, OpenSymbol, OpenString, LineTooLong}
 use Rattle.coll_lex.specs.declared.scanning.Scan.{Scan}
 use Rattle.coll_lex.specs.declared.scanning.Mode.{Mode}
 use Rattle.coll_lex.specs.declared.scanning.Mode.TheVariants as mode
-use Rattle.coll_lex.specs.declared.lexing.Open.{Open}
+use Rattle.coll_lex.specs.declared.logical_lines.Open.{Open}
 use Rattle.coll_lex.proofs.ScanRows.{differs}
+use Rattle.coll_lex.proofs.LineFaults.{stop_among, reading_in_faults}
 
 -- the tests before a line is read
 
-pub line_passes : (count bytes : ℕ) → bytes ≤ MOST_LINE_BYTES → count ≢ MOST_LINES → line_fault count bytes ≡ None
+pub line_passes : (count bytes : ℕ) → bytes ≤ most_line_bytes → count ≢ most_lines → line_fault count bytes ≡ None
 line_passes count bytes short more =
-    let within : nat_lt MOST_LINE_BYTES bytes ≡ false = grind (arith, nat_tests) in
-    rw (within, differs count MOST_LINES more) refl
+    let within : nat_lt most_line_bytes bytes ≡ false = grind (arith, nat_tests) in
+    rw (within, differs count most_lines more) refl
 
 long_fails : (t : Bool) (rest : Option LexFault) → (if t then Some LineTooLong else rest) ≡ None → t ≡ false
 long_fails true rest e = cc
 long_fails false rest e = refl
 
 -- a line that passes the tests is short enough
-pub passes_short : (count bytes : ℕ) → line_fault count bytes ≡ None → bytes ≤ MOST_LINE_BYTES
+pub passes_short : (count bytes : ℕ) → line_fault count bytes ≡ None → bytes ≤ most_line_bytes
 passes_short count bytes e =
-    let t = long_fails (nat_lt MOST_LINE_BYTES bytes) _ e in
+    let t = long_fails (nat_lt most_line_bytes bytes) _ e in
     grind (arith, nat_tests)
 
 not_text : (t : Bool) (line : List ℕ) → is_utf8 line ≡ t → (IsUtf8 line → ⊥) → is_utf8 line ≡ false
@@ -60,13 +61,13 @@ joined_marks-push escape (l ∷ ls) line = ap (λ ms. marks escape false (chars 
 
 -- the marked text of one more physical line, and what follows it
 marks_more : (special : Chars) (o : Open) (line : List ℕ) (ms : List Mark) → IsSoundOpen special o
-    → reading_of special.comment (joined_marks special.escape (map chars (lines_in o.lines.items ++ line ∷ [])) ++ ms) ≡ after special.comment o.scan (marks special.escape false (chars line) ++ ms)
+    → reading_of special.comment (joined_marks special.escape (map chars (lines_in o.lines.items ++ line ∷ [])) ++ ms) ≡ reading_left special.comment o.scan (marks special.escape false (chars line) ++ ms)
 marks_more special o line ms h =
     rw (joined_marks-push special.escape (lines_in o.lines.items) line, append_assoc (joined_marks special.escape (map chars (lines_in o.lines.items))) (marks special.escape false (chars line)) ms)
     (h.reads (marks special.escape false (chars line) ++ ms))
 
 reading_more : (special : Chars) (o : Open) (line : List ℕ) → IsSoundOpen special o
-    → reading_in special (lines_in o.lines.items ++ line ∷ []) ≡ after special.comment o.scan (marks special.escape false (chars line) ++ [])
+    → reading_in special (lines_in o.lines.items ++ line ∷ []) ≡ reading_left special.comment o.scan (marks special.escape false (chars line) ++ [])
 unfolding reading_in
 reading_more special o line h =
     ap (reading_of special.comment) (sym (append-nil (joined_marks special.escape (map chars (lines_in o.lines.items ++ line ∷ []))))) ∙ marks_more special o line [] h
@@ -80,6 +81,29 @@ pub text_refused : (next : LexerState) (o : Open) (line : List ℕ) (bytes : ℕ
     → answer_in next (added (line_in o) line bytes) line ≡ Err fault
 text_refused next o line bytes fault h t =
     fault_answered next (added (line_in o) line bytes) _ _ fault (rw (reading_more next.special o line h) (t.stops []))
+
+-- want of memory
+
+-- a reading that has a token or is cut short
+gathered : (next : LexerState) (o : OpenLine) (joined : Bool) (tokens : List Token) (stop : Stop) → gathers_by tokens stop ≡ true → stop_among stop ≡ true → needs_memory (answer_at next o joined tokens stop) ≡ true
+gathered next o joined tokens (AtFault fault) e f = f
+gathered next o joined [] AtComment e f = cc
+gathered next o joined (t ∷ ts) AtComment e f = refl
+gathered next o true tokens AtEnd e f = refl
+gathered next o false [] AtEnd e f = cc
+gathered next o false (t ∷ ts) AtEnd e f = refl
+gathered next o true tokens InSymbol e f = refl
+gathered next o false tokens InSymbol e f = refl
+gathered next o true tokens InString e f = refl
+gathered next o false tokens InString e f = refl
+
+-- memory is refused in the scan of a line
+pub text_starved : (next : LexerState) (o : Open) (line : List ℕ) (bytes : ℕ) → IsSoundOpen next.special o → GathersLine next.special o.scan (chars line)
+    → needs_memory (answer_in next (added (line_in o) line bytes) line) ≡ true
+text_starved next o line bytes h t =
+    let lines = lines_in o.lines.items ++ line ∷ [] in
+    let r = reading_in next.special lines in
+    gathered next (added (line_in o) line bytes) (is_joined next.special.escape (chars line)) r.tokens r.stop (rw (reading_more next.special o line h) (t.reads [])) (reading_in_faults next.special lines)
 
 -- the end of the physical line
 
@@ -99,7 +123,7 @@ tokens_in mode.Text partial = []
 tokens_in mode.SymbolInText partial = []
 tokens_in mode.Comment partial = []
 
-left_at_end : (comment : ℕ) (m : Mode) (partial : List ℕ) (pieces : List Piece) → left comment m partial pieces [] ≡ record { tokens = tokens_in m partial; stop = stop_in m }
+left_at_end : (comment : ℕ) (m : Mode) (partial : List ℕ) (pieces : List Piece) → left_in_mode comment m partial pieces [] ≡ record { tokens = tokens_in m partial; stop = stop_in m }
 unfolding reading atoms word_run quoted before_close
 left_at_end comment mode.Plain [] pieces = refl
 left_at_end comment mode.Plain (c ∷ cs) pieces = rw (append-nil cs) refl
@@ -108,8 +132,8 @@ left_at_end comment mode.Text partial pieces = refl
 left_at_end comment mode.SymbolInText partial pieces = refl
 left_at_end comment mode.Comment partial pieces = refl
 
-after_at_end : (comment : ℕ) (s : Scan) → after comment s [] ≡ record { tokens = s.tokens ++ tokens_in s.mode s.partial; stop = stop_in s.mode }
-unfolding after
+after_at_end : (comment : ℕ) (s : Scan) → reading_left comment s [] ≡ record { tokens = s.tokens ++ tokens_in s.mode s.partial; stop = stop_in s.mode }
+unfolding reading_left
 after_at_end comment s = rw (left_at_end comment s.mode s.partial s.pieces) refl
 
 text_read : (special : Chars) (o : Open) (line : List ℕ) (scan : Scan) → IsSoundOpen special o → TakesLine special o.scan (chars line) scan
@@ -165,6 +189,23 @@ pub text_ends : (next : LexerState) (o : Open) (line : List ℕ) (bytes : ℕ) (
 text_ends next o line bytes scan tokens h t f e =
     answer_by next o line bytes scan h t ∙ given next (added (line_in o) line bytes) scan.mode scan.escaped scan.partial scan.tokens tokens f e
 
+worded : (next : LexerState) (o : OpenLine) (m : Mode) (joined : Bool) (partial : List ℕ) (tokens : List Token)
+    → m ≡ mode.Plain → 0 < length partial → needs_memory (answer_to next o joined (ended m partial tokens)) ≡ true
+worded next o mode.Plain true partial tokens e f = refl
+worded next o mode.Plain false [] tokens e f = absurd (omega (arith, f))
+worded next o mode.Plain false (c ∷ cs) [] e f = refl
+worded next o mode.Plain false (c ∷ cs) (t ∷ ts) e f = refl
+worded next o mode.Symbol joined partial tokens e f = cc
+worded next o mode.Text joined partial tokens e f = cc
+worded next o mode.SymbolInText joined partial tokens e f = cc
+worded next o mode.Comment joined partial tokens e f = cc
+
+-- memory is refused for the word that a line ends with
+pub text_word_starved : (next : LexerState) (o : Open) (line : List ℕ) (bytes : ℕ) (scan : Scan) → IsSoundOpen next.special o → TakesLine next.special o.scan (chars line) scan
+    → IsInWord scan → needs_memory (answer_in next (added (line_in o) line bytes) line) ≡ true
+text_word_starved next o line bytes scan h t w =
+    rw (answer_by next o line bytes scan h t) (worded next (added (line_in o) line bytes) scan.mode scan.escaped scan.partial scan.tokens w.outside w.begun)
+
 -- a line that ends with a symbol or a string open
 pub text_ends_open : (next : LexerState) (o : Open) (line : List ℕ) (bytes : ℕ) (scan : Scan) (fault : LexFault) → IsSoundOpen next.special o → TakesLine next.special o.scan (chars line) scan
     → goes_on scan ≡ false → ending scan ≡ Err fault → answer_in next (added (line_in o) line bytes) line ≡ Err fault
@@ -177,21 +218,26 @@ pub text_goes_on : (next : LexerState) (o : Open) (line : List ℕ) (bytes : ℕ
 text_goes_on next o line bytes scan h t f =
     answer_by next o line bytes scan h t ∙ kept next (added (line_in o) line bytes) scan.mode scan.escaped scan.partial scan.tokens f
 
+-- memory is refused for a line that is joined
+pub text_joined_starved : (next : LexerState) (o : Open) (line : List ℕ) (bytes : ℕ) (scan : Scan) → IsSoundOpen next.special o → TakesLine next.special o.scan (chars line) scan
+    → goes_on scan ≡ true → needs_memory (answer_in next (added (line_in o) line bytes) line) ≡ true
+text_joined_starved next o line bytes scan h t f = rw (text_goes_on next o line bytes scan h t f) refl
+
 -- an open line stays sound
 
 pub sound_new : (special : Chars) (o : Open) (alloc : Global) (number : ℕ) → line_in o ≡ record { number = number; lines = []; bytes = 0 } → o.scan ≡ fresh alloc → IsSoundOpen special o
-unfolding joined_marks after
+unfolding joined_marks reading_left
 sound_new special o alloc number e f =
     let none : lines_in o.lines.items ≡ [] = ap (λ (l : OpenLine). l.lines) e in
     let bytes : o.bytes ≡ 0 = ap (λ (l : OpenLine). l.bytes) e in
     record { reads = λ ms. rw (none, f) refl; unescaped = rw f refl; short = omega arith }
 
-after_unescaped : (comment : ℕ) (s : Scan) (ms : List Mark) → after comment s ms ≡ after comment (record s { escaped = false }) ms
-unfolding after
+after_unescaped : (comment : ℕ) (s : Scan) (ms : List Mark) → reading_left comment s ms ≡ reading_left comment (record s { escaped = false }) ms
+unfolding reading_left
 after_unescaped comment s ms = refl
 
 pub sound_more : (special : Chars) (old new : Open) (line : List ℕ) (bytes : ℕ) (scan : Scan) → IsSoundOpen special old → TakesLine special old.scan (chars line) scan
-    → line_in new ≡ added (line_in old) line bytes → new.scan ≡ record scan { escaped = false } → old.bytes + bytes ≤ MOST_LINE_BYTES → IsSoundOpen special new
+    → line_in new ≡ added (line_in old) line bytes → new.scan ≡ record scan { escaped = false } → old.bytes + bytes ≤ most_line_bytes → IsSoundOpen special new
 sound_more special old new line bytes scan h t e f short =
     let lines : lines_in new.lines.items ≡ lines_in old.lines.items ++ line ∷ [] = ap (λ (l : OpenLine). l.lines) e in
     let sum : new.bytes ≡ old.bytes + bytes = ap (λ (l : OpenLine). l.bytes) e in
@@ -235,6 +281,11 @@ fed_next_no_text s line o e f wrong = passed_next s line o e f ∙ rw (not_text 
 pub fed_first_no_text : (s : LexerState) (line : List ℕ) (o : Open) → None ≡ s.line → line_in o ≡ record { number = s.count + 1; lines = []; bytes = 0 } → line_fault s.count (0 + length line) ≡ None
     → (IsUtf8 (without_return line) → ⊥) → fed s line ≡ Err NotUtf8
 fed_first_no_text s line o e g f wrong = passed_first s line o e g f ∙ rw (not_text (is_utf8 (without_return line)) (without_return line) refl wrong) refl
+
+-- whether memory may be taken for a line is seen by the answer to it
+pub taken_as : (s : LexerState) (line : List ℕ) → takes_memory s line ≡ needs_memory (fed s line)
+unfolding takes_memory
+taken_as s line = refl
 
 -- bytes that are text
 

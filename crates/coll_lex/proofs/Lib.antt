@@ -3,6 +3,7 @@ mod LineReaderLemmas
 pub mod PhysicalLinesLemmas
 pub mod ReadingBackLemmas
 pub mod SpellingLemmas
+mod GatherLemmas
 pub mod TextLemmas
 pub mod WritingLemmas
 pub mod DirectiveLemmas
@@ -13,3 +14,4 @@ pub mod SymbolLemmas
 pub mod LineEnds
 pub mod FeedLemmas
 pub mod LineFaults
+pub mod NameLemmas

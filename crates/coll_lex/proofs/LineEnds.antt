@@ -10,7 +10,7 @@ use Rattle.coll_lex.specs.LogicalLines.{LexerState, bytes_before, extended, drop
 use Rattle.coll_lex.specs.declared.tokens.Chars.{Chars}
 use Rattle.coll_lex.specs.declared.tokens.Line.{Line}
 use Rattle.coll_lex.specs.declared.tokens.Token.{Token}
-use Rattle.coll_lex.specs.declared.tokens.TheConstants.{MOST_LINES, MOST_LINE_BYTES}
+use Rattle.coll_lex.specs.Limits.{most_lines, most_line_bytes}
 use Rattle.coll_lex.specs.declared.faults.LexFault.{LexFault}
 use Rattle.coll_lex.specs.declared.faults.LexFault.TheVariants.{NotUtf8, LineTooLong, TooManyLines}
 
@@ -25,7 +25,7 @@ Stands s (Err fault) = Unit {0}
 
 -- each line that isn't at fault is counted
 Counts : LexerState → Answer → Type 0
-Counts s (Ok (line, after)) = after.count ≡ min (s.count + 1) MOST_LINES
+Counts s (Ok (line, after)) = after.count ≡ min (s.count + 1) most_lines
 Counts s (Err fault) = Unit {0}
 
 record StandsAfter (s : LexerState) (answer : Answer) : Type 0 where
@@ -36,7 +36,7 @@ at_fault : (s : LexerState) (fault : LexFault) → StandsAfter s (Err fault)
 unfolding Stands Counts
 at_fault s fault = record { stands = tt; counts = tt }
 
-no_line : (s after : LexerState) → after.count ≡ min (s.count + 1) MOST_LINES → StandsAfter s (Ok (None, after))
+no_line : (s after : LexerState) → after.count ≡ min (s.count + 1) most_lines → StandsAfter s (Ok (None, after))
 unfolding Stands Counts
 no_line s after e = record { stands = tt; counts = e }
 
@@ -78,16 +78,16 @@ unfolding Stands
 fed-whole s line given after e = (subst (StandsAfter s) e (fed_stands s line)).stands
 
 -- a line that isn't at fault is counted
-pub fed-count : (s : LexerState) (line : List ℕ) (answer : Option Line) (after : LexerState) → fed s line ≡ Ok (answer, after) → after.count ≡ min (s.count + 1) MOST_LINES
+pub fed-count : (s : LexerState) (line : List ℕ) (answer : Option Line) (after : LexerState) → fed s line ≡ Ok (answer, after) → after.count ≡ min (s.count + 1) most_lines
 unfolding Counts
 fed-count s line answer after e = (subst (StandsAfter s) e (fed_stands s line)).counts
 
 -- a line longer than a line may be is at fault, whatever was handed in before
-pub fed-too_long : (s : LexerState) (line : List ℕ) → MOST_LINE_BYTES < length line → fed s line ≡ Err LineTooLong
+pub fed-too_long : (s : LexerState) (line : List ℕ) → most_line_bytes < length line → fed s line ≡ Err LineTooLong
 unfolding fed
 fed-too_long s line long =
-    let longer : MOST_LINE_BYTES < bytes_before s + length line = omega arith in
-    let test = lt-ltb MOST_LINE_BYTES (bytes_before s + length line) longer in
+    let longer : most_line_bytes < bytes_before s + length line = omega arith in
+    let test = lt-ltb most_line_bytes (bytes_before s + length line) longer in
     rw test refl
 
 fault_when_full : (long last : Bool) → last ≡ true → (if long then Some LineTooLong else (if last then Some TooManyLines else None)) ≡ None → ⊥
@@ -100,7 +100,7 @@ no_answer None answer o h e = h refl
 no_answer (Some fault) answer o h e = cc
 
 -- past the most lines each line is at fault
-pub fed-room : (s : LexerState) (line : List ℕ) (answer : Option Line) (after : LexerState) → fed s line ≡ Ok (answer, after) → s.count ≡ MOST_LINES → ⊥
+pub fed-room : (s : LexerState) (line : List ℕ) (answer : Option Line) (after : LexerState) → fed s line ≡ Ok (answer, after) → s.count ≡ most_lines → ⊥
 unfolding fed
 fed-room s line answer after e full =
-    no_answer (line_fault s.count (extended s line).bytes) _ (answer, after) (fault_when_full (nat_lt MOST_LINE_BYTES (extended s line).bytes) (s.count == MOST_LINES) (eq-eqb s.count MOST_LINES full)) e
+    no_answer (line_fault s.count (extended s line).bytes) _ (answer, after) (fault_when_full (nat_lt most_line_bytes (extended s line).bytes) (s.count == most_lines) (eq-eqb s.count most_lines full)) e

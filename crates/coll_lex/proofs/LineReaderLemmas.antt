@@ -1,5 +1,5 @@
 -- The bytes that a line reader holds, as a part of its buffer, through a line taken off and a read.
-use Rattle.std.proofs.Common.{◌≡◌, ℕ, suc, ◌+◌, ◌-◌, ◌<◌, ◌≤◌, List, ◌∷◌, ◌++◌, length, take, drop, get_or, Option, slice_index, slice_range, min, refl, sym, ap, ◌∙◌, arith, ⊎_elim}
+use Rattle.std.proofs.Common.{◌≡◌, ℕ, Bool, suc, ◌+◌, ◌-◌, ◌<◌, ◌≤◌, List, ◌∷◌, ◌++◌, length, take, drop, get_or, Option, slice_index, slice_range, min, refl, sym, ap, ◌∙◌, arith, ⊎_elim}
 use Rattle.std.proofs.lemmas.List.{take-take, drop-drop, drop-take, get_or-take, length-take-le, take_all}
 use Rattle.std.proofs.lemmas.List.Edits.{length-between, get_or-between}
 use Rattle.std.proofs.lemmas.Bool.{cases_lt}
@@ -7,7 +7,7 @@ use Rattle.std.proofs.lemmas.Slice.{between_is}
 use Rattle.std.proofs.Math.Seq.{split_at, take-add}
 use Rattle.coll_lex.specs.PhysicalLines.{line_feed, IsInLine}
 use Rattle.coll_lex.specs.declared.faults.ReadStop.{ReadStop}
-use Rattle.coll_lex.specs.LineReading.{Reading}
+use Rattle.coll_lex.specs.LineReading.{ReaderState}
 
 -- the front of a part is the shorter part
 pub part-front : (buffer : List ℕ) (s e n : ℕ) → s + n ≤ e → take n (slice_range buffer s e) ≡ slice_range buffer s (s + n)
@@ -77,7 +77,7 @@ part-front_min buffer s e m n limit is at order fits =
     rw same (take_all n (slice_range buffer s e) (omega (arith, length-between buffer s e fits))))
     (cases_lt m e)
 
--- readings are equal by their parts
-pub same_reading : (line line' held held' : List ℕ) (stop stop' : Option ReadStop) → line ≡ line' → held ≡ held' → stop ≡ stop'
-    → let a : Reading = record { line = line; held = held; stop = stop } in let b : Reading = record { line = line'; held = held'; stop = stop' } in a ≡ b
-same_reading line line' held held' stop stop' p q r = rw (p, q, r) refl
+-- what readers hold is equal by its parts
+pub same_reader : (line line' held held' : List ℕ) (stop stop' : Option ReadStop) (ended ended' : Bool) → line ≡ line' → held ≡ held' → stop ≡ stop' → ended ≡ ended'
+    → let a : ReaderState = record { line = line; held = held; stop = stop; ended = ended } in let b : ReaderState = record { line = line'; held = held'; stop = stop'; ended = ended' } in a ≡ b
+same_reader line line' held held' stop stop' ended ended' p q r t = rw (p, q, r, t) refl

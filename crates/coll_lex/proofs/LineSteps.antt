@@ -4,7 +4,7 @@ use Rattle.std.proofs.Common.{◌≡◌, ℕ, Bool, true, false, if◌then◌els
 use Rattle.std.specs.Str.{is_utf8}
 use Rattle.coll_lex.specs.PhysicalLines.{without_return}
 use Rattle.coll_lex.specs.Directives.{directive}
-use Rattle.coll_lex.specs.LogicalLines.{OpenLine, LexerState, number_of, lines_before, extended, directive_where, answer_at, fed_as, line_fault, unless_fault, first_of, first_line, dropped, fed, served, left_open, first_choice, later_choices, logical_lines, state_after}
+use Rattle.coll_lex.specs.LogicalLines.{OpenLine, LexerState, number_of, lines_before, extended, directive_where, answer_at, fed_as, line_fault, unless_fault, first_of, first_line, dropped, fed, served, line_left_open, first_choice, later_choices, takes_memory, logical_lines}
 use Rattle.coll_lex.specs.Tokens.{Stop, AtFault, AtComment, AtEnd, InSymbol, InString}
 use Rattle.coll_lex.specs.declared.tokens.Line.{Line}
 use Rattle.coll_lex.specs.declared.tokens.Token.{Token}
@@ -13,7 +13,7 @@ use Rattle.coll_lex.specs.declared.faults.LexFault.{LexFault}
 use Rattle.coll_lex.specs.declared.faults.LexFault.TheVariants.{OutOfMemory, NotUtf8}
 
 -- at the end a line that is open is at fault, if the text ends there
-pub logical_lines-nil : (starved : List Bool) (ends : Bool) (s : LexerState) → logical_lines starved ends s [] ≡ (if ends then left_open s.line else [])
+pub logical_lines-nil : (starved : List Bool) (ends : Bool) (s : LexerState) → logical_lines starved ends s [] ≡ (if ends then line_left_open s.line else [])
 unfolding logical_lines
 logical_lines-nil starved ends s = refl
 
@@ -40,32 +40,10 @@ logical_lines-fault starved ends s line lines fault e f = rw e (rw f refl)
 
 -- a line that memory is refused to
 pub logical_lines-starved : (starved : List Bool) (ends : Bool) (s : LexerState) (line : List ℕ) (lines : List (List ℕ))
-    → first_choice starved ≡ true
+    → first_choice starved ≡ true → takes_memory s line ≡ true
     → logical_lines starved ends s (line ∷ lines) ≡ record { number = number_of s; first = first_line s line; tokens = Err OutOfMemory } ∷ logical_lines (later_choices starved) ends (dropped s) lines
 unfolding logical_lines served
-logical_lines-starved starved ends s line lines e = rw e refl
-
-pub state_after-nil : (starved : List Bool) (s : LexerState) → state_after starved s [] ≡ s
-unfolding state_after
-state_after-nil starved s = refl
-
-pub state_after-given : (starved : List Bool) (s : LexerState) (line : List ℕ) (lines : List (List ℕ)) (answer : Option Line) (after : LexerState)
-    → first_choice starved ≡ false → fed s line ≡ Ok (answer, after)
-    → state_after starved s (line ∷ lines) ≡ state_after (later_choices starved) after lines
-unfolding state_after served
-state_after-given starved s line lines answer after e f = rw e (rw f refl)
-
-pub state_after-fault : (starved : List Bool) (s : LexerState) (line : List ℕ) (lines : List (List ℕ)) (fault : LexFault)
-    → first_choice starved ≡ false → fed s line ≡ Err fault
-    → state_after starved s (line ∷ lines) ≡ state_after (later_choices starved) (dropped s) lines
-unfolding state_after served
-state_after-fault starved s line lines fault e f = rw e (rw f refl)
-
-pub state_after-starved : (starved : List Bool) (s : LexerState) (line : List ℕ) (lines : List (List ℕ))
-    → first_choice starved ≡ true
-    → state_after starved s (line ∷ lines) ≡ state_after (later_choices starved) (dropped s) lines
-unfolding state_after served
-state_after-starved starved s line lines e = rw e refl
+logical_lines-starved starved ends s line lines e takes = rw e (rw takes refl)
 
 -- where no line is open, the line handed in is the first of its logical line
 pub first_line-fresh : (s : LexerState) (line : List ℕ) → s.line ≡ None → first_line s line ≡ without_return line

@@ -1,5 +1,5 @@
 -- How `lines_of` is read off a text line by line, as a line reader cuts it.
-use Rattle.std.proofs.Common.{◌≡◌, ℕ, ◌<◌, if◌then◌else◌, List, [], ◌∷◌, ◌++◌, length, take, drop, refl, sym, ap, ◌∙◌, ⊎_elim, append_assoc, take-append-drop, length-append, length-take, arith}
+use Rattle.std.proofs.Common.{◌≡◌, ℕ, ◌<◌, Bool, true, false, if◌then◌else◌, List, [], ◌∷◌, ◌++◌, length, take, drop, refl, sym, ap, ◌∙◌, append_assoc, take-append-drop, length-append, length-take, arith}
 use Rattle.std.proofs.lemmas.Bool.{ne_eqb}
 use Rattle.std.proofs.lemmas.List.Elements.{All-head, All-tail}
 use Rattle.coll_lex.specs.PhysicalLines.{line_feed, IsInLine, with_first, lines_of}
@@ -37,13 +37,10 @@ pub lines_of-part : (line : List ℕ) → 0 < length line → IsInLine line → 
 lines_of-part [] some whole = absurd (omega arith)
 lines_of-part (c ∷ cs) some whole = lines_of-last c cs whole
 
--- the line that a reader cuts off is the first line of what was ahead
-pub lines_of-cut : (all line rest : List ℕ) → CutsLine all line rest → IsInLine line → lines_of all ≡ line ∷ lines_of rest
-lines_of-cut all line rest cut whole =
-    ⊎_elim
-    (λ ended. ap lines_of ended ∙ lines_of-ended line rest whole)
-    (λ last. ap lines_of last.0 ∙ lines_of-part line last.1 whole ∙ ap (λ l. line ∷ l) (sym lines_of-nil ∙ ap lines_of (sym last.2)))
-    cut
+-- the line that a reader cuts off is the first line of what was unread
+pub lines_of-cut : (ended : Bool) (all line rest : List ℕ) → CutsLine ended all line rest → IsInLine line → lines_of all ≡ line ∷ lines_of rest
+lines_of-cut false all line rest cut whole = ap lines_of cut ∙ lines_of-ended line rest whole
+lines_of-cut true all line rest cut whole = ap lines_of cut.0 ∙ lines_of-part line cut.1 whole ∙ ap (λ l. line ∷ l) (sym lines_of-nil ∙ ap lines_of (sym cut.2))
 
 -- the first line after one more byte at the front
 with_first-front : (c : ℕ) (lines : List (List ℕ)) → (line : List ℕ) × (rest : List (List ℕ)) × (with_first c lines ≡ (c ∷ line) ∷ rest)
@@ -60,7 +57,7 @@ lines_of-begun (c ∷ d ∷ ds) more some whole =
     let e = lines_of-begun (d ∷ ds) more (omega arith) (All-tail (λ b. b ≡ line_feed → ⊥) c (d ∷ ds) whole) in
     (e.0, e.1, lines_of-byte c (d ∷ (ds ++ more)) (All-head (λ b. b ≡ line_feed → ⊥) c (d ∷ ds) whole) ∙ ap (with_first c) e.2)
 
--- where a reader stops at a line that is too long, the first line of what was ahead is too long
+-- where a reader stops at a line that is too long, the first line of what was unread is too long
 pub lines_of-long : (held more : List ℕ) → IsLongLine held → (line : List ℕ) × (rest : List (List ℕ)) × (lines_of (held ++ more) ≡ line ∷ rest) × (65536 < length line)
 lines_of-long held more long =
     let front : List ℕ = take 65537 held in

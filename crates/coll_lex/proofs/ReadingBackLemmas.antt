@@ -11,7 +11,7 @@ use Rattle.coll_lex.specs.declared.tokens.Token.TheVariants as token
 use Rattle.coll_lex.specs.declared.tokens.Piece.{Piece}
 use Rattle.coll_lex.specs.declared.tokens.Piece.TheVariants as piece
 use Rattle.coll_lex.specs.Marked.{Mark, Plain, Literal, marks}
-use Rattle.coll_lex.specs.Tokens.{symbol_of, Bracketed, atoms, before_close, character, is_plain, reading, reading_of, ahead, after_symbol, token_of, quoted, with_piece, with_symbol, is_hex_digit, are_digits, hex_number, symbol_then}
+use Rattle.coll_lex.specs.Tokens.{symbol_of, Bracketed, atoms, before_close, character, is_plain, reading, reading_of, with_token, after_symbol, token_of, quoted, with_piece, with_symbol, is_hex_digit, are_digits, hex_number, symbol_then}
 use Rattle.coll_lex.specs.Spelling.{is_escaped, spelled_char, spelled_name, spelled_symbol, spelled_code, hex_digit, hex_digits, digit_count}
 use Rattle.coll_lex.proofs.SpellingLemmas.{spelled_name-nil, spelled_name-cons, spelled_name-run, hex_digits-zero, hex_digits-suc, hex_digits-all}
 
@@ -91,7 +91,7 @@ atoms-spelled_symbol name rest =
 
 -- outside strings, a symbol is read for what it stands for
 pub reading-spelled_symbol : (comment : ℕ) (name rest : List ℕ) (p : Piece) → symbol_of name ≡ Ok p
-    → reading_of comment (marks 47 false (spelled_symbol name rest)) ≡ ahead (token_of p) (reading_of comment (marks 47 false rest))
+    → reading_of comment (marks 47 false (spelled_symbol name rest)) ≡ with_token (token_of p) (reading_of comment (marks 47 false rest))
 unfolding reading
 reading-spelled_symbol comment name rest p is =
     ap (reading comment zero) (atoms-spelled_symbol name rest) ∙ ap (λ r. after_symbol r (reading comment zero (atoms zero (marks 47 false rest)))) is
@@ -170,7 +170,7 @@ spelled_code-symbol c rest =
 
 -- outside strings, a spelled character is read as that character
 pub reading-spelled_code : (comment c : ℕ) (rest : List ℕ) → scalar c ≡ true
-    → reading_of comment (marks 47 false (spelled_code c rest)) ≡ ahead (token.Char c) (reading_of comment (marks 47 false rest))
+    → reading_of comment (marks 47 false (spelled_code c rest)) ≡ with_token (token.Char c) (reading_of comment (marks 47 false rest))
 reading-spelled_code comment c rest is =
     ap (λ l. reading_of comment (marks 47 false l)) (spelled_code-symbol c rest)
     ∙ reading-spelled_symbol comment (85 ∷ hex_digits (digit_count c) c) rest (piece.Char c) (symbol_of-spelled_code c is)

@@ -1,5 +1,5 @@
 -- Spellings in parts, and as bytes.
-use Rattle.std.proofs.Common.{◌≡◌, ℕ, zero, suc, ◌+◌, ◌-◌, ◌⊎◌, ◌/◌, ◌%◌, ◌<◌, ◌≤◌, Bool, true, false, if◌then◌else◌, ltb, cond, List, [], ◌∷◌, ◌++◌, All, length, take, drop, get_or, set, refl, sym, ap, ◌∙◌, subst, ⊎_elim, append_assoc, take-append-drop, arith}
+use Rattle.std.proofs.Common.{◌≡◌, ℕ, zero, suc, ◌+◌, ◌/◌, ◌%◌, ◌<◌, ◌≤◌, Bool, true, false, if◌then◌else◌, ltb, cond, List, [], ◌∷◌, ◌++◌, All, length, take, drop, get_or, set, refl, sym, ap, ◌∙◌, subst, ⊎_elim, append_assoc, take-append-drop, arith}
 use Rattle.std.proofs.Math.Utf8.{encode, encodes}
 use Rattle.std.proofs.lemmas.Str.{encode_ascii, encodes-IsAscii}
 use Rattle.std.proofs.lemmas.Bool.{cases_lt, ne_eqb, le-ltb, lt-ltb}
@@ -51,6 +51,19 @@ spelled_name-append (c ∷ cs) rest =
     let both : (b : Bool) → let s = spelled_name cs rest in let t = spelled_name cs [] in (if b then 47 ∷ c ∷ s else c ∷ s) ≡ (if b then 47 ∷ c ∷ t else c ∷ t) ++ rest =
     elim [ true ↦ ap (λ l. 47 ∷ c ∷ l) (spelled_name-append cs rest) | false ↦ ap (λ l. c ∷ l) (spelled_name-append cs rest) ] in
     spelled_name-cons c cs rest ∙ both (is_escaped c) ∙ ap (λ l. l ++ rest) (sym (spelled_name-cons c cs []))
+
+-- the spelling of more than one run
+spelled_name-runs : (cs ds rest : List ℕ) → spelled_name (cs ++ ds) rest ≡ spelled_name cs (spelled_name ds rest)
+spelled_name-runs [] ds rest = sym (spelled_name-nil (spelled_name ds rest))
+spelled_name-runs (c ∷ cs) ds rest =
+    spelled_name-cons c (cs ++ ds) rest ∙ ap (λ l. spelled_char c l) (spelled_name-runs cs ds rest) ∙ sym (spelled_name-cons c cs (spelled_name ds rest))
+
+-- one more character at the end of a name
+pub spelled_name-push : (cs : List ℕ) (c : ℕ) → spelled_name (cs ++ c ∷ []) [] ≡ spelled_name cs [] ++ spelled_char c []
+spelled_name-push cs c =
+    spelled_name-runs cs (c ∷ []) []
+    ∙ spelled_name-append cs (spelled_name (c ∷ []) [])
+    ∙ ap (λ l. spelled_name cs [] ++ l) (spelled_name-cons c [] [] ∙ ap (λ l. spelled_char c l) (spelled_name-nil []))
 
 -- a name cut at an escaped byte
 pub spelled_name-cut : (name : List ℕ) (at : ℕ) → at < length name → All (λ c. is_escaped c ≡ false) (take at name) → is_escaped (get_or name at 0) ≡ true
@@ -138,16 +151,6 @@ pub hex_digits-zero : (n : ℕ) → hex_digits 0 n ≡ []
 unfolding hex_digits
 hex_digits-zero n = refl
 
--- the last four of eight digits
-hex_digits-four : (n : ℕ) → take 4 (drop 4 (hex_digits 8 n)) ≡ hex_digits 4 n
-unfolding hex_digits
-hex_digits-four n = refl
-
--- all of eight digits
-hex_digits-eight : (n : ℕ) → take 8 (hex_digits 8 n) ≡ hex_digits 8 n
-unfolding hex_digits
-hex_digits-eight n = refl
-
 -- a digit is ASCII
 hex_digit-ascii : (d : ℕ) → d < 16 → hex_digit d < 128
 hex_digit-ascii d small =
@@ -170,14 +173,28 @@ encodes-spelled_code c =
     let whole : All P (60 ∷ 85 ∷ (digits ++ 62 ∷ [])) = All-cons P 60 (85 ∷ (digits ++ 62 ∷ [])) (omega arith) (All-cons P 85 (digits ++ 62 ∷ []) (omega arith) inner) in
     encodes-IsAscii (60 ∷ 85 ∷ (digits ++ 62 ∷ [])) (IsAscii-from_all (60 ∷ 85 ∷ (digits ++ 62 ∷ [])) whole)
 
--- what is written of eight digits: the last four for a code point up to FFFF, and else all
-pub hex_digits-written : (c leading : ℕ) (eight : List ℕ) → eight ≡ hex_digits 8 c → ((c < 65536) × (leading ≡ 4)) ⊎ ((65536 ≤ c) × (leading ≡ 0))
-    → take (8 - leading) (drop leading eight) ≡ hex_digits (digit_count c) c
-hex_digits-written c leading eight is cases =
-    ⊎_elim
-    (λ low. rw (is, low.1, lt-ltb c 65536 low.0) (hex_digits-four c))
-    (λ high. rw (is, high.1, le-ltb c 65536 high.0) (hex_digits-eight c))
-    cases
+-- the last four of eight digits, one by one
+digits_four : (n : ℕ) (d : List ℕ) → d ≡ hex_digits 8 n → hex_digits 4 n ≡ get_or d 4 0 ∷ get_or d 5 0 ∷ get_or d 6 0 ∷ get_or d 7 0 ∷ []
+unfolding hex_digits
+digits_four n d is = rw is refl
+
+-- all of eight digits, one by one
+digits_eight : (n : ℕ) (d : List ℕ) → d ≡ hex_digits 8 n → hex_digits 8 n ≡ get_or d 0 0 ∷ get_or d 1 0 ∷ get_or d 2 0 ∷ get_or d 3 0 ∷ get_or d 4 0 ∷ get_or d 5 0 ∷ get_or d 6 0 ∷ get_or d 7 0 ∷ []
+unfolding hex_digits
+digits_eight n d is = rw is refl
+
+-- the bytes of a character up to FFFF
+pub code_of_four : (c : ℕ) (d : List ℕ) → d ≡ hex_digits 8 c → c < 65536 → encodes (spelled_code c []) ≡ 60 ∷ 85 ∷ get_or d 4 0 ∷ get_or d 5 0 ∷ get_or d 6 0 ∷ get_or d 7 0 ∷ 62 ∷ []
+code_of_four c d is low =
+    let count : digit_count c ≡ 4 = rw (lt-ltb c 65536 low) refl in
+    encodes-spelled_code c ∙ ap (λ n. 60 ∷ 85 ∷ (hex_digits n c ++ 62 ∷ [])) count ∙ ap (λ l. 60 ∷ 85 ∷ (l ++ 62 ∷ [])) (digits_four c d is)
+
+-- the bytes of a character above
+pub code_of_eight : (c : ℕ) (d : List ℕ) → d ≡ hex_digits 8 c → 65536 ≤ c
+    → encodes (spelled_code c []) ≡ 60 ∷ 85 ∷ get_or d 0 0 ∷ get_or d 1 0 ∷ get_or d 2 0 ∷ get_or d 3 0 ∷ get_or d 4 0 ∷ get_or d 5 0 ∷ get_or d 6 0 ∷ get_or d 7 0 ∷ 62 ∷ []
+code_of_eight c d is high =
+    let count : digit_count c ≡ 8 = rw (le-ltb c 65536 high) refl in
+    encodes-spelled_code c ∙ ap (λ n. 60 ∷ 85 ∷ (hex_digits n c ++ 62 ∷ [])) count ∙ ap (λ l. 60 ∷ 85 ∷ (l ++ 62 ∷ [])) (digits_eight c d is)
 
 -- what follows a symbol stands behind it
 pub spelled_symbol-append : (name rest : List ℕ) → spelled_symbol name rest ≡ spelled_symbol name [] ++ rest

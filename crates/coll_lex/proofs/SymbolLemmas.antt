@@ -4,8 +4,9 @@ use Rattle.std.specs.List.{list_all}
 use lib.Utf8.{scalar}
 use Rattle.std.proofs.lemmas.Bool.Decides.{nat_tests, leb_tells}
 use Rattle.std.proofs.lemmas.Str.{encodes-chars, encodes_same, encodes-IsAscii}
-use Rattle.coll_lex.specs.declared.tokens.TheConstants.{MOST_NAME_CHARS}
-use Rattle.coll_lex.specs.Tokens.{is_blank, is_control, is_hex_digit, hex_number, are_digits, is_name, code_point_of, character_of, name_of, symbol_by, symbol_of}
+use Rattle.coll_lex.specs.Blanks.{is_blank}
+use Rattle.coll_lex.specs.Limits.{most_name_chars}
+use Rattle.coll_lex.specs.Tokens.{is_control, is_hex_digit, hex_number, are_digits, is_name, code_point_of, character_of, name_of, symbol_by, symbol_of}
 use Rattle.coll_lex.specs.declared.faults.LexFault.TheVariants.{EmptySymbol, BadName, BadCodePoint}
 use Rattle.coll_lex.specs.declared.tokens.Piece.TheVariants as piece
 use Rattle.coll_lex.specs.declared.scanning.symbol.TheConstants.{PAST_CODE_POINTS}
@@ -139,11 +140,11 @@ symbol_of_nothing [] e = refl
 symbol_of_nothing (c ∷ cs) e = absurd (grind (arith, nat_tests))
 
 -- a text's test as a name, by its length and its characters
-pub long_is_no_name : (cs : List ℕ) → MOST_NAME_CHARS < length cs → false ≡ is_name cs
-long_is_no_name cs h = let long : nat_le (length cs) MOST_NAME_CHARS ≡ false = grind (arith, nat_tests) in rw long refl
+pub long_is_no_name : (cs : List ℕ) → most_name_chars < length cs → false ≡ is_name cs
+long_is_no_name cs h = let long : nat_le (length cs) most_name_chars ≡ false = grind (arith, nat_tests) in rw long refl
 
-pub short_is_name : (cs : List ℕ) → length cs ≤ MOST_NAME_CHARS → list_all (λ c. not (is_blank c || is_control c)) cs ≡ is_name cs
-short_is_name cs h = let short : nat_le (length cs) MOST_NAME_CHARS ≡ true = grind (arith, nat_tests) in rw short refl
+pub short_is_name : (cs : List ℕ) → length cs ≤ most_name_chars → list_all (λ c. not (is_blank c || is_control c)) cs ≡ is_name cs
+short_is_name cs h = let short : nat_le (length cs) most_name_chars ≡ true = grind (arith, nat_tests) in rw short refl
 
 refused_by : (n : ℕ) (t : Bool) → scalar n ≡ t → (scalar n ≡ true → ⊥) → Err BadCodePoint ≡ character_of n
 refused_by n true e h = absurd (h e)

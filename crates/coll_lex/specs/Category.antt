@@ -1,7 +1,7 @@
 -- The line that begins the category LC_COLLATE (POSIX.1-2017, 7.3.2).
 use Rattle.std.specs.Prelude.{ℕ, Bool, true, ◌==◌, ◌&&◌, nat_eq, List, [], ◌∷◌, length, drop, codes}
 use Rattle.std.specs.List.{starts_with}
-use Rattle.coll_lex.specs.Directives.{past_blanks}
+use Rattle.coll_lex.specs.Blanks.{past_blanks}
 
 -- nothing stands there, or a comment begins
 abbrev pub is_over : (comment : ℕ) → List ℕ → Bool

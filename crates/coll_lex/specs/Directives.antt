@@ -1,20 +1,10 @@
 -- The lines `comment_char` and `escape_char`, which choose a text's two characters (POSIX.1-2017, 7.3).
-use Rattle.std.specs.Prelude.{ℕ, Bool, true, if◌then◌else◌, ◌==◌, ◌&&◌, nat_eq, List, [], ◌∷◌, length, drop, codes, Option, Some, None, Result, Ok, Err}
+use Rattle.std.specs.Prelude.{ℕ, Bool, if◌then◌else◌, ◌==◌, ◌&&◌, nat_eq, List, [], ◌∷◌, length, drop, codes, Option, Some, None, Result, Ok, Err}
 use Rattle.std.specs.List.{list_any, starts_with}
-use Rattle.coll_lex.specs.Tokens.{is_blank}
+use Rattle.coll_lex.specs.Blanks.{past_blanks, begins_apart}
 use Rattle.coll_lex.specs.declared.tokens.Chars.{Chars}
 use Rattle.coll_lex.specs.declared.faults.LexFault.{LexFault}
 use Rattle.coll_lex.specs.declared.faults.LexFault.TheVariants.{BadCharDirective}
-
--- the line without the blanks that it begins with
-unfoldable pub past_blanks : List ℕ → List ℕ
-past_blanks [] = []
-past_blanks (b ∷ bs) = if is_blank b then past_blanks bs else b ∷ bs
-
--- nothing stands there, or a blank comes first
-abbrev pub begins_apart : List ℕ → Bool
-begins_apart [] = true
-begins_apart (b ∷ bs) = is_blank b
 
 -- what follows a word, where the line begins with it and a blank or the line's end comes after it
 unfoldable pub operand_of : (word line : List ℕ) → Option (List ℕ)

@@ -1,5 +1,5 @@
 -- The numbers and the names of the faults of lines and devices, as replies and messages show them.
-use Rattle.std.specs.Prelude.{ℕ, List, codes}
+use Rattle.std.specs.Prelude.{ℕ, Bool, true, false, List, codes}
 use Rattle.coll_lex.specs.declared.faults.ReadStop.{ReadStop}
 use Rattle.coll_lex.specs.declared.faults.ReadStop.TheVariants as read
 use Rattle.coll_lex.specs.declared.faults.WriteStop.{WriteStop}
@@ -54,3 +54,18 @@ lex_fault_name lex.LineTooLong = codes "LineTooLong"
 lex_fault_name lex.BadCharDirective = codes "BadCharDirective"
 lex_fault_name lex.TooManyLines = codes "TooManyLines"
 lex_fault_name lex.OutOfMemory = codes "OutOfMemory"
+
+-- the faults that end a text: after a line that is too long, or one too many, nothing is read
+abbrev pub ends_text : LexFault → Bool
+ends_text lex.NotUtf8 = false
+ends_text lex.OpenSymbol = false
+ends_text lex.EmptySymbol = false
+ends_text lex.BadName = false
+ends_text lex.BadCodePoint = false
+ends_text lex.OpenString = false
+ends_text lex.CharacterConstant = false
+ends_text lex.DanglingEscape = false
+ends_text lex.LineTooLong = true
+ends_text lex.BadCharDirective = false
+ends_text lex.TooManyLines = true
+ends_text lex.OutOfMemory = false

@@ -4,12 +4,12 @@ use Rattle.std.specs.Option.{option_map, ForSome}
 use Rattle.std.specs.declared.alloc.Global.{Global}
 use Rattle.coll_lex.specs.Marked.{Mark, joined_marks}
 use Rattle.coll_lex.specs.Tokens.{reading_of}
-use Rattle.coll_lex.specs.Scanning.{after}
+use Rattle.coll_lex.specs.Scanning.{reading_left}
 use Rattle.coll_lex.specs.LogicalLines.{OpenLine, LexerState}
-use Rattle.coll_lex.specs.declared.lexing.Open.{Open}
-use Rattle.coll_lex.specs.declared.lexing.Lexer.TheInside.{Inside}
+use Rattle.coll_lex.specs.declared.logical_lines.Open.{Open}
+use Rattle.coll_lex.specs.declared.logical_lines.Lexer.TheInside.{Inside}
 use Rattle.coll_lex.specs.declared.tokens.Chars.{Chars}
-use Rattle.coll_lex.specs.declared.tokens.TheConstants.{MOST_LINES, MOST_LINE_BYTES}
+use Rattle.coll_lex.specs.Limits.{most_lines, most_line_bytes}
 
 -- the physical lines that are stored
 abbrev pub lines_in : List (Vec ℕ Global) → List (List ℕ)
@@ -29,11 +29,11 @@ state_of l = record { special = l.special; count = l.count; line = option_map li
 
 -- the scan of an open line has read its physical lines, and stands at the beginning of the next one
 pub record IsSoundOpen (special : Chars) (o : Open) : Type 0 where
-  pub reads : (ms : List Mark) → reading_of special.comment (joined_marks special.escape (map chars (lines_in o.lines.items)) ++ ms) ≡ after special.comment o.scan ms
+  pub reads : (ms : List Mark) → reading_of special.comment (joined_marks special.escape (map chars (lines_in o.lines.items)) ++ ms) ≡ reading_left special.comment o.scan ms
   pub unescaped : o.scan.escaped ≡ false
-  pub short : o.bytes ≤ MOST_LINE_BYTES
+  pub short : o.bytes ≤ most_line_bytes
 
 -- the count is within the limit of lines, and an open line is sound
-pub record IsSound (l : Inside) : Type 0 where
-  pub counted : l.count ≤ MOST_LINES
+pub record IsSoundLexer (l : Inside) : Type 0 where
+  pub counted : l.count ≤ most_lines
   pub opened : ForSome l.open (IsSoundOpen l.special)

@@ -1,10 +1,14 @@
+pub mod Blanks
 pub mod Buffers
 pub mod Category
+pub mod Characters
 pub mod Counted
 pub mod Devices
 pub mod Directives
 pub mod Faults
+pub mod Kinds
 pub mod Lexer
+pub mod Limits
 pub mod LineBuffer
 pub mod LineReading
 pub mod LogicalLines

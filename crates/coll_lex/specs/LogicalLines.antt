@@ -1,7 +1,8 @@
 -- Logical lines: what a lexer has been handed, its answer to one more physical line, and the logical lines of a
 -- list of physical lines (POSIX.1-2017, 7.3).
-use Rattle.std.specs.Prelude.{ℕ, ◌+◌, min, Bool, true, false, if◌then◌else◌, ◌==◌, nat_lt, List, [], ◌∷◌, ◌++◌, map, length, chars, Option, Some, None, option_map, unwrap_or, Result, Ok, Err}
+use Rattle.std.specs.Prelude.{ℕ, ◌+◌, min, Bool, true, false, if◌then◌else◌, ◌==◌, nat_lt, List, [], ◌∷◌, ◌++◌, map, length, chars, Option, Some, None, is_some, option_map, unwrap_or, Result, Ok, Err}
 use Rattle.std.specs.Str.{is_utf8}
+use Rattle.coll_lex.specs.Characters.{number_sign, backslash}
 use Rattle.coll_lex.specs.PhysicalLines.{without_return}
 use Rattle.coll_lex.specs.Marked.{is_joined, joined_marks}
 use Rattle.coll_lex.specs.Tokens.{Reading, Stop, AtFault, AtComment, AtEnd, InSymbol, InString, reading_of}
@@ -10,9 +11,9 @@ use Rattle.coll_lex.specs.Category.{begins_category}
 use Rattle.coll_lex.specs.declared.tokens.Chars.{Chars}
 use Rattle.coll_lex.specs.declared.tokens.Line.{Line}
 use Rattle.coll_lex.specs.declared.tokens.Token.{Token}
-use Rattle.coll_lex.specs.declared.tokens.TheConstants.{MOST_LINES, MOST_LINE_BYTES}
+use Rattle.coll_lex.specs.Limits.{most_lines, most_line_bytes}
 use Rattle.coll_lex.specs.declared.faults.LexFault.{LexFault}
-use Rattle.coll_lex.specs.declared.faults.LexFault.TheVariants.{NotUtf8, OpenSymbol, OpenString, DanglingEscape, LineTooLong, TooManyLines, OutOfMemory}
+use Rattle.coll_lex.specs.declared.faults.LexFault.TheVariants.{NotUtf8, OpenSymbol, EmptySymbol, BadName, BadCodePoint, OpenString, CharacterConstant, DanglingEscape, LineTooLong, BadCharDirective, TooManyLines, OutOfMemory}
 
 -- a logical line that goes on in the next physical line: its number, its physical lines so far without their
 -- carriage returns, and the sum of the lengths handed in
@@ -29,7 +30,7 @@ pub record LexerState : Type 0 where
 
 -- at first the comment character is `#` and the escape character `\`
 abbrev pub first_state : LexerState
-first_state = record { special = record { comment = 35; escape = 92 }; count = 0; line = None }
+first_state = record { special = record { comment = number_sign; escape = backslash }; count = 0; line = None }
 
 -- the number of the logical line that is open
 abbrev pub pending : LexerState → Option ℕ
@@ -62,7 +63,7 @@ first_line s line = first_of (extended s line).lines
 
 -- where a lexer stands after a line that leaves none open, be it whole or at fault
 abbrev pub dropped : LexerState → LexerState
-dropped s = record { special = s.special; count = min (s.count + 1) MOST_LINES; line = None }
+dropped s = record { special = s.special; count = min (s.count + 1) most_lines; line = None }
 
 -- the line that these tokens make, unless there is none
 abbrev pub line_of : ℕ → List Token → Option Line
@@ -114,7 +115,7 @@ fed_text next o line asked = if is_utf8 line then fed_as next o line asked else 
 
 -- the fault of a line by the sum of the lengths up to it, or by the count of the lines before it
 abbrev pub line_fault : (count bytes : ℕ) → Option LexFault
-line_fault count bytes = if nat_lt MOST_LINE_BYTES bytes then Some LineTooLong else (if count == MOST_LINES then Some TooManyLines else None)
+line_fault count bytes = if nat_lt most_line_bytes bytes then Some LineTooLong else (if count == most_lines then Some TooManyLines else None)
 
 -- the answer to a line, unless it is at fault
 abbrev pub unless_fault : {A : Type 0} → Option LexFault → Result A LexFault → Result A LexFault
@@ -156,9 +157,36 @@ abbrev pub later_choices : List Bool → List Bool
 later_choices [] = []
 later_choices (c ∷ cs) = cs
 
--- the answer to a line, which is refused for want of memory where the choice says so
+-- the faults that are met among the tokens of a line, so that tokens may stand before them
+abbrev pub is_among_tokens : LexFault → Bool
+is_among_tokens NotUtf8 = false
+is_among_tokens OpenSymbol = true
+is_among_tokens EmptySymbol = true
+is_among_tokens BadName = true
+is_among_tokens BadCodePoint = true
+is_among_tokens OpenString = true
+is_among_tokens CharacterConstant = true
+is_among_tokens DanglingEscape = false
+is_among_tokens LineTooLong = false
+is_among_tokens BadCharDirective = false
+is_among_tokens TooManyLines = false
+is_among_tokens OutOfMemory = false
+
+-- whether memory may be taken for this answer: it is for a logical line's tokens, for a line that the next one
+-- continues, and for the tokens before a fault among them
+abbrev pub needs_memory : Result (Option Line × LexerState) LexFault → Bool
+needs_memory (Ok (Some whole_line, _)) = true
+needs_memory (Ok (None, next)) = is_some next.line
+needs_memory (Err fault) = is_among_tokens fault
+
+-- whether memory may be taken for a line: never for a directive, nor for one that ends a logical line without tokens,
+-- nor for one that is too long, one too many, no UTF-8 or a directive at fault
+unfoldable pub takes_memory : LexerState → List ℕ → Bool
+takes_memory s line = needs_memory (fed s line)
+
+-- the answer to a line, which is refused for want of memory where the choice says so and memory is taken for it
 unfoldable pub served : (starved : Bool) → LexerState → List ℕ → Result (Option Line × LexerState) LexFault
-served true s line = Err OutOfMemory
+served true s line = if takes_memory s line then Err OutOfMemory else fed s line
 served false s line = fed s line
 
 -- where the lexer stands after this answer
@@ -173,17 +201,12 @@ lines_by s line (Ok (Some whole_line, _)) = record { number = whole_line.number;
 lines_by s line (Err fault) = record { number = number_of s; first = first_line s line; tokens = Err fault } ∷ []
 
 -- a line that is open where the text ends is at fault
-abbrev pub left_open : Option OpenLine → List LogicalLine
-left_open None = []
-left_open (Some o) = record { number = o.number; first = first_of o.lines; tokens = Err DanglingEscape } ∷ []
+abbrev pub line_left_open : Option OpenLine → List LogicalLine
+line_left_open None = []
+line_left_open (Some o) = record { number = o.number; first = first_of o.lines; tokens = Err DanglingEscape } ∷ []
 
 -- the logical lines of these physical lines, with those that memory was refused to; the test says whether the
 -- text ends with them
 unfoldable pub logical_lines : (starved : List Bool) → (ends : Bool) → LexerState → List (List ℕ) → List LogicalLine
-logical_lines starved ends s [] = if ends then left_open s.line else []
+logical_lines starved ends s [] = if ends then line_left_open s.line else []
 logical_lines starved ends s (line ∷ lines) = lines_by s line (served (first_choice starved) s line) ++ logical_lines (later_choices starved) ends (state_by s (served (first_choice starved) s line)) lines
-
--- where the lexer stands after these lines
-unfoldable pub state_after : (starved : List Bool) → LexerState → List (List ℕ) → LexerState
-state_after starved s [] = s
-state_after starved s (line ∷ lines) = state_after (later_choices starved) (state_by s (served (first_choice starved) s line)) lines

@@ -1,6 +1,8 @@
 -- What is true of the tokens of every logical line: names are names, and no word is empty.
-use Rattle.std.specs.Prelude.{◌≡◌, ℕ, ◌<◌, List, length, All, Ok}
+use Rattle.std.specs.Prelude.{◌≡◌, ℕ, ◌<◌, List, length, All, Some, Ok}
 use Rattle.coll_lex.specs.Tokens.{symbol_of}
+use Rattle.coll_lex.specs.LogicalLines.{LexerState, fed}
+use Rattle.coll_lex.specs.declared.tokens.Line.{Line}
 use Rattle.coll_lex.specs.declared.tokens.Token.{Token}
 use Rattle.coll_lex.specs.declared.tokens.Token.TheVariants as token
 use Rattle.coll_lex.specs.declared.tokens.Piece.{Piece}
@@ -28,3 +30,7 @@ IsToken token.Comma = Unit {0}
 pub record AreTokens (tokens : List Token) : Type 0 where
   pub some : 0 < length tokens
   pub each : All IsToken tokens
+
+-- whatever line is handed in wherever a lexer stands, the logical line that is given has tokens as they are made
+abbrev pub LinesHaveTokens : Type 0
+LinesHaveTokens = (s after : LexerState) (line : List ℕ) (given : Line) → fed s line ≡ Ok (Some given, after) → AreTokens given.tokens

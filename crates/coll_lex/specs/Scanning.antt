@@ -1,9 +1,9 @@
 -- What is left to read once a scan has come so far. The state of a scan is private: these words tie it to the
 -- definition of tokens, and only the scan's own contracts cite them.
-use Rattle.std.specs.Prelude.{◌≡◌, ℕ, zero, suc, Bool, true, false, ◌&&◌, List, [], ◌∷◌, ◌++◌, length, Option, Some, None, Result, Ok, Err}
+use Rattle.std.specs.Prelude.{◌≡◌, ℕ, zero, suc, ◌<◌, Bool, true, false, ◌&&◌, List, [], ◌∷◌, ◌++◌, length, Option, Some, None, Result, Ok, Err}
 use Rattle.std.specs.declared.alloc.Global.{Global}
 use Rattle.coll_lex.specs.Marked.{Mark, marks, ends_escaped}
-use Rattle.coll_lex.specs.Tokens.{Atom, Bracketed, Unclosed, before_close, atoms, AtFault, AtComment, Reading, stopped, ahead, Quoted, Closed, Stops, quoted, word_run, reading}
+use Rattle.coll_lex.specs.Tokens.{Atom, Bracketed, Unclosed, before_close, atoms, Stop, AtFault, AtComment, AtEnd, InSymbol, InString, Reading, stopped, with_token, Quoted, Closed, Stops, quoted, word_run, reading}
 use Rattle.coll_lex.specs.declared.tokens.Token.{Token}
 use Rattle.coll_lex.specs.declared.tokens.Token.TheVariants as token
 use Rattle.coll_lex.specs.declared.tokens.Piece.{Piece}
@@ -33,7 +33,7 @@ atoms_in name ms = symbol_rest name (before_close ms) (λ skip. atoms skip ms)
 
 -- the reading after a word that so far is this
 abbrev pub word_rest : List ℕ → Result (List ℕ) LexFault → (ℕ → Reading) → Reading
-word_rest word (Ok more) rest = ahead (token.Word (word ++ more)) (rest (length more))
+word_rest word (Ok more) rest = with_token (token.Word (word ++ more)) (rest (length more))
 word_rest word (Err fault) rest = stopped (AtFault fault)
 
 -- the reading from inside a word on, if one has begun
@@ -43,7 +43,7 @@ word_left comment (c ∷ cs) xs = word_rest (c ∷ cs) (word_run comment xs) (λ
 
 -- the reading after a string whose pieces so far are these
 abbrev pub string_rest : List Piece → Quoted → (ℕ → Reading) → Reading
-string_rest pieces (Closed more) rest = ahead (token.Text (pieces ++ more)) (rest (suc (length more)))
+string_rest pieces (Closed more) rest = with_token (token.Text (pieces ++ more)) (rest (suc (length more)))
 string_rest pieces (Stops stop) rest = stopped stop
 
 -- the reading from inside a string on
@@ -51,43 +51,77 @@ abbrev pub string_left : (comment : ℕ) → List Piece → List Atom → Readin
 string_left comment pieces xs = string_rest pieces (quoted xs) (λ skip. reading comment skip xs)
 
 -- the reading that is left in a mode
-abbrev pub left : (comment : ℕ) → Mode → (partial : List ℕ) → List Piece → List Mark → Reading
-left comment mode.Plain partial pieces ms = word_left comment partial (atoms zero ms)
-left comment mode.Symbol partial pieces ms = reading comment zero (atoms_in partial ms)
-left comment mode.Text partial pieces ms = string_left comment pieces (atoms zero ms)
-left comment mode.SymbolInText partial pieces ms = string_left comment pieces (atoms_in partial ms)
-left comment mode.Comment partial pieces ms = stopped AtComment
+abbrev pub left_in_mode : (comment : ℕ) → Mode → (partial : List ℕ) → List Piece → List Mark → Reading
+left_in_mode comment mode.Plain partial pieces ms = word_left comment partial (atoms zero ms)
+left_in_mode comment mode.Symbol partial pieces ms = reading comment zero (atoms_in partial ms)
+left_in_mode comment mode.Text partial pieces ms = string_left comment pieces (atoms zero ms)
+left_in_mode comment mode.SymbolInText partial pieces ms = string_left comment pieces (atoms_in partial ms)
+left_in_mode comment mode.Comment partial pieces ms = stopped AtComment
 
 -- the reading of a text whose front has been scanned
-unfoldable pub after : (comment : ℕ) → Scan → List Mark → Reading
-after comment s ms = prefixed s.tokens (left comment s.mode s.partial s.pieces ms)
+unfoldable pub reading_left : (comment : ℕ) → Scan → List Mark → Reading
+reading_left comment s ms = prefixed s.tokens (left_in_mode comment s.mode s.partial s.pieces ms)
 
 -- a scan takes one mark off the text
-pub record Takes (comment : ℕ) (old : Scan) (m : Mark) (new : Scan) : Type 0 where
-  pub reads : (ms : List Mark) → after comment old (m ∷ ms) ≡ after comment new ms
+pub record TakesMark (comment : ℕ) (old : Scan) (m : Mark) (new : Scan) : Type 0 where
+  pub reads : (ms : List Mark) → reading_left comment old (m ∷ ms) ≡ reading_left comment new ms
   pub same_escape : new.escaped ≡ old.escaped
 
 -- the text's reading stops at this mark, which is at fault
 pub record Refuses (comment : ℕ) (old : Scan) (m : Mark) (fault : LexFault) : Type 0 where
-  pub stops : (ms : List Mark) → (after comment old (m ∷ ms)).stop ≡ AtFault fault
+  pub stops : (ms : List Mark) → (reading_left comment old (m ∷ ms)).stop ≡ AtFault fault
+
+-- the reading stopped at a fault, or inside a symbol or a string
+abbrev pub is_cut_short : Stop → Bool
+is_cut_short (AtFault fault) = true
+is_cut_short AtComment = false
+is_cut_short AtEnd = false
+is_cut_short InSymbol = true
+is_cut_short InString = true
+
+-- the reading has a token, or is cut short
+abbrev pub gathers_by : List Token → Stop → Bool
+gathers_by [] stop = is_cut_short stop
+gathers_by (t ∷ ts) stop = true
+
+-- the reading has a token, or is cut short
+abbrev pub gathers : Reading → Bool
+gathers r = gathers_by r.tokens r.stop
+
+-- whatever follows this mark, the text's reading has a token or is cut short
+pub record Gathers (comment : ℕ) (old : Scan) (m : Mark) : Type 0 where
+  pub reads : (ms : List Mark) → gathers (reading_left comment old (m ∷ ms)) ≡ true
 
 -- a scan takes one character off the line
 pub record TakesCharacter (special : Chars) (old : Scan) (c : ℕ) (new : Scan) : Type 0 where
-  pub reads : (cs : List ℕ) (ms : List Mark) → after special.comment old (marks special.escape old.escaped (c ∷ cs) ++ ms) ≡ after special.comment new (marks special.escape new.escaped cs ++ ms)
+  pub reads : (cs : List ℕ) (ms : List Mark) → reading_left special.comment old (marks special.escape old.escaped (c ∷ cs) ++ ms) ≡ reading_left special.comment new (marks special.escape new.escaped cs ++ ms)
   pub ends : (cs : List ℕ) → ends_escaped special.escape old.escaped (c ∷ cs) ≡ ends_escaped special.escape new.escaped cs
 
 -- the line's reading stops at this character, which is at fault
 pub record RefusesCharacter (special : Chars) (old : Scan) (c : ℕ) (fault : LexFault) : Type 0 where
-  pub stops : (cs : List ℕ) (ms : List Mark) → (after special.comment old (marks special.escape old.escaped (c ∷ cs) ++ ms)).stop ≡ AtFault fault
+  pub stops : (cs : List ℕ) (ms : List Mark) → (reading_left special.comment old (marks special.escape old.escaped (c ∷ cs) ++ ms)).stop ≡ AtFault fault
+
+-- whatever follows this character, the line's reading has a token or is cut short
+pub record GathersCharacter (special : Chars) (old : Scan) (c : ℕ) : Type 0 where
+  pub reads : (cs : List ℕ) (ms : List Mark) → gathers (reading_left special.comment old (marks special.escape old.escaped (c ∷ cs) ++ ms)) ≡ true
 
 -- a scan takes a physical line
 pub record TakesLine (special : Chars) (old : Scan) (line : List ℕ) (new : Scan) : Type 0 where
-  pub reads : (ms : List Mark) → after special.comment old (marks special.escape false line ++ ms) ≡ after special.comment new ms
+  pub reads : (ms : List Mark) → reading_left special.comment old (marks special.escape false line ++ ms) ≡ reading_left special.comment new ms
   pub ends : new.escaped ≡ ends_escaped special.escape false line
 
 -- the reading stops in this physical line
 pub record RefusesLine (special : Chars) (old : Scan) (line : List ℕ) (fault : LexFault) : Type 0 where
-  pub stops : (ms : List Mark) → (after special.comment old (marks special.escape false line ++ ms)).stop ≡ AtFault fault
+  pub stops : (ms : List Mark) → (reading_left special.comment old (marks special.escape false line ++ ms)).stop ≡ AtFault fault
+
+-- whatever follows this physical line, the reading has a token or is cut short
+pub record GathersLine (special : Chars) (old : Scan) (line : List ℕ) : Type 0 where
+  pub reads : (ms : List Mark) → gathers (reading_left special.comment old (marks special.escape false line ++ ms)) ≡ true
+
+-- the scan is in a word
+pub record IsInWord (s : Scan) : Type 0 where
+  pub outside : s.mode ≡ mode.Plain
+  pub begun : 0 < length s.partial
 
 -- a comment isn't continued
 abbrev pub is_continued : Mode → Bool

@@ -3,14 +3,15 @@
 -- Each spelling takes what follows it, so that a whole line is spelled by putting one spelling into the next.
 -- They are read back under the comment character `%` and the escape character `/`.
 use Rattle.std.specs.Prelude.{ℕ, zero, suc, ◌+◌, ◌/◌, ◌%◌, Bool, ◌||◌, ◌==◌, nat_lt, if◌then◌else◌, List, [], ◌∷◌, ◌++◌}
+use Rattle.coll_lex.specs.Characters.{slash, less_than, greater_than, capital_u}
 
 -- the characters that a name writes with an escape before them: `>` and `/`
 abbrev pub is_escaped : ℕ → Bool
-is_escaped c = (c == 62) || (c == 47)
+is_escaped c = (c == greater_than) || (c == slash)
 
 -- a character of a name
 abbrev pub spelled_char : ℕ → List ℕ → List ℕ
-spelled_char c rest = if is_escaped c then 47 ∷ c ∷ rest else c ∷ rest
+spelled_char c rest = if is_escaped c then slash ∷ c ∷ rest else c ∷ rest
 
 -- the characters of a name
 unfoldable pub spelled_name : List ℕ → List ℕ → List ℕ
@@ -19,9 +20,9 @@ spelled_name (c ∷ cs) rest = spelled_char c (spelled_name cs rest)
 
 -- a name between `<` and `>`
 unfoldable pub spelled_symbol : List ℕ → List ℕ → List ℕ
-spelled_symbol name rest = 60 ∷ spelled_name name (62 ∷ rest)
+spelled_symbol name rest = less_than ∷ spelled_name name (greater_than ∷ rest)
 
--- a hexadecimal digit, in upper case
+-- a hexadecimal digit, in upper case: `0` is 48, and `A` is 65, ten above 55
 abbrev pub hex_digit : ℕ → ℕ
 hex_digit d = if nat_lt d 10 then 48 + d else 55 + d
 
@@ -36,4 +37,4 @@ digit_count c = if nat_lt c 65536 then 4 else 8
 
 -- a character by its code point, between `<U` and `>`
 unfoldable pub spelled_code : ℕ → List ℕ → List ℕ
-spelled_code c rest = 60 ∷ 85 ∷ (hex_digits (digit_count c) c ++ 62 ∷ rest)
+spelled_code c rest = less_than ∷ capital_u ∷ (hex_digits (digit_count c) c ++ greater_than ∷ rest)

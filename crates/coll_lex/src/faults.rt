@@ -5,7 +5,7 @@
 //! the definitions that the contracts cite. Want of memory is one fault among the others, by `From`.
 
 ghost use Rattle.std.specs.Prelude.{◌≡◌};
-ghost use Rattle.coll_lex.specs.Faults.{read_stop_number, read_stop_name, write_stop_number, write_stop_name, lex_fault_number, lex_fault_name};
+ghost use Rattle.coll_lex.specs.Faults.{read_stop_number, read_stop_name, write_stop_number, write_stop_name, lex_fault_number, lex_fault_name, ends_text};
 ghost use Rattle.coll_lex.specs.declared.faults.LexFault.TheVariants.{OutOfMemory};
 
 use std::alloc::{AllocError, AllocFailed};
@@ -94,7 +94,8 @@ pub enum LexFault {
     DanglingEscape,
     /// A physical line, or the physical lines of a continued line together, have more than 65,536 bytes.
     LineTooLong,
-    /// `comment_char` or `escape_char` isn't followed by an allowed character, or by one that the other has.
+    /// Behind `comment_char` or `escape_char` stands no single character that is allowed there, or the one that the
+    /// other directive has chosen.
     BadCharDirective,
     /// A text has more than 4,194,304 physical lines.
     TooManyLines,
@@ -141,6 +142,16 @@ impl LexFault {
             LexFault::TooManyLines => "TooManyLines",
             LexFault::OutOfMemory => "OutOfMemory",
         }
+    }
+}
+
+impl LexFault {
+    /// Whether a text ends with this fault, so that nothing behind its line is read: it does where a line is too long
+    /// (10), or one too many (12).
+    pub fn ends_text(self) -> bool
+        ensures { result ≡ ends_text self }
+    {
+        matches!(self, LexFault::LineTooLong | LexFault::TooManyLines)
     }
 }
 

@@ -5,23 +5,27 @@
 //! contracts, in the words that `specs/` defines.
 #![tactic(auto)]
 
+mod blanks;
 mod buffers;
+mod category;
 mod devices;
 mod directives;
 mod faults;
-mod lexing;
+mod limits;
 mod line_reading;
+mod logical_lines;
+mod physical_lines;
 mod scanning;
 mod spelling;
-#[cfg(test)]
-mod test_devices;
 mod tokens;
 
+pub use blanks::past_blanks;
 pub use buffers::{ListBuf, TextBuf};
 pub use devices::{Counted, Sink, Source};
-pub use directives::{past_blanks, without_return};
 pub use faults::{LexFault, ReadStop, WriteStop};
-pub use lexing::Lexer;
+pub use limits::{MOST_LINE_BYTES, MOST_LINES, MOST_NAME_CHARS, limits_are_stated};
 pub use line_reading::LineReader;
+pub use logical_lines::{Lexer, lines_have_tokens};
+pub use physical_lines::without_return;
 pub use spelling::{spellings_are_read_back, write_bytes, write_char, write_symbol};
-pub use tokens::{Chars, Line, MOST_LINE_BYTES, MOST_LINES, MOST_NAME_CHARS, Piece, Token};
+pub use tokens::{Chars, Line, Piece, Token};

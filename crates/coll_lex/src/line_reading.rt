@@ -6,7 +6,7 @@
 //! byte is searched twice. `advance` and `line` are apart so that a loop lends no slice across a turn.
 //! Whoever changes the buffer's size keeps it above the most bytes of a line: a line that is one
 //! byte longer must be seen whole.
-ghost use Rattle.std.specs.Prelude.{◌≡◌, ℕ, ◌+◌, ◌-◌, ◌<◌, ◌≤◌, nat_lt, length, take, drop, slice_index, slice_range, IfOk, IfSome, IfNone, MatchResult, vec_len, [], ◌++◌, ◌∷◌};
+ghost use Rattle.std.specs.Prelude.{◌≡◌, ℕ, ◌+◌, ◌-◌, ◌<◌, ◌≤◌, nat_lt, length, take, drop, slice_index, slice_range, IfOk, IfSome, IfNone, MatchResult, vec_len, [], ◌++◌, ◌∷◌, true};
 ghost use Rattle.std.specs.Bool.{OnTrue, OnFalse};
 ghost use Rattle.std.specs.Io.KnownBytes.{Keeps, Consumes, IsAtEnd};
 ghost use Rattle.coll_lex.specs.Devices.{CountsErr};
@@ -17,13 +17,14 @@ use std::alloc::{AllocError, Global};
 use std::io;
 use std::marker::Model;
 
-/// Bytes of the buffer: room for a line of the most bytes, and for as many read ahead.
+/// Bytes of the buffer: room for a line of the most bytes, and for as many read unread.
 const BUFFER_BYTES: usize = 2 * MOST_LINE_BYTES;
 
 /// A reader of physical lines, with one buffer of its own.
 ///
 /// It stops where a line has more than 65,536 bytes before its line feed or the end, and where a read answers
-/// an error; from then on each call answers the same stop, and reads nothing.
+/// an error; from then on each call answers the same stop, and reads nothing. Once it has met the end of the input,
+/// each call answers the end, and reads nothing. So all lines given before a read error ended in a line feed.
 #[derive(Debug, Drop)]
 pub struct LineReader {
     // Always BUFFER_BYTES long.
@@ -35,22 +36,24 @@ pub struct LineReader {
     start: usize,
     end: usize,
     stop: Option<ReadStop>,
+    // Whether a read gave no byte, so that the end of the input was met.
+    ended: bool,
 }
 
 impl Model for LineReader {
-    ghost use Rattle.coll_lex.specs.LineReading.{Reading};
+    ghost use Rattle.coll_lex.specs.LineReading.{ReaderState};
 
-    ghost Value = { Reading };
+    ghost Value = { ReaderState };
 
-    ghost use Rattle.coll_lex.specs.LineBuffer.{reading_of, IsSound};
+    ghost use Rattle.coll_lex.specs.LineBuffer.{reader_state, IsSoundReader};
 
-    ghost view = { reading_of };
+    ghost view = { reader_state };
 
-    ghost invariant = { IsSound };
+    ghost invariant = { IsSoundReader };
 }
 
 impl LineReader {
-    ghost use Rattle.coll_lex.specs.LineReading.{no_line, Advances, Nexts, Fills, TakesLine};
+    ghost use Rattle.coll_lex.specs.LineReading.{no_line, Advances, Nexts, Fills, TakesFirstLine};
     ghost use Rattle.std.specs.Borrow.{sem};
     ghost use Rattle.std.specs.Io.BufRead.{Rests};
     ghost use Rattle.coll_lex.specs.contracts.line_reading.LineReader.{the_row};
@@ -66,6 +69,7 @@ impl LineReader {
             start: 0,
             end: 0,
             stop: None,
+            ended: false,
         })
     }
 
@@ -77,13 +81,19 @@ impl LineReader {
     }
 
     /// Goes to the next physical line: true where there is one, false at the end of the input.
-    /// At the end it reads again at each call.
+    ///
+    /// A last line that no line feed ends is given only once a read has met the end, that is, has given no byte.
+    /// From then on the reader stands at the end: it reads no more, and each call answers the end.
     pub fn advance<R: Source>(&mut self, input: &mut R) -> Result<bool, ReadStop>
         ensures { Advances self.old self.new (R.left input.old) (R.left input.new)
             (R.failed input.old) (R.failed input.new) result }
     {
         if let Some(stop) = self.stop {
             return Err(stop);
+        }
+        if self.ended {
+            self.forget_line();
+            return Ok(false);
         }
         let mut searched = 0;
         'reads: loop {
@@ -121,7 +131,7 @@ impl LineReader {
         requires within { searched ≤ MOST_LINE_BYTES }
         requires held { searched ≤ length self.old.held }
         requires none { IsInLine (take searched self.old.held) }
-        ensures found { OnTrue result (TakesLine self.old self.new) }
+        ensures found { OnTrue result (TakesFirstLine self.old self.new) }
         ensures unchanged { OnFalse result (self.new ≡ self.old) }
         ensures not_found { OnFalse result (IsInLine (take (MOST_LINE_BYTES + 1) self.old.held)) }
     {
@@ -164,15 +174,24 @@ impl LineReader {
         Ok(count)
     }
 
-    // Gives all bytes held back as the last line, if there are any.
+    // Gives all bytes held back as the last line, if there are any, and stands at the end from then on.
     fn take_rest(&mut self) -> bool
-        ensures after { self.new ≡ record self.old { line = self.old.held; held = [] } }
+        ensures after { self.new ≡ record self.old { line = self.old.held; held = []; ended = true } }
         ensures given { result ≡ nat_lt 0 (length self.old.held) }
     {
         self.line_start = self.start;
         self.line_end = self.end;
         self.start = self.end;
+        self.ended = true;
         self.line_start < self.line_end
+    }
+
+    // Forgets the line given.
+    fn forget_line(&mut self)
+        ensures { self.new ≡ record self.old { line = [] } }
+    {
+        self.line_start = 0;
+        self.line_end = 0;
     }
 
     // Stops for good, and forgets the line given.
@@ -180,8 +199,7 @@ impl LineReader {
         ensures after { self.new ≡ record self.old { line = []; stop = Some stop } }
         ensures same { result ≡ stop }
     {
-        self.line_start = 0;
-        self.line_end = 0;
+        self.forget_line();
         self.stop = Some(stop);
         stop
     }
@@ -233,6 +251,3 @@ fn read_at<R: Source>(input: &mut R, buffer: &mut [u8], at: usize) -> io::Result
 {
     input.read(&mut buffer[at..])
 }
-
-#[cfg(test)]
-mod tests;

@@ -4,7 +4,7 @@
 //! then hands it to the mode. The modules below have the moves of the modes: `word` outside symbols and strings,
 //! `symbol` inside symbols, `text` inside strings. A new kind of token needs a move in one of them, and perhaps a
 //! mode. No contract above this module sees the state: each move is proved to keep what is left to read
-//! (`after` in `specs/Scanning.antt`), so a mode with a new field needs its case there.
+//! (`reading_left` in `specs/Scanning.antt`), so a mode with a new field needs its case there.
 
 ghost use Rattle.std.specs.Prelude.{◌≡◌, ◌≢◌, ◌&&◌, not, ℕ, [], chars, OnOk, IfOk, IfErr, false, IfErr};
 ghost use Rattle.coll_lex.specs.Marked.{Plain, Literal};
@@ -57,7 +57,7 @@ fn is_constant(c: char) -> bool
 }
 
 impl Scan {
-    ghost use Rattle.coll_lex.specs.Scanning.{fresh, goes_on, Takes, Refuses, TakesCharacter, RefusesCharacter, TakesLine, RefusesLine, ending};
+    ghost use Rattle.coll_lex.specs.Scanning.{fresh, goes_on, TakesMark, Refuses, TakesCharacter, RefusesCharacter, TakesLine, RefusesLine, Gathers, GathersCharacter, GathersLine, IsInWord, ending};
 
     /// The scan at the beginning of a logical line. It takes no memory.
     pub(crate) fn new(alloc: Global) -> Scan
@@ -78,6 +78,7 @@ impl Scan {
         requires { self.old.escaped ≡ false }
         ensures ok { OnOk result (TakesLine special self.old (chars line.now) self.new) }
         ensures err { IfErr result (λ fault. fault ≢ OutOfMemory → RefusesLine special self.old (chars line.now) fault) }
+        ensures memory { IfErr result (λ fault. fault ≡ OutOfMemory → GathersLine special self.old (chars line.now)) }
     {
         for c in line.chars() {
             self.take(special, c)?;
@@ -104,6 +105,7 @@ impl Scan {
     pub(crate) fn into_tokens(mut self) -> Result<ListBuf<Token>, LexFault>
         ensures ok { IfOk result (λ tokens. ending self ≡ Ok tokens) }
         ensures err { IfErr result (λ fault. fault ≢ OutOfMemory → ending self ≡ Err fault) }
+        ensures memory { IfErr result (λ fault. fault ≡ OutOfMemory → IsInWord self) }
     {
         match self.mode {
             Mode::Plain => {
@@ -121,6 +123,7 @@ impl Scan {
     fn take(&mut self, special: Chars, c: char) -> Result<(), LexFault>
         ensures ok { OnOk result (TakesCharacter special self.old c self.new) }
         ensures err { IfErr result (λ fault. fault ≢ OutOfMemory → RefusesCharacter special self.old c fault) }
+        ensures memory { IfErr result (λ fault. fault ≡ OutOfMemory → GathersCharacter special self.old c) }
     {
         if self.escaped {
             self.escaped = false;
@@ -137,8 +140,9 @@ impl Scan {
 
     // Reads a character that is not escaped.
     fn take_plain(&mut self, comment: char, c: char) -> Result<(), LexFault>
-        ensures ok { OnOk result (Takes comment self.old (Plain c) self.new) }
+        ensures ok { OnOk result (TakesMark comment self.old (Plain c) self.new) }
         ensures err { IfErr result (λ fault. fault ≢ OutOfMemory → Refuses comment self.old (Plain c) fault) }
+        ensures memory { IfErr result (λ fault. fault ≡ OutOfMemory → Gathers comment self.old (Plain c)) }
     {
         match self.mode {
             Mode::Plain => self.take_outside(comment, c)?,
@@ -152,9 +156,10 @@ impl Scan {
 
     // Reads a character that is escaped.
     fn take_literal(&mut self, c: char) -> Result<(), LexFault>
-        ensures ok { OnOk result ((comment : ℕ) → Takes comment self.old (Literal c) self.new) }
+        ensures ok { OnOk result ((comment : ℕ) → TakesMark comment self.old (Literal c) self.new) }
         ensures err { IfErr result
             (λ fault. fault ≢ OutOfMemory → (comment : ℕ) → Refuses comment self.old (Literal c) fault) }
+        ensures memory { IfErr result (λ fault. fault ≡ OutOfMemory → (comment : ℕ) → Gathers comment self.old (Literal c)) }
     {
         match self.mode {
             Mode::Plain => self.take_literal_outside(c)?,

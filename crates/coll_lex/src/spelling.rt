@@ -2,15 +2,25 @@
 //!
 //! A name stands between `<` and `>`, with `/` before each `>` and `/` in it; a character stands as `<U`, its code
 //! point in upper-case hexadecimal, and `>`. Under the comment character `%` and the escape character `/` the
-//! lexer reads both back as what was written. All output goes through `write_bytes`, the only loop over `write`.
-//! None of this takes memory. A change of a spelling is a change of its definition in `specs/`, and of the law
+//! lexer reads both back as what was written. A spelling is gathered on the stack and handed to the device as one write,
+//! where the device takes it whole; only a text longer than any name is written in parts. All output goes through
+//! `write_bytes`, the only loop over `write`. None of this takes memory. A change of a spelling is a change of its definition in `specs/`, and of the law
 //! that it is read back.
-ghost use Rattle.std.specs.Prelude.{◌≡◌, ◌<◌, ◌≤◌, ℕ, [], ◌∷◌, All, length, take, slice_index, chars, encode_utf8_all, IsTrue, IfNone, IfSome, true, false};
+ghost use Rattle.arrayvec.specs.ArrayVec.{array_vec_len};
+ghost use Rattle.coll_lex.specs.Characters.{less_than, greater_than};
+ghost use Rattle.std.specs.Prelude.{◌≡◌, ◌+◌, ◌<◌, ◌≤◌, ℕ, [], ◌∷◌, ◌++◌, All, length, take, slice_index, chars, encode_utf8_all, IsTrue, IfNone, IfSome, true, false};
 ghost use Rattle.coll_lex.specs.Devices.{CountsErr, Sends};
 ghost use Rattle.coll_lex.specs.ReadingBack.{NamesReadBack, NamesReadBackQuoted, CodesReadBack, CodesReadBackQuoted};
-ghost use Rattle.coll_lex.specs.Spelling.{is_escaped, spelled_name, spelled_symbol, spelled_code, hex_digit, hex_digits};
+ghost use Rattle.coll_lex.specs.Spelling.{is_escaped, spelled_char, spelled_name, spelled_symbol, spelled_code, hex_digit, hex_digits};
 
-use crate::{Sink, WriteStop};
+use crate::{MOST_NAME_CHARS, Sink, WriteStop};
+use arrayvec::ArrayVec;
+
+// Most bytes of a name, whose characters have four at most.
+const MOST_NAME_BYTES: usize = 4 * MOST_NAME_CHARS;
+
+// Most bytes of a symbol: its two brackets, and its name with an escape before each byte.
+const MOST_SYMBOL_BYTES: usize = 2 * MOST_NAME_BYTES + 2;
 
 /// Writes all bytes, in as many writes as the device takes them in.
 ///
@@ -30,7 +40,8 @@ pub fn write_bytes<W: Sink>(out: &mut W, bytes: &[u8]) -> Result<(), WriteStop>
     Ok(())
 }
 
-/// Writes a name between `<` and `>`, with `/` before each `>` and `/` in it.
+/// Writes a name between `<` and `>`, with `/` before each `>` and `/` in it, as one write where it is short enough for
+/// a name.
 ///
 /// Where it stops, the device has taken a front of this.
 pub fn write_symbol<W: Sink>(out: &mut W, name: &str) -> Result<(), WriteStop>
@@ -38,13 +49,14 @@ pub fn write_symbol<W: Sink>(out: &mut W, name: &str) -> Result<(), WriteStop>
         (encode_utf8_all (spelled_symbol (chars name.now) [])) result }
     ensures errors { CountsErr (W.failed out.old) (W.failed out.new) result }
 {
-    write_bytes(out, b"<")?;
-    write_name(out, name.as_bytes())?;
-    write_bytes(out, b">")
+    if name.len() > MOST_NAME_BYTES {
+        return write_long_symbol(out, name);
+    }
+    write_bytes(out, symbol_bytes(name.as_bytes()).as_slice())
 }
 
 /// Writes a character as `<U`, its code point in upper-case hexadecimal, and `>`. There are four
-/// digits up to FFFF, and eight above.
+/// digits up to FFFF, and eight above. It is one write.
 ///
 /// Where it stops, the device has taken a front of this.
 pub fn write_char<W: Sink>(out: &mut W, c: char) -> Result<(), WriteStop>
@@ -53,11 +65,17 @@ pub fn write_char<W: Sink>(out: &mut W, c: char) -> Result<(), WriteStop>
     ensures errors { CountsErr (W.failed out.old) (W.failed out.new) result }
 {
     let code = c as u32;
-    let digits = upper_hex(code);
-    let leading = if code < 0x1_0000 { 4 } else { 0 };
-    write_bytes(out, b"<U")?;
-    write_bytes(out, &digits[leading..])?;
-    write_bytes(out, b">")
+    let d = upper_hex(code);
+    if code < 0x1_0000 {
+        write_bytes(out, &[b'<', b'U', d[4], d[5], d[6], d[7], b'>'])
+    } else {
+        write_bytes(
+            out,
+            &[
+                b'<', b'U', d[0], d[1], d[2], d[3], d[4], d[5], d[6], d[7], b'>',
+            ],
+        )
+    }
 }
 
 /// The law of the spellings: under the escape character `/`, and under any comment character, what `write_symbol` and
@@ -70,6 +88,43 @@ pub fn spellings_are_read_back()
     ensures codes { CodesReadBack }
     ensures codes_in_strings { CodesReadBackQuoted }
 {}
+
+// The spelling of a symbol whose name has these bytes.
+fn symbol_bytes(name: &[u8]) -> ArrayVec<u8, MOST_SYMBOL_BYTES>
+    requires { length name.now ≤ MOST_NAME_BYTES }
+    ensures { result.items ≡ less_than ∷ (spelled_name name.now [] ++ greater_than ∷ []) }
+{
+    let mut bytes = ArrayVec::new();
+    bytes.push(b'<');
+    'name: for byte in name {
+        push_spelled(&mut bytes, *byte);
+    }
+    bytes.push(b'>');
+    bytes
+}
+
+// Puts a byte of a name at the end, with `/` before it if it is `>` or `/`.
+fn push_spelled(bytes: &mut ArrayVec<u8, MOST_SYMBOL_BYTES>, byte: u8)
+    requires { array_vec_len bytes.old + 2 ≤ MOST_SYMBOL_BYTES }
+    ensures spelled { bytes.new.items ≡ bytes.old.items ++ spelled_char byte [] }
+    ensures room { array_vec_len bytes.new ≤ array_vec_len bytes.old + 2 }
+{
+    if byte == b'>' || byte == b'/' {
+        bytes.push(b'/');
+    }
+    bytes.push(byte);
+}
+
+// Writes a symbol in parts, whatever its length.
+fn write_long_symbol<W: Sink>(out: &mut W, name: &str) -> Result<(), WriteStop>
+    ensures sent { Sends (W.taken out.old) (W.taken out.new)
+        (encode_utf8_all (spelled_symbol (chars name.now) [])) result }
+    ensures errors { CountsErr (W.failed out.old) (W.failed out.new) result }
+{
+    write_bytes(out, b"<")?;
+    write_name(out, name.as_bytes())?;
+    write_bytes(out, b">")
+}
 
 // Writes the bytes of a name, with `/` before each `>` and `/`.
 fn write_name<W: Sink>(out: &mut W, name: &[u8]) -> Result<(), WriteStop>
@@ -120,6 +175,3 @@ fn upper_hex_digit(digit: u32) -> u8
         b'A' - 10 + digit as u8
     }
 }
-
-#[cfg(test)]
-mod tests;

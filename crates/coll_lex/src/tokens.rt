@@ -1,19 +1,10 @@
-//! The tokens of a line, and the limits of lines.
+//! The tokens of a line.
 //!
 //! These are plain data, which the lexer makes and the grammars above take apart. POSIX.1-2017, 7.3.2, has the
 //! lines that they spell. A new kind of token is a new variant here, a case of the definition of tokens in
 //! `specs/`, and a move of the scan.
 
 use crate::{ListBuf, TextBuf};
-
-/// Most bytes of a physical line, and of the physical lines of a continued line together.
-pub const MOST_LINE_BYTES: usize = 65_536;
-
-/// Most physical lines of a text.
-pub const MOST_LINES: u32 = 4_194_304;
-
-/// Most characters of a name.
-pub const MOST_NAME_CHARS: usize = 64;
 
 /// The two characters that a text may choose for itself (POSIX.1-2017, 7.3).
 #[derive(Clone, Copy, Debug, PartialEq, Eq)]

@@ -1,14 +1,14 @@
 -- The lines before the category, one after another: what is known after some of them, and what one more adds.
-use Rattle.std.proofs.Common.{◌≡◌, ℕ, ◌+◌, Bool, true, false, List, [], ◌∷◌, ◌++◌, length, Option, Some, Ok, Err, sym, ap, subst, ◌∙◌, refl, arith, append_assoc, append-nil, length-append}
+use Rattle.std.proofs.Common.{◌≡◌, ℕ, ◌+◌, Bool, true, false, List, [], ◌∷◌, ◌++◌, length, Option, Ok, Err, sym, ap, ◌∙◌, refl, arith, append_assoc, append-nil, length-append}
 use Rattle.coll_lex.specs.PhysicalLines.{lines_of}
 use Rattle.coll_lex.specs.LogicalLines.{LexerState, number_of, outside, logical_lines}
 use Rattle.coll_lex.specs.declared.faults.LexFault.{LexFault}
 use Rattle.coll_lex.specs.declared.faults.LexFault.TheVariants as lex
 use Rattle.coll_table.specs.Reading.{Undecided, outcome_before, outcome_within, at_fault}
-use Rattle.coll_table.specs.TextLines.{TextState, ahead_of, EndsIn, GivesFirst, WasLast, CountsOne, FailsOutside, TakeFails, TakesLines, FindFails, Finds}
+use Rattle.coll_table.specs.TextLines.{TextState, IsUnread, with_feeds, EndInFeeds, GivesFirst, WasLast, CountsOne, FailsOutside, FeedFails, ReadsLines, FindFails, Finds}
 use Rattle.coll_table.specs.declared.load_faults.LoadCause.{LoadCause}
-use Rattle.coll_table.specs.declared.load_faults.LoadCause.TheVariants.{Lex, NoCategory, ReadFault}
-use Rattle.coll_table.proofs.TextSteps.{ends_behind}
+use Rattle.coll_table.specs.declared.load_faults.LoadCause.TheVariants.{Lex, NoCategory, ReadFault, OutOfMemory}
+use Rattle.coll_table.proofs.TextSteps.{ends_both}
 
 -- without a line nothing is decided
 outcome_before-nil : (ends : Bool) (s : LexerState) → outcome_before ends s [] ≡ Undecided NoCategory
@@ -35,24 +35,24 @@ pub one_behind : (whole : List (List ℕ)) (line : List ℕ) (more : List (List 
 one_behind whole line more = append_assoc whole (line ∷ []) more
 
 -- one line more was taken
-pub takes_more : (start now next : TextState) (left_now left_next : Option (List ℕ)) (text : List ℕ) (whole : List (List ℕ)) (rest : List ℕ) (later : List ℕ) → TakesLines start now left_now text whole rest → ahead_of next left_next ≡ Some later → EndsIn rest later → lines_of rest ≡ next.reader.line ∷ lines_of later → CountsOne now.lexer next.lexer → TakesLines start next left_next text (whole ++ next.reader.line ∷ []) later
+pub takes_more : (start now next : TextState) (left_now left_next : Option (List ℕ)) (text : List ℕ) (whole : List (List ℕ)) (rest : List ℕ) (later : List ℕ) → ReadsLines start now left_now text whole rest → IsUnread next left_next later → EndInFeeds now next rest (next.reader.line ∷ []) later → lines_of rest ≡ next.reader.line ∷ lines_of later → CountsOne now.lexer next.lexer → ReadsLines start next left_next text (whole ++ next.reader.line ∷ []) later
 takes_more start now next left_now left_next text whole rest later h known ends given one = (
   known,
   h.1 ∙ (ap (λ lines. whole ++ lines) given ∙ sym (one_behind whole next.reader.line (lines_of later))),
-  ends_behind text rest later h.2 ends,
+  ends_both start now next text whole rest (next.reader.line ∷ []) later h.2 ends,
   omega (arith, h.3, one.1, length-append whole (next.reader.line ∷ [])),
 )
 
 -- the lines taken so far decide nothing, and leave it to the later ones
 abbrev pub Finding : TextState → TextState → Option (List ℕ) → Option (List ℕ) → Type 0
 Finding start now left left_now =
-    (text : List ℕ) → ahead_of start left ≡ Some text →
-    (whole : List (List ℕ)) × (rest : List ℕ) × TakesLines start now left_now text whole rest
+    (text : List ℕ) → IsUnread start left text →
+    (whole : List (List ℕ)) × (rest : List ℕ) × ReadsLines start now left_now text whole rest
     × ((ends : Bool) (more : List (List ℕ)) → outcome_before ends start.lexer (whole ++ more) ≡ outcome_before ends now.lexer more)
 
 -- before the first line
 pub finding_starts : (start : TextState) (left : Option (List ℕ)) → Finding start start left left
-finding_starts start left = λ text e. ([], text, (e, refl, ([], refl), omega arith), λ ends more. refl)
+finding_starts start left = λ text e. ([], text, (e, refl, λ n. (n, refl), omega arith), λ ends more. refl)
 
 module _ (start now : TextState) (left left_now : Option (List ℕ)) (h : Finding start now left left_now) where
   -- a line more at which the category doesn't begin
@@ -86,7 +86,7 @@ module _ (start now : TextState) (left left_now : Option (List ℕ)) (h : Findin
         counted ∙ (at.2.3 ∙ ap (λ lines. start.lexer.count + length lines) (sym (all ∙ append-nil at.0))),
       )
 
-  at_fault_here : (left_next : Option (List ℕ)) (line : ℕ) (fault : LexFault) → (line ≡ number_of now.lexer) → ((text : List ℕ) → ahead_of now left_now ≡ Some text → (first : List ℕ) × (later : List (List ℕ)) × (lines_of text ≡ first ∷ later) × FailsOutside now.lexer first fault) → (text : List ℕ) → ahead_of start left ≡ Some text → outcome_before true start.lexer (lines_of text) ≡ at_fault line (Lex fault)
+  at_fault_here : (left_next : Option (List ℕ)) (line : ℕ) (fault : LexFault) → (line ≡ number_of now.lexer) → ((text : List ℕ) → IsUnread now left_now text → (first : List ℕ) × (later : List (List ℕ)) × (lines_of text ≡ first ∷ later) × FailsOutside now.lexer first fault) → (text : List ℕ) → IsUnread start left text → outcome_before true start.lexer (lines_of text) ≡ at_fault line (Lex fault)
   at_fault_here left_next line fault number fails text e =
       let at = h text e in
       let first = fails at.1 at.2.0 in
@@ -94,16 +94,18 @@ module _ (start now : TextState) (left left_now : Option (List ℕ)) (h : Findin
       ∙ (at.3 true (first.0 ∷ first.1) ∙ (outcome_before-fault true now.lexer first.0 first.1 fault first.3 ∙ ap (λ n. at_fault n (Lex fault)) (sym number)))
 
   -- a line at fault
-  pub find_fails : (left_next : Option (List ℕ)) (line : ℕ) (cause : LoadCause) → TakeFails FailsOutside now left_now left_next line cause → FindFails start left left_next line cause
-  find_fails left_next line (Lex lex.OutOfMemory) f = tt
+  pub find_fails : (left_next : Option (List ℕ)) (line : ℕ) (cause : LoadCause) → FeedFails FailsOutside now left_now left_next line cause → FindFails start left left_next line cause
+  find_fails left_next line OutOfMemory f = tt
+  find_fails left_next line (Lex lex.OutOfMemory) f = absurd f
   find_fails left_next line (Lex fault) f = at_fault_here left_next line fault f.0 f.1
   find_fails left_next line ReadFault f = (
     f.0,
     λ text e.
         let at = h text e in
-        let cut = f.1 at.1 at.2.0 in (
+        let cut = f.1 at.1 at.2.0 in
+        let fed = at.2.2 cut.5 in (
           at.0,
-          (cut.0, cut.1, cut.2, subst (EndsIn text) cut.3 at.2.2, at.2.1 ∙ ap (λ rest. at.0 ++ lines_of rest) cut.3, cut.4),
+          (cut.0, cut.1, cut.2, fed.1 ∙ ap (λ rest. with_feeds at.0 ++ rest) cut.3, at.2.1 ∙ ap (λ rest. at.0 ++ lines_of rest) cut.3, cut.4, fed.0),
           ap (outcome_before false start.lexer) (sym (append-nil at.0)) ∙ (at.3 false [] ∙ outcome_before-nil false now.lexer),
         ),
   )

@@ -6,7 +6,7 @@ use Rattle.coll_lex.specs.PhysicalLines.{without_return}
 use Rattle.coll_lex.specs.Directives.{directive}
 use Rattle.coll_lex.specs.LogicalLines.{LexerState, dropped, line_fault, unless_fault, outside_as, outside}
 use Rattle.coll_lex.specs.declared.tokens.Chars.{Chars}
-use Rattle.coll_lex.specs.declared.tokens.TheConstants.{MOST_LINES, MOST_LINE_BYTES}
+use Rattle.coll_lex.specs.Limits.{most_lines, most_line_bytes}
 use Rattle.coll_lex.specs.declared.faults.LexFault.{LexFault}
 use Rattle.coll_lex.specs.declared.faults.LexFault.TheVariants.{LineTooLong, TooManyLines}
 
@@ -15,7 +15,7 @@ Answer = Result (Bool × LexerState) LexFault
 
 -- each line that isn't at fault is counted
 Counted : LexerState → Answer → Type 0
-Counted s (Ok answer) = answer.1.count ≡ min (s.count + 1) MOST_LINES
+Counted s (Ok answer) = answer.1.count ≡ min (s.count + 1) most_lines
 Counted s (Err fault) = Unit {0}
 
 by_directive : (s : LexerState) (text : List ℕ) (asked : Option (Result Chars LexFault)) → Counted s (outside_as (dropped s) text asked)
@@ -36,14 +36,14 @@ counted s line =
     unless_counted s (line_fault s.count (length line)) (outside_as (dropped s) text (directive s.special text)) (by_directive s text (directive s.special text))
 
 -- a line before the category that isn't at fault is counted
-pub outside_count : (s after : LexerState) (line : List ℕ) (begins : Bool) → outside s line ≡ Ok (begins, after) → after.count ≡ min (s.count + 1) MOST_LINES
+pub outside_count : (s after : LexerState) (line : List ℕ) (begins : Bool) → outside s line ≡ Ok (begins, after) → after.count ≡ min (s.count + 1) most_lines
 unfolding Counted
 outside_count s after line begins e = subst (Counted s) e (counted s line)
 
 -- a line before the category that is longer than a line may be is at fault
-pub outside_too_long : (s : LexerState) (line : List ℕ) → MOST_LINE_BYTES < length line → outside s line ≡ Err LineTooLong
+pub outside_too_long : (s : LexerState) (line : List ℕ) → most_line_bytes < length line → outside s line ≡ Err LineTooLong
 unfolding outside
-outside_too_long s line long = rw (lt-ltb MOST_LINE_BYTES (length line) long) refl
+outside_too_long s line long = rw (lt-ltb most_line_bytes (length line) long) refl
 
 no_answer : (long last : Bool) (other : Answer) (o : Bool × LexerState) → last ≡ true → unless_fault (if long then Some LineTooLong else (if last then Some TooManyLines else None)) other ≡ Ok o → ⊥
 no_answer true last other o is e = cc
@@ -51,8 +51,8 @@ no_answer false true other o is e = cc
 no_answer false false other o is e = cc
 
 -- past the most lines each line before the category is at fault
-pub outside_room : (s after : LexerState) (line : List ℕ) (begins : Bool) → outside s line ≡ Ok (begins, after) → s.count ≡ MOST_LINES → ⊥
+pub outside_room : (s after : LexerState) (line : List ℕ) (begins : Bool) → outside s line ≡ Ok (begins, after) → s.count ≡ most_lines → ⊥
 unfolding outside
 outside_room s after line begins e full =
     let text = without_return line in
-    no_answer (nat_lt MOST_LINE_BYTES (length line)) (s.count == MOST_LINES) (outside_as (dropped s) text (directive s.special text)) (begins, after) (eq-eqb s.count MOST_LINES full) e
+    no_answer (nat_lt most_line_bytes (length line)) (s.count == most_lines) (outside_as (dropped s) text (directive s.special text)) (begins, after) (eq-eqb s.count most_lines full) e

@@ -8,7 +8,7 @@ use Rattle.std.proofs.lemmas.List.{map-append, take_more}
 use Rattle.coll_syntax.proofs.Spellings.{same_spelling}
 use Rattle.coll_table.proofs.Sameness.{same_name_symmetric, distinct_push, distinct_at}
 use Rattle.coll_syntax.specs.Identifier.{same_name, has_name}
-use Rattle.coll_table.specs.Sound.{text_of, texts_of, AreTexts, AreNames, with_name}
+use Rattle.coll_table.specs.LookUps.{text_of, texts_of, AreTexts, AreNames, with_name}
 
 module _ {Y : Type 0} where
   -- a text is found by its bytes where its characters are found

@@ -11,11 +11,12 @@ use Rattle.coll_syntax.specs.Identifier.{same_id, has_id}
 use Rattle.coll_table.specs.Table.{Collation, Section, ids_of, entries_of, joined_entries, is_known, is_known_among, is_placed}
 use Rattle.coll_table.specs.WellFormed.{AreDistinct, IsWellFormed}
 use Rattle.coll_table.specs.Placement.{entries_without}
-use Rattle.coll_table.specs.Delta.{lines_refusal, moved, rewritten, within_limit}
-use Rattle.coll_table.specs.Sound.{with_sections, AddsId, IsFullAt}
+use Rattle.coll_table.specs.Delta.{lines_refusal, moved, all_moved, within_limit}
+use Rattle.coll_table.specs.LookUps.{AddsId}
+use Rattle.coll_table.specs.Sound.{with_sections, IsFullAt}
 use Rattle.coll_syntax.specs.declared.identifiers.Id.{Id}
 use Rattle.coll_table.specs.declared.plain.statements.PlainLine.{PlainLine}
-use Rattle.coll_table.specs.declared.limits.TheConstants.{MOST_ENTRIES}
+use Rattle.coll_table.specs.Limits.{most_entries}
 use Rattle.coll_table.specs.declared.refusals.Refusal.{Refusal}
 use Rattle.coll_table.specs.declared.refusals.Refusal.TheVariants.{NotDeclared, Full, TwiceInBlock}
 
@@ -71,7 +72,7 @@ module _ (table : Collation) (target : Id) (lines : List PlainLine) where
         }
 
 -- rewriting takes no entries away
-pub grows : (table : Collation) (sections : List Section) (after : Id) (before : List Id) (lines : List PlainLine) → AreDistinct same_id (ids_of (joined_entries sections)) → has_id (ids_of (joined_entries sections)) after ≡ true → has_id before after ≡ true → lines_refusal table before lines ≡ None → length (joined_entries sections) ≤ length (joined_entries (rewritten sections after lines))
+pub grows : (table : Collation) (sections : List Section) (after : Id) (before : List Id) (lines : List PlainLine) → AreDistinct same_id (ids_of (joined_entries sections)) → has_id (ids_of (joined_entries sections)) after ≡ true → has_id before after ≡ true → lines_refusal table before lines ≡ None → length (joined_entries sections) ≤ length (joined_entries (all_moved sections after lines))
 grows table sections after before [] d p q e = omega arith
 grows table sections after before (line ∷ lines) d p q e =
     let h = passes table before line lines e in
@@ -95,7 +96,7 @@ pub record Rewriting (start : Collation) (target : Id) (lines : List PlainLine) 
   pub placed : IsTrue (is_placed now after)
   pub last : has_id (before_line target lines i) after ≡ true
   pub judged : lines_refusal start (before_line target lines i) (drop i lines) ≡ None
-  pub goes_on : rewritten start.sections target lines ≡ rewritten now.sections after (drop i lines)
+  pub goes_on : all_moved start.sections target lines ≡ all_moved now.sections after (drop i lines)
 
 module _ (start : Collation) (target : Id) (lines : List PlainLine) where
   -- before the first line
@@ -131,11 +132,11 @@ module _ (start : Collation) (target : Id) (lines : List PlainLine) where
           placed = here;
           last = ap (λ ids. has_id ids line.id) more ∙ (has_push (before_line target lines i) line.id line.id ∙ ap (λ b. b || has_id (before_line target lines i) line.id) (same_id_itself line.id));
           judged = ap (λ ids. lines_refusal start ids (drop (i + 1) lines)) more ∙ passes_here.later;
-          goes_on = h.goes_on ∙ (ap (rewritten now.sections after) (rest_more lines i line below at) ∙ ap (λ (t : Collation). rewritten t.sections line.id (drop (i + 1) lines)) (sym e));
+          goes_on = h.goes_on ∙ (ap (all_moved now.sections after) (rest_more lines i line below at) ∙ ap (λ (t : Collation). all_moved t.sections line.id (drop (i + 1) lines)) (sym e));
         }
 
     -- no room for the line
-    pub rewriting_full : (refusal : Refusal) → IsFullAt now line.id refusal → within_limit (with_sections start (rewritten start.sections target lines)) ≡ Err refusal
+    pub rewriting_full : (refusal : Refusal) → IsFullAt now line.id refusal → within_limit (with_sections start (all_moved start.sections target lines)) ≡ Err refusal
     rewriting_full refusal full =
         let entries = entries_of now in
         let d = h.well_formed.distinct_entries in
@@ -145,14 +146,14 @@ module _ (start : Collation) (target : Id) (lines : List PlainLine) where
         let before = before_line target lines i in
         let among : has_id (before ++ line.id ∷ []) line.id ≡ true = has_push before line.id line.id ∙ ap (λ b. b || has_id before line.id) (same_id_itself line.id) in
         let later = grows start (moved now.sections after line) line.id (before ++ line.id ∷ []) (drop (i + 1) lines) distinct here among passes_here.later in
-        let all : rewritten start.sections target lines ≡ rewritten (moved now.sections after line) line.id (drop (i + 1) lines) = h.goes_on ∙ ap (rewritten now.sections after) (rest_more lines i line below at) in
-        let past : MOST_ENTRIES < length (joined_entries (rewritten start.sections target lines)) =
+        let all : all_moved start.sections target lines ≡ all_moved (moved now.sections after line) line.id (drop (i + 1) lines) = h.goes_on ∙ ap (all_moved now.sections after) (rest_more lines i line below at) in
+        let past : most_entries < length (joined_entries (all_moved start.sections target lines)) =
         omega (arith, ap (λ ss. length (joined_entries ss)) all, later, ap length joined, length_placed entries after line.id h.placed full.1, full.2) in
-        ap (λ b. cond b (Ok (with_sections start (rewritten start.sections target lines))) (Err Full)) (lt-leb _ _ past) ∙ ap Err (sym full.0)
+        ap (λ b. cond b (Ok (with_sections start (all_moved start.sections target lines))) (Err Full)) (lt-leb _ _ past) ∙ ap Err (sym full.0)
 
   -- after the last line
-  pub rewriting_all : (i : ℕ) (now : Collation) (after : Id) → Rewriting start target lines i now after → drop i lines ≡ [] → within_limit (with_sections start (rewritten start.sections target lines)) ≡ Ok now
+  pub rewriting_all : (i : ℕ) (now : Collation) (after : Id) → Rewriting start target lines i now after → drop i lines ≡ [] → within_limit (with_sections start (all_moved start.sections target lines)) ≡ Ok now
   rewriting_all i now after h e =
-      let all : rewritten start.sections target lines ≡ now.sections = h.goes_on ∙ ap (rewritten now.sections after) e in
-      let same : with_sections start (rewritten start.sections target lines) ≡ now = ap (with_sections start) all ∙ ap (λ names. record now { declared = names }) (sym h.declared) in
+      let all : all_moved start.sections target lines ≡ now.sections = h.goes_on ∙ ap (all_moved now.sections after) e in
+      let same : with_sections start (all_moved start.sections target lines) ≡ now = ap (with_sections start) all ∙ ap (λ names. record now { declared = names }) (sym h.declared) in
       ap within_limit same ∙ ap (λ b. cond b (Ok now) (Err Full)) (le-leb _ _ h.well_formed.few_entries)

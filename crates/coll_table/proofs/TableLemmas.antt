@@ -2,18 +2,21 @@
 use Rattle.std.proofs.Common.{◌≡◌, ℕ, zero, suc, ◌<◌, ◌≤◌, true, false, ◌||◌, IsTrue, List, [], ◌∷◌, ◌++◌, length, get_or, take, sym, ap, subst, ◌∙◌, refl, arith, length-append}
 use Rattle.std.proofs.lemmas.Bool.{false≢true}
 use Rattle.std.proofs.lemmas.List.{map-append}
+use Rattle.std.proofs.lemmas.List.Elements.{All-nil, All-cons, All-append}
 use Rattle.std.proofs.lemmas.List.Folds.{list_any-append}
 use Rattle.coll_table.proofs.Sameness.{same_name_symmetric, same_id_decides, same_id_symmetric, same_id_itself, distinct_push, distinct_at}
 use Rattle.coll_table.proofs.EntryLemmas.{by_bool, turned, taken_out, others_without, distinct_without, known_without, none_without, length_without, distinct_after, known_after, length_after, has_after}
+use Rattle.coll_lex.specs.Names.{IsName}
 use Rattle.coll_syntax.specs.Identifier.{same_name, same_id, has_name, has_id}
 use Rattle.coll_table.specs.Table.{Collation, ids_of, is_known, is_known_among, is_placed}
 use Rattle.coll_table.specs.WellFormed.{AreDistinct, AreKnown, IsWellFormed}
 use Rattle.coll_table.specs.Placement.{entries_after, entries_without}
-use Rattle.coll_table.specs.Sound.{collation_of, AddsId, IsSoundTable}
+use Rattle.coll_table.specs.LookUps.{AddsId}
+use Rattle.coll_table.specs.Sound.{collation_of, IsSoundTable}
 use Rattle.coll_syntax.specs.declared.identifiers.Id.{Id}
 use Rattle.coll_syntax.specs.declared.identifiers.Id.TheVariants.{Char, Named, Undefined}
 use Rattle.coll_table.specs.declared.entries.Entry.{Entry}
-use Rattle.coll_table.specs.declared.limits.TheConstants.{MOST_ENTRIES, MOST_DECLARATIONS}
+use Rattle.coll_table.specs.Limits.{most_entries, most_declarations}
 
 -- an entry of an identifier
 abbrev pub entry_of : Id → Entry
@@ -48,9 +51,10 @@ has_push [] id other = refl
 has_push (first ∷ ids) id other = ap (λ b. same_id other first || b) (has_push ids id other) ∙ turned (same_id other first) (same_id other id) _
 
 -- a sound table with an entry placed last
-pub sound_last : (declared : List (List ℕ)) (entries : List Entry) (old new : List Id) (id : Id) → IsSoundTable declared entries old → IsTrue (is_known_among declared id) → has_id (ids_of entries) id ≡ false → length entries < MOST_ENTRIES → AddsId old new id → IsSoundTable declared (entries ++ entry_of id ∷ []) new
+pub sound_last : (declared : List (List ℕ)) (entries : List Entry) (old new : List Id) (id : Id) → IsSoundTable declared entries old → IsTrue (is_known_among declared id) → has_id (ids_of entries) id ≡ false → length entries < most_entries → AddsId old new id → IsSoundTable declared (entries ++ entry_of id ∷ []) new
 sound_last declared entries old new id s known absent room adds = record {
   well_formed = record {
+    names = s.well_formed.names;
     distinct_names = s.well_formed.distinct_names;
     distinct_entries = subst (AreDistinct same_id) (sym (ids_push entries id)) (distinct_push same_id same_id_symmetric (ids_of entries) id s.well_formed.distinct_entries absent);
     known = subst (AreKnown declared) (sym (ids_push entries id)) (known_push declared (ids_of entries) id s.well_formed.known known);
@@ -88,8 +92,9 @@ apart_when_new ids after id p q =
     (λ _. λ _. refl) refl
 
 -- the well-formed part of what follows
-moved_well_formed : (declared : List (List ℕ)) (entries : List Entry) (after id : Id) → IsWellFormed (collation_of declared entries) → IsTrue (is_known_among declared id) → length (moved_entries entries after id) ≤ MOST_ENTRIES → IsWellFormed (collation_of declared (moved_entries entries after id))
+moved_well_formed : (declared : List (List ℕ)) (entries : List Entry) (after id : Id) → IsWellFormed (collation_of declared entries) → IsTrue (is_known_among declared id) → length (moved_entries entries after id) ≤ most_entries → IsWellFormed (collation_of declared (moved_entries entries after id))
 moved_well_formed declared entries after id w known few = record {
+  names = w.names;
   distinct_names = w.distinct_names;
   distinct_entries = distinct_after (entries_without entries id) after (entry_of id) (distinct_without entries id w.distinct_entries) (taken_out entries id);
   known = known_after declared (entries_without entries id) after (entry_of id) (known_without declared entries id w.known) known;
@@ -120,7 +125,7 @@ sound_moved declared entries placed after id s apart p q = record {
 }
 
 -- a sound table with a new entry after another
-pub sound_placed : (declared : List (List ℕ)) (entries : List Entry) (old new : List Id) (after id : Id) → IsSoundTable declared entries old → IsTrue (is_known_among declared id) → has_id (ids_of entries) after ≡ true → has_id (ids_of entries) id ≡ false → length entries < MOST_ENTRIES → AddsId old new id → IsSoundTable declared (moved_entries entries after id) new
+pub sound_placed : (declared : List (List ℕ)) (entries : List Entry) (old new : List Id) (after id : Id) → IsSoundTable declared entries old → IsTrue (is_known_among declared id) → has_id (ids_of entries) after ≡ true → has_id (ids_of entries) id ≡ false → length entries < most_entries → AddsId old new id → IsSoundTable declared (moved_entries entries after id) new
 sound_placed declared entries old new after id s known p q room adds =
     let apart = apart_when_new (ids_of entries) after id p q in
     record {
@@ -152,9 +157,10 @@ known_wider declared name (id ∷ ids) k = (wider id k.0, known_wider declared n
   wider Undefined h = refl
 
 -- a sound table with one more name
-pub sound_declared : (declared : List (List ℕ)) (entries : List Entry) (placed : List Id) (name : List ℕ) → IsSoundTable declared entries placed → has_name declared name ≡ false → length declared < MOST_DECLARATIONS → IsSoundTable (declared ++ name ∷ []) entries placed
-sound_declared declared entries placed name s new room = record {
+pub sound_declared : (declared : List (List ℕ)) (entries : List Entry) (placed : List Id) (name : List ℕ) → IsSoundTable declared entries placed → IsName name → has_name declared name ≡ false → length declared < most_declarations → IsSoundTable (declared ++ name ∷ []) entries placed
+sound_declared declared entries placed name s is new room = record {
   well_formed = record {
+    names = All-append IsName declared (name ∷ []) s.well_formed.names (All-cons IsName name [] is (All-nil IsName));
     distinct_names = distinct_push same_name same_name_symmetric declared name s.well_formed.distinct_names new;
     distinct_entries = s.well_formed.distinct_entries;
     known = known_wider declared name (ids_of entries) s.well_formed.known;

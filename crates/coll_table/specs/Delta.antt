@@ -7,7 +7,7 @@ use Rattle.coll_syntax.specs.declared.identifiers.Id.{Id}
 use Rattle.coll_table.specs.declared.plain.statements.PlainLine.{PlainLine}
 use Rattle.coll_table.specs.declared.plain.statements.PlainStatement.{PlainStatement}
 use Rattle.coll_table.specs.declared.plain.statements.PlainStatement.TheVariants.{Block, Reweight}
-use Rattle.coll_table.specs.declared.limits.TheConstants.{MOST_ENTRIES}
+use Rattle.coll_table.specs.Limits.{most_entries}
 use Rattle.coll_table.specs.declared.refusals.Refusal.{Refusal}
 use Rattle.coll_table.specs.declared.refusals.Refusal.TheVariants.{NotDeclared, Full, TargetNotPlaced, TwiceInBlock, NotPlaced, NoWeights}
 
@@ -33,14 +33,14 @@ lines_refusal table before (line ∷ lines) =
 abbrev pub moved : List Section → Id → PlainLine → List Section
 moved sections target line = placed_after (without sections line.id) target (record { id = line.id })
 
--- the sections rewritten by the lines of a block: the first after the target, each further one after the line before
-abbrev pub rewritten : List Section → Id → List PlainLine → List Section
-rewritten sections target [] = sections
-rewritten sections target (line ∷ lines) = rewritten (moved sections target line) line.id lines
+-- the sections with the entry of each line of a block moved, or newly placed: the first after the target, each further one after the line before
+abbrev pub all_moved : List Section → Id → List PlainLine → List Section
+all_moved sections target [] = sections
+all_moved sections target (line ∷ lines) = all_moved (moved sections target line) line.id lines
 
 -- a table that results, unless it has too many entries
 abbrev pub within_limit : Collation → Result Collation Refusal
-within_limit table = if nat_le (length (entries_of table)) MOST_ENTRIES then Ok table else Err Full
+within_limit table = if nat_le (length (entries_of table)) most_entries then Ok table else Err Full
 
 -- a refusal that stands, or the table that results
 abbrev pub unless_refused : Option Refusal → Collation → Result Collation Refusal
@@ -51,7 +51,7 @@ unless_refused None table = within_limit table
 abbrev pub block_delta : Collation → Id → List PlainLine → Result Collation Refusal
 block_delta table target lines =
     if not (is_placed table target) then Err TargetNotPlaced
-    else unless_refused (lines_refusal table (target ∷ []) lines) (record table { sections = rewritten table.sections target lines })
+    else unless_refused (lines_refusal table (target ∷ []) lines) (record table { sections = all_moved table.sections target lines })
 
 -- why an order line outside a block is refused: it has no weights to give
 abbrev pub reweight_refusal : Collation → Id → Refusal

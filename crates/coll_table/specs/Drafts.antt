@@ -1,7 +1,7 @@
 -- What is kept of the lines of a category while it is read, and what one more line does to it.
 use Rattle.std.specs.Prelude.{◌≡◌, Bool, List, [], ◌∷◌, ◌++◌, Some, None}
 use Rattle.coll_table.specs.Table.{Collation}
-use Rattle.coll_table.specs.Reading.{is_open, has_start, table_of, line_cause}
+use Rattle.coll_table.specs.Reading.{is_open, has_start, table_from, line_cause}
 use Rattle.coll_table.specs.declared.plain.table_lines.PlainTableLine.{PlainTableLine}
 use Rattle.coll_table.specs.declared.load_faults.LoadCause.{LoadCause}
 use Rattle.coll_table.specs.declared.load_faults.LoadCause.TheVariants.{NoRules, DeclaredTwice, NotDeclared, PlacedTwice, OutsideOrder, Full, OutOfMemory}
@@ -14,7 +14,7 @@ pub record DraftState : Type 0 where
 
 -- what is kept of these lines
 abbrev pub draft_of : List PlainTableLine → DraftState
-draft_of lines = record { order_open = is_open lines; started = has_start lines; table = table_of lines }
+draft_of lines = record { order_open = is_open lines; started = has_start lines; table = table_from lines }
 
 -- whatever the lines before were, this one is accepted after them, and what is kept is that of all of them
 abbrev pub Accepts : DraftState → PlainTableLine → DraftState → Type 0
@@ -22,8 +22,8 @@ Accepts old line new =
     (before : List PlainTableLine) → old ≡ draft_of before → (line_cause before line ≡ None) × (new ≡ draft_of (before ++ line ∷ []))
 
 -- whatever the lines before were, this one is refused after them
-abbrev pub RefusesLine : DraftState → PlainTableLine → LoadCause → Type 0
-RefusesLine old line cause = (before : List PlainTableLine) → old ≡ draft_of before → line_cause before line ≡ Some cause
+abbrev pub RefusesNext : DraftState → PlainTableLine → LoadCause → Type 0
+RefusesNext old line cause = (before : List PlainTableLine) → old ≡ draft_of before → line_cause before line ≡ Some cause
 
 -- a cause that a line of a category may have, with want of memory
 abbrev pub IsLineCause : LoadCause → Type 0

@@ -1,11 +1,13 @@
 pub mod CategoryReading
 pub mod Delta
 pub mod Drafts
+pub mod Limits
 pub mod LoadFaults
 pub mod Loads
+pub mod LookUps
 pub mod Placement
 pub mod PlainDeltaLines
-pub mod PlainLines
+pub mod PlainOrderLines
 pub mod PlainTableLines
 pub mod Reading
 pub mod Record

@@ -1,9 +1,24 @@
--- The numbers and the names of the causes of a refused load, as messages show them.
+-- Why a load was refused: the cause that a fault below is, and the numbers and the names that messages show.
 use Rattle.std.specs.Prelude.{ℕ, List, codes}
 use Rattle.coll_lex.specs.Faults.{lex_fault_number, lex_fault_name}
+use Rattle.coll_lex.specs.declared.faults.LexFault.{LexFault}
+use Rattle.coll_lex.specs.declared.faults.LexFault.TheVariants as lex
 use Rattle.coll_syntax.specs.SyntaxFaults.{syntax_fault_number, syntax_fault_name}
+use Rattle.coll_syntax.specs.declared.faults.SyntaxFault.{SyntaxFault}
+use Rattle.coll_syntax.specs.declared.faults.SyntaxFault.TheVariants as syntax
+use Rattle.coll_table.specs.declared.load_faults.LoadFault.{LoadFault}
 use Rattle.coll_table.specs.declared.load_faults.LoadCause.{LoadCause}
 use Rattle.coll_table.specs.declared.load_faults.LoadCause.TheVariants.{Lex, Syntax, NoCategory, NoRules, DeclaredTwice, NotDeclared, PlacedTwice, OutsideOrder, Full, NoEnd, ReadFault, OutOfMemory}
+
+-- the cause that a fault of the lexer is: want of memory is a cause of its own, whoever met it
+abbrev pub lex_cause : LexFault → LoadCause
+lex_cause lex.OutOfMemory = OutOfMemory
+lex_cause fault = Lex fault
+
+-- the cause that a fault of the grammar is
+abbrev pub syntax_cause : SyntaxFault → LoadCause
+syntax_cause syntax.OutOfMemory = OutOfMemory
+syntax_cause fault = Syntax fault
 
 -- the number of a cause
 abbrev pub load_cause_number : LoadCause → ℕ
@@ -34,3 +49,11 @@ load_cause_name Full = codes "Full"
 load_cause_name NoEnd = codes "NoEnd"
 load_cause_name ReadFault = codes "ReadFault"
 load_cause_name OutOfMemory = codes "OutOfMemory"
+
+-- the number of a fault is that of its cause
+abbrev pub load_fault_number : LoadFault → ℕ
+load_fault_number fault = load_cause_number fault.cause
+
+-- the name of a fault is that of its cause
+abbrev pub load_fault_name : LoadFault → List ℕ
+load_fault_name fault = load_cause_name fault.cause

@@ -3,8 +3,8 @@ use Rattle.std.specs.Prelude.{◌≡◌, ℕ, false, List, ◌++◌, Option, Som
 use Rattle.coll_lex.specs.Devices.{raised}
 use Rattle.coll_lex.specs.PhysicalLines.{lines_of, IsInLine}
 use Rattle.coll_lex.specs.declared.faults.LexFault.TheVariants as lex
-use Rattle.coll_table.specs.Table.{Collation}
-use Rattle.coll_table.specs.TextLines.{EndsIn}
+use Rattle.coll_table.specs.Table.{TableValue, collation}
+use Rattle.coll_table.specs.TextLines.{with_feeds}
 use Rattle.coll_table.specs.Reading.{Outcome, Decided, Undecided, outcome_of, reads}
 use Rattle.coll_syntax.specs.declared.faults.SyntaxFault.TheVariants as syntax
 use Rattle.coll_table.specs.declared.load_faults.LoadFault.{LoadFault}
@@ -16,25 +16,25 @@ abbrev pub IsUndecided : Outcome → Type 0
 IsUndecided (Decided answer) = ⊥
 IsUndecided (Undecided cause) = Unit {0}
 
--- a read failed behind a part of a line: the lines read whole before it decide nothing. That part and the rest are the
--- last bytes of the text, so that a line feed that was read belongs to the lines read whole
+-- a read failed behind a part of a line: the text begins with the lines read before it, each with its line feed, and these
+-- decide nothing; behind them stand that part and the rest
 abbrev pub StopsWithin : List ℕ → Option (List ℕ) → Type 0
 StopsWithin text left =
-    (whole : List (List ℕ)) × (part : List ℕ) × (rest : List ℕ) × (left ≡ Some rest) × EndsIn text (part ++ rest)
+    (whole : List (List ℕ)) × (part : List ℕ) × (rest : List ℕ) × (left ≡ Some rest) × (text ≡ with_feeds whole ++ (part ++ rest))
     × (lines_of text ≡ whole ++ lines_of (part ++ rest)) × IsInLine part × IsUndecided (outcome_of false whole)
 
--- what a fault says of the text, by its cause; a want of memory says nothing
-abbrev pub Refuses : LoadCause → ℕ → List ℕ → Option (List ℕ) → Type 0
-Refuses OutOfMemory line text left = Unit {0}
-Refuses (Lex lex.OutOfMemory) line text left = Unit {0}
-Refuses (Syntax syntax.OutOfMemory) line text left = Unit {0}
-Refuses ReadFault line text left = (line ≡ 0) × StopsWithin text left
-Refuses cause line text left = reads text ≡ Err (record { line = line; cause = cause })
+-- what a fault says of the text, by its cause; a want of memory says nothing, and has one spelling
+abbrev pub FaultSays : LoadCause → ℕ → List ℕ → Option (List ℕ) → Type 0
+FaultSays OutOfMemory line text left = Unit {0}
+FaultSays (Lex lex.OutOfMemory) line text left = ⊥
+FaultSays (Syntax syntax.OutOfMemory) line text left = ⊥
+FaultSays ReadFault line text left = (line ≡ 0) × StopsWithin text left
+FaultSays cause line text left = reads text ≡ Err (record { line = line; cause = cause })
 
 -- what an answer says of the text that the device had
-abbrev pub Loads : Option (List ℕ) → Option (List ℕ) → Result Collation LoadFault → Type 0
-Loads old new (Ok table) = (text : List ℕ) → old ≡ Some text → reads text ≡ Ok table
-Loads old new (Err fault) = (text : List ℕ) → old ≡ Some text → Refuses fault.cause fault.line text new
+abbrev pub Loads : Option (List ℕ) → Option (List ℕ) → Result TableValue LoadFault → Type 0
+Loads old new (Ok table) = (text : List ℕ) → old ≡ Some text → reads text ≡ Ok (collation table)
+Loads old new (Err fault) = (text : List ℕ) → old ≡ Some text → FaultSays fault.cause fault.line text new
 
 -- the count of errors, one higher where a read error is the cause
 abbrev pub counted_by : LoadCause → ℕ → ℕ

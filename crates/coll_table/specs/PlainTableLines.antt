@@ -1,15 +1,21 @@
 -- What a line of a table says, read from its tokens (POSIX.1-2017, 7.3.2).
 use Rattle.std.specs.Prelude.{if◌then◌else◌, List, [], ◌∷◌, Result, Ok, Err, codes}
+use Rattle.coll_lex.specs.Names.{IsName}
 use Rattle.coll_lex.specs.declared.tokens.Token.{Token}
 use Rattle.coll_lex.specs.declared.tokens.Token.TheVariants as token
 use Rattle.coll_syntax.specs.Identifier.{is_word}
 use Rattle.coll_syntax.specs.Operands.{ended}
-use Rattle.coll_table.specs.PlainLines.{plain_id, plain_line}
+use Rattle.coll_table.specs.PlainOrderLines.{plain_id, plain_line}
 use Rattle.coll_table.specs.declared.plain.statements.PlainLine.{PlainLine}
 use Rattle.coll_table.specs.declared.plain.table_lines.PlainTableLine.{PlainTableLine}
 use Rattle.coll_table.specs.declared.plain.table_lines.PlainTableLine.TheVariants.{Symbol, OrderStart, OrderEnd, Order, EndCategory}
 use Rattle.coll_syntax.specs.declared.faults.SyntaxFault.{SyntaxFault}
 use Rattle.coll_syntax.specs.declared.faults.SyntaxFault.TheVariants.{UnknownStatement, MissingOperand, BadRule, BadOperand}
+
+-- what a line declares is a name
+abbrev pub DeclaresName : PlainTableLine → Type 0
+DeclaresName (Symbol name) = IsName name
+DeclaresName _ = Unit {0}
 
 -- the one operand of `collating-symbol`, a symbol
 abbrev pub declaration : List Token → Result PlainTableLine SyntaxFault

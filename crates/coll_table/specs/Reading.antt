@@ -1,5 +1,5 @@
 -- Reading a table text: the table, or the first line at fault (POSIX.1-2017, 7.3.2).
-use Rattle.std.specs.Prelude.{ℕ, Bool, true, false, if◌then◌else◌, not, nat_le, List, [], ◌∷◌, ◌++◌, length, fold, Option, Some, None, Result, Ok, Err}
+use Rattle.std.specs.Prelude.{◌≡◌, ℕ, Bool, true, false, if◌then◌else◌, not, nat_le, List, [], ◌∷◌, ◌++◌, length, fold, Option, Some, None, Result, Ok, Err}
 use Rattle.std.specs.List.{flat_map, list_any}
 use Rattle.coll_lex.specs.PhysicalLines.{lines_of}
 use Rattle.coll_lex.specs.LogicalLines.{LexerState, LogicalLine, first_state, number_of, outside, logical_lines}
@@ -9,11 +9,12 @@ use Rattle.coll_syntax.specs.Identifier.{has_name, has_id}
 use Rattle.coll_table.specs.PlainTableLines.{plain_table_line}
 use Rattle.coll_table.specs.Table.{Collation, ids_of, is_known_among}
 use Rattle.coll_table.specs.Sound.{collation_of}
+use Rattle.coll_table.specs.WellFormed.{IsWellFormed}
 use Rattle.coll_table.specs.declared.plain.table_lines.PlainTableLine.{PlainTableLine}
 use Rattle.coll_table.specs.declared.plain.table_lines.PlainTableLine.TheVariants.{Symbol, OrderStart, OrderEnd, Order, EndCategory}
 use Rattle.coll_syntax.specs.declared.faults.SyntaxFault.{SyntaxFault}
 use Rattle.coll_table.specs.declared.entries.Entry.{Entry}
-use Rattle.coll_table.specs.declared.limits.TheConstants.{MOST_ENTRIES, MOST_DECLARATIONS}
+use Rattle.coll_table.specs.Limits.{most_entries, most_declarations}
 use Rattle.coll_table.specs.declared.load_faults.LoadFault.{LoadFault}
 use Rattle.coll_table.specs.declared.load_faults.LoadCause.{LoadCause}
 use Rattle.coll_table.specs.declared.load_faults.LoadCause.TheVariants.{Lex, Syntax, NoCategory, NoRules, DeclaredTwice, NotDeclared, PlacedTwice, OutsideOrder, Full, NoEnd}
@@ -61,8 +62,8 @@ is_end EndCategory = true
 is_end _ = false
 
 -- the table that lines make
-abbrev pub table_of : List PlainTableLine → Collation
-table_of lines = collation_of (declared_in lines) (entries_in lines)
+abbrev pub table_from : List PlainTableLine → Collation
+table_from lines = collation_of (declared_in lines) (entries_in lines)
 
 -- a cause, where a test holds, and else what follows
 abbrev pub refused_if : Bool → LoadCause → Option LoadCause → Option LoadCause
@@ -72,14 +73,14 @@ refused_if test cause later = if test then Some cause else later
 abbrev pub line_cause : List PlainTableLine → PlainTableLine → Option LoadCause
 line_cause before (Symbol name) =
     refused_if (has_name (declared_in before) name) DeclaredTwice
-    (refused_if (nat_le MOST_DECLARATIONS (length (declared_in before))) Full None)
+    (refused_if (nat_le most_declarations (length (declared_in before))) Full None)
 line_cause before OrderStart = None
 line_cause before OrderEnd = refused_if (not (is_open before)) OutsideOrder None
 line_cause before (Order line) =
     refused_if (not (is_open before)) OutsideOrder
     (refused_if (not (is_known_among (declared_in before) line.id)) NotDeclared
     (refused_if (has_id (ids_of (entries_in before)) line.id) PlacedTwice
-    (refused_if (nat_le MOST_ENTRIES (length (entries_in before))) Full None)))
+    (refused_if (nat_le most_entries (length (entries_in before))) Full None)))
 line_cause before EndCategory =
     refused_if (is_open before) OutsideOrder
     (refused_if (not (has_start before)) NoRules None)
@@ -95,17 +96,17 @@ at_fault number cause = Decided (Err (record { line = number; cause = cause }))
 
 -- what an accepted line decides: the table, if it ends the category, and else what the later lines do
 abbrev pub accepted : List PlainTableLine → (is_last : Bool) → Outcome → Outcome
-accepted before is_last later = if is_last then Decided (Ok (table_of before)) else later
+accepted before is_last later = if is_last then Decided (Ok (table_from before)) else later
 
 -- what a line decides that the grammar accepts, by why it is refused
-abbrev pub judged : ℕ → List PlainTableLine → PlainTableLine → Option LoadCause → Outcome → Outcome
-judged number before line (Some cause) later = at_fault number cause
-judged number before line None later = accepted before (is_end line) later
+abbrev pub line_judged : ℕ → List PlainTableLine → PlainTableLine → Option LoadCause → Outcome → Outcome
+line_judged number before line (Some cause) later = at_fault number cause
+line_judged number before line None later = accepted before (is_end line) later
 
 -- what a line with these tokens decides, by what the grammar says
 abbrev pub by_grammar : ℕ → List PlainTableLine → Result PlainTableLine SyntaxFault → (PlainTableLine → Outcome) → Outcome
 by_grammar number before (Err fault) later = at_fault number (Syntax fault)
-by_grammar number before (Ok line) later = judged number before line (line_cause before line) (later line)
+by_grammar number before (Ok line) later = line_judged number before line (line_cause before line) (later line)
 
 -- what a logical line decides, by its tokens
 abbrev pub by_tokens : ℕ → List PlainTableLine → Result (List Token) LexFault → (PlainTableLine → Outcome) → Outcome
@@ -144,3 +145,7 @@ answer_at_end count (Undecided cause) = Err (record { line = count; cause = caus
 -- the table that a text is, or the first fault in it; nothing after the end of the category is looked at
 unfoldable pub reads : List ℕ → Result Collation LoadFault
 reads text = answer_at_end (length (lines_of text)) (outcome_of true (lines_of text))
+
+-- whatever text is a table, that table is well formed
+abbrev pub TextsAreWellFormed : Type 0
+TextsAreWellFormed = (text : List ℕ) (table : Collation) → reads text ≡ Ok table → IsWellFormed table

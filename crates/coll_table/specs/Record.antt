@@ -1,15 +1,20 @@
 -- Records: what undoes a statement, and does it again.
-use Rattle.coll_table.specs.Table.{Collation}
+use Rattle.std.specs.Prelude.{◌≡◌}
+use Rattle.coll_table.specs.Table.{TableValue, collation}
 use Rattle.coll_table.specs.WellFormed.{IsWellFormed}
 
 -- what a record keeps: the other table
 pub record TableRecord : Type 0 where
-  pub other : Collation
+  pub other : TableValue
 
 -- a record can be turned on a table
-unfoldable pub fits : Collation → TableRecord → Type 0
-fits table kept = IsWellFormed kept.other
+unfoldable pub fits : TableValue → TableRecord → Type 0
+fits table kept = IsWellFormed (collation kept.other)
 
 -- the table that turning the record makes of a table
-unfoldable pub turn : Collation → TableRecord → Collation
+unfoldable pub turn : TableValue → TableRecord → TableValue
 turn table kept = kept.other
+
+-- a table is another one, and may keep more that stands nowhere in it; today it keeps nothing more
+abbrev pub Extends : TableValue → TableValue → Type 0
+Extends wide table = wide ≡ table

@@ -15,6 +15,14 @@ pub record Collation : Type 0 where
   pub declared : List (List ℕ)
   pub sections : List Section
 
+-- a table as contracts see it; today it is the names and the sections themselves
+abbrev pub TableValue : Type 0
+TableValue = Collation
+
+-- the names and the sections of a table: each clause of a public call reads a table through this word
+abbrev pub collation : TableValue → Collation
+collation table = table
+
 -- the names that a table declares
 abbrev pub declared_of : Collation → List (List ℕ)
 declared_of table = table.declared

@@ -1,74 +1,85 @@
 -- The lines of a text, taken one after another: physical ones by a reader, and logical ones by a lexer.
 use Rattle.std.specs.Prelude.{◌≡◌, ℕ, ◌+◌, ◌<◌, Bool, true, false, List, [], ◌∷◌, ◌++◌, length, Option, Some, None, Result, Ok, Err}
 use Rattle.coll_lex.specs.LineReading as reading
-use Rattle.coll_lex.specs.LogicalLines.{LexerState, LogicalLine, number_of, fed, outside, left_open, logical_lines}
-use Rattle.coll_lex.specs.PhysicalLines.{lines_of, IsInLine}
+use Rattle.coll_lex.specs.LogicalLines.{LexerState, LogicalLine, number_of, fed, outside, line_left_open, logical_lines}
+use Rattle.std.specs.List.{flat_map}
+use Rattle.coll_lex.specs.PhysicalLines.{line_feed, lines_of, IsInLine}
+use Rattle.coll_lex.specs.Names.{AreTokens}
 use Rattle.coll_lex.specs.declared.tokens.Line.{Line}
-use Rattle.coll_lex.specs.declared.tokens.TheConstants.{MOST_LINE_BYTES, MOST_LINES}
+use Rattle.coll_lex.specs.Limits.{most_line_bytes, most_lines}
 use Rattle.coll_lex.specs.declared.faults.LexFault.{LexFault}
 use Rattle.coll_lex.specs.declared.faults.LexFault.TheVariants as lex
 use Rattle.coll_table.specs.Reading.{Undecided, outcome_before, outcome_within, at_fault}
 use Rattle.coll_table.specs.declared.load_faults.LoadFault.{LoadFault}
 use Rattle.coll_table.specs.declared.load_faults.LoadCause.{LoadCause}
-use Rattle.coll_table.specs.declared.load_faults.LoadCause.TheVariants.{Lex, NoCategory, ReadFault}
-use Rattle.coll_table.specs.declared.taken.Taken.{Taken}
-use Rattle.coll_table.specs.declared.taken.Taken.TheVariants.{Whole, NoLine, End}
+use Rattle.coll_table.specs.declared.load_faults.LoadCause.TheVariants.{Lex, NoCategory, ReadFault, OutOfMemory}
+use Rattle.coll_table.specs.declared.steps.Step.{Step}
+use Rattle.coll_table.specs.declared.steps.Step.TheVariants.{Whole, NoLine, End}
 
 -- where the taking of lines stands: what the reader holds, and where the lexer stands
 pub record TextState : Type 0 where
-  pub reader : reading.Reading
+  pub reader : reading.ReaderState
   pub lexer : LexerState
 
--- the bytes still to come, where those left in the device are known
-abbrev pub ahead_of : TextState → Option (List ℕ) → Option (List ℕ)
-ahead_of t left = reading.ahead t.reader left
+-- the bytes that are still to be given, where those left in the device are known
+abbrev pub unread_text : TextState → Option (List ℕ) → Option (List ℕ)
+unread_text t left = reading.unread t.reader left
 
--- a text ends in these bytes
-abbrev pub EndsIn : List ℕ → List ℕ → Type 0
-EndsIn text rest = (front : List ℕ) × (text ≡ front ++ rest)
+-- this text is still to be given; where the end of the input was met there is none
+abbrev pub IsUnread : TextState → Option (List ℕ) → List ℕ → Type 0
+IsUnread t left text = (unread_text t left ≡ Some text) × (t.reader.ended ≡ true → text ≡ [])
 
--- the reader gave the first of the physical lines ahead
+-- lines with their line feeds, one after another
+abbrev pub with_feeds : List (List ℕ) → List ℕ
+with_feeds lines = flat_map (λ line. line ++ line_feed ∷ []) lines
+
+-- as long as the end isn't met, each line that was taken ended in a line feed, and stood in the text with it
+abbrev pub EndInFeeds : TextState → TextState → List ℕ → List (List ℕ) → List ℕ → Type 0
+EndInFeeds old new text whole rest = new.reader.ended ≡ false → (old.reader.ended ≡ false) × (text ≡ with_feeds whole ++ rest)
+
+-- the reader gave the first of the physical lines unread
 abbrev pub GivesFirst : TextState → TextState → Option (List ℕ) → Option (List ℕ) → Type 0
 GivesFirst old new left left_after =
-    (text : List ℕ) → ahead_of old left ≡ Some text →
-    (rest : List ℕ) × (ahead_of new left_after ≡ Some rest) × EndsIn text rest × (lines_of text ≡ new.reader.line ∷ lines_of rest)
+    (text : List ℕ) → IsUnread old left text →
+    (rest : List ℕ) × IsUnread new left_after rest × EndInFeeds old new text (new.reader.line ∷ []) rest × (lines_of text ≡ new.reader.line ∷ lines_of rest)
 
--- no physical line was ahead
+-- no physical line was unread
 abbrev pub WasLast : TextState → Option (List ℕ) → Type 0
-WasLast old left = (text : List ℕ) → ahead_of old left ≡ Some text → lines_of text ≡ []
+WasLast old left = (text : List ℕ) → IsUnread old left text → lines_of text ≡ []
 
--- the first of the physical lines ahead is at fault
+-- the first of the physical lines unread is at fault
 abbrev pub FirstFails : TextState → Option (List ℕ) → (List ℕ → Type 0) → Type 0
 FirstFails old left Fails =
-    (text : List ℕ) → ahead_of old left ≡ Some text →
+    (text : List ℕ) → IsUnread old left text →
     (first : List ℕ) × (later : List (List ℕ)) × (lines_of text ≡ first ∷ later) × Fails first
 
--- a read failed behind a part of the first physical line ahead
+-- a read failed behind a part of the first physical line unread, before the end was met
 abbrev pub CutShort : TextState → Option (List ℕ) → Option (List ℕ) → Type 0
 CutShort old left left_after =
-    (text : List ℕ) → ahead_of old left ≡ Some text →
-    (part : List ℕ) × (rest : List ℕ) × (left_after ≡ Some rest) × (text ≡ part ++ rest) × IsInLine part
+    (text : List ℕ) → IsUnread old left text →
+    (part : List ℕ) × (rest : List ℕ) × (left_after ≡ Some rest) × (text ≡ part ++ rest) × IsInLine part × (old.reader.ended ≡ false)
 
 -- a line could not be read
-abbrev pub AdvanceFails : TextState → Option (List ℕ) → Option (List ℕ) → ℕ → LoadCause → Type 0
-AdvanceFails old left left_after line (Lex lex.LineTooLong) =
-    (line ≡ number_of old.lexer) × FirstFails old left (λ first. MOST_LINE_BYTES < length first)
-AdvanceFails old left left_after line ReadFault = (line ≡ 0) × CutShort old left left_after
-AdvanceFails old left left_after line _ = ⊥
+abbrev pub ReadFails : TextState → Option (List ℕ) → Option (List ℕ) → ℕ → LoadCause → Type 0
+ReadFails old left left_after line (Lex lex.LineTooLong) =
+    (line ≡ number_of old.lexer) × FirstFails old left (λ first. most_line_bytes < length first)
+ReadFails old left left_after line ReadFault = (line ≡ 0) × CutShort old left left_after
+ReadFails old left left_after line _ = ⊥
 
--- one physical line was read, or none was ahead
-abbrev pub Advances : TextState → TextState → Option (List ℕ) → Option (List ℕ) → Result Bool LoadFault → Type 0
-Advances old new left left_after (Ok true) = GivesFirst old new left left_after
-Advances old new left left_after (Ok false) = WasLast old left
-Advances old new left left_after (Err fault) = AdvanceFails old left left_after fault.line fault.cause
+-- one physical line was read, or none was unread
+abbrev pub ReadsOne : TextState → TextState → Option (List ℕ) → Option (List ℕ) → Result Bool LoadFault → Type 0
+ReadsOne old new left left_after (Ok true) = GivesFirst old new left left_after
+ReadsOne old new left left_after (Ok false) = WasLast old left
+ReadsOne old new left left_after (Err fault) = ReadFails old left left_after fault.line fault.cause
 
--- a line could not be taken; a want of memory says nothing
-abbrev pub TakeFails : (LexerState → List ℕ → LexFault → Type 0) → TextState → Option (List ℕ) → Option (List ℕ) → ℕ → LoadCause → Type 0
-TakeFails Fails old left left_after line (Lex lex.OutOfMemory) = Unit {0}
-TakeFails Fails old left left_after line (Lex fault) =
+-- a line could not be taken; a want of memory says nothing, and is no fault of the lexer's
+abbrev pub FeedFails : (LexerState → List ℕ → LexFault → Type 0) → TextState → Option (List ℕ) → Option (List ℕ) → ℕ → LoadCause → Type 0
+FeedFails Fails old left left_after line OutOfMemory = Unit {0}
+FeedFails Fails old left left_after line (Lex lex.OutOfMemory) = ⊥
+FeedFails Fails old left left_after line (Lex fault) =
     (line ≡ number_of old.lexer) × FirstFails old left (λ first. Fails old.lexer first fault)
-TakeFails Fails old left left_after line ReadFault = (line ≡ 0) × CutShort old left left_after
-TakeFails Fails old left left_after line _ = ⊥
+FeedFails Fails old left left_after line ReadFault = (line ≡ 0) × CutShort old left left_after
+FeedFails Fails old left left_after line _ = ⊥
 
 -- the lexer refuses a line before the category
 abbrev pub FailsOutside : LexerState → List ℕ → LexFault → Type 0
@@ -80,7 +91,7 @@ FailsFed s line fault = fed s line ≡ Err fault
 
 -- one physical line more was handed to the lexer, which takes no more than the most lines of a text
 abbrev pub CountsOne : LexerState → LexerState → Type 0
-CountsOne old new = (old.count < MOST_LINES) × (new.count ≡ old.count + 1)
+CountsOne old new = (old.count < most_lines) × (new.count ≡ old.count + 1)
 
 -- a physical line before the category that was taken is counted
 abbrev pub CountsOutside : TextState → TextState → Option Bool → Type 0
@@ -88,84 +99,90 @@ CountsOutside old new (Some begins) = CountsOne old.lexer new.lexer
 CountsOutside old new None = Unit {0}
 
 -- a physical line of the category that was taken is counted
-abbrev pub CountsTaken : TextState → TextState → Taken → Type 0
-CountsTaken old new (Whole line) = CountsOne old.lexer new.lexer
-CountsTaken old new NoLine = CountsOne old.lexer new.lexer
-CountsTaken old new End = Unit {0}
+abbrev pub CountsStep : TextState → TextState → Step → Type 0
+CountsStep old new (Whole line) = CountsOne old.lexer new.lexer
+CountsStep old new NoLine = CountsOne old.lexer new.lexer
+CountsStep old new End = Unit {0}
 
--- one physical line before the category was taken, or none was ahead
-abbrev pub TakesOutside : TextState → TextState → Option (List ℕ) → Option (List ℕ) → Result (Option Bool) LoadFault → Type 0
-TakesOutside old new left left_after (Ok (Some begins)) =
+-- the tokens of a logical line that was given are as the lexer makes them
+abbrev pub HasTokens : Step → Type 0
+HasTokens (Whole line) = AreTokens line.tokens
+HasTokens _ = Unit {0}
+
+-- one physical line before the category was taken, or none was unread
+abbrev pub FeedsOutside : TextState → TextState → Option (List ℕ) → Option (List ℕ) → Result (Option Bool) LoadFault → Type 0
+FeedsOutside old new left left_after (Ok (Some begins)) =
     GivesFirst old new left left_after × (outside old.lexer new.reader.line ≡ Ok (begins, new.lexer))
-TakesOutside old new left left_after (Ok None) = WasLast old left × (new.lexer ≡ old.lexer)
-TakesOutside old new left left_after (Err fault) = TakeFails FailsOutside old left left_after fault.line fault.cause
+FeedsOutside old new left left_after (Ok None) = WasLast old left × (new.lexer ≡ old.lexer)
+FeedsOutside old new left left_after (Err fault) = FeedFails FailsOutside old left left_after fault.line fault.cause
 
--- one physical line of the category was taken, or none was ahead
-abbrev pub Takes : TextState → TextState → Option (List ℕ) → Option (List ℕ) → Result Taken LoadFault → Type 0
-Takes old new left left_after (Ok (Whole line)) =
+-- one physical line of the category was taken, or none was unread
+abbrev pub FeedsOne : TextState → TextState → Option (List ℕ) → Option (List ℕ) → Result Step LoadFault → Type 0
+FeedsOne old new left left_after (Ok (Whole line)) =
     GivesFirst old new left left_after × (fed old.lexer new.reader.line ≡ Ok (Some line, new.lexer))
-Takes old new left left_after (Ok NoLine) =
+FeedsOne old new left left_after (Ok NoLine) =
     GivesFirst old new left left_after × (fed old.lexer new.reader.line ≡ Ok (None, new.lexer))
-Takes old new left left_after (Ok End) = WasLast old left × (new.lexer ≡ old.lexer)
-Takes old new left left_after (Err fault) = TakeFails FailsFed old left left_after fault.line fault.cause
+FeedsOne old new left left_after (Ok End) = WasLast old left × (new.lexer ≡ old.lexer)
+FeedsOne old new left left_after (Err fault) = FeedFails FailsFed old left left_after fault.line fault.cause
 
--- physical lines were taken: these of the text, and the rest is ahead
-abbrev pub TakesLines : TextState → TextState → Option (List ℕ) → List ℕ → List (List ℕ) → List ℕ → Type 0
-TakesLines old new left_after text whole rest =
-    (ahead_of new left_after ≡ Some rest) × (lines_of text ≡ whole ++ lines_of rest) × EndsIn text rest × (new.lexer.count ≡ old.lexer.count + length whole)
+-- physical lines were taken: these of the text, and the rest is unread
+abbrev pub ReadsLines : TextState → TextState → Option (List ℕ) → List ℕ → List (List ℕ) → List ℕ → Type 0
+ReadsLines old new left_after text whole rest =
+    IsUnread new left_after rest × (lines_of text ≡ whole ++ lines_of rest) × EndInFeeds old new text whole rest × (new.lexer.count ≡ old.lexer.count + length whole)
 
--- a read failed behind whole lines and a part of a line; that part and the rest are the last bytes of the text, so that a
--- line feed that was read belongs to the whole lines
-abbrev pub StopsAfter : Option (List ℕ) → List ℕ → List (List ℕ) → Type 0
-StopsAfter left_after text whole =
-    (part : List ℕ) × (rest : List ℕ) × (left_after ≡ Some rest) × EndsIn text (part ++ rest)
-    × (lines_of text ≡ whole ++ lines_of (part ++ rest)) × IsInLine part
+-- a read failed before the end was met, behind lines that each ended in a line feed and a part of a line
+abbrev pub StopsAfter : TextState → Option (List ℕ) → List ℕ → List (List ℕ) → Type 0
+StopsAfter old left_after text whole =
+    (part : List ℕ) × (rest : List ℕ) × (left_after ≡ Some rest) × (text ≡ with_feeds whole ++ (part ++ rest))
+    × (lines_of text ≡ whole ++ lines_of (part ++ rest)) × IsInLine part × (old.reader.ended ≡ false)
 
 -- why no category was found; the lines before it decide the fault
 abbrev pub FindFails : TextState → Option (List ℕ) → Option (List ℕ) → ℕ → LoadCause → Type 0
-FindFails old left left_after line (Lex lex.OutOfMemory) = Unit {0}
+FindFails old left left_after line OutOfMemory = Unit {0}
+FindFails old left left_after line (Lex lex.OutOfMemory) = ⊥
 FindFails old left left_after line (Lex fault) =
-    (text : List ℕ) → ahead_of old left ≡ Some text → outcome_before true old.lexer (lines_of text) ≡ at_fault line (Lex fault)
+    (text : List ℕ) → IsUnread old left text → outcome_before true old.lexer (lines_of text) ≡ at_fault line (Lex fault)
 FindFails old left left_after line NoCategory =
-    (text : List ℕ) → ahead_of old left ≡ Some text →
+    (text : List ℕ) → IsUnread old left text →
     (outcome_before true old.lexer (lines_of text) ≡ Undecided NoCategory) × (line ≡ old.lexer.count + length (lines_of text))
 FindFails old left left_after line ReadFault =
-    (line ≡ 0) × ((text : List ℕ) → ahead_of old left ≡ Some text →
-    (whole : List (List ℕ)) × StopsAfter left_after text whole × (outcome_before false old.lexer whole ≡ Undecided NoCategory))
+    (line ≡ 0) × ((text : List ℕ) → IsUnread old left text →
+    (whole : List (List ℕ)) × StopsAfter old left_after text whole × (outcome_before false old.lexer whole ≡ Undecided NoCategory))
 FindFails old left left_after line _ = ⊥
 
 -- the line at which the category begins was found
 abbrev pub Finds : TextState → TextState → Option (List ℕ) → Option (List ℕ) → Result (Unit {0}) LoadFault → Type 0
 Finds old new left left_after (Ok _) =
-    (text : List ℕ) → ahead_of old left ≡ Some text →
-    (whole : List (List ℕ)) × (rest : List ℕ) × TakesLines old new left_after text whole rest
+    (text : List ℕ) → IsUnread old left text →
+    (whole : List (List ℕ)) × (rest : List ℕ) × ReadsLines old new left_after text whole rest
     × ((ends : Bool) (more : List (List ℕ)) → outcome_before ends old.lexer (whole ++ more) ≡ outcome_within [] (logical_lines [] ends new.lexer more))
 Finds old new left left_after (Err fault) = FindFails old left left_after fault.line fault.cause
 
 -- why no logical line was given; the next one is at fault
 abbrev pub NextFails : TextState → Option (List ℕ) → Option (List ℕ) → ℕ → LoadCause → Type 0
-NextFails old left left_after line (Lex lex.OutOfMemory) = Unit {0}
+NextFails old left left_after line OutOfMemory = Unit {0}
+NextFails old left left_after line (Lex lex.OutOfMemory) = ⊥
 NextFails old left left_after line (Lex fault) =
-    (text : List ℕ) → ahead_of old left ≡ Some text →
+    (text : List ℕ) → IsUnread old left text →
     (first : List ℕ) × (later : List LogicalLine) × (logical_lines [] true old.lexer (lines_of text) ≡ record { number = line; first = first; tokens = Err fault } ∷ later)
 NextFails old left left_after line ReadFault =
-    (line ≡ 0) × ((text : List ℕ) → ahead_of old left ≡ Some text →
-    (whole : List (List ℕ)) × StopsAfter left_after text whole × (logical_lines [] false old.lexer whole ≡ []))
+    (line ≡ 0) × ((text : List ℕ) → IsUnread old left text →
+    (whole : List (List ℕ)) × StopsAfter old left_after text whole × (logical_lines [] false old.lexer whole ≡ []))
 NextFails old left left_after line _ = ⊥
 
--- the next logical line was given, or none was ahead
-abbrev pub Nexts : TextState → TextState → Option (List ℕ) → Option (List ℕ) → Result (Option Line) LoadFault → Type 0
-Nexts old new left left_after (Ok (Some line)) =
-    (text : List ℕ) → ahead_of old left ≡ Some text →
-    (whole : List (List ℕ)) × (rest : List ℕ) × (first : List ℕ) × TakesLines old new left_after text whole rest
+-- the next logical line was given, or none was unread
+abbrev pub GivesNext : TextState → TextState → Option (List ℕ) → Option (List ℕ) → Result (Option Line) LoadFault → Type 0
+GivesNext old new left left_after (Ok (Some line)) =
+    (text : List ℕ) → IsUnread old left text →
+    (whole : List (List ℕ)) × (rest : List ℕ) × (first : List ℕ) × ReadsLines old new left_after text whole rest
     × ((ends : Bool) (more : List (List ℕ)) → logical_lines [] ends old.lexer (whole ++ more) ≡ record { number = line.number; first = first; tokens = Ok line.tokens } ∷ logical_lines [] ends new.lexer more)
-Nexts old new left left_after (Ok None) =
-    (text : List ℕ) → ahead_of old left ≡ Some text →
+GivesNext old new left left_after (Ok None) =
+    (text : List ℕ) → IsUnread old left text →
     (logical_lines [] true old.lexer (lines_of text) ≡ []) × (new.lexer.count ≡ old.lexer.count + length (lines_of text))
-Nexts old new left left_after (Err fault) = NextFails old left left_after fault.line fault.cause
+GivesNext old new left left_after (Err fault) = NextFails old left left_after fault.line fault.cause
 
 -- a text that ends leaves a line open, which is at fault
 abbrev pub LeavesOpen : LexerState → LoadFault → Type 0
 LeavesOpen s fault =
     (fault.cause ≡ Lex lex.DanglingEscape)
-    × (first : List ℕ) × (left_open s.line ≡ record { number = fault.line; first = first; tokens = Err lex.DanglingEscape } ∷ [])
+    × (first : List ℕ) × (line_left_open s.line ≡ record { number = fault.line; first = first; tokens = Err lex.DanglingEscape } ∷ [])

@@ -1,15 +1,17 @@
 //! Statements rewrite a table.
 //!
 //! `apply` is `delta` of `specs/Delta.antt`: it judges the statement first, then rewrites a copy and puts it in the table's
-//! place. So a refusal, want of memory included, changes nothing.
+//! place. So a refusal, want of memory included, changes nothing. How the rewriting is done may change; a new statement, or a
+//! new refusal of one, is a case of `delta` first.
 
 ghost use Rattle.std.specs.Prelude.{◌≡◌, ◌≢◌, ◌<◌, ◌∷◌, [], length, true, false, None, Some, Ok, Err, IsTrue, IfOk, IfErr, OnOk, OnErr, position, vec_len, vec_capacity};
 ghost use Rattle.coll_syntax.specs.Identifier.{same_id, has_id};
-ghost use Rattle.coll_table.specs.Table.{ids_of, entries_of, is_known, is_placed};
+ghost use Rattle.coll_table.specs.Limits.{most_entries};
+ghost use Rattle.coll_table.specs.Table.{collation, ids_of, entries_of, is_known, is_placed};
 ghost use Rattle.coll_table.specs.WellFormed.{AreDistinct, IsWellFormed};
 ghost use Rattle.coll_table.specs.Placement.{entries_after, entries_without};
-ghost use Rattle.coll_table.specs.Delta.{delta, block_delta, lines_refusal, reweight_refusal, moved, rewritten, within_limit};
-ghost use Rattle.coll_table.specs.Record.{fits, turn};
+ghost use Rattle.coll_table.specs.Delta.{delta, block_delta, lines_refusal, reweight_refusal, moved, all_moved, within_limit};
+ghost use Rattle.coll_table.specs.Record.{Extends, fits, turn};
 ghost use Rattle.coll_table.specs.Sound.{with_sections, IsFullAt};
 ghost use Rattle.coll_table.specs.declared.refusals.Refusal.TheVariants.{OutOfMemory};
 
@@ -25,10 +27,10 @@ impl Table {
     /// A statement is accepted whole or refused whole: after a refusal the table is as it was.
     #[tactic(auto, unfolding(crate::specs::Delta::delta))]
     pub fn apply(&mut self, statement: &PlainStatement) -> Result<Record, Refusal>
-        ensures ok { IfOk result (λ kept. delta self.old statement.now ≡ Ok self.new) }
+        ensures ok { IfOk result (λ kept. delta (collation self.old) statement.now ≡ Ok (collation self.new)) }
         ensures fits { IfOk result (λ kept. fits self.new kept) }
-        ensures back { IfOk result (λ kept. turn self.new kept ≡ self.old) }
-        ensures err { IfErr result (λ refusal. refusal ≢ OutOfMemory → delta self.old statement.now ≡ Err refusal) }
+        ensures back { IfOk result (λ kept. Extends (turn self.new kept) self.old) }
+        ensures err { IfErr result (λ refusal. refusal ≢ OutOfMemory → delta (collation self.old) statement.now ≡ Err refusal) }
         ensures unchanged { OnErr result (self.new ≡ self.old) }
     {
         match statement {
@@ -62,7 +64,7 @@ impl Table {
             return Err(Refusal::TargetNotPlaced);
         }
         self.judge_lines(target, lines)?;
-        let mut other = self.try_copy()?;
+        let mut other = self.try_copy(self.alloc)?;
         other.rewrite(target, lines)?;
         mem::swap(self, &mut other);
         Ok(Record::of_table(other))
@@ -94,8 +96,8 @@ impl Table {
         requires well_formed { IsWellFormed self.old }
         requires placed { IsTrue (is_placed self.old target.now) }
         requires judged { lines_refusal self.old (target.now ∷ []) lines.now ≡ None }
-        ensures ok { OnOk result (within_limit (with_sections self.old (rewritten self.old.sections target.now lines.now)) ≡ Ok self.new) }
-        ensures err { IfErr result (λ refusal. refusal ≢ OutOfMemory → within_limit (with_sections self.old (rewritten self.old.sections target.now lines.now)) ≡ Err refusal) }
+        ensures ok { OnOk result (within_limit (with_sections self.old (all_moved self.old.sections target.now lines.now)) ≡ Ok self.new) }
+        ensures err { IfErr result (λ refusal. refusal ≢ OutOfMemory → within_limit (with_sections self.old (all_moved self.old.sections target.now lines.now)) ≡ Err refusal) }
     {
         let mut after = target;
         for line in lines {
@@ -147,7 +149,7 @@ impl Table {
         requires known { IsTrue (is_known self.old id.now) }
         requires new { is_placed self.old id.now ≡ false }
         requires placed { IsTrue (is_placed self.old after.now) }
-        requires room { length (entries_of self.old) < MOST_ENTRIES }
+        requires room { length (entries_of self.old) < most_entries }
         ensures ok { OnOk result (self.new ≡ with_sections self.old (moved self.old.sections after.now (record { id = id.now }))) }
         ensures here { OnOk result (IsTrue (is_placed self.new id.now)) }
         ensures well_formed { IsWellFormed self.new }

@@ -2,20 +2,23 @@
 //!
 //! A `Draft` keeps of the lines accepted so far what the next one is judged by: whether an order is open, whether there
 //! was one, and the table. Each method judges one kind of line, as `line_cause` of `specs/Reading.antt` does from the list of
-//! the lines before it. After a refusal the draft is given up.
+//! the lines before it. After a refusal the draft is given up. What may stand where is changed in `line_cause` first; what a
+//! draft keeps may change as long as it says as much of the lines before (`draft_of` of `specs/Drafts.antt`).
 
 ghost use Rattle.std.specs.Prelude.{◌≡◌, ◌≢◌, [], Ok, Err, IfOk, IfErr, OnOk};
+ghost use Rattle.coll_lex.specs.Names.{IsName};
+ghost use Rattle.coll_table.specs.PlainTableLines.{DeclaresName};
 ghost use Rattle.coll_table.specs.Reading.{is_end};
 ghost use Rattle.coll_table.specs.declared.plain.table_lines.PlainTableLine.TheVariants.{Symbol, OrderStart, OrderEnd, Order, EndCategory};
 ghost use Rattle.coll_table.specs.declared.load_faults.LoadCause.TheVariants.{OutOfMemory};
 
-use crate::{LoadCause, MOST_DECLARATIONS, MOST_ENTRIES, PlainLine, Table, PlainTableLine};
+use crate::{LoadCause, MOST_DECLARATIONS, MOST_ENTRIES, PlainLine, PlainTableLine, Table};
 use coll_lex::TextBuf;
 use std::alloc::Global;
 use std::marker::Model;
 
 /// A table that is being read.
-#[derive(Debug, Drop)]
+#[derive(Drop)]
 pub struct Draft {
     order_open: bool,
     started: bool,
@@ -31,7 +34,7 @@ impl Model for Draft {
 }
 
 impl Draft {
-    ghost use Rattle.coll_table.specs.Drafts.{draft_of, Accepts, RefusesLine, IsLineCause};
+    ghost use Rattle.coll_table.specs.Drafts.{draft_of, Accepts, RefusesNext, IsLineCause};
 
     /// A draft before the first line. It takes no memory.
     pub fn new(alloc: Global) -> Draft
@@ -53,9 +56,10 @@ impl Draft {
 
     /// Judges one more line, and keeps what it says. The answer tells whether it ends the category.
     pub fn take(&mut self, line: PlainTableLine) -> Result<bool, LoadCause>
+        requires { DeclaresName line }
         ensures ok { OnOk result (Accepts self.old line self.new) }
         ensures ended { IfOk result (λ ended. ended ≡ is_end line) }
-        ensures err { IfErr result (λ cause. cause ≢ OutOfMemory → RefusesLine self.old line cause) }
+        ensures err { IfErr result (λ cause. cause ≢ OutOfMemory → RefusesNext self.old line cause) }
         ensures cause { IfErr result IsLineCause }
     {
         match line {
@@ -84,8 +88,9 @@ impl Draft {
 
     /// A declaration.
     fn declare(&mut self, name: &TextBuf) -> Result<(), LoadCause>
+        requires { IsName name.now }
         ensures ok { OnOk result (Accepts self.old (Symbol name.now) self.new) }
-        ensures err { IfErr result (λ cause. cause ≢ OutOfMemory → RefusesLine self.old (Symbol name.now) cause) }
+        ensures err { IfErr result (λ cause. cause ≢ OutOfMemory → RefusesNext self.old (Symbol name.now) cause) }
         ensures cause { IfErr result IsLineCause }
     {
         if self.table.declares(name) {
@@ -109,7 +114,7 @@ impl Draft {
     /// `order_end`.
     fn stop(&mut self) -> Result<(), LoadCause>
         ensures ok { OnOk result (Accepts self.old OrderEnd self.new) }
-        ensures err { IfErr result (λ cause. cause ≢ OutOfMemory → RefusesLine self.old OrderEnd cause) }
+        ensures err { IfErr result (λ cause. cause ≢ OutOfMemory → RefusesNext self.old OrderEnd cause) }
         ensures cause { IfErr result IsLineCause }
     {
         if !self.order_open {
@@ -122,7 +127,7 @@ impl Draft {
     /// An order line.
     fn place(&mut self, line: PlainLine) -> Result<(), LoadCause>
         ensures ok { OnOk result (Accepts self.old (Order line) self.new) }
-        ensures err { IfErr result (λ cause. cause ≢ OutOfMemory → RefusesLine self.old (Order line) cause) }
+        ensures err { IfErr result (λ cause. cause ≢ OutOfMemory → RefusesNext self.old (Order line) cause) }
         ensures cause { IfErr result IsLineCause }
     {
         if !self.order_open {
@@ -144,7 +149,7 @@ impl Draft {
     /// `END LC_COLLATE`.
     fn end(&mut self) -> Result<(), LoadCause>
         ensures ok { OnOk result (Accepts self.old EndCategory self.new) }
-        ensures err { IfErr result (λ cause. cause ≢ OutOfMemory → RefusesLine self.old EndCategory cause) }
+        ensures err { IfErr result (λ cause. cause ≢ OutOfMemory → RefusesNext self.old EndCategory cause) }
         ensures cause { IfErr result IsLineCause }
     {
         if self.order_open {

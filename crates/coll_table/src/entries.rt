@@ -1,4 +1,6 @@
 //! The entries of a table.
+//!
+//! An entry is plain data, which an order line gives; what an order line gains, an entry gains.
 
 use coll_syntax::Id;
 

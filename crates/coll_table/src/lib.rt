@@ -1,12 +1,16 @@
 //! Tables of a collation order, and the statements that rewrite them.
 //!
-//! A `Table` is what `Collation` of `specs/Table.antt` says: the names that it declares and its sections of entries. Every
-//! table is well formed (`specs/WellFormed.antt`). It is read by `load`, and rewritten by `apply`, which gives a `Record`
-//! that `flip` turns back. In `Table` the entries stand in one list, and look-ups by hash say what is declared and
-//! what is placed: whoever changes one of the three changes the others with it.
+//! A `Table` is read by `load`, and rewritten by `apply`, which gives a `Record` that `flip` turns back. A way through the
+//! crate, each file with its definitions in `specs/`:
+//!
+//! - `plain/`: what a line of a table or a delta says (`PlainTableLines`, `PlainDeltaLines`, `PlainOrderLines`);
+//! - `text_lines` and `steps`: the lines of a text, taken one after another (`TextLines`);
+//! - `drafts`: a line, judged by those before it (`Drafts`);
+//! - `loading`: a text, read (`Reading`, `CategoryReading`, `Loads`), with its `load_faults` (`LoadFaults`);
+//! - `tables`, `entries`, `names`, `places` and `limits`: what a table is (`Table`, `WellFormed`, `Sound`, `LookUps`, `Limits`);
+//! - `deltas` and `refusals`: a statement, applied (`Delta`, `Placement`, `Refusals`);
+//! - `records`: a statement, taken back (`Record`).
 #![tactic(auto)]
-
-ghost use Rattle.std.specs.Prelude.{◌≡◌, ◌≢◌, Ok, Err, IfOk, IfErr, OnOk, OnErr, IsTrue, [], length, ◌<◌, false};
 
 mod deltas;
 mod drafts;
@@ -19,155 +23,16 @@ mod places;
 mod plain;
 mod records;
 mod refusals;
-mod taken;
+mod steps;
+mod tables;
 mod text_lines;
 
-use coll_lex::TextBuf;
-use coll_syntax::Id;
 pub use entries::Entry;
 pub use limits::{MOST_DECLARATIONS, MOST_ENTRIES};
 pub use load_faults::{LoadCause, LoadFault};
 pub use loading::load;
-use names::Names;
-use places::Places;
-pub use plain::{
-    PlainDeltaLine, PlainLine, PlainStatement, PlainTableLine, parse_plain_delta_line,
-    parse_plain_table_line,
-};
+pub use plain::{PlainDeltaLine, PlainLine, PlainStatement, parse_plain_delta_line};
+pub(crate) use plain::{PlainTableLine, parse_plain_table_line};
 pub use records::Record;
 pub use refusals::Refusal;
-use std::alloc::{AllocError, Global};
-use std::marker::Model;
-
-/// A table of a collation order.
-#[derive(Debug, Drop)]
-pub struct Table {
-    /// The names declared, in order.
-    declared: Names,
-    /// The entries, in order.
-    entries: Vec<Entry>,
-    /// The identifiers that have an entry.
-    placed: Places,
-    alloc: Global,
-}
-
-impl Model for Table {
-    ghost use Rattle.coll_table.specs.Table.{Collation};
-
-    ghost Value = { Collation };
-
-    ghost use Rattle.std.specs.Prelude.{None, [], ◌∷◌};
-    ghost use Rattle.coll_table.specs.Sound.{IsSoundTable, collation_of};
-
-    ghost view = { λ t. collation_of t.declared t.entries.items };
-
-    ghost invariant = { λ t. IsSoundTable t.declared t.entries.items t.placed };
-}
-
-impl Table {
-    ghost use Rattle.coll_table.specs.Table.{declared_of, entries_of, is_declared, is_known, is_placed};
-    ghost use Rattle.coll_table.specs.Sound.{collation_of, with_declared, with_last};
-    ghost use Rattle.coll_table.specs.WellFormed.{IsWellFormed};
-
-    /// The number of entries, in all sections together.
-    pub fn len(&self) -> usize
-        ensures { result ≡ length (entries_of self.now) }
-    {
-        self.entries.len()
-    }
-
-    /// The entries of all sections, in order.
-    pub fn entries(&self) -> &[Entry]
-        ensures entries { result.now ≡ entries_of self.now }
-        ensures well_formed { IsWellFormed self.now }
-    {
-        self.entries.as_slice()
-    }
-
-    /// A copy of the table, in new memory.
-    pub fn try_copy(&self) -> Result<Table, AllocError>
-        ensures same { IfOk result (λ copy. copy ≡ self.now) }
-        ensures well_formed { IfOk result (λ copy. IsWellFormed copy) }
-    {
-        let declared = self.declared.try_copy()?;
-        let mut copy = Table {
-            declared,
-            entries: Vec::new(self.alloc),
-            placed: Places::new(self.alloc),
-            alloc: self.alloc,
-        };
-        for entry in &self.entries {
-            let id = entry.id.try_copy(self.alloc)?;
-            copy.place_last(id)?;
-        }
-        Ok(copy)
-    }
-
-    /// A table of no names and no entries. It takes no memory.
-    pub(crate) fn new(alloc: Global) -> Table
-        ensures { result ≡ collation_of [] [] }
-    {
-        Table {
-            declared: Names::new(alloc),
-            entries: Vec::new(alloc),
-            placed: Places::new(alloc),
-            alloc,
-        }
-    }
-
-    /// The number of names that the table declares.
-    pub(crate) fn declared_len(&self) -> usize
-        ensures { result ≡ length (declared_of self.now) }
-    {
-        self.declared.len()
-    }
-
-    /// Whether the table declares a name.
-    pub(crate) fn declares(&self, name: &TextBuf) -> bool
-        ensures { result ≡ is_declared self.now name.now }
-    {
-        self.declared.contains(name)
-    }
-
-    /// Declares a name.
-    pub(crate) fn declare(&mut self, name: &TextBuf) -> Result<(), AllocError>
-        requires new { is_declared self.old name.now ≡ false }
-        requires room { length (declared_of self.old) < MOST_DECLARATIONS }
-        ensures ok { OnOk result (self.new ≡ with_declared self.old name.now) }
-        ensures err { OnErr result (self.new ≡ self.old) }
-    {
-        self.declared.insert(name.get())?;
-        Ok(())
-    }
-
-    /// Whether an identifier stands in the table.
-    pub(crate) fn is_placed(&self, id: &Id) -> bool
-        ensures { result ≡ is_placed self.now id.now }
-    {
-        self.placed.contains(id)
-    }
-
-    /// Whether an identifier may be used: a name has to be declared.
-    pub(crate) fn is_known(&self, id: &Id) -> bool
-        ensures { result ≡ is_known self.now id.now }
-    {
-        match id {
-            Id::Named(name) => self.declared.contains(name),
-            _ => true,
-        }
-    }
-
-    /// Places an identifier after all entries.
-    pub(crate) fn place_last(&mut self, id: Id) -> Result<(), AllocError>
-        requires known { IsTrue (is_known self.old id) }
-        requires new { is_placed self.old id ≡ false }
-        requires room { length (entries_of self.old) < MOST_ENTRIES }
-        ensures ok { OnOk result (self.new ≡ with_last self.old id) }
-        ensures err { OnErr result (self.new ≡ self.old) }
-    {
-        self.entries.reserve(1)?;
-        self.placed.insert(&id)?;
-        self.entries.push_reserved(Entry { id });
-        Ok(())
-    }
-}
+pub use tables::Table;

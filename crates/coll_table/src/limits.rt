@@ -1,7 +1,21 @@
 //! The limits of a table.
+//!
+//! The definitions have these limits as numbers, and `limits_are_stated` says that the constants are the same; a limit is
+//! changed in both.
+
+ghost use Rattle.std.specs.Prelude.{◌≡◌};
+ghost use Rattle.coll_table.specs.Limits.{most_entries, most_declarations};
 
 /// Most entries of a table, in all sections together.
 pub const MOST_ENTRIES: usize = 262_144;
 
 /// Most declarations of a table.
 pub const MOST_DECLARATIONS: usize = 262_144;
+
+/// The limits are the numbers of the definitions: 262,144 entries and 262,144 declarations.
+///
+/// It does nothing; its contract says so.
+pub fn limits_are_stated()
+    ensures entries { MOST_ENTRIES ≡ most_entries }
+    ensures declarations { MOST_DECLARATIONS ≡ most_declarations }
+{}

@@ -1,14 +1,15 @@
 //! Why a table could not be loaded.
 //!
-//! A fault has a line and a cause, and a cause has a number and a name, which messages show; a fault of the lexer or the
-//! grammar keeps its own. A new cause is a new variant with its number and its name, here and in `specs/LoadFaults.antt`.
+//! A fault has a line and a cause, and a number and a name, which messages show: those of its cause, and a fault of the
+//! lexer or the grammar keeps its own. A new cause is a new variant with its number and its name, here and in
+//! `specs/LoadFaults.antt`. Want of memory has one spelling, `LoadCause::OutOfMemory`: a fault of the lexer or the grammar
+//! becomes a cause by `from` alone.
 
 ghost use Rattle.std.specs.Prelude.{◌≡◌};
-ghost use Rattle.coll_table.specs.LoadFaults.{load_cause_number, load_cause_name};
 ghost use Rattle.coll_table.specs.declared.load_faults.LoadCause.TheVariants.{OutOfMemory};
 
-use coll_syntax::SyntaxFault;
 use coll_lex::LexFault;
+use coll_syntax::SyntaxFault;
 use std::alloc::{AllocError, AllocFailed};
 use thiserror::Error;
 
@@ -21,6 +22,24 @@ pub struct LoadFault {
     pub line: u32,
     /// What was wrong.
     pub cause: LoadCause,
+}
+
+impl LoadFault {
+    ghost use Rattle.coll_table.specs.LoadFaults.{load_fault_number, load_fault_name};
+
+    /// The number that a message shows, which is that of the cause.
+    pub fn number(self) -> u8
+        ensures { result ≡ load_fault_number self }
+    {
+        self.cause.number()
+    }
+
+    /// The name that a message shows, which is that of the cause.
+    pub fn name(self) -> &'static str
+        ensures { result.now ≡ load_fault_name self }
+    {
+        self.cause.name()
+    }
 }
 
 /// Why a table could not be loaded.
@@ -54,6 +73,8 @@ pub enum LoadCause {
 }
 
 impl LoadCause {
+    ghost use Rattle.coll_table.specs.LoadFaults.{load_cause_number, load_cause_name};
+
     /// The number that a message shows.
     pub fn number(self) -> u8
         ensures { result ≡ load_cause_number self }
@@ -91,6 +112,32 @@ impl LoadCause {
             LoadCause::NoEnd => "NoEnd",
             LoadCause::ReadFault => "ReadFault",
             LoadCause::OutOfMemory => "OutOfMemory",
+        }
+    }
+}
+
+impl From<LexFault> for LoadCause {
+    ghost use Rattle.coll_table.specs.LoadFaults.{lex_cause};
+
+    ghost from_gives = { λ fault cause. cause ≡ lex_cause fault };
+
+    fn from(fault: LexFault) -> LoadCause {
+        match fault {
+            LexFault::OutOfMemory => LoadCause::OutOfMemory,
+            fault => LoadCause::Lex(fault),
+        }
+    }
+}
+
+impl From<SyntaxFault> for LoadCause {
+    ghost use Rattle.coll_table.specs.LoadFaults.{syntax_cause};
+
+    ghost from_gives = { λ fault cause. cause ≡ syntax_cause fault };
+
+    fn from(fault: SyntaxFault) -> LoadCause {
+        match fault {
+            SyntaxFault::OutOfMemory => LoadCause::OutOfMemory,
+            fault => LoadCause::Syntax(fault),
         }
     }
 }

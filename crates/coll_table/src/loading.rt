@@ -2,10 +2,14 @@
 //!
 //! The answer is `reads` of `specs/Reading.antt`: the lines up to the category are looked at alone, those of the category
 //! as logical lines, each judged from the lines accepted before it, and the first line at fault decides. The lines come
-//! from `TextLines`, and `Draft` keeps what the next one is judged by.
+//! from `TextLines`, and `Draft` keeps what the next one is judged by. A new cause of a refused load is a case of `reads` first.
 
 ghost use Rattle.std.specs.Prelude.{◌≡◌, None, IfOk, IfErr, OnOk};
+ghost use Rattle.coll_lex.specs.Names.{AreTokens};
 ghost use Rattle.coll_table.specs.Loads.{Loads, CountsFault};
+ghost use Rattle.coll_table.specs.Reading.{TextsAreWellFormed};
+ghost use Rattle.coll_table.specs.Table.{collation};
+ghost use Rattle.coll_table.specs.WellFormed.{IsWellFormed};
 ghost use Rattle.coll_table.specs.CategoryReading.{LineAccepted, LineRefused, ReadsCategory};
 ghost use Rattle.coll_table.specs.Drafts.{DraftState};
 
@@ -22,6 +26,7 @@ use std::alloc::Global;
 /// read of the device answered an error, unless the lines read whole before it decide already.
 pub fn load<R: Source>(alloc: Global, input: &mut R) -> Result<Table, LoadFault>
     ensures loaded { Loads (R.left input.old) (R.left input.new) result }
+    ensures well_formed { IfOk result (λ table. IsWellFormed (collation table)) }
     ensures errors { CountsFault (R.failed input.old) (R.failed input.new) result }
 {
     let Ok(mut lines) = TextLines::new(alloc) else {
@@ -33,6 +38,13 @@ pub fn load<R: Source>(alloc: Global, input: &mut R) -> Result<Table, LoadFault>
     lines.find_category(input)?;
     read_category(alloc, &mut lines, input)
 }
+
+/// The law of tables: whatever text is a table by `reads`, that table is well formed.
+///
+/// It does nothing; its contract is the law.
+pub fn texts_are_well_formed()
+    ensures { TextsAreWellFormed }
+{}
 
 /// Reads the lines of the category, up to its end.
 fn read_category<R: Source>(
@@ -61,6 +73,7 @@ fn read_category<R: Source>(
 /// Takes one logical line of the category: what the grammar says of it, judged by the lines before. The answer tells
 /// whether it ends the category.
 fn take_line(alloc: Global, draft: &mut Draft, line: &Line) -> Result<bool, LoadFault>
+    requires { AreTokens line.now.tokens }
     ensures ok { IfOk result (LineAccepted draft.old line.now draft.new) }
     ensures err { IfErr result (LineRefused draft.old line.now) }
 {
@@ -69,7 +82,7 @@ fn take_line(alloc: Global, draft: &mut Draft, line: &Line) -> Result<bool, Load
         Err(fault) => {
             return Err(LoadFault {
                 line: line.number,
-                cause: LoadCause::Syntax(fault),
+                cause: LoadCause::from(fault),
             });
         }
     };

@@ -1,6 +1,7 @@
 //! Names, with a look-up by hash.
 //!
-//! A `Names` is the list of its names in the order in which they came, each once.
+//! A `Names` is the list of its names in the order in which they came, each once. How a name is found may change; the order
+//! may not, since a table lists its declarations in it.
 
 ghost use Rattle.std.specs.Prelude.{◌≡◌, [], IfOk, OnOk, OnErr, chars, length};
 ghost use Rattle.coll_syntax.specs.Identifier.{same_name, has_name};
@@ -20,7 +21,7 @@ pub struct Names {
 
 impl Model for Names {
     ghost use Rattle.std.specs.Prelude.{List, ℕ};
-    ghost use Rattle.coll_table.specs.Sound.{texts_of, AreNames};
+    ghost use Rattle.coll_table.specs.LookUps.{texts_of, AreNames};
 
     ghost Value = { List (List ℕ) };
 
@@ -30,7 +31,7 @@ impl Model for Names {
 }
 
 impl Names {
-    ghost use Rattle.coll_table.specs.Sound.{with_name};
+    ghost use Rattle.coll_table.specs.LookUps.{with_name};
 
     /// No names. It takes no memory.
     pub fn new(alloc: Global) -> Names
@@ -68,10 +69,10 @@ impl Names {
     }
 
     /// A copy, in new memory.
-    pub fn try_copy(&self) -> Result<Names, AllocError>
+    pub fn try_copy(&self, alloc: Global) -> Result<Names, AllocError>
         ensures { IfOk result (λ copy. copy ≡ self.now) }
     {
-        let mut copy = Names::new(self.alloc);
+        let mut copy = Names::new(alloc);
         for name in self.names.as_slice() {
             copy.insert(name.as_str())?;
         }

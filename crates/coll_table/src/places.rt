@@ -1,6 +1,7 @@
 //! The identifiers that stand in a table, with a look-up by hash.
 //!
-//! A `Places` is a list of identifiers in no stated order: what a contract says of it is which identifiers it has.
+//! A `Places` is a list of identifiers in no stated order: what a contract says of it is which identifiers it has, and all
+//! else may change. A new kind of identifier is a look-up more.
 
 ghost use Rattle.std.specs.Prelude.{◌≡◌, [], OnOk, OnErr};
 ghost use Rattle.coll_syntax.specs.Identifier.{has_id};
@@ -22,7 +23,7 @@ pub struct Places {
 impl Model for Places {
     ghost use Rattle.std.specs.Prelude.{List};
     ghost use Rattle.coll_syntax.specs.declared.identifiers.Id.{Id};
-    ghost use Rattle.coll_table.specs.Sound.{places_of};
+    ghost use Rattle.coll_table.specs.LookUps.{places_of};
 
     ghost Value = { List Id };
 
@@ -30,7 +31,7 @@ impl Model for Places {
 }
 
 impl Places {
-    ghost use Rattle.coll_table.specs.Sound.{AddsId};
+    ghost use Rattle.coll_table.specs.LookUps.{AddsId};
 
     /// No identifiers. It takes no memory.
     pub fn new(alloc: Global) -> Places

@@ -1,10 +1,11 @@
 //! Records: what undoes a statement that a table accepted, and does it again.
 //!
 //! A record fits the table that it came with, and turning it twice gives the same table (`specs/Record.antt`). It keeps the
-//! other table whole, and turning exchanges the two.
+//! other table whole, and turning exchanges the two. What a record keeps may change: callers know it by `fits`, `turn` and
+//! `Extends` alone.
 
 ghost use Rattle.std.specs.Prelude.{◌≡◌};
-ghost use Rattle.coll_table.specs.Record.{fits, turn};
+ghost use Rattle.coll_table.specs.Record.{Extends, fits, turn};
 
 use crate::Table;
 use std::marker::Model;
@@ -52,7 +53,7 @@ impl Table {
 
     /// Gives up a record. The table stays.
     pub fn forget(&mut self, kept: Record)
-        ensures { self.new ≡ self.old }
+        ensures { Extends self.old self.new }
     {
         drop(kept);
     }

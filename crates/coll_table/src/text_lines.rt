@@ -1,23 +1,26 @@
 //! The lines of a table text, taken from a device one after another.
 //!
 //! `TextLines` joins a reader of physical lines and a lexer, and counts the physical lines. Its contracts
-//! speak of the text that is ahead: which of its lines were taken, and what the definition of reading says of them
+//! speak of the text that is unread: which of its lines were taken, and what the definition of reading says of them
 //! (`specs/TextLines.antt`). Each call takes lines up to the next one that matters: the one at which the category
-//! begins, or the next logical line.
+//! begins, or the next logical line. What a line is belongs to the lexer, and what it means to `loading`: here lines are only
+//! passed on and counted.
 
-ghost use Rattle.std.specs.Prelude.{◌≡◌, ◌≢◌, ◌≤◌, ◌+◌, ◌<◌, [], None, min, IsSome, IfOk, IfErr, OnOk};
+ghost use Rattle.std.specs.Prelude.{◌≡◌, ◌≢◌, ◌≤◌, ◌+◌, ◌<◌, [], None, min, IsSome, IfSome, IfOk, IfErr, OnOk};
+ghost use Rattle.coll_lex.specs.Limits.{most_lines};
 ghost use Rattle.coll_lex.specs.LineReading.{no_line};
-ghost use Rattle.coll_lex.specs.LogicalLines.{first_state, number_of, left_open};
+ghost use Rattle.coll_lex.specs.Names.{AreTokens};
+ghost use Rattle.coll_lex.specs.LogicalLines.{first_state, number_of, line_left_open};
 ghost use Rattle.coll_table.specs.Loads.{CountsFault};
 
-use super::taken::Taken;
+use super::steps::Step;
 use crate::{LoadCause, LoadFault};
 use coll_lex::{LexFault, Lexer, Line, LineReader, MOST_LINES, ReadStop, Source};
 use std::alloc::{AllocError, Global};
 use std::marker::Model;
 
 /// The lines of a text, taken one after another.
-#[derive(Debug, Drop)]
+#[derive(Drop)]
 pub struct TextLines {
     reader: LineReader,
     lexer: Lexer,
@@ -27,18 +30,18 @@ pub struct TextLines {
 
 impl Model for TextLines {
     ghost use Rattle.std.specs.Prelude.{◌≡◌, ◌≤◌};
-    ghost use Rattle.coll_lex.specs.declared.tokens.TheConstants.{MOST_LINES};
+    ghost use Rattle.coll_lex.specs.Limits.{most_lines};
     ghost use Rattle.coll_table.specs.TextLines.{TextState};
 
     ghost Value = { TextState };
 
     ghost view = { λ t. record { reader = t.reader; lexer = t.lexer } };
 
-    ghost invariant = { λ t. (t.count ≡ t.lexer.count) × (t.count ≤ MOST_LINES) };
+    ghost invariant = { λ t. (t.count ≡ t.lexer.count) × (t.count ≤ most_lines) };
 }
 
 impl TextLines {
-    ghost use Rattle.coll_table.specs.TextLines.{Advances, Takes, CountsTaken, TakesOutside, CountsOutside, Finds, LeavesOpen, Nexts};
+    ghost use Rattle.coll_table.specs.TextLines.{ReadsOne, FeedsOne, CountsStep, FeedsOutside, CountsOutside, Finds, LeavesOpen, GivesNext, HasTokens};
 
     /// The lines of a text from its first on.
     pub fn new(alloc: Global) -> Result<TextLines, AllocError>
@@ -56,7 +59,7 @@ impl TextLines {
     /// The number of physical lines taken so far.
     pub fn count(&self) -> u32
         ensures count { result ≡ self.now.lexer.count }
-        ensures limit { result ≤ MOST_LINES }
+        ensures limit { result ≤ most_lines }
     {
         self.count
     }
@@ -86,16 +89,17 @@ impl TextLines {
     /// Takes the lines up to the end of the next logical line that has a token, and answers it; none at the end of the text.
     pub fn next_line<R: Source>(&mut self, input: &mut R) -> Result<Option<Line>, LoadFault>
         requires { self.old.reader.stop ≡ None }
-        ensures line { Nexts self.old self.new (R.left input.old) (R.left input.new) result }
-        ensures counts { IfOk result (λ line. IsSome line → self.old.lexer.count < MOST_LINES × (self.old.lexer.count < self.new.lexer.count)) }
+        ensures line { GivesNext self.old self.new (R.left input.old) (R.left input.new) result }
+        ensures tokens { IfOk result (λ line. IfSome line (λ given. AreTokens given.tokens)) }
+        ensures counts { IfOk result (λ line. IsSome line → self.old.lexer.count < most_lines × (self.old.lexer.count < self.new.lexer.count)) }
         ensures errors { CountsFault (R.failed input.old) (R.failed input.new) result }
         ensures goes_on { OnOk result (self.new.reader.stop ≡ None) }
     {
         'lines: loop {
             match self.take_line(input)? {
-                Taken::Whole(line) => return Ok(Some(line)),
-                Taken::NoLine => {}
-                Taken::End => {
+                Step::Whole(line) => return Ok(Some(line)),
+                Step::NoLine => {}
+                Step::End => {
                     self.end()?;
                     return Ok(None);
                 }
@@ -115,7 +119,7 @@ impl TextLines {
 
     /// Ends the text: a line that a continuation keeps open is at fault.
     fn end(&mut self) -> Result<(), LoadFault>
-        ensures ok { OnOk result (left_open self.old.lexer.line ≡ []) }
+        ensures ok { OnOk result (line_left_open self.old.lexer.line ≡ []) }
         ensures err { IfErr result (LeavesOpen self.old.lexer) }
         ensures count { self.new.lexer.count ≡ self.old.lexer.count }
         ensures reader { self.new.reader ≡ self.old.reader }
@@ -126,7 +130,7 @@ impl TextLines {
             Err(fault) => {
                 return Err(LoadFault {
                     line: number,
-                    cause: LoadCause::Lex(fault),
+                    cause: LoadCause::from(fault),
                 });
             }
         }
@@ -135,7 +139,7 @@ impl TextLines {
     /// Reads one physical line, if there is one.
     fn read_line<R: Source>(&mut self, input: &mut R) -> Result<bool, LoadFault>
         requires { self.old.reader.stop ≡ None }
-        ensures line { Advances self.old self.new (R.left input.old) (R.left input.new) result }
+        ensures line { ReadsOne self.old self.new (R.left input.old) (R.left input.new) result }
         ensures lexer { self.new.lexer ≡ self.old.lexer }
         ensures errors { CountsFault (R.failed input.old) (R.failed input.new) result }
         ensures goes_on { OnOk result (self.new.reader.stop ≡ None) }
@@ -157,7 +161,7 @@ impl TextLines {
     /// Takes one physical line before the category: whether the category begins with it.
     fn take_outside<R: Source>(&mut self, input: &mut R) -> Result<Option<bool>, LoadFault>
         requires { self.old.reader.stop ≡ None }
-        ensures line { TakesOutside self.old self.new (R.left input.old) (R.left input.new) result }
+        ensures line { FeedsOutside self.old self.new (R.left input.old) (R.left input.new) result }
         ensures counts { IfOk result (CountsOutside self.old self.new) }
         ensures errors { CountsFault (R.failed input.old) (R.failed input.new) result }
         ensures goes_on { OnOk result (self.new.reader.stop ≡ None) }
@@ -172,31 +176,32 @@ impl TextLines {
             Ok(begins) => return Ok(Some(begins)),
             Err(fault) => return Err(LoadFault {
                 line: number,
-                cause: LoadCause::Lex(fault),
+                cause: LoadCause::from(fault),
             }),
         }
     }
 
     /// Takes one physical line of the category.
-    fn take_line<R: Source>(&mut self, input: &mut R) -> Result<Taken, LoadFault>
+    fn take_line<R: Source>(&mut self, input: &mut R) -> Result<Step, LoadFault>
         requires { self.old.reader.stop ≡ None }
-        ensures line { Takes self.old self.new (R.left input.old) (R.left input.new) result }
-        ensures counts { IfOk result (CountsTaken self.old self.new) }
+        ensures line { FeedsOne self.old self.new (R.left input.old) (R.left input.new) result }
+        ensures tokens { IfOk result HasTokens }
+        ensures counts { IfOk result (CountsStep self.old self.new) }
         ensures errors { CountsFault (R.failed input.old) (R.failed input.new) result }
         ensures goes_on { OnOk result (self.new.reader.stop ≡ None) }
     {
         if !self.read_line(input)? {
-            return Ok(Taken::End);
+            return Ok(Step::End);
         }
         let number = self.next_number();
         let answer = self.lexer.feed(self.reader.line());
         self.count = one_more(self.count);
         match answer {
-            Ok(Some(line)) => return Ok(Taken::Whole(line)),
-            Ok(None) => return Ok(Taken::NoLine),
+            Ok(Some(line)) => return Ok(Step::Whole(line)),
+            Ok(None) => return Ok(Step::NoLine),
             Err(fault) => return Err(LoadFault {
                 line: number,
-                cause: LoadCause::Lex(fault),
+                cause: LoadCause::from(fault),
             }),
         }
     }
@@ -204,8 +209,8 @@ impl TextLines {
 
 /// The count of physical lines, one higher; the lexer counts no further than `MOST_LINES`.
 fn one_more(count: u32) -> u32
-    requires { count ≤ MOST_LINES }
-    ensures { result ≡ min (count + 1) MOST_LINES }
+    requires { count ≤ most_lines }
+    ensures { result ≡ min (count + 1) most_lines }
 {
     (count + 1).min(MOST_LINES)
 }

@@ -5,10 +5,12 @@
 ghost use Rattle.std.specs.Prelude.{◌≡◌, ◌≢◌, ◌<◌, ℕ, [], ◌||◌, not, chars, length, min, option_map, if◌then◌else◌, OnOk, IfErr};
 ghost use Rattle.std.specs.List.{list_all};
 ghost use Rattle.coll_lex.specs.Marked.{Plain};
-ghost use Rattle.coll_lex.specs.Tokens.{symbol_of, is_name, code_point_of, hex_number, is_hex_digit, is_blank, is_control, token_of};
+ghost use Rattle.coll_lex.specs.Tokens.{symbol_of, is_name, code_point_of, hex_number, is_hex_digit, is_control, token_of};
+ghost use Rattle.coll_lex.specs.Blanks.{is_blank};
 ghost use Rattle.coll_lex.specs.declared.faults.LexFault.TheVariants.{OutOfMemory};
 
 use super::{Mode, Scan};
+use crate::blanks::is_blank;
 use crate::{LexFault, MOST_NAME_CHARS, Piece, TextBuf, Token};
 use std::mem;
 
@@ -19,7 +21,7 @@ const PAST_CODE_POINTS: u32 = 0x11_0000;
 fn is_barred(c: char) -> bool
     ensures { result ≡ (is_blank c || is_control c) }
 {
-    c == ' ' || c == '\t' || c < ' ' || c == '\u{7f}'
+    is_blank(c) || c < ' ' || c == '\u{7f}'
 }
 
 // Whether a text is short enough for a name, and has no character that is barred from names.
@@ -93,12 +95,12 @@ fn token_of(piece: Piece) -> Token
 }
 
 impl Scan {
-    ghost use Rattle.coll_lex.specs.Scanning.{Takes, Refuses};
+    ghost use Rattle.coll_lex.specs.Scanning.{TakesMark, Refuses};
 
     // Reads a character of a symbol outside strings that is not escaped.
     pub(super) fn take_in_symbol(&mut self, c: char) -> Result<(), LexFault>
         requires { self.old.mode ≡ Mode.Symbol }
-        ensures ok { OnOk result ((comment : ℕ) → Takes comment self.old (Plain c) self.new) }
+        ensures ok { OnOk result ((comment : ℕ) → TakesMark comment self.old (Plain c) self.new) }
         ensures err { IfErr result
             (λ fault. fault ≢ OutOfMemory → (comment : ℕ) → Refuses comment self.old (Plain c) fault) }
     {
@@ -115,7 +117,7 @@ impl Scan {
     // Reads a character of a symbol in a string that is not escaped.
     pub(super) fn take_in_text_symbol(&mut self, c: char) -> Result<(), LexFault>
         requires { self.old.mode ≡ Mode.SymbolInText }
-        ensures ok { OnOk result ((comment : ℕ) → Takes comment self.old (Plain c) self.new) }
+        ensures ok { OnOk result ((comment : ℕ) → TakesMark comment self.old (Plain c) self.new) }
         ensures err { IfErr result
             (λ fault. fault ≢ OutOfMemory → (comment : ℕ) → Refuses comment self.old (Plain c) fault) }
     {
@@ -129,7 +131,7 @@ impl Scan {
         Ok(())
     }
 
-    // Takes the name out of the symbol that ends here, and decides what it stands for.
+    // TakesMark the name out of the symbol that ends here, and decides what it stands for.
     fn end_symbol(&mut self) -> Result<Piece, LexFault>
         ensures value { result ≡ symbol_of self.old.partial }
         ensures after { self.new ≡ record self.old { partial = [] } }

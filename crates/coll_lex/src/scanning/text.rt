@@ -10,12 +10,12 @@ use std::alloc::AllocError;
 use std::mem;
 
 impl Scan {
-    ghost use Rattle.coll_lex.specs.Scanning.{Takes, Refuses};
+    ghost use Rattle.coll_lex.specs.Scanning.{TakesMark, Refuses};
 
     // Reads a character of a string that is not escaped.
     pub(super) fn take_in_text(&mut self, c: char) -> Result<(), AllocError>
         requires { self.old.mode ≡ Mode.Text }
-        ensures { OnOk result ((comment : ℕ) → Takes comment self.old (Plain c) self.new) }
+        ensures { OnOk result ((comment : ℕ) → TakesMark comment self.old (Plain c) self.new) }
     {
         if c == '<' {
             self.enter(Mode::SymbolInText);
@@ -34,7 +34,7 @@ impl Scan {
     // Reads an escaped character of a string.
     pub(super) fn take_literal_in_text(&mut self, c: char) -> Result<(), LexFault>
         requires { self.old.mode ≡ Mode.Text }
-        ensures ok { OnOk result ((comment : ℕ) → Takes comment self.old (Literal c) self.new) }
+        ensures ok { OnOk result ((comment : ℕ) → TakesMark comment self.old (Literal c) self.new) }
         ensures err { IfErr result
             (λ fault. fault ≢ OutOfMemory → (comment : ℕ) → Refuses comment self.old (Literal c) fault) }
     {

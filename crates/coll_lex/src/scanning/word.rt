@@ -3,30 +3,24 @@
 //! The tests stand in the order of the definition of tokens, so that nothing need be known of the comment
 //! character.
 
-ghost use Rattle.std.specs.Prelude.{◌≡◌, ◌≢◌, ℕ, [], ◌∷◌, ◌++◌, OnOk, IfErr};
+ghost use Rattle.std.specs.Prelude.{◌≡◌, ◌≢◌, ◌<◌, ℕ, [], ◌∷◌, ◌++◌, length, OnOk, OnErr, IfErr};
 ghost use Rattle.coll_lex.specs.Marked.{Plain, Literal};
-ghost use Rattle.coll_lex.specs.Tokens.{is_blank};
 ghost use Rattle.coll_lex.specs.declared.faults.LexFault.TheVariants.{OutOfMemory};
 
 use super::{Mode, Scan, is_constant};
+use crate::blanks::is_blank;
 use crate::{LexFault, ListBuf, TextBuf, Token};
 use std::alloc::AllocError;
 use std::mem;
 
-// A space or a tab.
-fn is_blank(c: char) -> bool
-    ensures { result ≡ is_blank c }
-{
-    c == ' ' || c == '\t'
-}
-
 impl Scan {
-    ghost use Rattle.coll_lex.specs.Scanning.{Takes, Refuses, word_token};
+    ghost use Rattle.coll_lex.specs.Scanning.{TakesMark, Refuses, Gathers, word_token};
 
     // Reads a character outside symbols and strings that is not escaped.
     pub(super) fn take_outside(&mut self, comment: char, c: char) -> Result<(), AllocError>
         requires { self.old.mode ≡ Mode.Plain }
-        ensures { OnOk result (Takes comment self.old (Plain c) self.new) }
+        ensures ok { OnOk result (TakesMark comment self.old (Plain c) self.new) }
+        ensures memory { OnErr result (Gathers comment self.old (Plain c)) }
     {
         if c == '<' {
             self.end_word()?;
@@ -61,7 +55,7 @@ impl Scan {
     // Reads an escaped character outside symbols and strings.
     pub(super) fn take_literal_outside(&mut self, c: char) -> Result<(), LexFault>
         requires { self.old.mode ≡ Mode.Plain }
-        ensures ok { OnOk result ((comment : ℕ) → Takes comment self.old (Literal c) self.new) }
+        ensures ok { OnOk result ((comment : ℕ) → TakesMark comment self.old (Literal c) self.new) }
         ensures err { IfErr result
             (λ fault. fault ≢ OutOfMemory → (comment : ℕ) → Refuses comment self.old (Literal c) fault) }
     {
@@ -74,8 +68,9 @@ impl Scan {
 
     // Makes a token of the word so far, if one has begun.
     pub(super) fn end_word(&mut self) -> Result<(), AllocError>
-        ensures { OnOk result
+        ensures ok { OnOk result
             (self.new ≡ record self.old { partial = []; tokens = self.old.tokens ++ word_token self.old.partial }) }
+        ensures memory { OnErr result (0 < length self.old.partial) }
     {
         if self.partial.is_empty() {
             return Ok(());

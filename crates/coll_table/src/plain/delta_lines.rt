@@ -1,6 +1,7 @@
 //! The lines of a delta.
 //!
 //! The grammar is `plain_delta_line` of `specs/PlainDeltaLines.antt`, by cases on the first token and the operands after it.
+//! A new line is a case there and a variant here.
 
 ghost use Rattle.std.specs.Prelude.{◌≡◌, ◌∷◌, ◌≢◌, Ok, Err, IfOk, IfErr};
 ghost use Rattle.coll_syntax.specs.declared.faults.SyntaxFault.TheVariants.{OutOfMemory};

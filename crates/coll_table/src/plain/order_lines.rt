@@ -1,7 +1,9 @@
 //! Order lines without weights, as the plain lines of tables and of deltas share them.
+//!
+//! What they spell is `specs/PlainOrderLines.antt`; `UNDEFINED` and weights are cases to come.
 
 ghost use Rattle.std.specs.Prelude.{◌≡◌, ◌≢◌, Ok, Err, IfOk, IfErr};
-ghost use Rattle.coll_table.specs.PlainLines.{plain_id as spelled_id, plain_line as spelled_line};
+ghost use Rattle.coll_table.specs.PlainOrderLines.{plain_id as spelled_id, plain_line as spelled_line};
 ghost use Rattle.coll_syntax.specs.declared.faults.SyntaxFault.TheVariants.{OutOfMemory};
 
 use crate::PlainLine;

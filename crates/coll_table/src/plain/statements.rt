@@ -1,6 +1,6 @@
 //! The plain statements of a delta, and the order lines that they are made of.
 //!
-//! Both are plain data, which the grammar makes and a table judges.
+//! Both are plain data, which the grammar makes and a table judges; what a line may say is changed in the grammar first.
 
 use coll_lex::ListBuf;
 use coll_syntax::Id;

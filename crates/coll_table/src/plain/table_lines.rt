@@ -1,6 +1,7 @@
 //! The lines of a table.
 //!
 //! The grammar is `plain_table_line` of `specs/PlainTableLines.antt`, by cases on the first token and the operands after it.
+//! A new line is a case there and a variant here.
 
 ghost use Rattle.std.specs.Prelude.{◌≡◌, ◌∷◌, ◌≢◌, Ok, Err, IfOk, IfErr};
 ghost use Rattle.coll_syntax.specs.declared.faults.SyntaxFault.TheVariants.{OutOfMemory};
@@ -13,7 +14,7 @@ use coll_syntax::{SyntaxFault, copied_name, ended, is_word};
 use std::alloc::Global;
 
 /// A line of a table's category (POSIX.1-2017, 7.3.2).
-#[derive(Debug, Drop)]
+#[derive(Drop)]
 pub enum PlainTableLine {
     /// `collating-symbol <X>`: declares the name.
     Symbol(TextBuf),

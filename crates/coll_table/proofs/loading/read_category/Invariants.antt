@@ -1,15 +1,15 @@
 -- The lines so far decide nothing; each is one of the most lines that a text may have.
 use Rattle.std.proofs.Common.{◌≡◌, ◌-◌, None}
-use Rattle.coll_lex.specs.declared.tokens.TheConstants.{MOST_LINES}
-use Rattle.coll_table.proofs.CategorySteps.{Reading}
+use Rattle.coll_lex.specs.Limits.{most_lines}
+use Rattle.coll_table.proofs.CategorySteps.{ReadSoFar}
 use Rattle.coll_table.proofs.loading.read_category.Given as goal
 
 abbrev pub invariant-lines : goal.invariant-lines
 invariant-lines g l = record {
-  read : Reading l.initial.lines l.lines (g.R.Source.left l.initial.input) (g.R.Source.left l.input) l.draft;
+  read : ReadSoFar l.initial.lines l.lines (g.R.Source.left l.initial.input) (g.R.Source.left l.input) l.draft;
   errors : g.R.Source.failed l.input ≡ g.R.Source.failed l.initial.input;
   goes_on : l.lines.reader.stop ≡ None;
 }
 
 abbrev pub decreases-lines : goal.decreases-lines
-decreases-lines g l = MOST_LINES - l.lines.lexer.count
+decreases-lines g l = most_lines - l.lines.lexer.count

@@ -1,19 +1,21 @@
-use Rattle.std.proofs.Common.{◌≡◌, ◌-◌, ◌≤◌, length, take, None}
+use Rattle.std.proofs.Common.{◌≡◌, ◌-◌, ◌≤◌, length, take, None, false}
 use Rattle.std.specs.Io.KnownBytes.{Keeps}
-use Rattle.coll_lex.specs.LineReading.{ahead}
+use Rattle.coll_lex.specs.LineReading.{unread}
 use Rattle.coll_lex.specs.PhysicalLines.{IsInLine}
 use Rattle.coll_lex.proofs.line_reading.LineReader.advance.Given as goal
 
 abbrev pub invariant-reads : goal.invariant-reads
 invariant-reads g l =
     record {
-      kept : Keeps (ahead l.initial.self (g.R.Source.left l.initial.input)) (ahead l.self (g.R.Source.left l.input));
+      kept : Keeps (unread l.initial.self (g.R.Source.left l.initial.input)) (unread l.self (g.R.Source.left l.input));
       count : g.R.Source.failed l.input ≡ g.R.Source.failed l.initial.input;
       within : l.searched ≤ 65536;
       held : l.searched ≤ length l.self.held;
       none : IsInLine (take l.searched l.self.held);
       went_on : l.initial.self.stop ≡ None;
       stop : l.self.stop ≡ None;
+      not_ended : l.initial.self.ended ≡ false;
+      ended : l.self.ended ≡ false;
     }
 
 abbrev pub decreases-reads : goal.decreases-reads

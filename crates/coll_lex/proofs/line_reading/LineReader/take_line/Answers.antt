@@ -1,7 +1,7 @@
 use Rattle.std.proofs.Common.{◌≡◌, ◌+◌, ◌<◌, ◌≤◌, length, take, slice_index, slice_range, sym, ap, ◌∙◌, subst, arith}
 use Rattle.std.proofs.lemmas.List.Edits.{length-between, get_or-between}
 use Rattle.coll_lex.specs.PhysicalLines.{line_feed, IsInLine}
-use Rattle.coll_lex.specs.LineReading.{Reading}
+use Rattle.coll_lex.specs.LineReading.{ReaderState}
 use Rattle.coll_lex.proofs.LineReaderLemmas.{part-cut, part-front, part-front_min, part-in_line}
 use Rattle.coll_lex.proofs.line_reading.LineReader.take_line.Goals as goal
 
@@ -13,7 +13,7 @@ returns-in-Some-clause-found c =
     let m = s + k + c.in-Some.at in
     let limit = c.min-limit.result in
     let buffer = c.self.inside.buffer.items in
-    let is : c.args.self.now.held ≡ slice_range buffer s e = sym (ap (λ (r : Reading). r.held) c.self.view_is) in
+    let is : c.args.self.now.held ≡ slice_range buffer s e = sym (ap (λ (r : ReaderState). r.held) c.self.view_is) in
     let value : c.deref.result.now ≡ buffer = c.deref.ensures.value in
     let fits : e ≤ length buffer = omega (arith, c.self.invariant, c.self.inside.buffer.ok.0) in
     let within : c.in-Some.at < length (slice_range buffer (s + k) limit) = rw value at c.in-Some.ensures.within in
@@ -25,7 +25,8 @@ returns-in-Some-clause-found c =
       cut = part-cut buffer c.args.self.now.held s e m is (omega arith) (omega arith) fits feed;
       whole = part-in_line buffer c.args.self.now.held s e k m is (omega arith) (omega arith) fits c.requires.none back;
       short = omega (arith, length-between buffer s m (omega arith));
-      stop = ap (λ (r : Reading). r.stop) c.self.view_is;
+      stop = ap (λ (r : ReaderState). r.stop) c.self.view_is;
+      ended = ap (λ (r : ReaderState). r.ended) c.self.view_is;
     }
 
 pub returns-in-None-clause-not_found : goal.returns-in-None-clause-not_found
@@ -35,7 +36,7 @@ returns-in-None-clause-not_found c =
     let k = c.args.searched in
     let limit = c.min-limit.result in
     let buffer = c.self.inside.buffer.items in
-    let is : c.args.self.now.held ≡ slice_range buffer s e = sym (ap (λ (r : Reading). r.held) c.self.view_is) in
+    let is : c.args.self.now.held ≡ slice_range buffer s e = sym (ap (λ (r : ReaderState). r.held) c.self.view_is) in
     let value : c.deref.result.now ≡ buffer = c.deref.ensures.value in
     let fits : e ≤ length buffer = omega (arith, c.self.invariant, c.self.inside.buffer.ok.0) in
     let back : IsInLine (slice_range buffer (s + k) limit) = rw value at c.in-None.ensures.none in

@@ -3,7 +3,8 @@ use Rattle.std.specs.Str.{chars}
 use Rattle.std.proofs.lemmas.Str.{chars_from_encodes}
 use Rattle.std.proofs.lemmas.Iterator.{YieldsList-from_chars}
 use Rattle.std.proofs.lemmas.Iterator.Search.{all_from_yields_List}
-use Rattle.coll_lex.specs.Tokens.{is_blank, is_control}
+use Rattle.coll_lex.specs.Blanks.{is_blank}
+use Rattle.coll_lex.specs.Tokens.{is_control}
 use Rattle.coll_lex.proofs.SymbolLemmas.{long_is_no_name, short_is_name}
 use Rattle.coll_lex.proofs.scanning.symbol.is_name.Goals as goal
 

@@ -1,6 +1,6 @@
 -- One name more is copied.
 use Rattle.std.proofs.Common.{ap, ◌∙◌, take, chars}
-use Rattle.coll_table.specs.Sound.{AreNames, texts_of, with_name}
+use Rattle.coll_table.specs.LookUps.{AreNames, texts_of, with_name}
 use Rattle.coll_table.proofs.LookUps.{copied_more}
 use Rattle.coll_table.proofs.names.Names.try_copy.Goals as goal
 

@@ -1,7 +1,7 @@
 -- One line before the category more, or the end of the search.
 use Rattle.std.proofs.Common.{Bool, false, true, Option, Some, Ok, refl, ap, subst, ◌∙◌, ◌≡◌}
 use Rattle.std.proofs.lemmas.Result.{err_from_is_err_and}
-use Rattle.coll_table.specs.TextLines.{TextState, TakesOutside, CountsOutside}
+use Rattle.coll_table.specs.TextLines.{TextState, FeedsOutside, CountsOutside}
 use Rattle.coll_table.proofs.FindSteps.{finding_starts, finding_more, found, none_found, find_fails}
 use Rattle.coll_table.proofs.text_lines.TextLines.find_category.Goals as goal
 
@@ -20,7 +20,7 @@ returns-in_err-begins-clause-found g c =
 pub returns-in_default-clause-found : goal.returns-in_default-clause-found
 returns-in_default-clause-found g c =
     let left = g.R.Source.left in
-    let line = subst (λ (o : Option Bool). TakesOutside c.lines.self c.take_outside.new.self (left c.lines.input) (left c.take_outside.new.input) (Ok o)) c.in_default.is c.in_ok-begins.ensures.line in
+    let line = subst (λ (o : Option Bool). FeedsOutside c.lines.self c.take_outside.new.self (left c.lines.input) (left c.take_outside.new.input) (Ok o)) c.in_default.is c.in_ok-begins.ensures.line in
     none_found c.args.self.now c.lines.self (left c.args.input.now) (left c.lines.input) c.lines.invariant.found c.self.inside.count (left c.take_outside.new.input) line.0
     (c.self.invariant.0 ∙ (ap (λ (t : TextState). t.lexer.count) c.self.view_is ∙ ap (λ s. s.count) line.1))
 
@@ -28,7 +28,7 @@ pub returns-then-begins-clause-found : goal.returns-then-begins-clause-found
 returns-then-begins-clause-found g c =
     let left = g.R.Source.left in
     let is : c.in_ok-begins.field-0 ≡ Some true = c.in-Some.is ∙ ap Some c.if-begins.true in
-    let line = subst (λ (o : Option Bool). TakesOutside c.lines.self c.take_outside.new.self (left c.lines.input) (left c.take_outside.new.input) (Ok o)) is c.in_ok-begins.ensures.line in
+    let line = subst (λ (o : Option Bool). FeedsOutside c.lines.self c.take_outside.new.self (left c.lines.input) (left c.take_outside.new.input) (Ok o)) is c.in_ok-begins.ensures.line in
     let counts = subst (λ (o : Option Bool). CountsOutside c.lines.self c.take_outside.new.self o) is c.in_ok-begins.ensures.counts in
     found c.args.self.now c.lines.self (left c.args.input.now) (left c.lines.input) c.lines.invariant.found c.take_outside.new.self (left c.take_outside.new.input) line.0 line.1 counts
 
@@ -36,7 +36,7 @@ pub lines-preserved : goal.lines-preserved
 lines-preserved g c =
     let left = g.R.Source.left in
     let is : c.in_ok-begins.field-0 ≡ Some false = c.in-Some.is ∙ ap Some c.if-begins.false in
-    let line = subst (λ (o : Option Bool). TakesOutside c.lines.self c.take_outside.new.self (left c.lines.input) (left c.take_outside.new.input) (Ok o)) is c.in_ok-begins.ensures.line in
+    let line = subst (λ (o : Option Bool). FeedsOutside c.lines.self c.take_outside.new.self (left c.lines.input) (left c.take_outside.new.input) (Ok o)) is c.in_ok-begins.ensures.line in
     let counts = subst (λ (o : Option Bool). CountsOutside c.lines.self c.take_outside.new.self o) is c.in_ok-begins.ensures.counts in
     record {
       found = finding_more c.args.self.now c.lines.self (left c.args.input.now) (left c.lines.input) c.lines.invariant.found c.take_outside.new.self (left c.take_outside.new.input) line.0 line.1 counts;

@@ -1,6 +1,6 @@
 -- The lines so far decide nothing; each is one of the most lines that a text may have.
 use Rattle.std.proofs.Common.{◌≡◌, ◌-◌, None}
-use Rattle.coll_lex.specs.declared.tokens.TheConstants.{MOST_LINES}
+use Rattle.coll_lex.specs.Limits.{most_lines}
 use Rattle.coll_table.proofs.FindSteps.{Finding}
 use Rattle.coll_table.proofs.text_lines.TextLines.find_category.Given as goal
 
@@ -12,4 +12,4 @@ invariant-lines g l = record {
 }
 
 abbrev pub decreases-lines : goal.decreases-lines
-decreases-lines g l = MOST_LINES - l.self.lexer.count
+decreases-lines g l = most_lines - l.self.lexer.count

@@ -1,6 +1,6 @@
 -- The lines so far end no logical line; each is one of the most lines that a text may have.
 use Rattle.std.proofs.Common.{◌≡◌, ◌≤◌, ◌-◌, None}
-use Rattle.coll_lex.specs.declared.tokens.TheConstants.{MOST_LINES}
+use Rattle.coll_lex.specs.Limits.{most_lines}
 use Rattle.coll_table.proofs.NextSteps.{Nexting}
 use Rattle.coll_table.proofs.text_lines.TextLines.next_line.Given as goal
 
@@ -13,4 +13,4 @@ invariant-lines g l = record {
 }
 
 abbrev pub decreases-lines : goal.decreases-lines
-decreases-lines g l = MOST_LINES - l.self.lexer.count
+decreases-lines g l = most_lines - l.self.lexer.count
