@@ -9,7 +9,8 @@ use Rattle.coll_syntax.specs.declared.identifiers.Id.{Id}
 use Rattle.coll_syntax.specs.declared.faults.SyntaxFault.TheVariants as syntax
 use Rattle.coll_table.specs.declared.plain.statements.PlainLine.{PlainLine}
 use Rattle.coll_bench.specs.Faults.{is_want_of_memory}
-use Rattle.coll_bench.specs.Units.{BlockLines, most_block_lines, fault_at, order_by, orders_in, or_else, want_by, first_want, spoils, first_spoiler, with_line, target_want, want_in, stated_unless, unit_of, starved_at, unless_starved, block_unit, units_at, block_after, not_ended, block_left_open, end_faults, dropped_faults, last_faults, refusals, stop_of, last_or, units}
+use Rattle.coll_bench.specs.Units.{BlockLines, fault_at, order_by, orders_in, or_else, want_by, first_want, spoils, first_spoiler, with_line, target_want, want_in, stated_unless, unit_of, starved_at, unless_starved, block_unit, units_at, block_after, not_ended, block_left_open, end_faults, dropped_faults, last_faults, refusals, stop_of, last_or, units}
+use Rattle.coll_bench.specs.Limits.{most_block_lines}
 use Rattle.coll_bench.specs.OpenBlocks.{after_fault, after_order, spoiled_by, spoiled, joined, unit_so_far, kept_unit, left_open_so_far, kept_left_open, dropped_so_far, kept_after, kept_units_at, kept_end_faults, kept_dropped_faults, kept_last_faults, kept_last_or, kept_units, gathered_unless, gathered_of, starved_or, open_at, kept}
 use Rattle.coll_bench.specs.declared.faults.Fault.{Fault}
 use Rattle.coll_bench.specs.declared.faults.Fault.TheVariants as fault
@@ -208,6 +209,7 @@ units_step block line = by_heard block line.number line.heard
   where
     one : (a b : SessionUnit) → a ≡ b → a ∷ [] ≡ b ∷ []
     one a b e = ap (λ (u : SessionUnit). u ∷ []) e
+
     by_heard : (block : Option BlockLines) (n : ℕ) (h : Heard) → kept_units_at (option_map kept block) (record { number = n; heard = h }) ≡ units_at block (record { number = n; heard = h })
     by_heard block n (heard.Stops f) = refl
     by_heard None n (heard.Refused opening.ReorderAfter f) = refl
@@ -261,6 +263,7 @@ last_kept block n f = by_fault f
   where
     dropped : (f : LexFault) → kept_dropped_faults (option_map kept block) ++ fault_at n (fault.Lex f) ∷ [] ≡ dropped_faults block ++ fault_at n (fault.Lex f) ∷ []
     dropped f = ap (λ (fs : List FaultAt). fs ++ fault_at n (fault.Lex f) ∷ []) (dropped_kept block)
+
     by_fault : (f : LexFault) → kept_last_faults (option_map kept block) n f ≡ last_faults block n f
     by_fault lex.DanglingEscape = end_kept block (Some n)
     by_fault lex.LineTooLong = dropped lex.LineTooLong

@@ -8,7 +8,8 @@ use Rattle.coll_table.specs.Table.{Collation}
 use Rattle.coll_table.specs.Delta.{delta}
 use Rattle.coll_table.specs.Record.{fits, turn}
 use Rattle.coll_bench.specs.Replay.{given_or, replay}
-use Rattle.coll_bench.specs.Histories.{History, begun, most_remaining, table_now, with_statement, judged_by, judged, stepped_back, taken_back}
+use Rattle.coll_bench.specs.Histories.{History, begun, table_now, with_statement, judged_by, judged, stepped_back, taken_back}
+use Rattle.coll_bench.specs.Limits.{most_remaining}
 use Rattle.coll_bench.specs.Kept.{statements_of, turned_back, Leads, LeadsOn, history_of}
 use Rattle.coll_table.specs.declared.plain.statements.PlainStatement.{PlainStatement}
 use Rattle.coll_table.specs.declared.refusals.Refusal.{Refusal}

@@ -41,4 +41,3 @@ pub tokens_go_on : (o : Opening) (tokens : List Token) → stop_of (tokens_heard
 unfolding tokens_heard
 tokens_go_on o [] = delta_goes_on o (plain_delta_line [])
 tokens_go_on o (first ∷ rest) = neither_stops (is_command first) _ _ (command_goes_on first rest) (delta_goes_on o (plain_delta_line (first ∷ rest)))
-

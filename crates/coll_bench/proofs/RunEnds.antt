@@ -3,13 +3,14 @@ use Rattle.std.proofs.Common.{◌≡◌, ℕ, Bool, true, false, List, [], ◌�
 use Rattle.std.specs.Prelude.{◌==◌, if◌then◌else◌, option_map}
 use Rattle.std.proofs.lemmas.Bool.{false≢true}
 use Rattle.coll_lex.specs.Faults.{lex_fault_number}
-use Rattle.coll_lex.specs.LogicalLines.{OpenLine, LexerState, LogicalLine, pending, number_of, first_line, served, state_by, lines_by, left_open, logical_lines}
+use Rattle.coll_lex.specs.LogicalLines.{OpenLine, LexerState, LogicalLine, pending, number_of, first_line, fed, takes_memory, served, state_by, lines_by, line_left_open, logical_lines}
 use Rattle.coll_lex.specs.declared.tokens.Line.{Line}
 use Rattle.coll_lex.specs.declared.faults.LexFault.{LexFault}
 use Rattle.coll_lex.specs.declared.faults.LexFault.TheVariants as lex
 use Rattle.coll_lex.proofs.LineFaults.{fed-not_dangling}
 use Rattle.coll_bench.specs.Histories.{History}
-use Rattle.coll_bench.specs.SessionLines.{opening_of, ends_text, fault_heard, heard}
+use Rattle.coll_lex.specs.Faults.{ends_text}
+use Rattle.coll_bench.specs.SessionLines.{opening_of, fault_heard, heard}
 use Rattle.coll_bench.specs.Hearing.{heard_by, heard_at}
 use Rattle.coll_bench.specs.Units.{stop_of, refusals}
 use Rattle.coll_bench.specs.OpenBlocks.{kept_end_faults, kept_units}
@@ -87,7 +88,11 @@ stop_by s line (Err g) later f other stops =
 
 never_dangles : (memory : Bool) (s : LexerState) (line : List ℕ) (g : LexFault) → served memory s line ≡ Err g → (lex_fault_number g == 9) ≡ false
 unfolding served
-never_dangles true s line g e = let same : g ≡ lex.OutOfMemory = cc in ap (λ (k : LexFault). lex_fault_number k == 9) same
+never_dangles true s line g e = starved_or (takes_memory s line) e
+  where
+    starved_or : (b : Bool) → (if b then Err lex.OutOfMemory else fed s line) ≡ Err g → (lex_fault_number g == 9) ≡ false
+    starved_or true is = let same : g ≡ lex.OutOfMemory = cc in ap (λ (k : LexFault). lex_fault_number k == 9) same
+    starved_or false is = fed-not_dangling s line g is
 never_dangles false s line g e = fed-not_dangling s line g e
 
 pub last_stop : (memory : Bool) (s : LexerState) (line : List ℕ) (c : List Bool) (ends : Bool) (later : List (List ℕ)) (f : LexFault) → stop_at (heard_at memory s line) ≡ Some f
@@ -101,7 +106,7 @@ unfolding answers reply history_after refused_lines
 answers-refused h [] = refl
 answers-refused h (at ∷ faults) = ap (λ (bytes : List ℕ). refused_line at.fault ++ bytes) (answers-refused h faults)
 
-end_by : (block : Option OpenBlock) (h : History) (o : Option OpenLine) → answers h (kept_units true block (map heard (left_open o))) [] ≡ refused_lines (kept_end_faults block (option_map (λ (o : OpenLine). o.number) o))
+end_by : (block : Option OpenBlock) (h : History) (o : Option OpenLine) → answers h (kept_units true block (map heard (line_left_open o))) [] ≡ refused_lines (kept_end_faults block (option_map (λ (o : OpenLine). o.number) o))
 unfolding kept_units
 end_by block h None = answers-refused h (kept_end_faults block None)
 end_by block h (Some o) = answers-refused h (kept_end_faults block (Some o.number))
@@ -116,7 +121,7 @@ pub written_cut : (s : LexerState) (block : Option OpenBlock) (h : History) → 
 unfolding written_from logical_lines kept_units answers
 written_cut s block h = refl
 
-last_end_by : (o : Option OpenLine) → last_line (left_open o) ≡ None
+last_end_by : (o : Option OpenLine) → last_line (line_left_open o) ≡ None
 unfolding last_line
 last_end_by None = refl
 last_end_by (Some o) = refl

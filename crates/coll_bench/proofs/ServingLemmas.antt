@@ -8,9 +8,9 @@ use Rattle.std.proofs.Math.Nat.{min-eq_left}
 use Rattle.coll_lex.specs.Devices.{AppendsFront, Sends, raised}
 use Rattle.coll_lex.specs.Faults.{lex_fault_number}
 use Rattle.coll_lex.specs.LineReading.{counted}
-use Rattle.coll_lex.specs.LogicalLines.{LexerState, number_of, first_line, fed, served, state_by}
+use Rattle.coll_lex.specs.LogicalLines.{LexerState, number_of, first_line, fed, is_among_tokens, needs_memory, takes_memory, served, state_by}
 use Rattle.coll_lex.specs.declared.tokens.Line.{Line}
-use Rattle.coll_lex.specs.declared.tokens.TheConstants.{MOST_LINES}
+use Rattle.coll_lex.specs.Limits.{most_lines}
 use Rattle.coll_lex.specs.declared.faults.ReadStop.{ReadStop}
 use Rattle.coll_lex.specs.declared.faults.LexFault.{LexFault}
 use Rattle.coll_lex.specs.declared.faults.LexFault.TheVariants as lex
@@ -96,37 +96,48 @@ fault_stops o f which none =
     (λ (e : f ≡ lex.TooManyLines). let g : Some lex.TooManyLines ≡ None = subst P e none in cc)
     which
 
-room_by : (s : LexerState) (line : List ℕ) (n : ℕ) (o : Opening) (a : Result (Option Line × LexerState) LexFault) → fed s line ≡ a → stop_at (heard_by n o a) ≡ None → s.count ≡ MOST_LINES → ⊥
+room_by : (s : LexerState) (line : List ℕ) (n : ℕ) (o : Opening) (a : Result (Option Line × LexerState) LexFault) → fed s line ≡ a → stop_at (heard_by n o a) ≡ None → s.count ≡ most_lines → ⊥
 room_by s line n o (Ok (answer, after)) e none full = fed-room s line answer after e full
 room_by s line n o (Err f) e none full = fault_stops o f (fed-full s line f e full) none
 
-room_cases : (memory : Bool) (s s2 : LexerState) (line : List ℕ) (h : Option HeardLine) → Hears memory s s2 line h → stop_at h ≡ None → s.count ≡ MOST_LINES → ⊥
-unfolding served heard_at
-room_cases true s s2 line h hears none full = hears.room refl full
-room_cases false s s2 line h hears none full = room_by s line (number_of s) (opening_of (first_line s line)) (fed s line) refl (ap stop_at (sym hears.heard_is) ∙ none) full
+-- no memory is taken for a line too many
+spared_when_full : (s : LexerState) (line : List ℕ) (a : Result (Option Line × LexerState) LexFault) → fed s line ≡ a → s.count ≡ most_lines → needs_memory a ≡ false
+spared_when_full s line (Ok (answer, after)) e full = absurd (fed-room s line answer after e full)
+spared_when_full s line (Err f) e full = ⊎_elim (λ (long : f ≡ lex.LineTooLong). ap is_among_tokens long) (λ (many : f ≡ lex.TooManyLines). ap is_among_tokens many) (fed-full s line f e full)
+
+served_when_full : (memory : Bool) (s : LexerState) (line : List ℕ) → s.count ≡ most_lines → served memory s line ≡ fed s line
+unfolding served takes_memory
+served_when_full true s line full = ap (λ (b : Bool). if b then Err lex.OutOfMemory else fed s line) (spared_when_full s line (fed s line) refl full)
+served_when_full false s line full = refl
 
 -- a line that doesn't end the session is none too many
-room_at : (s s2 : LexerState) (line : List ℕ) (h : Option HeardLine) → (memory : Bool) × Hears memory s s2 line h → stop_at h ≡ None → s.count ≡ MOST_LINES → ⊥
-room_at s s2 line h hears none full = room_cases hears.0 s s2 line h hears.1 none full
+room_at : (s s2 : LexerState) (line : List ℕ) (h : Option HeardLine) → (memory : Bool) × Hears memory s s2 line h → stop_at h ≡ None → s.count ≡ most_lines → ⊥
+unfolding heard_at
+room_at s s2 line h hears none full =
+    room_by s line (number_of s) (opening_of (first_line s line)) (served hears.0 s line) (sym (served_when_full hears.0 s line full)) (ap stop_at (sym hears.1.heard_is) ∙ none) full
 
 -- a line that doesn't end the session is counted
 pub record CountsLine (s s2 : LexerState) : Type 0 where
   pub counts : s2.count ≡ s.count + 1
-  pub room : s.count < MOST_LINES
+  pub room : s.count < most_lines
 
-count_by : (s : LexerState) (line : List ℕ) (a : Result (Option Line × LexerState) LexFault) → fed s line ≡ a → (state_by s a).count ≡ min (s.count + 1) MOST_LINES
+count_by : (s : LexerState) (line : List ℕ) (a : Result (Option Line × LexerState) LexFault) → fed s line ≡ a → (state_by s a).count ≡ min (s.count + 1) most_lines
 count_by s line (Ok (answer, after)) e = fed-count s line answer after e
 count_by s line (Err f) e = refl
 
-count_cases : (memory : Bool) (s : LexerState) (line : List ℕ) → (state_by s (served memory s line)).count ≡ min (s.count + 1) MOST_LINES
+count_cases : (memory : Bool) (s : LexerState) (line : List ℕ) → (state_by s (served memory s line)).count ≡ min (s.count + 1) most_lines
 unfolding served
-count_cases true s line = refl
+count_cases true s line = starved_or (takes_memory s line)
+  where
+    starved_or : (b : Bool) → (state_by s (if b then Err lex.OutOfMemory else fed s line)).count ≡ min (s.count + 1) most_lines
+    starved_or true = refl
+    starved_or false = count_by s line (fed s line) refl
 count_cases false s line = count_by s line (fed s line) refl
 
-pub counts_line : (s s2 : LexerState) (line : List ℕ) (h : Option HeardLine) → (memory : Bool) × Hears memory s s2 line h → stop_at h ≡ None → s.count ≤ MOST_LINES → CountsLine s s2
+pub counts_line : (s s2 : LexerState) (line : List ℕ) (h : Option HeardLine) → (memory : Bool) × Hears memory s s2 line h → stop_at h ≡ None → s.count ≤ most_lines → CountsLine s s2
 counts_line s s2 line h hears none few =
-    let room : s.count < MOST_LINES = lt_of_le-ne few (room_at s s2 line h hears none) in
-    let fits : s.count + 1 ≤ MOST_LINES = omega (arith, room) in
+    let room : s.count < most_lines = lt_of_le-ne few (room_at s s2 line h hears none) in
+    let fits : s.count + 1 ≤ most_lines = omega (arith, room) in
     record {
       counts = ap (λ (x : LexerState). x.count) hears.1.stands ∙ count_cases hears.0 s line ∙ min-eq_left fits;
       room = room;

@@ -1,14 +1,15 @@
 -- Want of memory shows: a line or a unit to which memory was refused has its reply in the output, or is one of a block that
 -- has it. Where there is no such line and no such unit, the output is the stated one.
-use Rattle.std.proofs.Common.{◌≡◌, ℕ, Bool, true, false, List, [], ◌∷◌, ◌++◌, map, Option, Some, None, refl, sym, ap, ◌∙◌, subst, append_assoc, inl, inr, ⊎_elim}
-use Rattle.std.specs.Prelude.{◌⊎◌, option_to_list}
+use Rattle.std.proofs.Common.{◌≡◌, ℕ, Bool, true, false, List, [], ◌∷◌, ◌++◌, map, Option, Some, None, Result, Err, refl, sym, ap, ◌∙◌, subst, append_assoc, inl, inr, ⊎_elim}
+use Rattle.std.specs.Prelude.{◌⊎◌, if◌then◌else◌, option_to_list}
 use Rattle.coll_lex.specs.PhysicalLines.{lines_of}
-use Rattle.coll_lex.specs.LogicalLines.{LexerState, number_of, first_line, first_state, first_choice, later_choices, served, state_by, logical_lines}
+use Rattle.coll_lex.specs.LogicalLines.{LexerState, LogicalLine, number_of, first_line, first_state, first_choice, later_choices, fed, takes_memory, served, state_by, lines_by, logical_lines}
+use Rattle.coll_lex.specs.declared.tokens.Line.{Line}
 use Rattle.coll_lex.specs.declared.faults.LexFault.{LexFault}
 use Rattle.coll_lex.specs.declared.faults.LexFault.TheVariants as lex
 use Rattle.coll_bench.specs.Histories.{History, begun}
 use Rattle.coll_bench.specs.SessionLines.{opening_of, heard}
-use Rattle.coll_bench.specs.Hearing.{heard_at}
+use Rattle.coll_bench.specs.Hearing.{heard_by, heard_at}
 use Rattle.coll_bench.specs.Units.{starved_at, fault_at, refused_at}
 use Rattle.coll_bench.specs.OpenBlocks.{open_at, kept_ended, kept_after, kept_units_at, kept_last_faults, kept_units}
 use Rattle.coll_bench.specs.Replies.{refused_line, reply, history_after, starved_line, reply_if, history_after_if, answers}
@@ -29,6 +30,7 @@ use Rattle.coll_bench.specs.declared.session_lines.HeardLine.{HeardLine}
 use Rattle.coll_bench.specs.declared.units.Request.{Request}
 use Rattle.coll_bench.specs.declared.units.Request.TheVariants as request
 use Rattle.coll_bench.specs.declared.units.SessionUnit.{SessionUnit}
+use Rattle.coll_bench.proofs.HearingLemmas.{served_starved}
 use Rattle.coll_bench.proofs.RunLemmas.{output_kept, heard_later, units_on, units_stop}
 
 -- the refusal for want of memory, of some line
@@ -145,9 +147,17 @@ refused_wants (Some block) n opening.Neither lines = stays block.so_far
     stays (so_far.Spoiled at) = starved_units block.line n lines
     stays (so_far.Starved w) = starved_units block.line w lines
 
-starved_line_units : (block : Option OpenBlock) (s : LexerState) (bytes : List ℕ) (lines : List HeardLine) → Wants (kept_units true block (option_to_list (heard_at true s bytes) ++ lines))
-unfolding heard_at served
-starved_line_units block s bytes lines = refused_wants block (number_of s) (opening_of (first_line s bytes)) lines
+starved_line_units : (block : Option OpenBlock) (s : LexerState) (bytes : List ℕ) (lines : List HeardLine) → takes_memory s bytes ≡ true → Wants (kept_units true block (option_to_list (heard_at true s bytes) ++ lines))
+unfolding heard_at
+starved_line_units block s bytes lines takes =
+    subst (λ (a : Result (Option Line × LexerState) LexFault). Wants (kept_units true block (option_to_list (heard_by (number_of s) (opening_of (first_line s bytes)) a) ++ lines))) (sym (served_starved s bytes takes))
+    (refused_wants block (number_of s) (opening_of (first_line s bytes)) lines)
+
+-- a line that no memory is taken for is served as if memory was there
+spared : (choices : List Bool) (s : LexerState) (bytes : List ℕ) (lines : List (List ℕ)) → takes_memory s bytes ≡ false → logical_lines (false ∷ choices) true s (bytes ∷ lines) ≡ logical_lines (true ∷ choices) true s (bytes ∷ lines)
+unfolding logical_lines served
+spared choices s bytes lines none =
+    ap (λ (b : Bool). lines_by s bytes (if b then Err lex.OutOfMemory else fed s bytes) ++ logical_lines choices true (state_by s (if b then Err lex.OutOfMemory else fed s bytes)) lines) (sym none)
 
 -- what the lines ask for, where memory was refused to some, is what they ask for, or shows it
 abbrev ExactUnits : List SessionUnit → List SessionUnit → Type 0
@@ -163,19 +173,37 @@ served_units None block x lines stated is later =
     inr (subst (λ (us : List SessionUnit). Wants us) (sym (units_on true block x lines is)) (wants_later (line_units block x) (kept_units true (line_block block x) lines) wants)))
     later
 
-units_exact : (choices : List Bool) (s : LexerState) (block : Option OpenBlock) (lines : List (List ℕ)) → ExactUnits (kept_units true block (map heard (logical_lines choices true s lines))) (kept_units true block (map heard (logical_lines [] true s lines)))
+abbrev ExactLines : List Bool → LexerState → Option OpenBlock → List (List ℕ) → Type 0
+ExactLines choices s block lines = ExactUnits (kept_units true block (map heard (logical_lines choices true s lines))) (kept_units true block (map heard (logical_lines [] true s lines)))
+
+-- where no choice is left, memory was there
+heard_later_none : (s : LexerState) (bytes : List ℕ) (lines : List (List ℕ))
+    → map heard (logical_lines [] true s (bytes ∷ lines)) ≡ option_to_list (heard_at false s bytes) ++ map heard (logical_lines [] true (state_by s (served false s bytes)) lines)
+unfolding logical_lines
+heard_later_none s bytes lines = heard_later false [] true s bytes lines
+
+exact_served : (choices : List Bool) (s : LexerState) (block : Option OpenBlock) (bytes : List ℕ) (lines : List (List ℕ)) → ExactLines choices (state_by s (served false s bytes)) (line_block block (heard_at false s bytes)) lines → ExactLines (false ∷ choices) s block (bytes ∷ lines)
+exact_served choices s block bytes lines later =
+    let x = heard_at false s bytes in
+    let s2 = state_by s (served false s bytes) in
+    subst (λ (hs : List HeardLine). ExactUnits (kept_units true block hs) (kept_units true block (map heard (logical_lines [] true s (bytes ∷ lines))))) (sym (heard_later false choices true s bytes lines))
+    (subst (λ (hs : List HeardLine). ExactUnits (kept_units true block (option_to_list x ++ map heard (logical_lines choices true s2 lines))) (kept_units true block hs)) (sym (heard_later_none s bytes lines))
+    (served_units (stop_at x) block x (map heard (logical_lines choices true s2 lines)) (map heard (logical_lines [] true s2 lines)) refl later))
+
+exact_starved : (takes : Bool) (choices : List Bool) (s : LexerState) (block : Option OpenBlock) (bytes : List ℕ) (lines : List (List ℕ)) → takes_memory s bytes ≡ takes → ExactLines (false ∷ choices) s block (bytes ∷ lines) → ExactLines (true ∷ choices) s block (bytes ∷ lines)
+exact_starved true choices s block bytes lines takes fine =
+    inr (subst (λ (hs : List HeardLine). Wants (kept_units true block hs)) (sym (heard_later true choices true s bytes lines))
+    (starved_line_units block s bytes (map heard (logical_lines choices true (state_by s (served true s bytes)) lines)) takes))
+exact_starved false choices s block bytes lines none fine =
+    subst (λ (ls : List LogicalLine). ExactUnits (kept_units true block (map heard ls)) (kept_units true block (map heard (logical_lines [] true s (bytes ∷ lines))))) (spared choices s bytes lines none) fine
+
+units_exact : (choices : List Bool) (s : LexerState) (block : Option OpenBlock) (lines : List (List ℕ)) → ExactLines choices s block lines
 unfolding logical_lines
 units_exact choices s block [] = inl refl
 units_exact [] s block (bytes ∷ lines) = inl refl
 units_exact (true ∷ choices) s block (bytes ∷ lines) =
-    inr (subst (λ (hs : List HeardLine). Wants (kept_units true block hs)) (sym (heard_later true choices true s bytes lines))
-    (starved_line_units block s bytes (map heard (logical_lines choices true (state_by s (served true s bytes)) lines))))
-units_exact (false ∷ choices) s block (bytes ∷ lines) =
-    let x = heard_at false s bytes in
-    let s2 = state_by s (served false s bytes) in
-    subst (λ (hs : List HeardLine). ExactUnits (kept_units true block hs) (kept_units true block (map heard (logical_lines [] true s (bytes ∷ lines))))) (sym (heard_later false choices true s bytes lines))
-    (subst (λ (hs : List HeardLine). ExactUnits (kept_units true block (option_to_list x ++ map heard (logical_lines choices true s2 lines))) (kept_units true block hs)) (sym (heard_later false [] true s bytes lines))
-    (served_units (stop_at x) block x (map heard (logical_lines choices true s2 lines)) (map heard (logical_lines [] true s2 lines)) refl (units_exact choices s2 (line_block block x) lines)))
+    exact_starved (takes_memory s bytes) choices s block bytes lines refl (exact_served choices s block bytes lines (units_exact choices (state_by s (served false s bytes)) (line_block block (heard_at false s bytes)) lines))
+units_exact (false ∷ choices) s block (bytes ∷ lines) = exact_served choices s block bytes lines (units_exact choices (state_by s (served false s bytes)) (line_block block (heard_at false s bytes)) lines)
 
 -- what is written from the beginning, by what the session keeps
 written_exact : (choices : List Bool) (us_starved : List Bool) (h : History) (lines : List (List ℕ)) → Exact (written_from first_state None h choices us_starved true lines) (written_from first_state None h [] [] true lines)

@@ -3,7 +3,7 @@ use Rattle.std.specs.Prelude.{ℕ, Bool, true, false, List, codes}
 use Rattle.coll_lex.specs.Faults.{read_stop_number, read_stop_name, write_stop_number, write_stop_name, lex_fault_number, lex_fault_name}
 use Rattle.coll_syntax.specs.SyntaxFaults.{syntax_fault_number, syntax_fault_name}
 use Rattle.coll_table.specs.Refusals.{refusal_number, refusal_name}
-use Rattle.coll_table.specs.LoadFaults.{load_cause_number, load_cause_name}
+use Rattle.coll_table.specs.LoadFaults.{load_fault_number, load_fault_name}
 use Rattle.coll_lex.specs.declared.faults.LexFault.TheVariants as lex
 use Rattle.coll_syntax.specs.declared.faults.SyntaxFault.TheVariants as syntax
 use Rattle.coll_table.specs.declared.load_faults.LoadCause.{LoadCause}
@@ -32,7 +32,7 @@ fault_number (fault.Read stop) = read_stop_number stop
 fault_number (fault.Write stop) = write_stop_number stop
 fault_number (fault.Lex f) = lex_fault_number f
 fault_number (fault.Syntax f) = syntax_fault_number f
-fault_number (fault.Load f) = load_cause_number f.cause
+fault_number (fault.Load f) = load_fault_number f
 fault_number (fault.Bench f) = bench_fault_number f
 fault_number fault.BlockOpen = 62
 fault_number fault.BlockNotEnded = 63
@@ -45,7 +45,7 @@ fault_name (fault.Read stop) = read_stop_name stop
 fault_name (fault.Write stop) = write_stop_name stop
 fault_name (fault.Lex f) = lex_fault_name f
 fault_name (fault.Syntax f) = syntax_fault_name f
-fault_name (fault.Load f) = load_cause_name f.cause
+fault_name (fault.Load f) = load_fault_name f
 fault_name (fault.Bench f) = bench_fault_name f
 fault_name fault.BlockOpen = codes "BlockOpen"
 fault_name fault.BlockNotEnded = codes "BlockNotEnded"

@@ -1,7 +1,6 @@
 -- What is heard of one more physical line, and where the lexer then stands.
 use Rattle.std.specs.Prelude.{◌≡◌, ◌≤◌, ℕ, Bool, true, if◌then◌else◌, List, [], Option, Some, None, is_some, Result, Ok, Err}
 use Rattle.coll_lex.specs.LogicalLines.{LexerState, number_of, first_line, served, state_by}
-use Rattle.coll_lex.specs.declared.tokens.TheConstants.{MOST_LINES}
 use Rattle.coll_lex.specs.declared.tokens.Line.{Line}
 use Rattle.coll_lex.specs.declared.tokens.Token.{Token}
 use Rattle.coll_lex.specs.declared.faults.LexFault.{LexFault}
@@ -9,7 +8,7 @@ use Rattle.coll_lex.specs.declared.faults.LexFault.TheVariants as lex
 use Rattle.coll_table.specs.PlainDeltaLines.{plain_delta_line}
 use Rattle.coll_table.specs.declared.plain.statements.PlainLine.{PlainLine}
 use Rattle.coll_bench.specs.SessionLines.{opening_of, tokens_heard, fault_heard, delta_heard}
-use Rattle.coll_bench.specs.Units.{most_block_lines}
+use Rattle.coll_bench.specs.Limits.{most_block_lines}
 use Rattle.coll_bench.specs.declared.faults.Fault.TheVariants as fault
 use Rattle.coll_bench.specs.declared.session_lines.Opening.{Opening}
 use Rattle.coll_bench.specs.declared.session_lines.Heard.{Heard}
@@ -35,11 +34,10 @@ heard_by number opening (Err f) = Some (record { number = number; heard = fault_
 unfoldable pub heard_at : (starved : Bool) → LexerState → List ℕ → Option HeardLine
 heard_at starved s line = heard_by (number_of s) (opening_of (first_line s line)) (served starved s line)
 
--- what was heard of a physical line, which memory may have been refused to, though not to a line too many
+-- what was heard of a physical line, which memory may have been refused to
 pub record Hears (starved : Bool) (old new : LexerState) (line : List ℕ) (heard : Option HeardLine) : Type 0 where
   pub heard_is : heard ≡ heard_at starved old line
   pub stands : new ≡ state_by old (served starved old line)
-  pub room : starved ≡ true → old.count ≡ MOST_LINES → ⊥
 
 -- a line for which memory was refused
 abbrev pub no_memory : Opening → Heard

@@ -1,7 +1,8 @@
 -- The history of a session: which statements remain, which were taken back, and what a statement or an undo does.
-use Rattle.std.specs.Prelude.{◌≡◌, ◌≢◌, ◌-◌, ℕ, ◌==◌, nat_le, if◌then◌else◌, List, [], ◌∷◌, ◌++◌, length, take, drop, Result, Ok, Err}
+use Rattle.std.specs.Prelude.{◌≡◌, ◌≢◌, ◌-◌, ◌==◌, nat_le, if◌then◌else◌, List, [], ◌∷◌, ◌++◌, length, take, drop, Result, Ok, Err}
 use Rattle.coll_table.specs.Table.{Collation}
 use Rattle.coll_table.specs.Delta.{delta}
+use Rattle.coll_bench.specs.Limits.{most_remaining}
 use Rattle.coll_bench.specs.Replay.{replay}
 use Rattle.coll_table.specs.declared.plain.statements.PlainStatement.{PlainStatement}
 use Rattle.coll_table.specs.declared.refusals.Refusal.{Refusal}
@@ -14,10 +15,6 @@ pub record History : Type 0 where
   pub start : Collation
   pub remaining : List PlainStatement
   pub undone : List PlainStatement
-
--- the most statements that remain
-abbrev pub most_remaining : ℕ
-most_remaining = 65535
 
 -- a history in which nothing has happened
 abbrev pub begun : Collation → History

@@ -4,6 +4,7 @@ pub mod Hearing
 pub mod Histories
 pub mod Kept
 pub mod Laws
+pub mod Limits
 pub mod OpenBlocks
 pub mod Replay
 pub mod Replies

@@ -7,7 +7,8 @@ use Rattle.coll_syntax.specs.declared.faults.SyntaxFault.TheVariants as syntax
 use Rattle.coll_table.specs.declared.plain.statements.PlainLine.{PlainLine}
 use Rattle.coll_table.specs.declared.plain.statements.PlainStatement.TheVariants as statement
 use Rattle.coll_bench.specs.Faults.{is_want_of_memory}
-use Rattle.coll_bench.specs.Units.{BlockLines, most_block_lines, asked_at, fault_at, refused_at, starved_at, orders_in, first_spoiler, want_in, dangling, refusals, stop_of}
+use Rattle.coll_bench.specs.Units.{BlockLines, asked_at, fault_at, refused_at, starved_at, orders_in, first_spoiler, want_in, dangling, refusals, stop_of}
+use Rattle.coll_bench.specs.Limits.{most_block_lines}
 use Rattle.coll_bench.specs.declared.faults.Fault.{Fault}
 use Rattle.coll_bench.specs.declared.faults.Fault.TheVariants as fault
 use Rattle.coll_bench.specs.declared.session_lines.Opening.TheVariants as opening

@@ -8,8 +8,10 @@ use Rattle.coll_lex.specs.declared.faults.LexFault.{LexFault}
 use Rattle.coll_lex.specs.declared.faults.LexFault.TheVariants as lex
 use Rattle.coll_lex.specs.declared.faults.ReadStop.TheVariants as read
 use Rattle.coll_table.specs.Table.{Collation}
+use Rattle.coll_table.specs.TextLines.{with_feeds}
 use Rattle.coll_bench.specs.Histories.{begun}
-use Rattle.coll_bench.specs.SessionLines.{heard, ends_text}
+use Rattle.coll_lex.specs.Faults.{ends_text}
+use Rattle.coll_bench.specs.SessionLines.{heard}
 use Rattle.coll_bench.specs.Faults.{fault_number}
 use Rattle.coll_bench.specs.Units.{units}
 use Rattle.coll_bench.specs.Replies.{answers}
@@ -47,9 +49,11 @@ pub record RanToEnd (table : Collation) (text : List ℕ) (left : Option (List �
   pub no_last : last_of lines_starved true text ≡ None
   pub left_is : left ≡ Some []
 
--- a read failed: the lines read whole before it were served, and of the next a part was read
+-- a read failed: the lines read whole before it, each of which ends in a line feed, were served, and of the next a part was
+-- read
 pub record RanToReadFault (table : Collation) (text : List ℕ) (left : Option (List ℕ)) (written : List ℕ) (lines_starved units_starved : List Bool) (read part rest : List ℕ) : Type 0 where
   pub text_is : text ≡ read ++ (part ++ rest)
+  pub in_feeds : read ≡ with_feeds (lines_of read)
   pub whole : lines_of text ≡ lines_of read ++ lines_of (part ++ rest)
   pub part_in_line : IsInLine part
   pub left_is : left ≡ Some rest

@@ -1,7 +1,8 @@
 -- What a logical line of a session is: a command, a line of a delta, or a refused line.
-use Rattle.std.specs.Prelude.{ℕ, Bool, true, false, ◌==◌, nat_eq, if◌then◌else◌, List, [], ◌∷◌, Result, Ok, Err, codes}
+use Rattle.std.specs.Prelude.{ℕ, Bool, false, ◌==◌, nat_eq, if◌then◌else◌, List, [], ◌∷◌, Result, Ok, Err, codes}
 use Rattle.std.specs.List.{starts_with}
-use Rattle.coll_lex.specs.Directives.{past_blanks}
+use Rattle.coll_lex.specs.Blanks.{past_blanks}
+use Rattle.coll_lex.specs.Faults.{ends_text}
 use Rattle.coll_lex.specs.LogicalLines.{LogicalLine}
 use Rattle.coll_lex.specs.declared.tokens.Token.{Token}
 use Rattle.coll_lex.specs.declared.tokens.Token.TheVariants as token
@@ -67,12 +68,6 @@ unfoldable pub tokens_heard : Opening → List Token → Heard
 tokens_heard opening [] = delta_heard opening (plain_delta_line [])
 tokens_heard opening (first ∷ rest) =
     if is_command first then command_heard first rest else delta_heard opening (plain_delta_line (first ∷ rest))
-
--- a line too long and a line too many are the last of their text
-abbrev pub ends_text : LexFault → Bool
-ends_text lex.LineTooLong = true
-ends_text lex.TooManyLines = true
-ends_text f = false
 
 -- a line that the lexer refuses: no other comes after one that ends the text, or that is continued where the text ends
 abbrev pub fault_heard : Opening → LexFault → Heard

@@ -12,6 +12,7 @@ use Rattle.coll_syntax.specs.declared.faults.SyntaxFault.TheVariants as syntax
 use Rattle.coll_table.specs.declared.plain.statements.PlainLine.{PlainLine}
 use Rattle.coll_table.specs.declared.plain.statements.PlainStatement.TheVariants as statement
 use Rattle.coll_bench.specs.Faults.{is_want_of_memory}
+use Rattle.coll_bench.specs.Limits.{most_block_lines}
 use Rattle.coll_bench.specs.declared.faults.Fault.{Fault}
 use Rattle.coll_bench.specs.declared.faults.Fault.TheVariants as fault
 use Rattle.coll_bench.specs.declared.session_lines.Opening.TheVariants as opening
@@ -22,10 +23,6 @@ use Rattle.coll_bench.specs.declared.units.Request.{Request}
 use Rattle.coll_bench.specs.declared.units.Request.TheVariants as request
 use Rattle.coll_bench.specs.declared.units.SessionUnit.{SessionUnit}
 use Rattle.coll_bench.specs.declared.units.FaultAt.{FaultAt}
-
--- the most order lines of a block
-abbrev pub most_block_lines : ℕ
-most_block_lines = 1
 
 -- a unit of this line, which asks for this
 abbrev pub asked_at : ℕ → Request → SessionUnit

@@ -6,13 +6,13 @@
 
 ghost use Rattle.std.specs.Prelude.{◌≡◌, ◌≤◌, [], Bool, IfOk, chars, vec_capacity};
 ghost use Rattle.coll_lex.specs.LogicalLines.{pending, number_of, first_line};
-ghost use Rattle.coll_lex.specs.declared.tokens.TheConstants.{MOST_LINES};
+ghost use Rattle.coll_lex.specs.Limits.{most_lines};
 ghost use Rattle.coll_bench.specs.SessionLines.{opening_of, fault_heard, is_command as spells_command, is_command_word as spells_command_word, command_heard as spelled_command, alone as spelled_alone};
 ghost use Rattle.coll_bench.specs.Units.{stop_of};
 ghost use Rattle.coll_bench.specs.Hearing.{HasRoom, Hears, HearsTokens, HearsDelta, MakesRoom};
 
 use crate::faults::Fault;
-use crate::open_blocks::MOST_BLOCK_LINES;
+use crate::limits::MOST_BLOCK_LINES;
 use crate::session_lines::{Command, Heard, HeardLine, Opening};
 use coll_lex::{LexFault, Lexer, Line, Token, past_blanks, without_return};
 use coll_syntax::{SyntaxFault, is_word};
@@ -148,7 +148,7 @@ impl Listener {
     /// The number of the logical line that the next physical line belongs to, which its fault carries.
     pub fn next_number(&self) -> u32
         ensures number { result ≡ number_of self.now }
-        ensures counted { self.now.count ≤ MOST_LINES }
+        ensures counted { self.now.count ≤ most_lines }
     {
         self.lexer.next_number()
     }

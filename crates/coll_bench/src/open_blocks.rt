@@ -6,23 +6,20 @@
 //! `inside`.
 
 ghost use Rattle.std.specs.Prelude.{◌≡◌, ◌<◌, ◌≤◌, nat_le, length, [], ◌∷◌, ◌++◌, Some, None, option_to_list, vec_capacity};
-ghost use Rattle.coll_bench.specs.Units.{most_block_lines, fault_at, refused_at, starved_at as line_starved};
+ghost use Rattle.coll_bench.specs.Units.{fault_at, refused_at, starved_at as line_starved};
+ghost use Rattle.coll_bench.specs.Limits.{most_block_lines};
 ghost use Rattle.coll_bench.specs.Hearing.{HasRoom};
 ghost use Rattle.coll_bench.specs.OpenBlocks.{open_at, begun_at, spoiled_by as kept_of_fault, after_fault, spoiled as kept_spoiled, joined as kept_joined, kept_unit, kept_left_open, dropped_so_far, kept_by, kept_after, kept_units_by, kept_units_at};
 
 use crate::faults::Fault;
 use crate::hearing::Hearing;
+use crate::limits::MOST_BLOCK_LINES;
 use crate::session_lines::{Heard, HeardLine, Opening};
 use crate::units::{FaultAt, Request, SessionUnit};
 use coll_lex::{LexFault, ListBuf};
 use coll_syntax::{Id, SyntaxFault};
 use coll_table::{PlainLine, PlainStatement};
 use std::marker::Model;
-
-/// Most order lines of a block.
-pub const MOST_BLOCK_LINES: usize = 1;
-
-const _: () = prove!(MOST_BLOCK_LINES == 1);
 
 /// What a block has gathered: its target and its order lines so far, with room for all that it may have.
 #[derive(Debug, Drop)]
@@ -34,7 +31,7 @@ pub struct Gathering {
 impl Model for Gathering {
     ghost use Rattle.std.specs.Prelude.{◌≤◌, vec_capacity};
     ghost use Rattle.coll_bench.specs.Gathered.{Gathered};
-    ghost use Rattle.coll_bench.specs.Units.{most_block_lines};
+    ghost use Rattle.coll_bench.specs.Limits.{most_block_lines};
 
     ghost Value = { Gathered };
 

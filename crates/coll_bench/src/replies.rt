@@ -7,7 +7,7 @@
 ghost use Rattle.std.specs.Prelude.{◌≡◌, ◌++◌, ◌∷◌, [], Bool, length};
 ghost use Rattle.std.specs.Io.KnownBytes.{Keeps};
 ghost use Rattle.coll_lex.specs.Devices.{CountsErr, Sends};
-ghost use Rattle.coll_table.specs.Table.{entries_of};
+ghost use Rattle.coll_table.specs.Table.{collation, entries_of};
 ghost use Rattle.coll_bench.specs.Replies.{spelled_id, worded, counted_line, refused_line, listed_line, listed_lines, listing, outcome_line, command_reply, history_after_command, reply_if, history_after_if};
 
 use crate::faults::{BenchFault, Fault};
@@ -104,7 +104,7 @@ fn write_outcome<W: Sink>(
 // Writes the entries of a table in their order, and how many there are.
 #[tactic(auto, unfolding(crate::specs::Replies::listing))]
 fn write_listing<W: Sink>(out: &mut W, table: &Table) -> Result<(), WriteStop>
-    ensures sent { Sends (W.taken out.old) (W.taken out.new) (listing table.now) result }
+    ensures sent { Sends (W.taken out.old) (W.taken out.new) (listing (collation table.now)) result }
     ensures errors { CountsErr (W.failed out.old) (W.failed out.new) result }
 {
     let entries = table.entries();

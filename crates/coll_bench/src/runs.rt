@@ -5,6 +5,7 @@
 //! come later.
 
 ghost use Rattle.std.specs.Prelude.{◌≡◌};
+ghost use Rattle.coll_table.specs.Table.{collation};
 ghost use Rattle.coll_bench.specs.Serving.{CountsWrites, never_ran};
 ghost use Rattle.coll_bench.specs.Runs.{Runs, CountsReads};
 
@@ -26,7 +27,7 @@ pub fn run_session<R: Source, W: Sink>(
     input: &mut R,
     output: &mut W,
 ) -> Result<(), RunFault>
-    ensures run { Runs table (R.left input.old) (R.left input.new) (W.taken output.old) (W.taken output.new) result }
+    ensures run { Runs (collation table) (R.left input.old) (R.left input.new) (W.taken output.old) (W.taken output.new) result }
     ensures reads { CountsReads (R.failed input.old) (R.failed input.new) result }
     ensures writes { CountsWrites (W.failed output.old) (W.failed output.new) result }
 {

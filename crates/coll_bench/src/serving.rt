@@ -7,7 +7,8 @@
 ghost use Rattle.std.specs.Prelude.{◌≡◌, ◌+◌, ◌<◌, ◌++◌, Bool, IfOk, IfErr, OnOk, Option, option_to_list};
 ghost use Rattle.coll_lex.specs.Devices.{CountsErr, Sends};
 ghost use Rattle.coll_lex.specs.LogicalLines.{pending, number_of};
-ghost use Rattle.coll_lex.specs.declared.tokens.TheConstants.{MOST_LINES};
+ghost use Rattle.coll_lex.specs.Limits.{most_lines};
+ghost use Rattle.coll_table.specs.Table.{collation};
 ghost use Rattle.coll_bench.specs.OpenBlocks.{kept_after, kept_units_at, kept_end_faults, kept_dropped_faults, kept_last_faults};
 ghost use Rattle.coll_bench.specs.Replies.{refused_line, refused_lines};
 ghost use Rattle.coll_bench.specs.Units.{dangling as dangling_faults};
@@ -36,7 +37,7 @@ impl Desk {
 
     /// A session at the beginning of a text.
     pub fn new(alloc: Global, table: Table) -> Result<Desk, AllocError>
-        ensures { IfOk result (λ desk. IsBegun desk table) }
+        ensures { IfOk result (λ desk. IsBegun desk (collation table)) }
     {
         let listener = Listener::new(alloc)?;
         Ok(Desk {
@@ -55,7 +56,7 @@ impl Desk {
     ) -> Result<(), RunFault>
         ensures served { ServesLine self.old self.new line.now (W.taken output.old) (W.taken output.new) result }
         ensures counts { OnOk result (self.new.listener.count ≡ self.old.listener.count + 1) }
-        ensures room { OnOk result (self.old.listener.count < MOST_LINES) }
+        ensures room { OnOk result (self.old.listener.count < most_lines) }
         ensures reads { IfErr result (λ ended. ReadsNone ended) }
         ensures errors { CountsWrites (W.failed output.old) (W.failed output.new) result }
     {

@@ -24,7 +24,7 @@ pub returns-in-Err : goal.returns-in-Err
 returns-in-Err c =
     subst (λ (s : LexerState). (starved : Bool) × Hears starved s c.feed.new.self c.args.line.now (Some c.refused_by_lexer.result)) c.self.view_is
     (hears_fault c.self.inside.lexer c.feed.new.self c.args.line.now c.opening_at-opening.result c.in-Err.fault c.refused_by_lexer.result c.next_number-number.result
-    (c.opening_at-opening.ensures ∙ ap (λ (t : LexerState). opening_of (first_line t c.args.line.now)) (sym c.self.view_is)) c.next_number-number.ensures.number c.in-Err.ensures.dropped c.in-Err.ensures.err c.in-Err.ensures.room c.refused_by_lexer.ensures)
+    (c.opening_at-opening.ensures ∙ ap (λ (t : LexerState). opening_of (first_line t c.args.line.now)) (sym c.self.view_is)) c.next_number-number.ensures.number c.in-Err.ensures.dropped c.in-Err.ensures.err c.in-Err.ensures.memory c.refused_by_lexer.ensures)
 
 pub returns-in-Ok-None : goal.returns-in-Ok-None
 returns-in-Ok-None c =
