@@ -54,8 +54,6 @@ fault_name fault.NoBlock = codes "NoBlock"
 
 -- a load was refused for want of memory
 abbrev pub load_wants_memory : LoadCause → Bool
-load_wants_memory (load.Lex lex.OutOfMemory) = true
-load_wants_memory (load.Syntax syntax.OutOfMemory) = true
 load_wants_memory load.OutOfMemory = true
 load_wants_memory cause = false
 

@@ -28,6 +28,7 @@ table_now h = replay h.start h.remaining
 abbrev pub with_statement : History → PlainStatement → History
 with_statement h statement = record { start = h.start; remaining = h.remaining ++ statement ∷ []; undone = [] }
 
+-- the history with a statement that the table accepts, or the table's refusal
 abbrev pub judged_by : History → PlainStatement → Result Collation Refusal → Result History BenchFault
 judged_by h statement (Ok table) = Ok (with_statement h statement)
 judged_by h statement (Err reason) = Err (Table reason)

@@ -60,6 +60,7 @@ abbrev pub count_reply : List ℕ → Result History BenchFault → List ℕ
 count_reply word (Ok h) = counted_line word (length h.remaining)
 count_reply word (Err f) = refused_line (fault.Bench f)
 
+-- the reply to a command
 abbrev pub command_reply : History → Command → List ℕ
 command_reply h command.Undo = count_reply (codes "undone") (taken_back h)
 command_reply h command.List = listing (table_now h)
@@ -75,6 +76,7 @@ abbrev pub history_or : History → Result History BenchFault → History
 history_or before (Ok h) = h
 history_or before (Err f) = before
 
+-- the history after a command
 abbrev pub history_after_command : History → Command → History
 history_after_command h command.Undo = history_or h (taken_back h)
 history_after_command h command.List = h
@@ -99,6 +101,7 @@ starved_line = refused_line (fault.Lex lex.OutOfMemory)
 abbrev pub reply_if : Bool → History → Request → List ℕ
 reply_if starved h unit = if starved && may_starve unit then starved_line else reply h unit
 
+-- the history after a unit that was starved or not
 abbrev pub history_after_if : Bool → History → Request → History
 history_after_if starved h unit = if starved && may_starve unit then h else history_after h unit
 

@@ -140,8 +140,6 @@ fn load_wants_memory(cause: LoadCause) -> bool
     ensures { result ≡ load_wants cause }
 {
     match cause {
-        LoadCause::Lex(LexFault::OutOfMemory) => true,
-        LoadCause::Syntax(SyntaxFault::OutOfMemory) => true,
         LoadCause::OutOfMemory => true,
         _ => false,
     }

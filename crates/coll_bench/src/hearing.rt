@@ -9,7 +9,7 @@ ghost use Rattle.coll_lex.specs.LogicalLines.{pending, number_of, first_line};
 ghost use Rattle.coll_lex.specs.Limits.{most_lines};
 ghost use Rattle.coll_bench.specs.SessionLines.{opening_of, fault_heard, is_command as spells_command, is_command_word as spells_command_word, command_heard as spelled_command, alone as spelled_alone};
 ghost use Rattle.coll_bench.specs.Units.{stop_of};
-ghost use Rattle.coll_bench.specs.Hearing.{HasRoom, Hears, HearsTokens, HearsDelta, MakesRoom};
+ghost use Rattle.coll_bench.specs.Hearing.{HasRoom, Hears, HearsTokens, HearsDelta, MakesRoom, no_memory as line_starved};
 
 use crate::faults::Fault;
 use crate::limits::MOST_BLOCK_LINES;
@@ -41,32 +41,32 @@ impl Model for Hearing {
 
 impl Hearing {
     // A line that opens no block.
-    fn without_room(alloc: Global, line: HeardLine) -> Hearing
-        requires { HasRoom line.heard 0 [] }
-        ensures { result ≡ line }
+    fn without_room(alloc: Global, number: u32, heard: Heard) -> Hearing
+        requires { HasRoom heard 0 [] }
+        ensures { result ≡ record { number = number; heard = heard } }
     {
         Hearing {
-            line,
+            line: HeardLine { number, heard },
             room: Vec::new(alloc),
         }
     }
 
     // The line, with the room for the block that it may open. Where memory for this is refused, so is the line.
-    fn with_room(alloc: Global, opening: Opening, line: HeardLine) -> Hearing
-        ensures { MakesRoom opening line result }
+    fn with_room(alloc: Global, opening: Opening, number: u32, heard: Heard) -> Hearing
+        ensures { MakesRoom opening (record { number = number; heard = heard }) result }
     {
-        match &line.heard {
-            Heard::Opens(_) => match Vec::with_capacity(alloc, MOST_BLOCK_LINES) {
-                Ok(room) => Hearing { line, room },
-                Err(_) => Hearing::without_room(
-                    alloc,
-                    HeardLine {
-                        number: line.number,
-                        heard: Heard::Refused(opening, Fault::Lex(LexFault::OutOfMemory)),
+        match heard {
+            Heard::Opens(target) => match Vec::with_capacity(alloc, MOST_BLOCK_LINES) {
+                Ok(room) => Hearing {
+                    line: HeardLine {
+                        number,
+                        heard: Heard::Opens(target),
                     },
-                ),
+                    room,
+                },
+                Err(_) => Hearing::without_room(alloc, number, no_memory(opening)),
             },
-            _ => Hearing::without_room(alloc, line),
+            heard => Hearing::without_room(alloc, number, heard),
         }
     }
 
@@ -140,7 +140,7 @@ impl Listener {
             }
             Ok(Some(line)) => {
                 let heard = tokens_heard(alloc, opening, &line);
-                Some(Hearing::with_room(alloc, opening, HeardLine { number, heard }))
+                Some(Hearing::with_room(alloc, opening, number, heard))
             }
         }
     }
@@ -194,22 +194,17 @@ fn refused_by_lexer(alloc: Global, number: u32, opening: Opening, fault: LexFaul
 {
     match fault {
         LexFault::LineTooLong | LexFault::TooManyLines | LexFault::DanglingEscape => {
-            Hearing::without_room(
-                alloc,
-                HeardLine {
-                    number,
-                    heard: Heard::Stops(fault),
-                },
-            )
+            Hearing::without_room(alloc, number, Heard::Stops(fault))
         }
-        _ => Hearing::without_room(
-            alloc,
-            HeardLine {
-                number,
-                heard: Heard::Refused(opening, Fault::Lex(fault)),
-            },
-        ),
+        _ => Hearing::without_room(alloc, number, Heard::Refused(opening, Fault::Lex(fault))),
     }
+}
+
+// A line for which memory was refused.
+fn no_memory(opening: Opening) -> Heard
+    ensures { result ≡ line_starved opening }
+{
+    Heard::Refused(opening, Fault::Lex(LexFault::OutOfMemory))
 }
 
 // What a line with tokens is.
@@ -281,7 +276,7 @@ fn delta_heard(alloc: Global, opening: Opening, line: &Line) -> Heard
         Ok(PlainDeltaLine::ReorderAfter(target)) => Heard::Opens(target),
         Ok(PlainDeltaLine::ReorderEnd) => Heard::Ends,
         Ok(PlainDeltaLine::Order(line)) => Heard::Orders(line),
-        Err(SyntaxFault::OutOfMemory) => Heard::Refused(opening, Fault::Lex(LexFault::OutOfMemory)),
+        Err(SyntaxFault::OutOfMemory) => no_memory(opening),
         Err(fault) => Heard::Refused(opening, Fault::Syntax(fault)),
     }
 }

@@ -6,10 +6,10 @@
 //! `inside`.
 
 ghost use Rattle.std.specs.Prelude.{◌≡◌, ◌<◌, ◌≤◌, nat_le, length, [], ◌∷◌, ◌++◌, Some, None, option_to_list, vec_capacity};
-ghost use Rattle.coll_bench.specs.Units.{fault_at, refused_at, starved_at as line_starved};
+ghost use Rattle.coll_bench.specs.Units.{asked_at, fault_at, refused_at, starved_at as line_starved};
 ghost use Rattle.coll_bench.specs.Limits.{most_block_lines};
 ghost use Rattle.coll_bench.specs.Hearing.{HasRoom};
-ghost use Rattle.coll_bench.specs.OpenBlocks.{open_at, begun_at, spoiled_by as kept_of_fault, after_fault, spoiled as kept_spoiled, joined as kept_joined, kept_unit, kept_left_open, dropped_so_far, kept_by, kept_after, kept_units_by, kept_units_at};
+ghost use Rattle.coll_bench.specs.OpenBlocks.{open_at, begun_at, spoiled_by as kept_of_fault, after_fault as kept_after_fault, after_order as kept_after_order, spoiled as kept_spoiled, joined as kept_joined, kept_unit, kept_left_open, dropped_so_far, kept_by, kept_after, kept_units_by, kept_units_at};
 
 use crate::faults::Fault;
 use crate::hearing::Hearing;
@@ -91,6 +91,35 @@ pub enum SoFar {
     Starved(u32),
 }
 
+impl SoFar {
+    // What is kept after a line of the block was refused.
+    fn after_fault(self, at: FaultAt) -> SoFar
+        ensures { result ≡ kept_after_fault self at }
+    {
+        match self {
+            SoFar::Gathers(_) => spoiled_by(at),
+            SoFar::Spoiled(first) => starved_or(first, at),
+            SoFar::Starved(first) => SoFar::Starved(first),
+        }
+    }
+
+    // What is kept after a further order line, or after a line too many.
+    fn after_order(self, number: u32, order: PlainLine) -> SoFar
+        ensures { result ≡ kept_after_order self number order }
+    {
+        match self {
+            SoFar::Gathers(block) => {
+                if block.is_full() {
+                    return SoFar::Spoiled(too_long(number));
+                }
+                SoFar::Gathers(block.push(order))
+            }
+            SoFar::Spoiled(first) => SoFar::Spoiled(first),
+            SoFar::Starved(first) => SoFar::Starved(first),
+        }
+    }
+}
+
 /// A block that is open.
 #[derive(Debug, Drop)]
 pub struct OpenBlock {
@@ -101,6 +130,15 @@ pub struct OpenBlock {
 }
 
 impl OpenBlock {
+    // The block that a line opens, in the room that was made for it.
+    fn begin(line: u32, target: Id, room: Vec<PlainLine>) -> OpenBlock
+        requires { HasRoom (Heard.Opens target) (vec_capacity room) room.items }
+        ensures { result ≡ begun_at line target }
+    {
+        let so_far = SoFar::Gathers(Gathering::begin(target, room));
+        OpenBlock { line, so_far }
+    }
+
     // A block whose first line was refused.
     fn begin_spoiled(at: FaultAt) -> OpenBlock
         ensures { result ≡ open_at at.line (kept_of_fault at) }
@@ -116,20 +154,8 @@ impl OpenBlock {
         ensures { result ≡ kept_spoiled self at }
     {
         let OpenBlock { line, so_far } = self;
-        match so_far {
-            SoFar::Gathers(_) => OpenBlock {
-                line,
-                so_far: spoiled_by(at),
-            },
-            SoFar::Spoiled(first) => OpenBlock {
-                line,
-                so_far: starved_or(first, at),
-            },
-            SoFar::Starved(first) => OpenBlock {
-                line,
-                so_far: SoFar::Starved(first),
-            },
-        }
+        let so_far = so_far.after_fault(at);
+        OpenBlock { line, so_far }
     }
 
     // The block with a further order line, or spoiled by a line too many.
@@ -137,28 +163,8 @@ impl OpenBlock {
         ensures { result ≡ kept_joined self number order }
     {
         let OpenBlock { line, so_far } = self;
-        match so_far {
-            SoFar::Gathers(block) => {
-                if block.is_full() {
-                    return OpenBlock {
-                        line,
-                        so_far: SoFar::Spoiled(too_long(number)),
-                    };
-                }
-                OpenBlock {
-                    line,
-                    so_far: SoFar::Gathers(block.push(order)),
-                }
-            }
-            SoFar::Spoiled(first) => OpenBlock {
-                line,
-                so_far: SoFar::Spoiled(first),
-            },
-            SoFar::Starved(first) => OpenBlock {
-                line,
-                so_far: SoFar::Starved(first),
-            },
-        }
+        let so_far = so_far.after_order(number, order);
+        OpenBlock { line, so_far }
     }
 
     // The unit of the block, at its end.
@@ -167,10 +173,7 @@ impl OpenBlock {
     {
         let OpenBlock { line, so_far } = self;
         match so_far {
-            SoFar::Gathers(block) => SessionUnit {
-                line,
-                request: Request::States(block.statement()),
-            },
+            SoFar::Gathers(block) => asked(line, Request::States(block.statement())),
             SoFar::Spoiled(first) => refused(first.line, first.fault),
             SoFar::Starved(first) => refused(first, Fault::Lex(LexFault::OutOfMemory)),
         }
@@ -213,7 +216,7 @@ fn spoiled_by(at: FaultAt) -> SoFar
 
 // What is kept of the first fault of a block and a later one.
 fn starved_or(first: FaultAt, at: FaultAt) -> SoFar
-    ensures { result ≡ after_fault (SoFar.Spoiled first) at }
+    ensures { result ≡ kept_after_fault (SoFar.Spoiled first) at }
 {
     if at.fault.is_want_of_memory() {
         SoFar::Starved(at.line)
@@ -242,29 +245,27 @@ fn too_long(line: u32) -> FaultAt
     }
 }
 
+// A unit of a line.
+fn asked(line: u32, request: Request) -> SessionUnit
+    ensures { result ≡ asked_at line request }
+{
+    SessionUnit { line, request }
+}
+
 // The unit of what is refused.
 fn refused(line: u32, fault: Fault) -> SessionUnit
     ensures { result ≡ refused_at (fault_at line fault) }
 {
-    SessionUnit {
-        line,
-        request: Request::Refused(fault),
-    }
+    asked(line, Request::Refused(fault))
 }
 
 /// What a line leaves: the block that is open after it, and the unit that it completes.
-#[derive(Debug, Drop)]
-pub struct AfterLine {
-    /// The block that is open, if one is.
-    pub block: Option<OpenBlock>,
-    /// The unit that is complete, if one is.
-    pub unit: Option<SessionUnit>,
-}
+pub type AfterLine = (Option<OpenBlock>, Option<SessionUnit>);
 
 /// Takes a line: the block that is open after it, and the unit that it completes. It takes no memory.
 pub fn take_line(block: Option<OpenBlock>, hearing: Hearing) -> AfterLine
-    ensures block { result.block ≡ kept_after block hearing }
-    ensures unit { option_to_list result.unit ≡ kept_units_at block hearing }
+    ensures block { result.0 ≡ kept_after block hearing }
+    ensures unit { option_to_list result.1 ≡ kept_units_at block hearing }
 {
     let (line, room) = hearing.split();
     let HeardLine { number, heard } = line;
@@ -277,14 +278,11 @@ pub fn take_line(block: Option<OpenBlock>, hearing: Hearing) -> AfterLine
 // Takes a line where no block is open.
 fn outside(number: u32, heard: Heard, room: Vec<PlainLine>) -> AfterLine
     requires { HasRoom heard (vec_capacity room) room.items }
-    ensures block { result.block ≡ kept_by None number heard }
-    ensures unit { option_to_list result.unit ≡ kept_units_by None number heard }
+    ensures block { result.0 ≡ kept_by None number heard }
+    ensures unit { option_to_list result.1 ≡ kept_units_by None number heard }
 {
     match heard {
-        Heard::Stops(_) => AfterLine {
-            block: None,
-            unit: None,
-        },
+        Heard::Stops(_) => (None, None),
         Heard::Refused(opening, fault) => refused_outside(
             opening,
             FaultAt {
@@ -292,128 +290,67 @@ fn outside(number: u32, heard: Heard, room: Vec<PlainLine>) -> AfterLine
                 fault,
             },
         ),
-        Heard::Asks(command) => AfterLine {
-            block: None,
-            unit: Some(SessionUnit {
-                line: number,
-                request: Request::Asks(command),
-            }),
-        },
-        Heard::Misasks(fault) => AfterLine {
-            block: None,
-            unit: Some(refused(number, fault)),
-        },
-        Heard::Opens(target) => AfterLine {
-            block: Some(begin(number, target, room)),
-            unit: None,
-        },
-        Heard::Ends => AfterLine {
-            block: None,
-            unit: Some(refused(number, Fault::NoBlock)),
-        },
-        Heard::Orders(order) => AfterLine {
-            block: None,
-            unit: Some(SessionUnit {
-                line: number,
-                request: Request::States(PlainStatement::Reweight(order)),
-            }),
-        },
+        Heard::Asks(command) => (None, Some(asked(number, Request::Asks(command)))),
+        Heard::Misasks(fault) => (None, Some(refused(number, fault))),
+        Heard::Opens(target) => (Some(OpenBlock::begin(number, target, room)), None),
+        Heard::Ends => (None, Some(refused(number, Fault::NoBlock))),
+        Heard::Orders(order) => (None, Some(reweighted(number, order))),
     }
 }
 
-// The block that a line opens, in the room that was made for it.
-fn begin(number: u32, target: Id, room: Vec<PlainLine>) -> OpenBlock
-    requires { HasRoom (Heard.Opens target) (vec_capacity room) room.items }
-    ensures { result ≡ begun_at number target }
+// The unit of an order line outside a block.
+fn reweighted(line: u32, order: PlainLine) -> SessionUnit
+    ensures { result ≡ asked_at line (Request.States (PlainStatement.Reweight order)) }
 {
-    OpenBlock {
-        line: number,
-        so_far: SoFar::Gathers(Gathering::begin(target, room)),
-    }
+    asked(line, Request::States(PlainStatement::Reweight(order)))
 }
 
 // Takes a refused line where no block is open.
 fn refused_outside(opening: Opening, at: FaultAt) -> AfterLine
-    ensures block { result.block ≡ kept_by None at.line (Heard.Refused opening at.fault) }
-    ensures unit { option_to_list result.unit ≡ kept_units_by None at.line (Heard.Refused opening at.fault) }
+    ensures block { result.0 ≡ kept_by None at.line (Heard.Refused opening at.fault) }
+    ensures unit { option_to_list result.1 ≡ kept_units_by None at.line (Heard.Refused opening at.fault) }
 {
     match opening {
-        Opening::ReorderAfter => AfterLine {
-            block: Some(OpenBlock::begin_spoiled(at)),
-            unit: None,
-        },
-        Opening::ReorderEnd => AfterLine {
-            block: None,
-            unit: Some(refused(at.line, at.fault)),
-        },
-        Opening::Neither => AfterLine {
-            block: None,
-            unit: Some(refused(at.line, at.fault)),
-        },
+        Opening::ReorderAfter => (Some(OpenBlock::begin_spoiled(at)), None),
+        Opening::ReorderEnd => (None, Some(refused(at.line, at.fault))),
+        Opening::Neither => (None, Some(refused(at.line, at.fault))),
     }
 }
 
 // Takes a line where a block is open.
 fn inside(block: OpenBlock, number: u32, heard: Heard, room: Vec<PlainLine>) -> AfterLine
     requires { HasRoom heard (vec_capacity room) room.items }
-    ensures block { result.block ≡ kept_by (Some block) number heard }
-    ensures unit { option_to_list result.unit ≡ kept_units_by (Some block) number heard }
+    ensures block { result.0 ≡ kept_by (Some block) number heard }
+    ensures unit { option_to_list result.1 ≡ kept_units_by (Some block) number heard }
 {
     match heard {
-        Heard::Stops(_) => AfterLine {
-            block: None,
-            unit: None,
-        },
+        Heard::Stops(_) => (None, None),
         Heard::Refused(opening, fault) => {
-            refused_inside(
-                block,
-                opening,
-                FaultAt {
-                    line: number,
-                    fault,
-                },
-            )
+            let at = FaultAt {
+                line: number,
+                fault,
+            };
+            refused_inside(block, opening, at)
         }
-        Heard::Asks(_) => AfterLine {
-            block: Some(block),
-            unit: Some(refused(number, Fault::BlockOpen)),
-        },
-        Heard::Misasks(_) => AfterLine {
-            block: Some(block),
-            unit: Some(refused(number, Fault::BlockOpen)),
-        },
-        Heard::Opens(target) => AfterLine {
-            block: Some(begin(number, target, room)),
-            unit: Some(block.unit()),
-        },
-        Heard::Ends => AfterLine {
-            block: None,
-            unit: Some(block.unit()),
-        },
-        Heard::Orders(order) => AfterLine {
-            block: Some(block.join(number, order)),
-            unit: None,
-        },
+        Heard::Asks(_) => (Some(block), Some(refused(number, Fault::BlockOpen))),
+        Heard::Misasks(_) => (Some(block), Some(refused(number, Fault::BlockOpen))),
+        Heard::Opens(target) => {
+            let next = OpenBlock::begin(number, target, room);
+            (Some(next), Some(block.unit()))
+        }
+        Heard::Ends => (None, Some(block.unit())),
+        Heard::Orders(order) => (Some(block.join(number, order)), None),
     }
 }
 
 // Takes a refused line where a block is open.
 fn refused_inside(block: OpenBlock, opening: Opening, at: FaultAt) -> AfterLine
-    ensures block { result.block ≡ kept_by (Some block) at.line (Heard.Refused opening at.fault) }
-    ensures unit { option_to_list result.unit ≡ kept_units_by (Some block) at.line (Heard.Refused opening at.fault) }
+    ensures block { result.0 ≡ kept_by (Some block) at.line (Heard.Refused opening at.fault) }
+    ensures unit { option_to_list result.1 ≡ kept_units_by (Some block) at.line (Heard.Refused opening at.fault) }
 {
     match opening {
-        Opening::ReorderAfter => AfterLine {
-            block: Some(OpenBlock::begin_spoiled(at)),
-            unit: Some(block.unit()),
-        },
-        Opening::ReorderEnd => AfterLine {
-            block: None,
-            unit: Some(block.spoil(at).unit()),
-        },
-        Opening::Neither => AfterLine {
-            block: Some(block.spoil(at)),
-            unit: None,
-        },
+        Opening::ReorderAfter => { (Some(OpenBlock::begin_spoiled(at)), Some(block.unit())) }
+        Opening::ReorderEnd => (None, Some(block.spoil(at).unit())),
+        Opening::Neither => (Some(block.spoil(at)), None),
     }
 }

@@ -17,7 +17,7 @@ ghost use Rattle.coll_bench.specs.Serving.{EndsWith, FinishesWith, IsCutOff, Cou
 use crate::faults::{Fault, RunFault};
 use crate::hearing::{Hearing, Listener};
 use crate::histories::Session;
-use crate::open_blocks::{AfterLine, OpenBlock, take_line};
+use crate::open_blocks::{OpenBlock, take_line};
 use crate::replies::{answer, refuse};
 use crate::units::FaultAt;
 use coll_lex::{LexFault, ReadStop, Sink, WriteStop};
@@ -81,7 +81,7 @@ impl Desk {
         ensures listener { self.new.listener ≡ self.old.listener }
         ensures errors { CountsErr (W.failed output.old) (W.failed output.new) result }
     {
-        let AfterLine { block, unit } = take_line(self.block.take(), hearing);
+        let (block, unit) = take_line(self.block.take(), hearing);
         self.block = block;
         match unit {
             Some(unit) => answer(&mut self.session, unit.request, output),

@@ -10,12 +10,12 @@ returns-in-Some-clause-answered g c =
     let taken = g.W.Sink.taken in
     let t = c.take_line-block.result in
     let a = c.answer.ensures.answered in
-    takes_one a.0 c.args.self.now.session c.answer.new.session t.unit c.in-Some.unit _ (taken c.args.output.now) (taken c.answer.new.out) c.answer.result c.in-Some.is
+    takes_one a.0 c.args.self.now.session c.answer.new.session t.1 c.in-Some.unit _ (taken c.args.output.now) (taken c.answer.new.out) c.answer.result c.in-Some.is
     (c.take_line-block.ensures.unit ∙ ap (λ (b : Option OpenBlock). kept_units_at b c.args.hearing) c.take.ensures.value) a.1 a.2
 
 pub returns-in-None-clause-answered : goal.returns-in-None-clause-answered
 returns-in-None-clause-answered g c =
     let taken = g.W.Sink.taken in
     let t = c.take_line-block.result in
-    takes_none c.args.self.now.session t.unit _ (taken c.args.output.now) c.in-None.is
+    takes_none c.args.self.now.session t.1 _ (taken c.args.output.now) c.in-None.is
     (c.take_line-block.ensures.unit ∙ ap (λ (b : Option OpenBlock). kept_units_at b c.args.hearing) c.take.ensures.value)
