@@ -27,10 +27,6 @@ collation table = table
 abbrev pub declared_of : Collation → List (List ℕ)
 declared_of table = table.declared
 
--- the sections of a table
-abbrev pub sections_of : Collation → List Section
-sections_of table = table.sections
-
 -- some entries, and after them those of the sections that follow
 abbrev pub followed_by : List Entry → List Section → List Entry
 followed_by entries [] = entries
