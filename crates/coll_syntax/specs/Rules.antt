@@ -35,7 +35,7 @@ operand_rule (t ∷ []) = one_directive (directive_of t)
 operand_rule (t ∷ token.Comma ∷ u ∷ []) = two_directives (directive_of t) (directive_of u)
 operand_rule _ = None
 
--- a rule, where everything else is a bad one
+-- a rule, where everything else is a bad one (the project's own rule)
 abbrev pub wanted_rule : Option Rule → Result Rule SyntaxFault
 wanted_rule (Some read) = Ok read
 wanted_rule None = Err BadRule
@@ -44,7 +44,8 @@ wanted_rule None = Err BadRule
 abbrev pub rule : List Token → Result Rule SyntaxFault
 rule ts = wanted_rule (operand_rule ts)
 
--- what the operands say: the first four are rules, and each further one is one too many, whatever it holds
+-- what the operands say: the first four are rules, and each further one is one too many, whatever it holds (the project's
+-- own limit)
 abbrev pub judged_levels : List (List Token) → List (Result Rule SyntaxFault)
 judged_levels operands = map rule (take 4 operands) ++ map (λ _. Err TooManyLevels) (drop 4 operands)
 

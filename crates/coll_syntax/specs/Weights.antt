@@ -37,11 +37,11 @@ abbrev pub begins_operand : Token → Bool
 begins_operand (token.Text pieces) = true
 begins_operand t = is_word t (codes "IGNORE") || is_some (char_or_name t)
 
--- the fault of a token that stands where a semicolon is wanted
+-- the fault of a token that stands where a semicolon is wanted (the project's own rule)
 abbrev pub left_over : Token → SyntaxFault
 left_over t = if begins_operand t then ExtraOperand else BadOperand
 
--- the weight of one operand; an empty one is the entry's own
+-- the weight of one operand; an empty one is the entry's own, at the end of the line too (the project's own rule)
 abbrev pub operand_weight : List Token → Result Weight SyntaxFault
 operand_weight [] = Ok Own
 operand_weight (t ∷ []) = weight t
