@@ -15,3 +15,4 @@ pub mod LineEnds
 pub mod FeedLemmas
 pub mod LineFaults
 pub mod NameLemmas
+pub mod NameTests

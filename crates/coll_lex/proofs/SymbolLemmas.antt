@@ -9,7 +9,7 @@ use Rattle.coll_lex.specs.Limits.{most_name_chars}
 use Rattle.coll_lex.specs.Tokens.{is_control, is_hex_digit, hex_number, are_digits, is_name, code_point_of, character_of, name_of, symbol_by, symbol_of}
 use Rattle.coll_lex.specs.declared.faults.LexFault.TheVariants.{EmptySymbol, BadName, BadCodePoint}
 use Rattle.coll_lex.specs.declared.tokens.Piece.TheVariants as piece
-use Rattle.coll_lex.specs.declared.scanning.symbol.TheConstants.{PAST_CODE_POINTS}
+use Rattle.coll_lex.specs.declared.names.TheConstants.{PAST_CODE_POINTS}
 
 both_left : (a b : Bool) → (a && b) ≡ true → a ≡ true
 both_left true b e = refl

@@ -1,5 +1,5 @@
--- What is true of the tokens of every logical line: names are names, and no word is empty.
-use Rattle.std.specs.Prelude.{◌≡◌, ℕ, ◌<◌, List, length, All, Some, Ok}
+-- What a name is, and what is true of the tokens of every logical line: names are names, and no word is empty.
+use Rattle.std.specs.Prelude.{◌≡◌, ℕ, ◌<◌, Bool, true, false, List, length, All, Some, Result, Ok, Err}
 use Rattle.coll_lex.specs.Tokens.{symbol_of}
 use Rattle.coll_lex.specs.LogicalLines.{LexerState, fed}
 use Rattle.coll_lex.specs.declared.tokens.Line.{Line}
@@ -7,10 +7,21 @@ use Rattle.coll_lex.specs.declared.tokens.Token.{Token}
 use Rattle.coll_lex.specs.declared.tokens.Token.TheVariants as token
 use Rattle.coll_lex.specs.declared.tokens.Piece.{Piece}
 use Rattle.coll_lex.specs.declared.tokens.Piece.TheVariants as piece
+use Rattle.coll_lex.specs.declared.faults.LexFault.{LexFault}
 
 -- a name: what stands between the brackets of a symbol that is no code point
 abbrev pub IsName : List ℕ → Type 0
 IsName name = symbol_of name ≡ Ok (piece.Name name)
+
+-- a name was found between the brackets of a symbol
+abbrev pub gives_name : Result Piece LexFault → Bool
+gives_name (Ok (piece.Name name)) = true
+gives_name (Ok (piece.Char c)) = false
+gives_name (Err fault) = false
+
+-- whether this is a name
+abbrev pub is_proper_name : List ℕ → Bool
+is_proper_name name = gives_name (symbol_of name)
 
 -- a piece of a string is a character or a name
 abbrev pub IsPiece : Piece → Type 0

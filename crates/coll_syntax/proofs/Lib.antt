@@ -1,6 +1,5 @@
 pub mod ElementLemmas
 pub mod ListReading
-pub mod NameLemmas
 pub mod ProperLines
 pub mod ProperOperands
 pub mod ProperTests

@@ -8,11 +8,11 @@ use Rattle.std.proofs.lemmas.List.{length-map}
 use Rattle.coll_syntax.specs.Weights.{piece_id}
 use lib.Utf8.{scalar}
 use Rattle.coll_lex.specs.Tokens.{is_name, code_point_of, symbol_by, symbol_of}
-use Rattle.coll_lex.specs.Names.{IsName}
+use Rattle.coll_lex.specs.Names.{IsName, gives_name, is_proper_name}
 use Rattle.coll_lex.specs.declared.tokens.Piece.{Piece}
 use Rattle.coll_lex.specs.declared.tokens.Piece.TheVariants as piece
 use Rattle.coll_lex.specs.declared.faults.LexFault.TheVariants.{BadName, BadCodePoint}
-use Rattle.coll_syntax.specs.Proper.{IsId, IsWeightId, IsProperWeight, AreProperWeights, IsProperLine, IsElementText, IsProper, gives_name, is_proper_name, is_proper_id, is_weight_id, is_proper_weight, are_proper_weights, is_proper_line, is_element_text, is_proper}
+use Rattle.coll_syntax.specs.Proper.{IsId, IsWeightId, IsProperWeight, AreProperWeights, IsProperLine, IsElementText, IsProper, is_proper_id, is_weight_id, is_proper_weight, are_proper_weights, is_proper_line, is_element_text, is_proper}
 use Rattle.coll_syntax.specs.declared.identifiers.Id.{Id}
 use Rattle.coll_syntax.specs.declared.identifiers.Id.TheVariants.{Char, Named, Undefined}
 use Rattle.coll_syntax.specs.declared.weights.Weight.{Weight}

@@ -1,11 +1,7 @@
 -- What is proper: within the limits of the language, as all is that the grammar gives.
-use Rattle.std.specs.Prelude.{ℕ, ◌≤◌, ◌==◌, ◌&&◌, not, Bool, true, false, nat_le, List, length, All, Option, Some, None, Result, Ok, Err}
+use Rattle.std.specs.Prelude.{ℕ, ◌≤◌, ◌==◌, ◌&&◌, not, Bool, true, false, nat_le, List, length, All, Option, Some, None}
 use Rattle.std.specs.List.{list_all}
-use Rattle.coll_lex.specs.Tokens.{symbol_of}
-use Rattle.coll_lex.specs.Names.{IsName}
-use Rattle.coll_lex.specs.declared.tokens.Piece.{Piece}
-use Rattle.coll_lex.specs.declared.tokens.Piece.TheVariants as piece
-use Rattle.coll_lex.specs.declared.faults.LexFault.{LexFault}
+use Rattle.coll_lex.specs.Names.{IsName, is_proper_name}
 use Rattle.coll_syntax.specs.declared.identifiers.Id.{Id}
 use Rattle.coll_syntax.specs.declared.identifiers.Id.TheVariants.{Char, Named, Undefined}
 use Rattle.coll_syntax.specs.declared.weights.Weight.{Weight}
@@ -94,16 +90,6 @@ IsProperDeltaLine (delta.SectionAfter moved after) = IsProper (statement.Section
 IsProperDeltaLine (delta.Order line) = IsProperLine line
 
 -- The same as tests, for a statement that is handed in.
-
--- a name was found between the brackets of a symbol
-abbrev pub gives_name : Result Piece LexFault → Bool
-gives_name (Ok (piece.Name name)) = true
-gives_name (Ok (piece.Char c)) = false
-gives_name (Err fault) = false
-
--- whether this is a name
-abbrev pub is_proper_name : List ℕ → Bool
-is_proper_name name = gives_name (symbol_of name)
 
 -- whether this is an identifier
 abbrev pub is_proper_id : Id → Bool

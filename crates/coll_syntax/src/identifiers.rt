@@ -5,9 +5,8 @@
 
 ghost use Rattle.std.specs.Prelude.{◌≡◌, IfOk};
 
-use crate::names::is_name;
 use crate::operands::copied_name;
-use coll_lex::TextBuf;
+use coll_lex::{TextBuf, is_name};
 use std::alloc::{AllocError, Global};
 
 /// An identifier of an order (POSIX.1-2017, 7.3.2.4).

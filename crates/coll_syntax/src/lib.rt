@@ -2,7 +2,7 @@
 //!
 //! A line comes from the lexer as its tokens, and leaves as plain data: `parse_table_line` and `parse_delta_line` read
 //! it from left to right, and the first token that doesn't fit gives the fault. The types come first (`identifiers`,
-//! `weights`, `rules`, `statements`, `lines`; `names` has the test of a name), then the reading of tokens (`keywords`, `operands`, `elements`,
+//! `weights`, `rules`, `statements`, `lines`), then the reading of tokens (`keywords`, `operands`, `elements`,
 //! `weight_lists`, `rule_lists`, `order_lines`) and of whole lines (`table_lines`, `delta_lines`); `syntax_faults` has the
 //! faults. What a line says is defined in the file of the same name in `specs/`. A new kind of line is a variant of
 //! `TableLine` or `DeltaLine`, its keyword, its case in `specs/TableLines.antt` or `specs/DeltaLines.antt`, and its arm in
@@ -14,7 +14,6 @@ mod elements;
 mod identifiers;
 mod keywords;
 mod lines;
-mod names;
 mod operands;
 mod order_lines;
 mod rule_lists;

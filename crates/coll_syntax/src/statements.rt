@@ -8,9 +8,8 @@ ghost use Rattle.std.specs.List.{list_all};
 ghost use Rattle.coll_syntax.specs.Proper.{is_proper as passes, is_proper_line, is_proper_weight};
 
 use crate::elements::is_element_text;
-use crate::names::is_name;
 use crate::{Id, Weight};
-use coll_lex::{ListBuf, TextBuf};
+use coll_lex::{ListBuf, TextBuf, is_name};
 
 /// Most lines of a block.
 pub const MOST_BLOCK_LINES: usize = 4_096;

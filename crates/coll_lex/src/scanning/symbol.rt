@@ -2,68 +2,15 @@
 //!
 //! What stands between the brackets is decided after unescaping, by the characters alone.
 
-ghost use Rattle.std.specs.Prelude.{◌≡◌, ◌≢◌, ◌<◌, ℕ, [], ◌||◌, not, chars, length, min, option_map, if◌then◌else◌, OnOk, IfErr};
-ghost use Rattle.std.specs.List.{list_all};
+ghost use Rattle.std.specs.Prelude.{◌≡◌, ◌≢◌, ℕ, [], OnOk, IfErr};
 ghost use Rattle.coll_lex.specs.Marked.{Plain};
-ghost use Rattle.coll_lex.specs.Tokens.{symbol_of, is_name, code_point_of, hex_number, is_hex_digit, is_control, token_of};
-ghost use Rattle.coll_lex.specs.Blanks.{is_blank};
+ghost use Rattle.coll_lex.specs.Tokens.{symbol_of, token_of};
 ghost use Rattle.coll_lex.specs.declared.faults.LexFault.TheVariants.{OutOfMemory};
 
 use super::{Mode, Scan};
-use crate::blanks::is_blank;
-use crate::{LexFault, MOST_NAME_CHARS, Piece, TextBuf, Token};
+use crate::names::{code_point, has_name_chars};
+use crate::{LexFault, Piece, TextBuf, Token};
 use std::mem;
-
-// The first number above all code points. Larger ones aren't told apart.
-const PAST_CODE_POINTS: u32 = 0x11_0000;
-
-// Whether a character is blank or a control character, so that no name has it.
-fn is_barred(c: char) -> bool
-    ensures { result ≡ (is_blank c || is_control c) }
-{
-    is_blank(c) || c < ' ' || c == '\u{7f}'
-}
-
-// Whether a text is short enough for a name, and has no character that is barred from names.
-fn is_name(text: &str) -> bool
-    ensures { result ≡ is_name (chars text.now) }
-{
-    if text.chars().count() > MOST_NAME_CHARS {
-        return false;
-    }
-    text.chars().all(|c| !is_barred(c))
-}
-
-// The number that hexadecimal digits spell, but no more than the first number past the code points. None where
-// one is no such digit.
-fn hex_number(digits: &[u8]) -> Option<u32>
-    ensures { result
-        ≡ (if list_all is_hex_digit digits.now then Some (min (hex_number digits.now) PAST_CODE_POINTS) else None) }
-{
-    let mut number: u32 = 0;
-    for digit in digits {
-        let value = char::from(*digit).to_digit(16)?;
-        number = PAST_CODE_POINTS.min(16 * number + value);
-    }
-    Some(number)
-}
-
-// The number of the code point that a symbol names as `U` and four to eight hexadecimal digits.
-fn code_point(name: &str) -> Option<u32>
-    ensures { result ≡ option_map (λ n. min n PAST_CODE_POINTS) (code_point_of (chars name.now)) }
-{
-    let (first, digits) = name.as_bytes().split_first()?;
-    if *first != b'U' {
-        return None;
-    }
-    if digits.len() < 4 {
-        return None;
-    }
-    if digits.len() > 8 {
-        return None;
-    }
-    hex_number(digits)
-}
 
 // What a symbol stands for, by what is between its brackets.
 fn piece_of(name: TextBuf) -> Result<Piece, LexFault>
@@ -78,7 +25,7 @@ fn piece_of(name: TextBuf) -> Result<Piece, LexFault>
         };
         return Ok(Piece::Char(c));
     }
-    if !is_name(name.get()) {
+    if !has_name_chars(name.get()) {
         return Err(LexFault::BadName);
     }
     Ok(Piece::Name(name))
@@ -131,7 +78,7 @@ impl Scan {
         Ok(())
     }
 
-    // TakesMark the name out of the symbol that ends here, and decides what it stands for.
+    // Takes the name out of the symbol that ends here, and decides what it stands for.
     fn end_symbol(&mut self) -> Result<Piece, LexFault>
         ensures value { result ≡ symbol_of self.old.partial }
         ensures after { self.new ≡ record self.old { partial = [] } }

@@ -15,14 +15,14 @@ returns-in-Some c =
     let e = rw c.get.ensures.characters at c.in-Some.ensures in
     character_given c.in-Some.number c.in-Some-from_u32.c c.in-Some-from_u32.ensures.value ∙ sym (symbol_of_code c.args.name c.in-Some.number e)
 
-pub returns-then-not-is_name : goal.returns-then-not-is_name
-returns-then-not-is_name c =
+pub returns-then-not-has_name_chars : goal.returns-then-not-has_name_chars
+returns-then-not-has_name_chars c =
     let e = rw c.get.ensures.characters at c.in_default.ensures in
-    let no = rw c.get-2.ensures.characters at c.if-not-is_name.ensures in
+    let no = rw c.get-2.ensures.characters at c.if-not-has_name_chars.ensures in
     name_refused c.args.name (sym no) ∙ sym (symbol_of_name c.args.name (sym c.if-is_empty.ensures) e)
 
 pub returns : goal.returns
 returns c =
     let e = rw c.get.ensures.characters at c.in_default.ensures in
-    let yes = rw c.get-2.ensures.characters at c.if-not-is_name.ensures in
+    let yes = rw c.get-2.ensures.characters at c.if-not-has_name_chars.ensures in
     name_given c.args.name (sym yes) ∙ sym (symbol_of_name c.args.name (sym c.if-is_empty.ensures) e)

@@ -1,8 +1,8 @@
 use Rattle.std.proofs.Common.{◌≡◌, min, take, true}
 use Rattle.std.specs.List.{list_all}
 use Rattle.coll_lex.specs.Tokens.{hex_number, is_hex_digit}
-use Rattle.coll_lex.specs.declared.scanning.symbol.TheConstants.{PAST_CODE_POINTS}
-use Rattle.coll_lex.proofs.scanning.symbol.hex_number.Given as goal
+use Rattle.coll_lex.specs.declared.names.TheConstants.{PAST_CODE_POINTS}
+use Rattle.coll_lex.proofs.names.hex_number.Given as goal
 
 abbrev pub invariant-loop-digit : goal.invariant-loop-digit
 invariant-loop-digit l = record {

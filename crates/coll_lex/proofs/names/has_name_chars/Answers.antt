@@ -6,7 +6,7 @@ use Rattle.std.proofs.lemmas.Iterator.Search.{all_from_yields_List}
 use Rattle.coll_lex.specs.Blanks.{is_blank}
 use Rattle.coll_lex.specs.Tokens.{is_control}
 use Rattle.coll_lex.proofs.SymbolLemmas.{long_is_no_name, short_is_name}
-use Rattle.coll_lex.proofs.scanning.symbol.is_name.Goals as goal
+use Rattle.coll_lex.proofs.names.has_name_chars.Goals as goal
 
 pub returns-then-count-gt-MOST_NAME_CHARS : goal.returns-then-count-gt-MOST_NAME_CHARS
 returns-then-count-gt-MOST_NAME_CHARS c =

@@ -1,6 +1,6 @@
 use Rattle.std.proofs.Common.{◌∙◌}
 use Rattle.coll_lex.proofs.SymbolLemmas.{no_code_in_nothing, no_code_without_u, no_code_in_few, no_code_in_many, code_in_digits}
-use Rattle.coll_lex.proofs.scanning.symbol.code_point.Goals as goal
+use Rattle.coll_lex.proofs.names.code_point.Goals as goal
 
 pub returns-in_err-first : goal.returns-in_err-first
 returns-in_err-first c =
