@@ -24,7 +24,7 @@ use Rattle.coll_bench.specs.declared.open_blocks.SoFar.{SoFar}
 use Rattle.coll_bench.specs.declared.open_blocks.SoFar.TheVariants.{Gathers, Spoiled, Starved}
 use Rattle.coll_bench.specs.declared.open_blocks.OpenBlock.{OpenBlock}
 
-or_else-none : {A : Type 0} (a : Option A) → or_else a None ≡ a
+pub or_else-none : {A : Type 0} (a : Option A) → or_else a None ≡ a
 or_else-none (Some x) = refl
 or_else-none None = refl
 
@@ -32,13 +32,13 @@ or_else-assoc : {A : Type 0} (a b c : Option A) → or_else a (or_else b c) ≡ 
 or_else-assoc (Some x) b c = refl
 or_else-assoc None b c = refl
 
-first_want-push : (lines : List HeardLine) (line : HeardLine) → first_want (lines ++ line ∷ []) ≡ or_else (first_want lines) (want_by line.number line.heard)
+pub first_want-push : (lines : List HeardLine) (line : HeardLine) → first_want (lines ++ line ∷ []) ≡ or_else (first_want lines) (want_by line.number line.heard)
 unfolding first_want
 first_want-push [] line = or_else-none (want_by line.number line.heard)
 first_want-push (first ∷ lines) line =
     ap (or_else (want_by first.number first.heard)) (first_want-push lines line) ∙ or_else-assoc (want_by first.number first.heard) (first_want lines) (want_by line.number line.heard)
 
-first_spoiler-push : (before lines : List HeardLine) (line : HeardLine) → first_spoiler before (lines ++ line ∷ []) ≡ or_else (first_spoiler before lines) (spoils (before ++ lines) line)
+pub first_spoiler-push : (before lines : List HeardLine) (line : HeardLine) → first_spoiler before (lines ++ line ∷ []) ≡ or_else (first_spoiler before lines) (spoils (before ++ lines) line)
 unfolding first_spoiler
 first_spoiler-push before [] line = or_else-none (spoils before line) ∙ ap (λ (ls : List HeardLine). spoils ls line) (sym (append-nil before))
 first_spoiler-push before (first ∷ lines) line =
@@ -49,7 +49,7 @@ first_spoiler-push before (first ∷ lines) line =
 abbrev order_of : HeardLine → List PlainLine
 order_of line = order_by line.heard
 
-orders_in-push : (lines : List HeardLine) (line : HeardLine) → orders_in (lines ++ line ∷ []) ≡ orders_in lines ++ order_by line.heard
+pub orders_in-push : (lines : List HeardLine) (line : HeardLine) → orders_in (lines ++ line ∷ []) ≡ orders_in lines ++ order_by line.heard
 orders_in-push lines line = flat_map-append order_of lines (line ∷ []) ∙ ap (λ (os : List PlainLine). orders_in lines ++ os) (append-nil (order_by line.heard))
 
 want_in-push : (block : BlockLines) (line : HeardLine) → want_in (with_line block line) ≡ or_else (want_in block) (want_by line.number line.heard)

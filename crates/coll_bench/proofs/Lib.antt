@@ -1,5 +1,6 @@
 pub mod BlockLaws
 pub mod BlockLemmas
+pub mod BlockUnits
 pub mod HearingLemmas
 pub mod HistoryLemmas
 pub mod LineNumbers

@@ -14,8 +14,8 @@ use Rattle.coll_bench.specs.Units.{starved_at, fault_at, refused_at}
 use Rattle.coll_bench.specs.OpenBlocks.{open_at, kept_ended, kept_after, kept_units_at, kept_last_faults, kept_units}
 use Rattle.coll_bench.specs.Replies.{refused_line, reply, history_after, starved_line, reply_if, history_after_if, answers}
 use Rattle.coll_bench.specs.Serving.{stop_at, line_units, line_block}
-use Rattle.coll_bench.specs.Runs.{starved_output, output}
-use Rattle.coll_bench.specs.Laws.{ShowsWant, WantShows}
+use Rattle.coll_bench.specs.Runs.{starved_output, output, last_line, last_of}
+use Rattle.coll_bench.specs.Laws.{ShowsWant, WantShows, WantShowsLast}
 use Rattle.coll_bench.specs.Underway.{written_from}
 use Rattle.coll_bench.specs.declared.faults.Fault.{Fault}
 use Rattle.coll_bench.specs.declared.faults.Fault.TheVariants as fault
@@ -31,6 +31,7 @@ use Rattle.coll_bench.specs.declared.units.Request.{Request}
 use Rattle.coll_bench.specs.declared.units.Request.TheVariants as request
 use Rattle.coll_bench.specs.declared.units.SessionUnit.{SessionUnit}
 use Rattle.coll_bench.proofs.HearingLemmas.{served_starved}
+use Rattle.coll_bench.proofs.RunEnds.{last_on, last_stop}
 use Rattle.coll_bench.proofs.RunLemmas.{output_kept, heard_later, units_on, units_stop}
 
 -- the refusal for want of memory, of some line
@@ -222,3 +223,55 @@ want_shows lines_starved units_starved table text =
     let stated = written_from first_state None (begun table) [] [] true (lines_of text) in
     subst (λ (bytes : List ℕ). Exact bytes (starved_output [] [] true table text)) (sym (output_kept lines_starved units_starved true table text))
     (subst (λ (bytes : List ℕ). Exact written bytes) (sym (output_kept [] [] true table text)) (written_exact lines_starved units_starved (begun table) (lines_of text)))
+
+-- the last line of the text, where memory was refused to some lines, is the stated one, or a unit shows it
+abbrev ExactLast : List Bool → LexerState → Option OpenBlock → List (List ℕ) → Type 0
+ExactLast choices s block lines = (last_line (logical_lines choices true s lines) ≡ last_line (logical_lines [] true s lines)) ⊎ Wants (kept_units true block (map heard (logical_lines choices true s lines)))
+
+none_chosen : (s : LexerState) (bytes : List ℕ) (lines : List (List ℕ)) → logical_lines (false ∷ []) true s (bytes ∷ lines) ≡ logical_lines [] true s (bytes ∷ lines)
+unfolding logical_lines
+none_chosen s bytes lines = refl
+
+last_served : (stop : Option LexFault) (choices : List Bool) (s : LexerState) (block : Option OpenBlock) (bytes : List ℕ) (lines : List (List ℕ)) → stop_at (heard_at false s bytes) ≡ stop
+    → ExactLast choices (state_by s (served false s bytes)) (line_block block (heard_at false s bytes)) lines → ExactLast (false ∷ choices) s block (bytes ∷ lines)
+last_served (Some f) choices s block bytes lines is later =
+    inl ((last_stop false s bytes choices true lines f is).line_is ∙ sym (last_stop false s bytes [] true lines f is).line_is ∙ ap last_line (none_chosen s bytes lines))
+last_served None choices s block bytes lines is later =
+    let x = heard_at false s bytes in
+    let s2 = state_by s (served false s bytes) in
+    ⊎_elim
+    (λ (same : last_line (logical_lines choices true s2 lines) ≡ last_line (logical_lines [] true s2 lines)).
+    inl (last_on false s bytes choices true lines is ∙ same ∙ sym (last_on false s bytes [] true lines is) ∙ ap last_line (none_chosen s bytes lines)))
+    (λ (wants : Wants (kept_units true (line_block block x) (map heard (logical_lines choices true s2 lines)))).
+    inr (subst (λ (hs : List HeardLine). Wants (kept_units true block hs)) (sym (heard_later false choices true s bytes lines))
+    (subst (λ (us : List SessionUnit). Wants us) (sym (units_on true block x (map heard (logical_lines choices true s2 lines)) is))
+    (wants_later (line_units block x) (kept_units true (line_block block x) (map heard (logical_lines choices true s2 lines))) wants))))
+    later
+
+last_starved : (takes : Bool) (choices : List Bool) (s : LexerState) (block : Option OpenBlock) (bytes : List ℕ) (lines : List (List ℕ)) → takes_memory s bytes ≡ takes → ExactLast (false ∷ choices) s block (bytes ∷ lines) → ExactLast (true ∷ choices) s block (bytes ∷ lines)
+last_starved true choices s block bytes lines takes fine =
+    inr (subst (λ (hs : List HeardLine). Wants (kept_units true block hs)) (sym (heard_later true choices true s bytes lines))
+    (starved_line_units block s bytes (map heard (logical_lines choices true (state_by s (served true s bytes)) lines)) takes))
+last_starved false choices s block bytes lines none fine =
+    subst (λ (ls : List LogicalLine). (last_line ls ≡ last_line (logical_lines [] true s (bytes ∷ lines))) ⊎ Wants (kept_units true block (map heard ls))) (spared choices s bytes lines none) fine
+
+last_exact : (choices : List Bool) (s : LexerState) (block : Option OpenBlock) (lines : List (List ℕ)) → ExactLast choices s block lines
+unfolding logical_lines
+last_exact choices s block [] = inl refl
+last_exact [] s block (bytes ∷ lines) = inl refl
+last_exact (true ∷ choices) s block (bytes ∷ lines) =
+    last_starved (takes_memory s bytes) choices s block bytes lines refl
+    (last_served (stop_at (heard_at false s bytes)) choices s block bytes lines refl (last_exact choices (state_by s (served false s bytes)) (line_block block (heard_at false s bytes)) lines))
+last_exact (false ∷ choices) s block (bytes ∷ lines) =
+    last_served (stop_at (heard_at false s bytes)) choices s block bytes lines refl (last_exact choices (state_by s (served false s bytes)) (line_block block (heard_at false s bytes)) lines)
+
+written_wants : (choices : List Bool) (us_starved : List Bool) (h : History) (lines : List (List ℕ)) → Wants (kept_units true None (map heard (logical_lines choices true first_state lines))) → ShowsWant (written_from first_state None h choices us_starved true lines)
+unfolding written_from
+written_wants choices us_starved h lines wants = answers_want h (kept_units true None (map heard (logical_lines choices true first_state lines))) us_starved wants
+
+pub want_shows_last : WantShowsLast
+want_shows_last lines_starved units_starved table text =
+    ⊎_elim (λ (same : last_of lines_starved true text ≡ last_of [] true text). inl same)
+    (λ (wants : Wants (kept_units true None (map heard (logical_lines lines_starved true first_state (lines_of text))))).
+    inr (subst (λ (bytes : List ℕ). ShowsWant bytes) (sym (output_kept lines_starved units_starved true table text)) (written_wants lines_starved units_starved (begun table) (lines_of text) wants)))
+    (last_exact lines_starved first_state None (lines_of text))

@@ -1,13 +1,17 @@
 -- What follows from the definitions of a session: the units of a block, above the recursion, and that want of memory shows.
-use Rattle.std.specs.Prelude.{◌≡◌, ◌⊎◌, ℕ, Bool, true, false, List, [], ◌∷◌, ◌++◌, None, Some, Result, Ok, Err}
+use Rattle.std.specs.Prelude.{◌≡◌, ◌⊎◌, ◌≤◌, length, ℕ, Bool, true, false, List, [], ◌∷◌, ◌++◌, None, Some, Result, Ok, Err}
 use Rattle.std.specs.List.{list_all}
 use Rattle.coll_lex.specs.declared.faults.LexFault.{LexFault}
 use Rattle.coll_syntax.specs.declared.identifiers.Id.{Id}
 use Rattle.coll_table.specs.Table.{Collation}
-use Rattle.coll_bench.specs.Units.{BlockLines, refusals, commands_refused_in, block_unit, block_left_open, last_faults, refused_at, units}
+use Rattle.coll_bench.specs.Limits.{most_block_lines}
+use Rattle.coll_bench.specs.Units.{BlockLines, asked_at, fault_at, refused_at, starved_at, refusals, orders_in, commands_refused_in, want_in, spoils, first_spoiler, block_unit, block_left_open, last_faults, units}
 use Rattle.coll_bench.specs.Replies.{starved_line}
-use Rattle.coll_bench.specs.Runs.{starved_output, output}
+use Rattle.coll_bench.specs.Runs.{starved_output, output, last_of}
+use Rattle.coll_table.specs.declared.plain.statements.PlainStatement.TheVariants as statement
 use Rattle.coll_bench.specs.declared.faults.Fault.{Fault}
+use Rattle.coll_bench.specs.declared.units.Request.TheVariants as request
+use Rattle.coll_bench.specs.declared.units.FaultAt.{FaultAt}
 use Rattle.coll_bench.specs.declared.session_lines.Opening.TheVariants as opening
 use Rattle.coll_bench.specs.declared.session_lines.Heard.{Heard}
 use Rattle.coll_bench.specs.declared.session_lines.Heard.TheVariants as heard
@@ -89,6 +93,36 @@ abbrev pub BlockStopped : Type 0
 BlockStopped = (ends : Bool) (n m : ℕ) (target : Result Id Fault) (f : LexFault) (body later : List HeardLine) → AllStay body
     → units ends None (opener n target ∷ (body ++ stopper m f ∷ later)) ≡ commands_refused_in body ++ refusals (last_faults (Some (block_with n target body)) m f)
 
+-- a line that isn't refused
+abbrev pub is_taken : Heard → Bool
+is_taken (heard.Stops f) = true
+is_taken (heard.Refused o f) = false
+is_taken (heard.Asks c) = true
+is_taken (heard.Misasks f) = true
+is_taken (heard.Opens target) = true
+is_taken heard.Ends = true
+is_taken (heard.Orders order) = true
+
+-- the unit of a block with a target, no refused line and no order line too many: the statement of its target and its order
+-- lines, at the number of its first line
+abbrev pub BlockStates : Type 0
+BlockStates = (n : ℕ) (target : Id) (body : List HeardLine) → list_all (λ (line : HeardLine). is_taken line.heard) body ≡ true → length (orders_in body) ≤ most_block_lines
+    → block_unit (block_with n (Ok target) body) ≡ asked_at n (request.States (statement.Block target (orders_in body)))
+
+-- the unit of a block in which a line was refused for want of memory: the refusal for it, at the number of the first such line
+abbrev pub BlockStarves : Type 0
+BlockStarves = (block : BlockLines) (line : ℕ) → want_in block ≡ Some line → block_unit block ≡ refused_at (starved_at line)
+
+-- the unit of a block without want of memory whose first line was refused: that refusal
+abbrev pub BlockBegunRefused : Type 0
+BlockBegunRefused = (n : ℕ) (f : Fault) (body : List HeardLine) → want_in (block_with n (Err f) body) ≡ None → block_unit (block_with n (Err f) body) ≡ refused_at (fault_at n f)
+
+-- the unit of a block without want of memory that a line spoils: the refusal with the fault of the first such line, which has
+-- only lines before it that don't spoil it
+abbrev pub BlockSpoiled : Type 0
+BlockSpoiled = (n : ℕ) (target : Id) (before later : List HeardLine) (line : HeardLine) (at : FaultAt) → want_in (block_with n (Ok target) (before ++ line ∷ later)) ≡ None
+    → first_spoiler [] before ≡ None → spoils before line ≡ Some at → block_unit (block_with n (Ok target) (before ++ line ∷ later)) ≡ refused_at at
+
 -- the reply to want of memory stands in these bytes
 abbrev pub ShowsWant : List ℕ → Type 0
 ShowsWant bytes = (before : List ℕ) × (after : List ℕ) × (bytes ≡ before ++ (starved_line ++ after))
@@ -97,3 +131,8 @@ ShowsWant bytes = (before : List ℕ) × (after : List ℕ) × (bytes ≡ before
 abbrev pub WantShows : Type 0
 WantShows = (lines_starved units_starved : List Bool) (table : Collation) (text : List ℕ)
     → (starved_output lines_starved units_starved true table text ≡ output table text) ⊎ ShowsWant (starved_output lines_starved units_starved true table text)
+
+-- the last line of a text, if it has one that is too long or one too many, is the stated one, or that reply stands in the output
+abbrev pub WantShowsLast : Type 0
+WantShowsLast = (lines_starved units_starved : List Bool) (table : Collation) (text : List ℕ)
+    → (last_of lines_starved true text ≡ last_of [] true text) ⊎ ShowsWant (starved_output lines_starved units_starved true table text)

@@ -1,6 +1,6 @@
 //! What follows from the definitions of a session, as contracts of functions that do nothing.
 
-ghost use Rattle.coll_bench.specs.Laws.{BlockEnds, BlockEndsRefused, BlockEndsAtNext, BlockLeftOpen, BlockStopped, WantShows};
+ghost use Rattle.coll_bench.specs.Laws.{BlockEnds, BlockEndsRefused, BlockEndsAtNext, BlockLeftOpen, BlockStopped, BlockStates, BlockStarves, BlockBegunRefused, BlockSpoiled, WantShows, WantShowsLast};
 
 /// The law of a block: the lines from one that opens it to the next that ends it give the refusals of the commands
 /// among them, in order, and then one unit.
@@ -15,6 +15,15 @@ pub fn block_is_one_unit()
     ensures ended_at_next { BlockEndsAtNext }
 {}
 
+/// The law of a block's unit, by its lines: the statement of its target and its order lines, where no line is refused and
+/// there is none too many; and else the refusal for want of memory, of its first line, or of the first line that spoils it.
+pub fn unit_of_a_block()
+    ensures states { BlockStates }
+    ensures starves { BlockStarves }
+    ensures begun_refused { BlockBegunRefused }
+    ensures spoiled { BlockSpoiled }
+{}
+
 /// The law of a block that no line ends: the refusals of the commands in it, in order, and then, at the end of the
 /// text, one refusal of the block; at a line after which no other comes, the last faults.
 pub fn block_left_open_is_refused()
@@ -23,9 +32,11 @@ pub fn block_left_open_is_refused()
 {}
 
 /// The law of a want of memory: what is written for a text that was served to its end, or to a line too long or one too
-/// many, is exactly the stated output, or `refused 70 OutOfMemory` stands in it.
+/// many, is exactly the stated output, and that line is exactly the stated one, or `refused 70 OutOfMemory` stands in it.
 ///
-/// So a run that ended so, and that wrote no such reply, wrote exactly what is stated for its table and its text.
+/// So a run that ended so, and that wrote no such reply, wrote exactly what is stated for its table and its text, and
+/// answered the stated fault.
 pub fn want_of_memory_shows()
     ensures shows { WantShows }
+    ensures shows_last { WantShowsLast }
 {}

@@ -20,6 +20,8 @@ mod units;
 
 pub use faults::{BenchFault, Fault, RunFault};
 pub use histories::Session;
-pub use laws::{block_is_one_unit, block_left_open_is_refused, want_of_memory_shows};
+pub use laws::{
+    block_is_one_unit, block_left_open_is_refused, unit_of_a_block, want_of_memory_shows,
+};
 pub use limits::{MOST_BLOCK_LINES, MOST_REMAINING, limits_are_stated};
 pub use runs::run_session;

@@ -1,5 +1,5 @@
-use Rattle.coll_bench.proofs.WantLemmas.{want_shows}
+use Rattle.coll_bench.proofs.WantLemmas.{want_shows, want_shows_last}
 use Rattle.coll_bench.proofs.laws.want_of_memory_shows.Goals as goal
 
 pub returns : goal.returns
-returns g = record { shows = want_shows }
+returns g = record { shows = want_shows; shows_last = want_shows_last }
