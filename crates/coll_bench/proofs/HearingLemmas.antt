@@ -1,23 +1,25 @@
 -- What is heard of a line, by its characters and by the lexer's answer.
-use Rattle.std.proofs.Common.{◌≡◌, ℕ, ◌<◌, ◌==◌, Bool, true, false, List, [], ◌∷◌, ◌++◌, length, Some, None, Option, Ok, Err, refl, sym, ap, ◌∙◌, arith}
+use Rattle.std.proofs.Common.{◌≡◌, ℕ, ◌==◌, Bool, true, false, List, [], ◌∷◌, ◌++◌, length, Some, None, Option, Ok, Err, refl, sym, ap, ◌∙◌, arith}
 use Rattle.std.specs.Prelude.{chars, encode_utf8}
 use Rattle.std.specs.Str.{IsUtf8}
+use Rattle.std.specs.Bool.{IsTrue}
 use Rattle.std.proofs.lemmas.Str.{chars-nil, chars_past_char, IsUtf8-past_char}
 use Rattle.std.proofs.lemmas.Bool.{false≢true}
 use Rattle.std.proofs.Common.{◌≢◌, inl, inr, ⊎_elim}
 use Rattle.std.specs.Prelude.{◌⊎◌, if◌then◌else◌, option_map, is_some}
 use Rattle.coll_lex.specs.PhysicalLines.{without_return}
-use Rattle.coll_lex.specs.LogicalLines.{OpenLine, LexerState, pending, extended, first_line, dropped, fed, served, state_by}
-use Rattle.coll_lex.specs.declared.tokens.TheConstants.{MOST_LINES}
+use Rattle.coll_lex.specs.LogicalLines.{OpenLine, LexerState, pending, number_of, extended, first_line, dropped, fed, needs_memory, takes_memory, served, state_by}
 use Rattle.coll_lex.specs.declared.tokens.Line.{Line}
 use Rattle.coll_lex.specs.declared.faults.LexFault.{LexFault}
 use Rattle.coll_lex.specs.declared.faults.LexFault.TheVariants as lex
 use Rattle.coll_lex.proofs.LineSteps.{first_line-fresh, first_line-continued, fed-open}
-use Rattle.coll_lex.proofs.LineEnds.{fed-whole, fed-room}
-use Rattle.coll_bench.specs.SessionLines.{opening_of, is_command_word, tokens_heard, fault_heard, line_heard}
-use Rattle.coll_bench.specs.Hearing.{OpensAs, heard_by, Hears, no_memory, HearsTokens}
-use Rattle.coll_bench.specs.declared.hearing.Opening.{Opening}
-use Rattle.coll_bench.specs.declared.hearing.Heard.{Heard}
+use Rattle.coll_lex.proofs.LineEnds.{fed-whole}
+use Rattle.coll_bench.specs.SessionLines.{opening_of, is_command_word, tokens_heard, fault_heard}
+use Rattle.coll_bench.specs.Hearing.{OpensAs, heard_by, heard_at, Hears, no_memory, HearsTokens, MakesRoom}
+use Rattle.coll_bench.proofs.LineNumbers.{fed_number}
+use Rattle.coll_bench.specs.declared.session_lines.Opening.{Opening}
+use Rattle.coll_bench.specs.declared.session_lines.Heard.{Heard}
+use Rattle.coll_bench.specs.declared.session_lines.HeardLine.{HeardLine}
 
 -- a text of which two characters were taken is a command word by the first
 pub command_of_two : (text later last : List ℕ) (a b : ℕ) → IsUtf8 text → text ≡ encode_utf8 a ++ later → later ≡ encode_utf8 b ++ last → (a == 58) ≡ is_command_word (chars text)
@@ -75,48 +77,72 @@ want_or_not lex.BadCharDirective = inr (λ e. cc)
 want_or_not lex.TooManyLines = inr (λ e. cc)
 want_or_not lex.OutOfMemory = inl refl
 
-not_starved : (s : LexerState) → false ≡ true → s.count ≡ MOST_LINES → ⊥
-not_starved s e full = false≢true e
-
-heard_starved : (s after : LexerState) (line : List ℕ) (opening : Opening) (heard : Heard) → opening ≡ opening_of (first_line s line) → after ≡ dropped s → heard ≡ line_heard opening (Err lex.OutOfMemory) → (s.count ≡ MOST_LINES → ⊥) → Hears true s after line (Some heard)
+-- the answer to a line for which memory was refused
+pub served_starved : (s : LexerState) (line : List ℕ) → takes_memory s line ≡ true → served true s line ≡ Err lex.OutOfMemory
 unfolding served
-heard_starved s after line opening heard is stands was room = record { room = λ _. room; heard_is = ap Some was ∙ ap (λ (o : Opening). Some (line_heard o (Err lex.OutOfMemory))) is; stands = stands }
+served_starved s line takes = ap (λ (b : Bool). if b then Err lex.OutOfMemory else fed s line) takes
 
-heard_fault : (s after : LexerState) (line : List ℕ) (opening : Opening) (f : LexFault) (heard : Heard) → opening ≡ opening_of (first_line s line) → after ≡ dropped s → fed s line ≡ Err f → heard ≡ fault_heard opening f → Hears false s after line (Some heard)
-unfolding served
+-- a line of a session, by its number
+abbrev numbered : ℕ → Heard → HeardLine
+numbered n h = record { number = n; heard = h }
+
+heard_starved : (s after : LexerState) (line : List ℕ) (opening : Opening) (heard : HeardLine) → opening ≡ opening_of (first_line s line) → after ≡ dropped s → heard ≡ numbered (number_of s) (no_memory opening) → takes_memory s line ≡ true → Hears true s after line (Some heard)
+unfolding heard_at
+heard_starved s after line opening heard is stands was takes =
+    let e = served_starved s line takes in
+    record {
+      heard_is = ap Some was ∙ ap (λ (o : Opening). Some (numbered (number_of s) (no_memory o))) is ∙ ap (heard_by (number_of s) (opening_of (first_line s line))) (sym e);
+      stands = stands ∙ ap (state_by s) (sym e);
+    }
+
+heard_fault : (s after : LexerState) (line : List ℕ) (opening : Opening) (f : LexFault) (heard : HeardLine) → opening ≡ opening_of (first_line s line) → after ≡ dropped s → fed s line ≡ Err f → heard ≡ numbered (number_of s) (fault_heard opening f) → Hears false s after line (Some heard)
+unfolding served heard_at
 heard_fault s after line opening f heard is stands e was = record {
-  room = not_starved s;
-  heard_is = ap Some was ∙ ap (λ (o : Opening). Some (fault_heard o f)) is ∙ ap (heard_by (opening_of (first_line s line))) (sym e);
+  heard_is = ap Some was ∙ ap (λ (o : Opening). Some (numbered (number_of s) (fault_heard o f))) is ∙ ap (heard_by (number_of s) (opening_of (first_line s line))) (sym e);
   stands = stands ∙ ap (state_by s) (sym e);
 }
 
 -- a line at fault
-pub hears_fault : (s after : LexerState) (line : List ℕ) (opening : Opening) (f : LexFault) (heard : Heard) → opening ≡ opening_of (first_line s line) → after ≡ dropped s
-    → (f ≢ lex.OutOfMemory → fed s line ≡ Err f) → (f ≡ lex.OutOfMemory → s.count < MOST_LINES) → heard ≡ fault_heard opening f → (starved : Bool) × Hears starved s after line (Some heard)
-hears_fault s after line opening f heard is stands e room was =
-    ⊎_elim (λ (want : f ≡ lex.OutOfMemory). (true, heard_starved s after line opening heard is stands (was ∙ ap (fault_heard opening) want) (λ full. omega (arith, room want, full))))
-    (λ (not_want : f ≢ lex.OutOfMemory). (false, heard_fault s after line opening f heard is stands (e not_want) was))
+pub hears_fault : (s after : LexerState) (line : List ℕ) (opening : Opening) (f : LexFault) (heard : HeardLine) (number : ℕ) → opening ≡ opening_of (first_line s line) → number ≡ number_of s → after ≡ dropped s
+    → (f ≢ lex.OutOfMemory → fed s line ≡ Err f) → (f ≡ lex.OutOfMemory → IsTrue (takes_memory s line)) → heard ≡ numbered number (fault_heard opening f) → (starved : Bool) × Hears starved s after line (Some heard)
+hears_fault s after line opening f heard number is number_is stands e memory was =
+    let at : heard ≡ numbered (number_of s) (fault_heard opening f) = was ∙ ap (λ (n : ℕ). numbered n (fault_heard opening f)) number_is in
+    ⊎_elim
+    (λ (want : f ≡ lex.OutOfMemory).
+    (true, heard_starved s after line opening heard is stands (at ∙ ap (λ (g : LexFault). numbered (number_of s) (fault_heard opening g)) want) (memory want)))
+    (λ (not_want : f ≢ lex.OutOfMemory). (false, heard_fault s after line opening f heard is stands (e not_want) at))
     (want_or_not f)
 
 -- a line that ends no logical line with a token
 pub hears_none : (s after : LexerState) (line : List ℕ) → fed s line ≡ Ok (None, after) → (starved : Bool) × Hears starved s after line None
-unfolding served
-hears_none s after line e = (false, record { room = not_starved s; heard_is = ap (heard_by (opening_of (first_line s line))) (sym e); stands = ap (state_by s) (sym e) })
+unfolding served heard_at
+hears_none s after line e =
+    (false, record { heard_is = ap (heard_by (number_of s) (opening_of (first_line s line))) (sym e); stands = ap (state_by s) (sym e) })
 
-heard_whole : (s after : LexerState) (line : List ℕ) (opening : Opening) (given : Line) (heard : Heard) → opening ≡ opening_of (first_line s line) → fed s line ≡ Ok (Some given, after) → heard ≡ tokens_heard opening given.tokens → Hears false s after line (Some heard)
-unfolding served
+heard_whole : (s after : LexerState) (line : List ℕ) (opening : Opening) (given : Line) (heard : HeardLine) → opening ≡ opening_of (first_line s line) → fed s line ≡ Ok (Some given, after) → heard ≡ numbered (number_of s) (tokens_heard opening given.tokens) → Hears false s after line (Some heard)
+unfolding served heard_at
 heard_whole s after line opening given heard is e was = record {
-  room = not_starved s;
-  heard_is = ap Some was ∙ ap (λ (o : Opening). Some (tokens_heard o given.tokens)) is ∙ ap (heard_by (opening_of (first_line s line))) (sym e);
+  heard_is = ap Some was ∙ ap (λ (n : ℕ). Some (numbered n (tokens_heard opening given.tokens))) (sym (fed_number s line given after e))
+      ∙ ap (λ (o : Opening). Some (numbered given.number (tokens_heard o given.tokens))) is ∙ ap (heard_by (number_of s) (opening_of (first_line s line))) (sym e);
   stands = ap (state_by s) (sym e);
 }
 
-whole_cases : (starved : Bool) (s after : LexerState) (line : List ℕ) (opening : Opening) (given : Line) (heard : Heard) → opening ≡ opening_of (first_line s line) → fed s line ≡ Ok (Some given, after)
-    → heard ≡ (if starved then no_memory opening else tokens_heard opening given.tokens) → Hears starved s after line (Some heard)
-whole_cases true s after line opening given heard is e was = heard_starved s after line opening heard is (fed-whole s line given after e) was (fed-room s line (Some given) after e)
-whole_cases false s after line opening given heard is e was = heard_whole s after line opening given heard is e was
+-- memory may be taken for a line with a token
+whole_takes : (s after : LexerState) (line : List ℕ) (given : Line) → fed s line ≡ Ok (Some given, after) → takes_memory s line ≡ true
+unfolding takes_memory
+whole_takes s after line given e = ap needs_memory e
+
+-- memory may be refused for the tokens, and then for the room
+whole_cases : (starved starved_room : Bool) (s after : LexerState) (line : List ℕ) (opening : Opening) (given : Line) (h : Heard) (heard : HeardLine) (number : ℕ) → opening ≡ opening_of (first_line s line) → number ≡ number_of s → fed s line ≡ Ok (Some given, after)
+    → h ≡ (if starved then no_memory opening else tokens_heard opening given.tokens) → heard ≡ (if starved_room then numbered number (no_memory opening) else numbered number h) → (memory : Bool) × Hears memory s after line (Some heard)
+whole_cases starved true s after line opening given h heard number is number_is e was made =
+    (true, heard_starved s after line opening heard is (fed-whole s line given after e) (made ∙ ap (λ (n : ℕ). numbered n (no_memory opening)) number_is) (whole_takes s after line given e))
+whole_cases true false s after line opening given h heard number is number_is e was made =
+    (true, heard_starved s after line opening heard is (fed-whole s line given after e) (made ∙ ap (λ (n : ℕ). numbered n h) number_is ∙ ap (numbered (number_of s)) was) (whole_takes s after line given e))
+whole_cases false false s after line opening given h heard number is number_is e was made =
+    (false, heard_whole s after line opening given heard is e (made ∙ ap (λ (n : ℕ). numbered n h) number_is ∙ ap (numbered (number_of s)) was))
 
 -- a line that ends a logical line
-pub hears_whole : (s after : LexerState) (line : List ℕ) (opening : Opening) (given : Line) (heard : Heard) → opening ≡ opening_of (first_line s line) → fed s line ≡ Ok (Some given, after)
-    → HearsTokens opening given.tokens heard → (starved : Bool) × Hears starved s after line (Some heard)
-hears_whole s after line opening given heard is e was = (was.0, whole_cases was.0 s after line opening given heard is e was.1)
+pub hears_whole : (s after : LexerState) (line : List ℕ) (opening : Opening) (given : Line) (h : Heard) (heard : HeardLine) (number : ℕ) → opening ≡ opening_of (first_line s line) → number ≡ number_of s → fed s line ≡ Ok (Some given, after)
+    → HearsTokens opening given.tokens h → MakesRoom opening (numbered number h) heard → (memory : Bool) × Hears memory s after line (Some heard)
+hears_whole s after line opening given h heard number is number_is e was made = whole_cases was.0 made.0 s after line opening given h heard number is number_is e was.1 made.1

@@ -8,7 +8,8 @@ use Rattle.coll_table.specs.Table.{Collation}
 use Rattle.coll_table.specs.Delta.{delta}
 use Rattle.coll_table.specs.Record.{fits, turn}
 use Rattle.coll_bench.specs.Replay.{given_or, replay}
-use Rattle.coll_bench.specs.History.{History, begun, most_remaining, table_of, with_statement, judged_by, judged, stepped_back, taken_back}
+use Rattle.coll_bench.specs.Histories.{History, begun, table_now, with_statement, judged_by, judged, stepped_back, taken_back}
+use Rattle.coll_bench.specs.Limits.{most_remaining}
 use Rattle.coll_bench.specs.Kept.{statements_of, turned_back, Leads, LeadsOn, history_of}
 use Rattle.coll_table.specs.declared.plain.statements.PlainStatement.{PlainStatement}
 use Rattle.coll_table.specs.declared.refusals.Refusal.{Refusal}
@@ -60,11 +61,11 @@ replayed table (k ∷ kept) leads =
 -- what becomes of a statement, by what its history and the table say
 pub judged_full : (h : History) (s : PlainStatement) → most_remaining ≤ length h.remaining → judged h s ≡ Err HistoryFull
 unfolding judged
-judged_full h s full = ap (λ (b : Bool). if b then Err HistoryFull else judged_by h s (delta (table_of h) s)) (le-leb most_remaining (length h.remaining) full)
+judged_full h s full = ap (λ (b : Bool). if b then Err HistoryFull else judged_by h s (delta (table_now h) s)) (le-leb most_remaining (length h.remaining) full)
 
-pub judged_where_room : (h : History) (s : PlainStatement) → length h.remaining < most_remaining → judged h s ≡ judged_by h s (delta (table_of h) s)
+pub judged_where_room : (h : History) (s : PlainStatement) → length h.remaining < most_remaining → judged h s ≡ judged_by h s (delta (table_now h) s)
 unfolding judged
-judged_where_room h s room = ap (λ (b : Bool). if b then Err HistoryFull else judged_by h s (delta (table_of h) s)) (lt-leb most_remaining (length h.remaining) room)
+judged_where_room h s room = ap (λ (b : Bool). if b then Err HistoryFull else judged_by h s (delta (table_now h) s)) (lt-leb most_remaining (length h.remaining) room)
 
 length-statements_of : (kept : List Kept) → length (statements_of kept) ≡ length kept
 length-statements_of [] = refl
@@ -94,10 +95,10 @@ pub LeadsOn_none : (T : Collation) (undone : List Kept) → undone ≡ [] → Le
 unfolding LeadsOn
 LeadsOn_none T undone emptied = subst (λ (ks : List Kept). LeadsOn T (reverse ks)) (sym emptied) tt
 
-pub judged_accepted : (h : History) (s : PlainStatement) (T2 : Collation) → length h.remaining < most_remaining → delta (table_of h) s ≡ Ok T2 → judged h s ≡ Ok (with_statement h s)
+pub judged_accepted : (h : History) (s : PlainStatement) (T2 : Collation) → length h.remaining < most_remaining → delta (table_now h) s ≡ Ok T2 → judged h s ≡ Ok (with_statement h s)
 judged_accepted h s T2 room accepted = judged_where_room h s room ∙ ap (judged_by h s) accepted
 
-pub judged_refused : (h : History) (s : PlainStatement) (reason : Refusal) → length h.remaining < most_remaining → delta (table_of h) s ≡ Err reason → judged h s ≡ Err (Table reason)
+pub judged_refused : (h : History) (s : PlainStatement) (reason : Refusal) → length h.remaining < most_remaining → delta (table_now h) s ≡ Err reason → judged h s ≡ Err (Table reason)
 judged_refused h s reason room refused = judged_where_room h s room ∙ ap (judged_by h s) refused
 
 -- the history after an undo

@@ -1,6 +1,9 @@
+pub mod BlockLaws
 pub mod BlockLemmas
 pub mod HearingLemmas
 pub mod HistoryLemmas
+pub mod LineNumbers
+pub mod LineStops
 pub mod ReplyLemmas
 pub mod RunEnds
 pub mod RunExits

@@ -5,8 +5,8 @@ use Rattle.std.specs.Prelude.{◌⊎◌, IfOk, IfErr, OnErr}
 use Rattle.std.specs.Io.KnownBytes.{Appends, Keeps}
 use Rattle.std.proofs.KnownBytes.{Appends-kept}
 use Rattle.coll_lex.specs.Devices.{Sends}
-use Rattle.coll_bench.specs.History.{History, judged, taken_back, RefusesStatement}
-use Rattle.coll_bench.specs.Replies.{counted_line, refused_line, listed_line, listed_lines, count_reply, outcome_line, history_or, command_reply, after_command, reply, after, reply_if, after_if}
+use Rattle.coll_bench.specs.Histories.{History, judged, taken_back, RefusesStatement}
+use Rattle.coll_bench.specs.Replies.{counted_line, refused_line, listed_line, listed_lines, count_reply, outcome_line, history_or, command_reply, history_after_command, reply, history_after, reply_if, history_after_if}
 use Rattle.coll_table.specs.declared.plain.statements.PlainStatement.{PlainStatement}
 use Rattle.coll_table.specs.declared.entries.Entry.{Entry}
 use Rattle.coll_table.specs.declared.refusals.Refusal.TheVariants as refusal
@@ -14,9 +14,9 @@ use Rattle.coll_bench.specs.declared.faults.BenchFault.{BenchFault}
 use Rattle.coll_bench.specs.declared.faults.BenchFault.TheVariants as bench
 use Rattle.coll_bench.specs.declared.faults.Fault.{Fault}
 use Rattle.coll_bench.specs.declared.faults.Fault.TheVariants as fault
-use Rattle.coll_bench.specs.declared.commands.Command.{Command}
-use Rattle.coll_bench.specs.declared.requests.Request.{Request}
-use Rattle.coll_bench.specs.declared.requests.Request.TheVariants as request
+use Rattle.coll_bench.specs.declared.session_lines.Command.{Command}
+use Rattle.coll_bench.specs.declared.units.Request.{Request}
+use Rattle.coll_bench.specs.declared.units.Request.TheVariants as request
 
 -- the lines of the entries from a place on begin with the line of the entry there
 pub listed_more : (entries : List Entry) (index : ℕ) (entry : Entry) → index < length entries → entry ≡ get_or entries index entry
@@ -52,7 +52,7 @@ outcome_is word h h2 (Err f) given ok count err same = record {
 -- the reply to an undo
 pub record Answered (starved : Bool) (h h2 : History) (unit : Request) (line : List ℕ) : Type 0 where
   pub line_is : line ≡ reply_if starved h unit
-  pub state : h2 ≡ after_if starved h unit
+  pub state : h2 ≡ history_after_if starved h unit
 
 pub undo_outcome : (h h2 : History) (r : Result ℕ BenchFault)
     → IfOk r (λ _. taken_back h ≡ Ok h2) → IfOk r (λ n. n ≡ length h2.remaining) → IfErr r (λ f. taken_back h ≡ Err f) → OnErr r (h2 ≡ h) → Outcome (codes "undone") h h2 r (taken_back h)
@@ -60,7 +60,7 @@ undo_outcome h h2 r ok count err same = outcome_is (codes "undone") h h2 r (take
 
 judged_answered : (h h2 : History) (s : PlainStatement) (r : Result ℕ BenchFault)
     → IfOk r (λ _. judged h s ≡ Ok h2) → IfOk r (λ n. n ≡ length h2.remaining) → IfErr r (λ f. judged h s ≡ Err f) → OnErr r (h2 ≡ h) → Answered false h h2 (request.States s) (outcome_line (codes "ok") r)
-unfolding reply after
+unfolding reply history_after
 judged_answered h h2 s r ok count err same =
     let o = outcome_is (codes "ok") h h2 r (judged h s) ok count err same in
     record { line_is = o.line; state = o.state }
@@ -92,17 +92,17 @@ statement_answered h h2 s (Err f) ok count err same =
     (want_or_not f)
 
 -- the reply to a command, and to what is refused
-pub command_answered : (h h2 : History) (c : Command) → h2 ≡ after_command h c → Answered false h h2 (request.Asks c) (command_reply h c)
-unfolding reply after
+pub command_answered : (h h2 : History) (c : Command) → h2 ≡ history_after_command h c → Answered false h h2 (request.Asks c) (command_reply h c)
+unfolding reply history_after
 command_answered h h2 c state = record { line_is = refl; state = state }
 
 pub refused_answered : (h : History) (f : Fault) → Answered false h h (request.Refused f) (refused_line f)
-unfolding reply after
+unfolding reply history_after
 refused_answered h f = record { line_is = refl; state = refl }
 
 -- what was sent, with what it answers
 pub answered : {T E : Type 0} (old new : Option (List ℕ)) (h h2 : History) (unit : Request) (line : List ℕ) (r : Result T E)
-    → (starved : Bool) × Answered starved h h2 unit line → Sends old new line r → (starved : Bool) × Sends old new (reply_if starved h unit) r × (h2 ≡ after_if starved h unit)
+    → (starved : Bool) × Answered starved h h2 unit line → Sends old new line r → (starved : Bool) × Sends old new (reply_if starved h unit) r × (h2 ≡ history_after_if starved h unit)
 answered old new h h2 unit line r a sent = (a.0, subst (λ (l : List ℕ). Sends old new l r) a.1.line_is sent, a.1.state)
 
 -- a flush leaves what was sent, whether it failed or not

@@ -1,10 +1,10 @@
 -- A run that is under way ends: what was then written of its whole text, one lemma for each way to end.
-use Rattle.std.proofs.Common.{◌≡◌, ℕ, ◌<◌, Bool, true, false, List, [], ◌∷◌, ◌++◌, length, Option, Some, None, Result, Ok, Err, refl, sym, ap, ◌∙◌, subst, append-nil, append_assoc, inl, ⊎_elim, arith}
-use Rattle.std.specs.Prelude.{◌⊎◌, is_some}
+use Rattle.std.proofs.Common.{◌≡◌, ℕ, ◌<◌, Bool, true, false, List, [], ◌∷◌, ◌++◌, length, Option, Some, None, Result, Ok, Err, refl, sym, ap, ◌∙◌, subst, append-nil, append_assoc, inl, ⊎_elim}
+use Rattle.std.specs.Prelude.{◌⊎◌}
 use Rattle.std.specs.Io.KnownBytes.{Appends, Keeps, prepend_known, IsAtEnd}
 use Rattle.coll_lex.specs.Devices.{AppendsFront}
 use Rattle.coll_lex.specs.PhysicalLines.{IsInLine, lines_of}
-use Rattle.coll_lex.specs.LineReading.{Reading, Cuts, IsLongLine, StopsNow, ahead}
+use Rattle.coll_lex.specs.LineReading.{ReaderState, Cuts, IsLongLine, GivesEnd, EndsAgain, StopsNow, unread}
 use Rattle.coll_lex.specs.LogicalLines.{LexerState, pending, number_of, first_line, first_state, served, state_by, logical_lines}
 use Rattle.coll_lex.specs.declared.faults.LexFault.{LexFault}
 use Rattle.coll_lex.specs.declared.tokens.Line.{Line}
@@ -13,22 +13,23 @@ use Rattle.coll_lex.specs.declared.faults.ReadStop.{ReadStop}
 use Rattle.coll_lex.specs.declared.faults.ReadStop.TheVariants as stop
 use Rattle.coll_bench.specs.declared.faults.RunFault.{RunFault}
 use Rattle.coll_table.specs.Table.{Collation}
-use Rattle.coll_bench.specs.History.{begun}
-use Rattle.coll_bench.specs.Units.{Block, last_faults, end_faults}
+use Rattle.coll_bench.specs.Histories.{begun}
+use Rattle.coll_bench.specs.OpenBlocks.{kept_end_faults, kept_last_faults}
 use Rattle.coll_bench.specs.Replies.{refused_lines}
-use Rattle.coll_bench.specs.OpenBlock.{StandsFor}
-use Rattle.coll_bench.specs.Serving.{heard_at, stop_at, line_requests, line_block, history_after, line_replies, write_failed, stopped_at, never_ran, read_failed, EndsWith, EndsAtLine, FinishesWith, IsCutOff}
-use Rattle.coll_bench.specs.Run.{written_from, starved_output, is_last, last_line, RanToLastLine, RanToReadFault, RanToLexFault, Ran}
-use Rattle.coll_bench.specs.Underway.{IsCut, IsUnderway, Underway}
-use Rattle.coll_bench.specs.declared.runs.Desk.{Desk}
-use Rattle.coll_bench.proofs.RunLemmas.{choices_for, written_on, written_stop}
+use Rattle.coll_bench.specs.Serving.{stop_at, line_units, line_block, history_after_all, line_replies, write_failed, stopped_at, never_ran, read_failed, EndsWith, EndsAtLine, FinishesWith, IsCutOff}
+use Rattle.coll_bench.specs.Runs.{starved_output, last_line, RanToLastLine, RanToReadFault, RanToLexFault, Ran}
+use Rattle.coll_bench.specs.Underway.{written_from, IsCut, IsUnderway, Underway}
+use Rattle.coll_bench.specs.declared.serving.Desk.{Desk}
+use Rattle.coll_bench.proofs.RunLemmas.{output_kept, choices_for, written_on, written_stop}
 use Rattle.coll_bench.proofs.RunEnds.{last_stop, written_end, written_cut, last_end, last_cut}
-use Rattle.coll_bench.proofs.RunSteps.{appended, ahead_after, lines_next}
+use Rattle.coll_bench.proofs.RunSteps.{appended, unread_after, lines_next}
 use Rattle.coll_bench.proofs.ServingLemmas.{stopped_replies}
+use Rattle.coll_lex.specs.Faults.{ends_text}
 use Rattle.coll_bench.specs.SessionLines.{opening_of}
-use Rattle.coll_bench.specs.Hearing.{heard_by}
-use Rattle.coll_bench.specs.declared.hearing.Heard.TheVariants as heard
-use Rattle.coll_lex.proofs.PhysicalLinesLemmas.{lines_of-nil, lines_of-long}
+use Rattle.coll_bench.specs.Hearing.{heard_by, heard_at}
+use Rattle.coll_bench.specs.declared.session_lines.HeardLine.{HeardLine}
+use Rattle.coll_bench.specs.declared.session_lines.Heard.TheVariants as heard
+use Rattle.coll_lex.proofs.PhysicalLinesLemmas.{lines_of-long}
 use Rattle.coll_lex.proofs.LineEnds.{fed-too_long}
 
 -- what a run that ends leaves behind
@@ -40,7 +41,7 @@ abbrev GoesBy : (text read line : List ℕ) → List (List ℕ) → Type 0
 GoesBy text read line later = lines_of text ≡ lines_of read ++ line ∷ later
 
 -- a fault of a last line
-lex_fault_ran : (table : Collation) (text : List ℕ) (left : Option (List ℕ)) (written : List ℕ) (ls us : List Bool) (number : ℕ) (f : LexFault) → is_last f ≡ true → RanToLastLine table text written ls us number f → RanToLexFault table text left written number f
+lex_fault_ran : (table : Collation) (text : List ℕ) (left : Option (List ℕ)) (written : List ℕ) (ls us : List Bool) (number : ℕ) (f : LexFault) → ends_text f ≡ true → RanToLastLine table text written ls us number f → RanToLexFault table text left written number f
 lex_fault_ran table text left written ls us number lex.LineTooLong last r = (ls, us, r)
 lex_fault_ran table text left written ls us number lex.TooManyLines last r = (ls, us, r)
 lex_fault_ran table text left written ls us number lex.DanglingEscape last r = (ls, us, r)
@@ -55,20 +56,20 @@ lex_fault_ran table text left written ls us number lex.BadCharDirective last r =
 lex_fault_ran table text left written ls us number lex.OutOfMemory last r = absurd (cc)
 
 -- the whole output, of a text whose next line is this one
-output_by : (table : Collation) (text before : List ℕ) (ahead0 taken0 : Option (List ℕ)) (old : Desk) (read rest written : List ℕ) (lines units : List Bool) (block : Option Block) (line : List ℕ) (later : List (List ℕ)) (c d : List Bool)
-    → IsUnderway table text before ahead0 taken0 old read rest written lines units block → GoesBy text read line later
-    → starved_output (lines ++ c) (units ++ d) true table text ≡ written ++ written_from old.listener block old.session c d true (line ∷ later)
-unfolding starved_output
-output_by table text before ahead0 taken0 old read rest written lines units block line later c d u by =
-    ap (λ (ls : List (List ℕ)). written_from first_state None (begun table) (lines ++ c) (units ++ d) true ls) by ∙ u.goes_on c d true (line ∷ later)
+output_by : (table : Collation) (text before : List ℕ) (ended0 : Bool) (unread0 taken0 : Option (List ℕ)) (old : Desk) (read rest written : List ℕ) (lines units : List Bool) (line : List ℕ) (later : List (List ℕ)) (c d : List Bool)
+    → IsUnderway table text before ended0 unread0 taken0 old read rest written lines units → GoesBy text read line later
+    → starved_output (lines ++ c) (units ++ d) true table text ≡ written ++ written_from old.listener old.block old.session c d true (line ∷ later)
+output_by table text before ended0 unread0 taken0 old read rest written lines units line later c d u by =
+    output_kept (lines ++ c) (units ++ d) true table text
+    ∙ ap (λ (ls : List (List ℕ)). written_from first_state None (begun table) (lines ++ c) (units ++ d) true ls) by ∙ u.goes_on c d true (line ∷ later)
 
 -- the session ends with the line: what the whole output is
-output_stop : (table : Collation) (text before : List ℕ) (ahead0 taken0 : Option (List ℕ)) (old : Desk) (read rest written : List ℕ) (lines units : List Bool) (block : Option Block) (line : List ℕ) (later : List (List ℕ)) (memory starved : Bool) (f : LexFault)
-    → IsUnderway table text before ahead0 taken0 old read rest written lines units block → GoesBy text read line later → stop_at (heard_at memory old.listener line) ≡ Some f
-    → starved_output (lines ++ memory ∷ []) (units ++ (choices_for starved (line_requests block (heard_at memory old.listener line)) ++ [])) true table text ≡ written ++ line_replies memory starved old line block
-output_stop table text before ahead0 taken0 old read rest written lines units block line later memory starved f u by stops =
-    output_by table text before ahead0 taken0 old read rest written lines units block line later (memory ∷ []) (choices_for starved (line_requests block (heard_at memory old.listener line)) ++ []) u by
-    ∙ ap (λ (l : List ℕ). written ++ l) (written_stop memory starved old.listener block old.session line [] [] true later f stops)
+output_stop : (table : Collation) (text before : List ℕ) (ended0 : Bool) (unread0 taken0 : Option (List ℕ)) (old : Desk) (read rest written : List ℕ) (lines units : List Bool) (line : List ℕ) (later : List (List ℕ)) (memory starved : Bool) (f : LexFault)
+    → IsUnderway table text before ended0 unread0 taken0 old read rest written lines units → GoesBy text read line later → stop_at (heard_at memory old.listener line) ≡ Some f
+    → starved_output (lines ++ memory ∷ []) (units ++ (choices_for starved (line_units old.block (heard_at memory old.listener line)) ++ [])) true table text ≡ written ++ line_replies memory starved old line
+output_stop table text before ended0 unread0 taken0 old read rest written lines units line later memory starved f u by stops =
+    output_by table text before ended0 unread0 taken0 old read rest written lines units line later (memory ∷ []) (choices_for starved (line_units old.block (heard_at memory old.listener line)) ++ []) u by
+    ∙ ap (λ (l : List ℕ). written ++ l) (written_stop memory starved old.listener old.block old.session line [] [] true later f stops)
 
 -- a front of the bytes that were to be written was written
 abbrev front_written : (written front back more : List ℕ) → (bytes : List ℕ) → bytes ≡ front ++ back → written ++ (bytes ++ more) ≡ (written ++ front) ++ (back ++ more)
@@ -85,7 +86,7 @@ write_ran table text before left taken0 taken1 written bytes more ls us ended is
 )
 
 -- a last line was served whole
-last_ran : (table : Collation) (text before : List ℕ) (left taken0 taken1 : Option (List ℕ)) (written bytes : List ℕ) (ls us : List Bool) (number : ℕ) (f : LexFault) (ended : RunFault) → is_last f ≡ true → RanToLastLine table text (written ++ bytes) ls us number f
+last_ran : (table : Collation) (text before : List ℕ) (left taken0 taken1 : Option (List ℕ)) (written bytes : List ℕ) (ls us : List Bool) (number : ℕ) (f : LexFault) (ended : RunFault) → ends_text f ≡ true → RanToLastLine table text (written ++ bytes) ls us number f
     → taken0 ≡ Some (before ++ written) → ended ≡ stopped_at number f → Appends taken0 taken1 bytes → Leaves table text before left taken1 (Err ended)
 last_ran table text before left taken0 taken1 written bytes ls us number f ended last r taken_is stopped more = (
   written ++ bytes,
@@ -94,13 +95,13 @@ last_ran table text before left taken0 taken1 written bytes ls us number f ended
 )
 
 -- the session ends at a line, of which memory was refused or not
-stop_ran : (table : Collation) (text before : List ℕ) (left ahead0 taken0 taken1 : Option (List ℕ)) (old : Desk) (read rest written : List ℕ) (lines units : List Bool) (block : Option Block) (line : List ℕ) (later : List (List ℕ)) (memory starved : Bool) (f : LexFault) (ended : RunFault)
-    → IsUnderway table text before ahead0 taken0 old read rest written lines units block → GoesBy text read line later → stop_at (heard_at memory old.listener line) ≡ Some f
-    → EndsWith (number_of old.listener) f taken0 taken1 (line_replies memory starved old line block) ended → Leaves table text before left taken1 (Err ended)
-stop_ran table text before left ahead0 taken0 taken1 old read rest written lines units block line later memory starved f ended u by stops ends =
-    let us = units ++ (choices_for starved (line_requests block (heard_at memory old.listener line)) ++ []) in
-    let bytes = line_replies memory starved old line block in
-    let whole = output_stop table text before ahead0 taken0 old read rest written lines units block line later memory starved f u by stops in
+stop_ran : (table : Collation) (text before : List ℕ) (left : Option (List ℕ)) (ended0 : Bool) (unread0 taken0 taken1 : Option (List ℕ)) (old : Desk) (read rest written : List ℕ) (lines units : List Bool) (line : List ℕ) (later : List (List ℕ)) (memory starved : Bool) (f : LexFault) (ended : RunFault)
+    → IsUnderway table text before ended0 unread0 taken0 old read rest written lines units → GoesBy text read line later → stop_at (heard_at memory old.listener line) ≡ Some f
+    → EndsWith (number_of old.listener) f taken0 taken1 (line_replies memory starved old line) ended → Leaves table text before left taken1 (Err ended)
+stop_ran table text before left ended0 unread0 taken0 taken1 old read rest written lines units line later memory starved f ended u by stops ends =
+    let us = units ++ (choices_for starved (line_units old.block (heard_at memory old.listener line)) ++ []) in
+    let bytes = line_replies memory starved old line in
+    let whole = output_stop table text before ended0 unread0 taken0 old read rest written lines units line later memory starved f u by stops in
     let l = last_stop memory old.listener line [] true later f stops in
     ⊎_elim
     (λ (e : (ended ≡ stopped_at (number_of old.listener) f) × Appends taken0 taken1 bytes).
@@ -114,96 +115,84 @@ stop_ran table text before left ahead0 taken0 taken1 old read rest written lines
     ends
 
 -- a write failed at a line that the session would go on after
-cut_ran : (table : Collation) (text before : List ℕ) (left ahead0 taken0 taken1 : Option (List ℕ)) (old : Desk) (read rest written : List ℕ) (lines units : List Bool) (block : Option Block) (line : List ℕ) (later : List (List ℕ)) (memory starved : Bool) (ended : RunFault)
-    → IsUnderway table text before ahead0 taken0 old read rest written lines units block → GoesBy text read line later → stop_at (heard_at memory old.listener line) ≡ None
-    → ended ≡ write_failed → AppendsFront taken0 taken1 (line_replies memory starved old line block) → Leaves table text before left taken1 (Err ended)
-cut_ran table text before left ahead0 taken0 taken1 old read rest written lines units block line later memory starved ended u by on failed front =
-    let us = line_requests block (heard_at memory old.listener line) in
-    write_ran table text before left taken0 taken1 written (line_replies memory starved old line block)
-    (written_from (state_by old.listener (served memory old.listener line)) (line_block block (heard_at memory old.listener line)) (history_after starved old.session us) [] [] true later)
+cut_ran : (table : Collation) (text before : List ℕ) (left : Option (List ℕ)) (ended0 : Bool) (unread0 taken0 taken1 : Option (List ℕ)) (old : Desk) (read rest written : List ℕ) (lines units : List Bool) (line : List ℕ) (later : List (List ℕ)) (memory starved : Bool) (ended : RunFault)
+    → IsUnderway table text before ended0 unread0 taken0 old read rest written lines units → GoesBy text read line later → stop_at (heard_at memory old.listener line) ≡ None
+    → ended ≡ write_failed → AppendsFront taken0 taken1 (line_replies memory starved old line) → Leaves table text before left taken1 (Err ended)
+cut_ran table text before left ended0 unread0 taken0 taken1 old read rest written lines units line later memory starved ended u by on failed front =
+    let us = line_units old.block (heard_at memory old.listener line) in
+    write_ran table text before left taken0 taken1 written (line_replies memory starved old line)
+    (written_from (state_by old.listener (served memory old.listener line)) (line_block old.block (heard_at memory old.listener line)) (history_after_all starved old.session us) [] [] true later)
     (lines ++ memory ∷ []) (units ++ (choices_for starved us ++ [])) ended
-    (output_by table text before ahead0 taken0 old read rest written lines units block line later (memory ∷ []) (choices_for starved us ++ []) u by
-    ∙ ap (λ (l : List ℕ). written ++ l) (written_on memory starved old.listener block old.session line [] [] true later on))
+    (output_by table text before ended0 unread0 taken0 old read rest written lines units line later (memory ∷ []) (choices_for starved us ++ []) u by
+    ∙ ap (λ (l : List ℕ). written ++ l) (written_on memory starved old.listener old.block old.session line [] [] true later on))
     u.taken_is failed front
 
-ends_by : (table : Collation) (text before : List ℕ) (left ahead0 taken0 taken1 : Option (List ℕ)) (old : Desk) (read rest written : List ℕ) (lines units : List Bool) (block : Option Block) (line : List ℕ) (later : List (List ℕ)) (memory starved : Bool) (ended : RunFault)
-    → IsUnderway table text before ahead0 taken0 old read rest written lines units block → GoesBy text read line later → EndsAtLine memory starved old line block taken0 taken1 ended → Leaves table text before left taken1 (Err ended)
-ends_by table text before left ahead0 taken0 taken1 old read rest written lines units block line later memory starved ended u by ends =
+ends_by : (table : Collation) (text before : List ℕ) (left : Option (List ℕ)) (ended0 : Bool) (unread0 taken0 taken1 : Option (List ℕ)) (old : Desk) (read rest written : List ℕ) (lines units : List Bool) (line : List ℕ) (later : List (List ℕ)) (memory starved : Bool) (ended : RunFault)
+    → IsUnderway table text before ended0 unread0 taken0 old read rest written lines units → GoesBy text read line later → EndsAtLine memory starved old line taken0 taken1 ended → Leaves table text before left taken1 (Err ended)
+ends_by table text before left ended0 unread0 taken0 taken1 old read rest written lines units line later memory starved ended u by ends =
     ⊎_elim
-    (λ (e : (f : LexFault) × (stop_at (heard_at memory old.listener line) ≡ Some f) × EndsWith (number_of old.listener) f taken0 taken1 (line_replies memory starved old line block) ended).
-    stop_ran table text before left ahead0 taken0 taken1 old read rest written lines units block line later memory starved e.0 ended u by e.1 e.2)
-    (λ (e : (stop_at (heard_at memory old.listener line) ≡ None) × (ended ≡ write_failed) × AppendsFront taken0 taken1 (line_replies memory starved old line block)).
-    cut_ran table text before left ahead0 taken0 taken1 old read rest written lines units block line later memory starved ended u by e.0 e.1 e.2)
+    (λ (e : (f : LexFault) × (stop_at (heard_at memory old.listener line) ≡ Some f) × EndsWith (number_of old.listener) f taken0 taken1 (line_replies memory starved old line) ended).
+    stop_ran table text before left ended0 unread0 taken0 taken1 old read rest written lines units line later memory starved e.0 ended u by e.1 e.2)
+    (λ (e : (stop_at (heard_at memory old.listener line) ≡ None) × (ended ≡ write_failed) × AppendsFront taken0 taken1 (line_replies memory starved old line)).
+    cut_ran table text before left ended0 unread0 taken0 taken1 old read rest written lines units line later memory starved ended u by e.0 e.1 e.2)
     ends
 
 -- the session ended at a line
-pub line_ended : (table : Collation) (text before : List ℕ) (left ahead0 ahead1 taken0 taken1 : Option (List ℕ)) (old : Desk) (line : List ℕ) (ended : RunFault) → Underway table text before ahead0 taken0 old → Cuts ahead0 ahead1 line → IsInLine line
-    → (memory : Bool) × (starved : Bool) × ((block : Option Block) → StandsFor old.block block → EndsAtLine memory starved old line block taken0 taken1 ended) → Leaves table text before left taken1 (Err ended)
-line_ended table text before left ahead0 ahead1 taken0 taken1 old line ended (read, rest, written, lines, units, block, u) cuts whole (memory, starved, did) =
-    let (rest2, ahead_is, cut) = ahead_after ahead0 ahead1 rest line u.ahead_is cuts in
-    ends_by table text before left ahead0 taken0 taken1 old read rest written lines units block line (lines_of rest2) memory starved ended u (ap lines_of u.text_is ∙ lines_next read rest rest2 line whole cut u.cut) (did block u.block_is)
+pub line_ended : (table : Collation) (text before : List ℕ) (left : Option (List ℕ)) (ended0 ended1 : Bool) (unread0 unread1 taken0 taken1 : Option (List ℕ)) (old : Desk) (line : List ℕ) (ended : RunFault) → Underway table text before ended0 unread0 taken0 old → ended0 ≡ false
+    → Cuts ended1 unread0 unread1 line → IsInLine line → (memory : Bool) × (starved : Bool) × EndsAtLine memory starved old line taken0 taken1 ended → Leaves table text before left taken1 (Err ended)
+line_ended table text before left ended0 ended1 unread0 unread1 taken0 taken1 old line ended (read, rest, written, lines, units, u) going cuts whole (memory, starved, did) =
+    let (rest2, unread_is, cut) = unread_after ended1 unread0 unread1 rest line u.unread_is cuts in
+    ends_by table text before left ended0 unread0 taken0 taken1 old read rest written lines units line (lines_of rest2) memory starved ended u (ap lines_of u.text_is ∙ lines_next ended1 read rest rest2 line whole cut (u.there.cut going)) did
 
 -- a line too long ended the session
-long_at : (s : LexerState) (line : List ℕ) → 65536 < length line → heard_at false s line ≡ Some (heard.Stops lex.LineTooLong)
+abbrev long_line_at : LexerState → HeardLine
+long_line_at s = record { number = number_of s; heard = heard.Stops lex.LineTooLong }
+
+long_at : (s : LexerState) (line : List ℕ) → 65536 < length line → heard_at false s line ≡ Some (long_line_at s)
 unfolding heard_at served
-long_at s line long = ap (λ (a : Result (Option Line × LexerState) LexFault). heard_by (opening_of (first_line s line)) a) (fed-too_long s line long)
+long_at s line long = ap (λ (a : Result (Option Line × LexerState) LexFault). heard_by (number_of s) (opening_of (first_line s line)) a) (fed-too_long s line long)
 
-long_line : (read rest held more : List ℕ) → rest ≡ held ++ more → IsLongLine held → (rest ≡ []) ⊎ IsCut read → (line : List ℕ) × (later : List (List ℕ)) × (lines_of (read ++ rest) ≡ lines_of read ++ line ∷ later) × (65536 < length line)
+long_line : (read rest held more : List ℕ) → rest ≡ held ++ more → IsLongLine held → IsCut read → (line : List ℕ) × (later : List (List ℕ)) × (lines_of (read ++ rest) ≡ lines_of read ++ line ∷ later) × (65536 < length line)
 long_line read rest held more is long cut =
-    let (line, later, begins, longer) = lines_of-long held more long in (
-      line,
-      later,
-      ⊎_elim (λ (none : rest ≡ []). absurd (no_nil held more long (sym is ∙ none)))
-          (λ (c : IsCut read). c rest ∙ ap (λ (ls : List (List ℕ)). lines_of read ++ ls) (ap lines_of is ∙ begins)) cut,
-      longer,
-    )
-  where
-    no_nil : (held more : List ℕ) → IsLongLine held → held ++ more ≡ [] → ⊥
-    no_nil [] more long e = omega (arith, long.long)
-    no_nil (c ∷ held) more long e = cc
+    let (line, later, begins, longer) = lines_of-long held more long in
+    (line, later, cut rest ∙ ap (λ (ls : List (List ℕ)). lines_of read ++ ls) (ap lines_of is ∙ begins), longer)
 
-held_first : (held : List ℕ) (ahead0 left1 : Option (List ℕ)) (rest : List ℕ) → ahead0 ≡ Some rest → Keeps ahead0 (prepend_known held left1) → (more : List ℕ) × (left1 ≡ Some more) × (rest ≡ held ++ more)
+held_first : (held : List ℕ) (unread0 left1 : Option (List ℕ)) (rest : List ℕ) → unread0 ≡ Some rest → Keeps unread0 (prepend_known held left1) → (more : List ℕ) × (left1 ≡ Some more) × (rest ≡ held ++ more)
 held_first held None left1 rest is keeps = absurd (cc)
 held_first held (Some all) None rest is keeps = absurd keeps
 held_first held (Some all) (Some more) rest is keeps = let same : all ≡ rest = cc in (more, refl, sym same ∙ sym keeps)
 
-ends_long : (old : Desk) (line : List ℕ) (block : Option Block) (taken0 taken1 : Option (List ℕ)) (ended : RunFault) → 65536 < length line → EndsWith (number_of old.listener) lex.LineTooLong taken0 taken1 (refused_lines (last_faults block lex.LineTooLong)) ended
-    → EndsAtLine false false old line block taken0 taken1 ended
-ends_long old line block taken0 taken1 ended long ends =
+ends_long : (old : Desk) (line : List ℕ) (taken0 taken1 : Option (List ℕ)) (ended : RunFault) → 65536 < length line → EndsWith (number_of old.listener) lex.LineTooLong taken0 taken1 (refused_lines (kept_last_faults old.block (number_of old.listener) lex.LineTooLong)) ended
+    → EndsAtLine false false old line taken0 taken1 ended
+ends_long old line taken0 taken1 ended long ends =
     let at = long_at old.listener line long in
-    inl (lex.LineTooLong, ap stop_at at, subst (λ (bytes : List ℕ). EndsWith (number_of old.listener) lex.LineTooLong taken0 taken1 bytes ended) (stopped_replies false false old line lex.LineTooLong block at) ends)
+    inl (lex.LineTooLong, ap stop_at at, subst (λ (bytes : List ℕ). EndsWith (number_of old.listener) lex.LineTooLong taken0 taken1 bytes ended) (stopped_replies false false old line (long_line_at old.listener) lex.LineTooLong at refl) ends)
 
-pub long_ended : (table : Collation) (text before : List ℕ) (left ahead0 left1 taken0 taken1 : Option (List ℕ)) (old : Desk) (held : List ℕ) (ended : RunFault) → Underway table text before ahead0 taken0 old → Keeps ahead0 (prepend_known held left1) → IsLongLine held
-    → ((block : Option Block) → StandsFor old.block block → EndsWith (number_of old.listener) lex.LineTooLong taken0 taken1 (refused_lines (last_faults block lex.LineTooLong)) ended) → Leaves table text before left taken1 (Err ended)
-long_ended table text before left ahead0 left1 taken0 taken1 old held ended (read, rest, written, lines, units, block, u) keeps long ends =
-    let (more, left_is, rest_is) = held_first held ahead0 left1 rest u.ahead_is keeps in
-    let (line, later, by, longer) = long_line read rest held more rest_is long u.cut in
-    ends_by table text before left ahead0 taken0 taken1 old read rest written lines units block line later false false ended u (ap lines_of u.text_is ∙ by) (ends_long old line block taken0 taken1 ended longer (ends block u.block_is))
+pub long_ended : (table : Collation) (text before : List ℕ) (left : Option (List ℕ)) (ended0 : Bool) (unread0 left1 taken0 taken1 : Option (List ℕ)) (old : Desk) (held : List ℕ) (ended : RunFault) → Underway table text before ended0 unread0 taken0 old → ended0 ≡ false → Keeps unread0 (prepend_known held left1) → IsLongLine held
+    → EndsWith (number_of old.listener) lex.LineTooLong taken0 taken1 (refused_lines (kept_last_faults old.block (number_of old.listener) lex.LineTooLong)) ended → Leaves table text before left taken1 (Err ended)
+long_ended table text before left ended0 unread0 left1 taken0 taken1 old held ended (read, rest, written, lines, units, u) going keeps long ends =
+    let (more, left_is, rest_is) = held_first held unread0 left1 rest u.unread_is keeps in
+    let (line, later, by, longer) = long_line read rest held more rest_is long (u.there.cut going) in
+    ends_by table text before left ended0 unread0 taken0 taken1 old read rest written lines units line later false false ended u (ap lines_of u.text_is ∙ by) (ends_long old line taken0 taken1 ended longer ends)
 
 -- a read failed: a part of the next line was read
-cut_at : (read rest : List ℕ) → (rest ≡ []) ⊎ IsCut read → lines_of (read ++ rest) ≡ lines_of read ++ lines_of rest
-cut_at read rest cut =
-    ⊎_elim (λ (none : rest ≡ []). subst (λ (r : List ℕ). lines_of (read ++ r) ≡ lines_of read ++ lines_of r) (sym none)
-    (ap lines_of (append-nil read) ∙ sym (append-nil (lines_of read)) ∙ ap (λ (ls : List (List ℕ)). lines_of read ++ ls) (sym lines_of-nil)))
-    (λ (c : IsCut read). c rest) cut
-
-read_ran : (table : Collation) (text before : List ℕ) (ahead0 taken0 : Option (List ℕ)) (old : Desk) (read rest written : List ℕ) (lines units : List Bool) (block : Option Block) (held more : List ℕ)
-    → IsUnderway table text before ahead0 taken0 old read rest written lines units block → rest ≡ held ++ more → IsInLine held → RanToReadFault table text (Some more) written (lines ++ []) (units ++ []) read held more
-unfolding starved_output
-read_ran table text before ahead0 taken0 old read rest written lines units block held more u is whole = record {
+read_ran : (table : Collation) (text before : List ℕ) (ended0 : Bool) (unread0 taken0 : Option (List ℕ)) (old : Desk) (read rest written : List ℕ) (lines units : List Bool) (held more : List ℕ)
+    → IsUnderway table text before ended0 unread0 taken0 old read rest written lines units → ended0 ≡ false → rest ≡ held ++ more → IsInLine held → RanToReadFault table text (Some more) written (lines ++ []) (units ++ []) read held more
+read_ran table text before ended0 unread0 taken0 old read rest written lines units held more u going is whole = record {
   text_is = u.text_is ∙ ap (λ (r : List ℕ). read ++ r) is;
-  whole = ap lines_of u.text_is ∙ cut_at read rest u.cut ∙ ap (λ (r : List ℕ). lines_of read ++ lines_of r) is;
+  in_feeds = u.there.in_feeds going;
+  whole = ap lines_of u.text_is ∙ u.there.cut going rest ∙ ap (λ (r : List ℕ). lines_of read ++ lines_of r) is;
   part_in_line = whole;
   left_is = refl;
-  output_is = sym (ap (λ (ls : List (List ℕ)). written_from first_state None (begun table) (lines ++ []) (units ++ []) false ls) (sym (append-nil (lines_of read)))
-      ∙ u.goes_on [] [] false [] ∙ ap (λ (l : List ℕ). written ++ l) (written_cut old.listener block old.session) ∙ append-nil written);
+  output_is = sym (output_kept (lines ++ []) (units ++ []) false table read ∙ ap (λ (ls : List (List ℕ)). written_from first_state None (begun table) (lines ++ []) (units ++ []) false ls) (sym (append-nil (lines_of read)))
+      ∙ u.goes_on [] [] false [] ∙ ap (λ (l : List ℕ). written ++ l) (written_cut old.listener old.block old.session) ∙ append-nil written);
   no_last = ap (λ (ls : List (List ℕ)). last_line (logical_lines (lines ++ []) false first_state ls)) (sym (append-nil (lines_of read))) ∙ u.last [] false [] ∙ last_cut old.listener;
 }
 
-pub read_ended : (table : Collation) (text before : List ℕ) (ahead0 left1 taken0 taken1 : Option (List ℕ)) (old : Desk) (held : List ℕ) (ended : RunFault) → Underway table text before ahead0 taken0 old → Keeps ahead0 (prepend_known held left1) → IsInLine held
+pub read_ended : (table : Collation) (text before : List ℕ) (ended0 : Bool) (unread0 left1 taken0 taken1 : Option (List ℕ)) (old : Desk) (held : List ℕ) (ended : RunFault) → Underway table text before ended0 unread0 taken0 old → ended0 ≡ false → Keeps unread0 (prepend_known held left1) → IsInLine held
     → (ended ≡ read_failed) × (taken1 ≡ taken0) → Leaves table text before left1 taken1 (Err ended)
-read_ended table text before ahead0 left1 taken0 taken1 old held ended (read, rest, written, lines, units, block, u) keeps whole (is, kept) =
-    let (more, left_is, rest_is) = held_first held ahead0 left1 rest u.ahead_is keeps in (
+read_ended table text before ended0 unread0 left1 taken0 taken1 old held ended (read, rest, written, lines, units, u) going keeps whole (is, kept) =
+    let (more, left_is, rest_is) = held_first held unread0 left1 rest u.unread_is keeps in (
       written,
       kept ∙ u.taken_is,
       subst (λ (e : RunFault). Ran table text left1 written (Err e)) (sym is) (
@@ -216,60 +205,76 @@ read_ended table text before ahead0 left1 taken0 taken1 old held ended (read, re
           held,
           more,
           subst (λ (l : Option (List ℕ)). RanToReadFault table text l written (lines ++ []) (units ++ []) read held more) (sym left_is)
-              (read_ran table text before ahead0 taken0 old read rest written lines units block held more u rest_is whole),
+              (read_ran table text before ended0 unread0 taken0 old read rest written lines units held more u going rest_is whole),
         ),
       ),
     )
 
 -- the text ended
-nothing_ahead : (ahead0 left1 : Option (List ℕ)) (rest : List ℕ) → ahead0 ≡ Some rest → Keeps ahead0 (prepend_known [] left1) → IsAtEnd (prepend_known [] left1) → (rest ≡ []) × (left1 ≡ Some [])
-nothing_ahead ahead0 None rest is keeps end = absurd (none_kept ahead0 is keeps)
+nothing_unread : (unread0 left1 : Option (List ℕ)) (rest : List ℕ) → unread0 ≡ Some rest → Keeps unread0 (prepend_known [] left1) → IsAtEnd (prepend_known [] left1) → (rest ≡ []) × (left1 ≡ Some [])
+nothing_unread unread0 None rest is keeps end = absurd (none_kept unread0 is keeps)
   where
     none_kept : (a : Option (List ℕ)) → a ≡ Some rest → Keeps a None → ⊥
     none_kept None e k = cc
     none_kept (Some all) e k = k
-nothing_ahead ahead0 (Some more) rest is keeps end =
-    let (held, left_is, rest_is) = held_first [] ahead0 (Some more) rest is keeps in
+nothing_unread unread0 (Some more) rest is keeps end =
+    let (held, left_is, rest_is) = held_first [] unread0 (Some more) rest is keeps in
     let same : held ≡ more = cc in
     (rest_is ∙ same ∙ end, ap Some end)
 
 end_lines : (text read rest : List ℕ) → text ≡ read ++ rest → rest ≡ [] → lines_of text ≡ lines_of read ++ []
 end_lines text read rest is none = ap lines_of (is ∙ ap (λ (r : List ℕ). read ++ r) none ∙ append-nil read) ∙ sym (append-nil (lines_of read))
 
-end_output : (table : Collation) (text before : List ℕ) (ahead0 taken0 : Option (List ℕ)) (old : Desk) (read rest written : List ℕ) (lines units : List Bool) (block : Option Block)
-    → IsUnderway table text before ahead0 taken0 old read rest written lines units block → rest ≡ [] → starved_output (lines ++ []) (units ++ []) true table text ≡ written ++ refused_lines (end_faults (is_some (pending old.listener)) block)
-unfolding starved_output
-end_output table text before ahead0 taken0 old read rest written lines units block u none =
-    ap (λ (ls : List (List ℕ)). written_from first_state None (begun table) (lines ++ []) (units ++ []) true ls) (end_lines text read rest u.text_is none)
-    ∙ u.goes_on [] [] true [] ∙ ap (λ (l : List ℕ). written ++ l) (written_end old.listener block old.session)
+end_output : (table : Collation) (text before : List ℕ) (ended0 : Bool) (unread0 taken0 : Option (List ℕ)) (old : Desk) (read rest written : List ℕ) (lines units : List Bool)
+    → IsUnderway table text before ended0 unread0 taken0 old read rest written lines units → rest ≡ [] → starved_output (lines ++ []) (units ++ []) true table text ≡ written ++ refused_lines (kept_end_faults old.block (pending old.listener))
+end_output table text before ended0 unread0 taken0 old read rest written lines units u none =
+    output_kept (lines ++ []) (units ++ []) true table text
+    ∙ ap (λ (ls : List (List ℕ)). written_from first_state None (begun table) (lines ++ []) (units ++ []) true ls) (end_lines text read rest u.text_is none)
+    ∙ u.goes_on [] [] true [] ∙ ap (λ (l : List ℕ). written ++ l) (written_end old.listener old.block old.session)
 
-end_ran : (table : Collation) (text before : List ℕ) (left1 taken0 taken1 : Option (List ℕ)) (ahead0 : Option (List ℕ)) (old : Desk) (read rest written : List ℕ) (lines units : List Bool) (block : Option Block) (r : Result (Unit {0}) RunFault)
-    → IsUnderway table text before ahead0 taken0 old read rest written lines units block → rest ≡ [] → left1 ≡ Some [] → FinishesWith taken0 taken1 (refused_lines (end_faults (is_some (pending old.listener)) block)) r → Leaves table text before left1 taken1 r
-end_ran table text before left1 taken0 taken1 ahead0 old read rest written lines units block (Ok done) u none left_is more =
-    let bytes = refused_lines (end_faults (is_some (pending old.listener)) block) in (
+end_ran : (table : Collation) (text before : List ℕ) (left1 taken0 taken1 : Option (List ℕ)) (ended0 : Bool) (unread0 : Option (List ℕ)) (old : Desk) (read rest written : List ℕ) (lines units : List Bool) (r : Result (Unit {0}) RunFault)
+    → IsUnderway table text before ended0 unread0 taken0 old read rest written lines units → rest ≡ [] → left1 ≡ Some [] → FinishesWith taken0 taken1 (refused_lines (kept_end_faults old.block (pending old.listener))) r → Leaves table text before left1 taken1 r
+end_ran table text before left1 taken0 taken1 ended0 unread0 old read rest written lines units (Ok done) u none left_is more =
+    let bytes = refused_lines (kept_end_faults old.block (pending old.listener)) in (
       written ++ bytes,
       appended taken0 taken1 before written bytes u.taken_is more,
       (
         lines ++ [],
         units ++ [],
         record {
-          output_is = sym (end_output table text before ahead0 taken0 old read rest written lines units block u none);
+          output_is = sym (end_output table text before ended0 unread0 taken0 old read rest written lines units u none);
           no_last = ap (λ (ls : List (List ℕ)). last_line (logical_lines (lines ++ []) true first_state ls)) (end_lines text read rest u.text_is none) ∙ u.last [] true [] ∙ last_end old.listener;
           left_is = left_is;
         },
       ),
     )
-end_ran table text before left1 taken0 taken1 ahead0 old read rest written lines units block (Err ended) u none left_is (is, front) =
-    let bytes = refused_lines (end_faults (is_some (pending old.listener)) block) in
+end_ran table text before left1 taken0 taken1 ended0 unread0 old read rest written lines units (Err ended) u none left_is (is, front) =
+    let bytes = refused_lines (kept_end_faults old.block (pending old.listener)) in
     write_ran table text before left1 taken0 taken1 written bytes [] (lines ++ []) (units ++ []) ended
-    (end_output table text before ahead0 taken0 old read rest written lines units block u none ∙ ap (λ (l : List ℕ). written ++ l) (sym (append-nil bytes))) u.taken_is is front
+    (end_output table text before ended0 unread0 taken0 old read rest written lines units u none ∙ ap (λ (l : List ℕ). written ++ l) (sym (append-nil bytes))) u.taken_is is front
 
-pub text_ended : (table : Collation) (text before : List ℕ) (ahead0 left1 taken0 taken1 : Option (List ℕ)) (old : Desk) (held : List ℕ) (r : Result (Unit {0}) RunFault) → Underway table text before ahead0 taken0 old
-    → Keeps ahead0 (prepend_known held left1) → held ≡ [] → IsAtEnd (prepend_known held left1)
-    → ((block : Option Block) → StandsFor old.block block → FinishesWith taken0 taken1 (refused_lines (end_faults (is_some (pending old.listener)) block)) r) → Leaves table text before left1 taken1 r
-text_ended table text before ahead0 left1 taken0 taken1 old held r (read, rest, written, lines, units, block, u) keeps none end finishes =
-    let e = nothing_ahead ahead0 left1 rest u.ahead_is (subst (λ (h : List ℕ). Keeps ahead0 (prepend_known h left1)) none keeps) (subst (λ (h : List ℕ). IsAtEnd (prepend_known h left1)) none end) in
-    end_ran table text before left1 taken0 taken1 ahead0 old read rest written lines units block r u e.0 e.1 (finishes block u.block_is)
+-- past the end of the input nothing is left
+nothing_left : (held : List ℕ) (left left1 : Option (List ℕ)) → prepend_known held left ≡ Some [] → Keeps left left1 → left1 ≡ Some []
+nothing_left held None left1 is keeps = absurd cc
+nothing_left [] (Some all) None is keeps = absurd keeps
+nothing_left [] (Some all) (Some more) is keeps = let none : all ≡ [] = cc in ap Some (keeps ∙ none)
+nothing_left (c ∷ held) (Some all) left1 is keeps = absurd cc
+
+-- the end was met now, or an earlier call has met it
+at_end : (old new : ReaderState) (left left1 : Option (List ℕ)) (failed failed1 : ℕ) (rest : List ℕ) → unread old left ≡ Some rest → (old.ended ≡ true → rest ≡ []) → GivesEnd old new left left1 failed failed1 ⊎ EndsAgain old new left left1 failed failed1
+    → (rest ≡ []) × (left1 ≡ Some [])
+at_end old new left left1 failed failed1 rest is past end =
+    ⊎_elim
+    (λ (now : GivesEnd old new left left1 failed failed1).
+    nothing_unread (unread old left) left1 rest is (subst (λ (h : List ℕ). Keeps (unread old left) (prepend_known h left1)) now.held now.kept) (subst (λ (h : List ℕ). IsAtEnd (prepend_known h left1)) now.held now.end))
+    (λ (again : EndsAgain old new left left1 failed failed1). let none = past again.ended in (none, nothing_left old.held left left1 (is ∙ ap Some none) again.kept))
+    end
+
+pub text_ended : (table : Collation) (text before : List ℕ) (old new : ReaderState) (left left1 taken0 taken1 : Option (List ℕ)) (failed failed1 : ℕ) (desk : Desk) (r : Result (Unit {0}) RunFault) → Underway table text before old.ended (unread old left) taken0 desk
+    → GivesEnd old new left left1 failed failed1 ⊎ EndsAgain old new left left1 failed failed1 → FinishesWith taken0 taken1 (refused_lines (kept_end_faults desk.block (pending desk.listener))) r → Leaves table text before left1 taken1 r
+text_ended table text before old new left left1 taken0 taken1 failed failed1 desk r (read, rest, written, lines, units, u) end finishes =
+    let e = at_end old new left left1 failed failed1 rest u.unread_is u.there.past_end end in
+    end_ran table text before left1 taken0 taken1 old.ended (unread old left) desk read rest written lines units r u e.0 e.1 finishes
 
 -- memory was refused before the first line was read
 pub never_begun : (table : Collation) (text before : List ℕ) (left taken : Option (List ℕ)) (ended : RunFault) → ended ≡ never_ran → left ≡ Some text → taken ≡ Some before → Leaves table text before left taken (Err ended)
@@ -277,10 +282,9 @@ never_begun table text before left taken ended is left_is taken_is =
     ([], taken_is ∙ ap Some (sym (append-nil before)), subst (λ (e : RunFault). Ran table text left [] (Err e)) (sym is) (refl, (refl, record { nothing_written = refl; nothing_read = left_is })))
 
 -- no further line could be read
-pub cut_off_ended : (table : Collation) (text before : List ℕ) (old new : Reading) (left left1 taken0 taken1 : Option (List ℕ)) (failed failed1 : ℕ) (desk : Desk) (stop : ReadStop) (ended : RunFault) → StopsNow old new left left1 failed failed1 stop
-    → Underway table text before (ahead old left) taken0 desk → ((block : Option Block) → StandsFor desk.block block → IsCutOff stop (number_of desk.listener) taken0 taken1 (refused_lines (last_faults block lex.LineTooLong)) ended)
-    → Leaves table text before left1 taken1 (Err ended)
+pub cut_off_ended : (table : Collation) (text before : List ℕ) (old new : ReaderState) (left left1 taken0 taken1 : Option (List ℕ)) (failed failed1 : ℕ) (desk : Desk) (stop : ReadStop) (ended : RunFault) → StopsNow old new left left1 failed failed1 stop
+    → Underway table text before old.ended (unread old left) taken0 desk → IsCutOff stop (number_of desk.listener) taken0 taken1 (refused_lines (kept_last_faults desk.block (number_of desk.listener) lex.LineTooLong)) ended → Leaves table text before left1 taken1 (Err ended)
 cut_off_ended table text before old new left left1 taken0 taken1 failed failed1 desk stop.LineTooLong ended stops u cut =
-    long_ended table text before left1 (ahead old left) left1 taken0 taken1 desk new.held ended u stops.kept stops.cause.1 cut
-cut_off_ended table text before old new left left1 taken0 taken1 failed failed1 desk stop.ReadFault ended stops (read, rest, written, lines, units, block, u) cut =
-    read_ended table text before (ahead old left) left1 taken0 taken1 desk new.held ended (read, rest, written, lines, units, block, u) stops.kept stops.cause.1 (cut block u.block_is)
+    long_ended table text before left1 old.ended (unread old left) left1 taken0 taken1 desk new.held ended u stops.not_ended stops.kept stops.cause.1 cut
+cut_off_ended table text before old new left left1 taken0 taken1 failed failed1 desk stop.ReadFault ended stops u cut =
+    read_ended table text before old.ended (unread old left) left1 taken0 taken1 desk new.held ended u stops.not_ended stops.kept stops.cause.1 cut

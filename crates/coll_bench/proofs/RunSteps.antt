@@ -1,45 +1,51 @@
 -- A run that is under way goes on by a line, or ends: one lemma for each way.
-use Rattle.std.proofs.Common.{◌≡◌, ℕ, ◌<◌, Bool, true, false, List, [], ◌∷◌, ◌++◌, length, Option, Some, None, Result, Ok, Err, refl, sym, ap, ◌∙◌, subst, append-nil, append_assoc, inl, inr, ⊎_elim, arith}
+use Rattle.std.proofs.Common.{◌≡◌, ℕ, ◌<◌, Bool, true, false, List, [], ◌∷◌, ◌++◌, length, Option, Some, None, Result, Ok, Err, refl, sym, ap, ◌∙◌, subst, append-nil, append_assoc, ⊎_elim}
 use Rattle.std.specs.Prelude.{◌⊎◌}
 use Rattle.std.specs.Io.KnownBytes.{Appends}
+use Rattle.std.specs.Result.{IfErr}
+use Rattle.std.proofs.lemmas.Bool.{false≢true}
+use Rattle.std.proofs.lemmas.Grind.{flat_map-append}
 use Rattle.coll_lex.specs.PhysicalLines.{line_feed, IsInLine, lines_of}
-use Rattle.coll_lex.specs.LineReading.{Reading, no_line, CutsLine, Cuts, GivesLine, GivesEnd, StopsNow, StopsAgain, Advances, ahead}
+use Rattle.coll_lex.specs.LineReading.{ReaderState, no_line, CutsLine, Cuts, GivesLine, GivesEnd, EndsAgain, StopsNow, StopsAgain, Advances, unread}
 use Rattle.coll_lex.specs.LogicalLines.{LexerState, first_state, served, state_by, logical_lines}
 use Rattle.coll_lex.specs.declared.faults.ReadStop.{ReadStop}
 use Rattle.coll_lex.proofs.PhysicalLinesLemmas.{lines_of-nil, lines_of-ended, lines_of-part, lines_of-cut}
 use Rattle.coll_table.specs.Table.{Collation}
-use Rattle.coll_bench.specs.History.{History, begun}
-use Rattle.coll_bench.specs.Units.{Block}
-use Rattle.coll_bench.specs.OpenBlock.{StandsFor}
-use Rattle.coll_bench.specs.Serving.{IsBegun, Served, ReadsNone, heard_at, stop_at, line_requests, line_block, history_after, replies_to, line_replies}
-use Rattle.coll_bench.specs.Run.{written_from, last_line, CountsReads}
-use Rattle.std.specs.Result.{IfErr}
+use Rattle.coll_table.specs.TextLines.{with_feeds}
+use Rattle.coll_bench.specs.Histories.{History, begun}
+use Rattle.coll_bench.specs.Hearing.{heard_at}
+use Rattle.coll_bench.specs.Serving.{IsBegun, Served, ReadsNone, stop_at, line_units, line_block, history_after_all, replies_to, line_replies}
+use Rattle.coll_bench.specs.Runs.{last_line, CountsReads}
+use Rattle.coll_bench.specs.Underway.{written_from, IsCut, IsCutThere, IsUnderway, Underway}
 use Rattle.coll_bench.specs.declared.faults.RunFault.{RunFault}
+use Rattle.coll_bench.specs.declared.open_blocks.OpenBlock.{OpenBlock}
+use Rattle.coll_bench.specs.declared.serving.Desk.{Desk}
 use Rattle.coll_bench.proofs.ServingLemmas.{counts_none}
-use Rattle.coll_bench.specs.Underway.{IsCut, IsUnderway, Underway}
-use Rattle.coll_bench.specs.declared.runs.Desk.{Desk}
 use Rattle.coll_bench.proofs.RunLemmas.{choices_for, written_on}
 use Rattle.coll_bench.proofs.RunEnds.{last_on}
 
 -- nothing was read or written yet
-pub underway_begun : (table : Collation) (text before : List ℕ) (ahead taken : Option (List ℕ)) (desk : Desk) → IsBegun desk table → ahead ≡ Some text → taken ≡ Some before → Underway table text before ahead taken desk
-underway_begun table text before ahead taken desk b ahead_is taken_is = (
+pub underway_begun : (table : Collation) (text before : List ℕ) (ended : Bool) (unread taken : Option (List ℕ)) (desk : Desk) → IsBegun desk table → ended ≡ false → unread ≡ Some text → taken ≡ Some before → Underway table text before ended unread taken desk
+underway_begun table text before ended unread taken desk b going unread_is taken_is = (
   [],
   text,
   [],
   [],
   [],
-  None,
   record {
     text_is = refl;
-    cut = inr (λ later. sym (ap (λ (ls : List (List ℕ)). ls ++ lines_of later) lines_of-nil));
-    ahead_is = ahead_is;
+    there = record {
+      cut = λ _ later. sym (ap (λ (ls : List (List ℕ)). ls ++ lines_of later) lines_of-nil);
+      in_feeds = λ _. sym (ap with_feeds lines_of-nil);
+      past_end = λ (met : ended ≡ true). absurd (false≢true (sym going ∙ met));
+    };
+    unread_is = unread_is;
     taken_is = taken_is ∙ ap Some (sym (append-nil before));
-    block_is = b.block;
     goes_on = λ c d ends later.
         ap (λ (ls : List (List ℕ)). written_from first_state None (begun table) c d ends (ls ++ later)) lines_of-nil
         ∙ ap (λ (s : LexerState). written_from s None (begun table) c d ends later) (sym b.listener)
-        ∙ ap (λ (h : History). written_from desk.listener None h c d ends later) (sym b.session);
+        ∙ ap (λ (o : Option OpenBlock). written_from desk.listener o (begun table) c d ends later) (sym b.block)
+        ∙ ap (λ (h : History). written_from desk.listener desk.block h c d ends later) (sym b.session);
     last = λ c ends later.
         ap (λ (ls : List (List ℕ)). last_line (logical_lines c ends first_state (ls ++ later))) lines_of-nil
         ∙ ap (λ (s : LexerState). last_line (logical_lines c ends s later)) (sym b.listener);
@@ -47,68 +53,65 @@ underway_begun table text before ahead taken desk b ahead_is taken_is = (
 )
 
 -- the bytes read after one more line, of a text that is cut so
-record NextLine (read rest rest2 line : List ℕ) (read2 : List ℕ) : Type 0 where
+record NextLine (ended : Bool) (read rest rest2 line : List ℕ) (read2 : List ℕ) : Type 0 where
   text_is : read ++ rest ≡ read2 ++ rest2
   lines_are : lines_of read2 ≡ lines_of read ++ line ∷ []
-  cut : (rest2 ≡ []) ⊎ IsCut read2
+  there : IsCutThere ended read2 rest2
 
-next_ended : (read rest2 line : List ℕ) → IsInLine line → IsCut read → NextLine read (line ++ line_feed ∷ rest2) rest2 line (read ++ (line ++ line_feed ∷ []))
-next_ended read rest2 line whole cut =
+-- one more line with its line feed
+in_feeds-more : (read line : List ℕ) (lines : List (List ℕ)) → read ≡ with_feeds (lines_of read) → lines ≡ lines_of read ++ line ∷ [] → read ++ (line ++ line_feed ∷ []) ≡ with_feeds lines
+in_feeds-more read line lines whole more =
+    ap (λ (l : List ℕ). l ++ (line ++ line_feed ∷ [])) whole
+    ∙ ap (λ (l : List ℕ). with_feeds (lines_of read) ++ l) (sym (append-nil (line ++ line_feed ∷ [])))
+    ∙ sym (flat_map-append (λ (l : List ℕ). l ++ line_feed ∷ []) (lines_of read) (line ∷ []))
+    ∙ ap with_feeds (sym more)
+
+next_ended : (read rest2 line : List ℕ) → IsInLine line → IsCut read → read ≡ with_feeds (lines_of read) → NextLine false read (line ++ line_feed ∷ rest2) rest2 line (read ++ (line ++ line_feed ∷ []))
+next_ended read rest2 line whole cut in_feeds =
     let ended : (later : List ℕ) → (read ++ (line ++ line_feed ∷ [])) ++ later ≡ read ++ (line ++ line_feed ∷ later) = λ later. append_assoc read (line ++ line_feed ∷ []) later ∙ ap (λ (l : List ℕ). read ++ l) (append_assoc line (line_feed ∷ []) later) in
     let lines : lines_of (read ++ (line ++ line_feed ∷ [])) ≡ lines_of read ++ line ∷ [] = cut (line ++ line_feed ∷ []) ∙ ap (λ (ls : List (List ℕ)). lines_of read ++ ls) (lines_of-ended line [] whole ∙ ap (λ (ls : List (List ℕ)). line ∷ ls) lines_of-nil) in
     record {
       text_is = sym (ended rest2);
       lines_are = lines;
-      cut = inr (λ later. ap lines_of (ended later) ∙ cut (line ++ line_feed ∷ later) ∙ ap (λ (ls : List (List ℕ)). lines_of read ++ ls) (lines_of-ended line later whole)
-          ∙ sym (append_assoc (lines_of read) (line ∷ []) (lines_of later)) ∙ ap (λ (ls : List (List ℕ)). ls ++ lines_of later) (sym lines));
+      there = record {
+        cut = λ _ later. ap lines_of (ended later) ∙ cut (line ++ line_feed ∷ later) ∙ ap (λ (ls : List (List ℕ)). lines_of read ++ ls) (lines_of-ended line later whole)
+            ∙ sym (append_assoc (lines_of read) (line ∷ []) (lines_of later)) ∙ ap (λ (ls : List (List ℕ)). ls ++ lines_of later) (sym lines);
+        in_feeds = λ _. in_feeds-more read line (lines_of (read ++ (line ++ line_feed ∷ []))) in_feeds lines;
+        past_end = λ met. absurd (false≢true met);
+      };
     }
 
-next_last : (read line : List ℕ) → IsInLine line → 0 < length line → IsCut read → NextLine read line [] line (read ++ line)
+next_last : (read line : List ℕ) → IsInLine line → 0 < length line → IsCut read → NextLine true read line [] line (read ++ line)
 next_last read line whole some cut = record {
   text_is = sym (append-nil (read ++ line));
   lines_are = cut line ∙ ap (λ (ls : List (List ℕ)). lines_of read ++ ls) (lines_of-part line some whole);
-  cut = inl refl;
+  there = record { cut = λ going. absurd (false≢true (sym going)); in_feeds = λ going. absurd (false≢true (sym going)); past_end = λ _. refl };
 }
 
-next_by : (read rest rest2 line : List ℕ) → IsInLine line → CutsLine rest line rest2 → IsCut read → (read2 : List ℕ) × NextLine read rest rest2 line read2
-next_by read rest rest2 line whole cuts cut =
-    ⊎_elim (λ (e : rest ≡ line ++ line_feed ∷ rest2). (read ++ (line ++ line_feed ∷ []), subst (λ (r : List ℕ). NextLine read r rest2 line (read ++ (line ++ line_feed ∷ []))) (sym e) (next_ended read rest2 line whole cut)))
-    (λ (e : (rest ≡ line) × (0 < length line) × (rest2 ≡ [])). (
-      read ++ line,
-      subst (λ (r : List ℕ). NextLine read r rest2 line (read ++ line)) (sym e.0) (subst (λ (r : List ℕ). NextLine read line r line (read ++ line)) (sym e.2) (next_last read line whole e.1 cut)),
-    ))
-    cuts
-
-nothing_cut : (rest rest2 line : List ℕ) → rest ≡ [] → CutsLine rest line rest2 → ⊥
-nothing_cut rest rest2 line none cuts =
-    ⊎_elim (λ (e : rest ≡ line ++ line_feed ∷ rest2). no_nil line rest2 (sym none ∙ e))
-    (λ (e : (rest ≡ line) × (0 < length line) × (rest2 ≡ [])). omega (arith, ap (length {A = ℕ}) (sym none ∙ e.0), e.1))
-    cuts
-  where
-    no_nil : (line rest2 : List ℕ) → [] ≡ line ++ line_feed ∷ rest2 → ⊥
-    no_nil [] rest2 e = cc
-    no_nil (c ∷ line) rest2 e = cc
-
-next_line : (read rest rest2 line : List ℕ) → IsInLine line → CutsLine rest line rest2 → (rest ≡ []) ⊎ IsCut read → (read2 : List ℕ) × NextLine read rest rest2 line read2
-next_line read rest rest2 line whole cuts cut =
-    ⊎_elim (λ (none : rest ≡ []). absurd (nothing_cut rest rest2 line none cuts)) (λ (c : IsCut read). next_by read rest rest2 line whole cuts c) cut
+next_line : (ended : Bool) (read rest rest2 line : List ℕ) → IsInLine line → CutsLine ended rest line rest2 → IsCut read → read ≡ with_feeds (lines_of read) → (read2 : List ℕ) × NextLine ended read rest rest2 line read2
+next_line false read rest rest2 line whole cuts cut in_feeds = (
+  read ++ (line ++ line_feed ∷ []),
+  subst (λ (r : List ℕ). NextLine false read r rest2 line (read ++ (line ++ line_feed ∷ []))) (sym cuts) (next_ended read rest2 line whole cut in_feeds),
+)
+next_line true read rest rest2 line whole cuts cut in_feeds = (
+  read ++ line,
+  subst (λ (r : List ℕ). NextLine true read r rest2 line (read ++ line)) (sym cuts.0) (subst (λ (r : List ℕ). NextLine true read line r line (read ++ line)) (sym cuts.2) (next_last read line whole cuts.1 cut)),
+)
 
 -- the lines of a text, one of which comes next
-pub lines_next : (read rest rest2 line : List ℕ) → IsInLine line → CutsLine rest line rest2 → (rest ≡ []) ⊎ IsCut read → lines_of (read ++ rest) ≡ lines_of read ++ line ∷ lines_of rest2
-lines_next read rest rest2 line whole cuts cut =
-    ⊎_elim (λ (none : rest ≡ []). absurd (nothing_cut rest rest2 line none cuts))
-    (λ (c : IsCut read). c rest ∙ ap (λ (ls : List (List ℕ)). lines_of read ++ ls) (lines_of-cut rest line rest2 cuts whole)) cut
+pub lines_next : (ended : Bool) (read rest rest2 line : List ℕ) → IsInLine line → CutsLine ended rest line rest2 → IsCut read → lines_of (read ++ rest) ≡ lines_of read ++ line ∷ lines_of rest2
+lines_next ended read rest rest2 line whole cuts cut = cut rest ∙ ap (λ (ls : List (List ℕ)). lines_of read ++ ls) (lines_of-cut ended rest line rest2 cuts whole)
 
--- what is ahead after a line was cut off
-pub ahead_after : (a b : Option (List ℕ)) (rest line : List ℕ) → a ≡ Some rest → Cuts a b line → (rest2 : List ℕ) × (b ≡ Some rest2) × CutsLine rest line rest2
-ahead_after a (Some rest2) rest line is cuts = (rest2, refl, cut_at a is cuts)
+-- what is unread after a line was cut off
+pub unread_after : (ended : Bool) (a b : Option (List ℕ)) (rest line : List ℕ) → a ≡ Some rest → Cuts ended a b line → (rest2 : List ℕ) × (b ≡ Some rest2) × CutsLine ended rest line rest2
+unread_after ended a (Some rest2) rest line is cuts = (rest2, refl, cut_at a is cuts)
   where
-    cut_at : (a : Option (List ℕ)) → a ≡ Some rest → Cuts a (Some rest2) line → CutsLine rest line rest2
+    cut_at : (a : Option (List ℕ)) → a ≡ Some rest → Cuts ended a (Some rest2) line → CutsLine ended rest line rest2
     cut_at None e c = absurd (cc)
-    cut_at (Some all) e c = let same : all ≡ rest = cc in subst (λ (r : List ℕ). CutsLine r line rest2) same c
-ahead_after a None rest line is cuts = absurd (cut_none a is cuts)
+    cut_at (Some all) e c = let same : all ≡ rest = cc in subst (λ (r : List ℕ). CutsLine ended r line rest2) same c
+unread_after ended a None rest line is cuts = absurd (cut_none a is cuts)
   where
-    cut_none : (a : Option (List ℕ)) → a ≡ Some rest → Cuts a None line → ⊥
+    cut_none : (a : Option (List ℕ)) → a ≡ Some rest → Cuts ended a None line → ⊥
     cut_none None e c = cc
     cut_none (Some all) e c = c
 
@@ -121,7 +124,7 @@ appended (Some xs) (Some ys) before written bytes is more =
     ap Some (more ∙ ap (λ (l : List ℕ). l ++ bytes) same ∙ append_assoc before written bytes)
 
 -- how a run goes on from what was read and written so far, for all further lines and choices
-abbrev GoesOn : Collation → (read written : List ℕ) → (lines units : List Bool) → LexerState → Option Block → History → Type 0
+abbrev GoesOn : Collation → (read written : List ℕ) → (lines units : List Bool) → LexerState → Option OpenBlock → History → Type 0
 GoesOn table read written lines units s block h = (c d : List Bool) (ends : Bool) (later : List (List ℕ)) → written_from first_state None (begun table) (lines ++ c) (units ++ d) ends (lines_of read ++ later) ≡ written ++ written_from s block h c d ends later
 
 -- the same of a text's last line
@@ -131,19 +134,19 @@ HasLast read lines s = (c : List Bool) (ends : Bool) (later : List (List ℕ)) �
 pub one_more : (read read2 line : List ℕ) (later : List (List ℕ)) → lines_of read2 ≡ lines_of read ++ line ∷ [] → lines_of read2 ++ later ≡ lines_of read ++ line ∷ later
 one_more read read2 line later more = ap (λ (ls : List (List ℕ)). ls ++ later) more ∙ append_assoc (lines_of read) (line ∷ []) later
 
-goes_on_by : (table : Collation) (read read2 written line : List ℕ) (lines units : List Bool) (s s2 : LexerState) (block block2 : Option Block) (h h2 : History) (memory starved : Bool) → GoesOn table read written lines units s block h
-    → lines_of read2 ≡ lines_of read ++ line ∷ [] → stop_at (heard_at memory s line) ≡ None → s2 ≡ state_by s (served memory s line) → block2 ≡ line_block block (heard_at memory s line) → h2 ≡ history_after starved h (line_requests block (heard_at memory s line))
-    → GoesOn table read2 (written ++ replies_to starved h (line_requests block (heard_at memory s line))) (lines ++ memory ∷ []) (units ++ choices_for starved (line_requests block (heard_at memory s line))) s2 block2 h2
+goes_on_by : (table : Collation) (read read2 written line : List ℕ) (lines units : List Bool) (s s2 : LexerState) (block block2 : Option OpenBlock) (h h2 : History) (memory starved : Bool) → GoesOn table read written lines units s block h
+    → lines_of read2 ≡ lines_of read ++ line ∷ [] → stop_at (heard_at memory s line) ≡ None → s2 ≡ state_by s (served memory s line) → block2 ≡ line_block block (heard_at memory s line) → h2 ≡ history_after_all starved h (line_units block (heard_at memory s line))
+    → GoesOn table read2 (written ++ replies_to starved h (line_units block (heard_at memory s line))) (lines ++ memory ∷ []) (units ++ choices_for starved (line_units block (heard_at memory s line))) s2 block2 h2
 goes_on_by table read read2 written line lines units s s2 block block2 h h2 memory starved goes more on s_is block_is h_is c d ends later =
-    let us = line_requests block (heard_at memory s line) in
+    let us = line_units block (heard_at memory s line) in
     let first = written_from first_state None (begun table) in
     ap (λ (ls : List (List ℕ)). first ((lines ++ memory ∷ []) ++ c) ((units ++ choices_for starved us) ++ d) ends ls) (one_more read read2 line later more)
     ∙ ap (λ (l : List Bool). first l ((units ++ choices_for starved us) ++ d) ends (lines_of read ++ line ∷ later)) (append_assoc lines (memory ∷ []) c)
     ∙ ap (λ (l : List Bool). first (lines ++ memory ∷ c) l ends (lines_of read ++ line ∷ later)) (append_assoc units (choices_for starved us) d)
     ∙ goes (memory ∷ c) (choices_for starved us ++ d) ends (line ∷ later)
     ∙ ap (λ (l : List ℕ). written ++ l) (written_on memory starved s block h line c d ends later on
-    ∙ ap (λ (x : LexerState). replies_to starved h us ++ written_from x (line_block block (heard_at memory s line)) (history_after starved h us) c d ends later) (sym s_is)
-    ∙ ap (λ (b : Option Block). replies_to starved h us ++ written_from s2 b (history_after starved h us) c d ends later) (sym block_is)
+    ∙ ap (λ (x : LexerState). replies_to starved h us ++ written_from x (line_block block (heard_at memory s line)) (history_after_all starved h us) c d ends later) (sym s_is)
+    ∙ ap (λ (b : Option OpenBlock). replies_to starved h us ++ written_from s2 b (history_after_all starved h us) c d ends later) (sym block_is)
     ∙ ap (λ (x : History). replies_to starved h us ++ written_from s2 block2 x c d ends later) (sym h_is))
     ∙ sym (append_assoc written (replies_to starved h us) (written_from s2 block2 h2 c d ends later))
 
@@ -156,54 +159,56 @@ has_last_by read read2 line lines s s2 memory last more on s_is c ends later =
     ∙ last_on memory s line c ends later on
     ∙ ap (λ (x : LexerState). last_line (logical_lines c ends x later)) (sym s_is)
 
-served_on : (table : Collation) (text before : List ℕ) (ahead0 ahead1 taken0 taken1 : Option (List ℕ)) (old new : Desk) (read rest written : List ℕ) (lines units : List Bool) (block : Option Block) (memory starved : Bool) (line : List ℕ)
-    → IsUnderway table text before ahead0 taken0 old read rest written lines units block → Cuts ahead0 ahead1 line → IsInLine line → Served memory starved old new line block → Appends taken0 taken1 (line_replies memory starved old line block)
-    → Underway table text before ahead1 taken1 new
-served_on table text before ahead0 ahead1 taken0 taken1 old new read rest written lines units block memory starved line u cuts whole served more =
-    let (rest2, ahead_is, cut) = ahead_after ahead0 ahead1 rest line u.ahead_is cuts in
-    let (read2, n) = next_line read rest rest2 line whole cut u.cut in (
+served_on : (table : Collation) (text before : List ℕ) (ended ended2 : Bool) (unread0 unread1 taken0 taken1 : Option (List ℕ)) (old new : Desk) (read rest written : List ℕ) (lines units : List Bool) (memory starved : Bool) (line : List ℕ)
+    → IsUnderway table text before ended unread0 taken0 old read rest written lines units → ended ≡ false → Cuts ended2 unread0 unread1 line → IsInLine line → Served memory starved old new line → Appends taken0 taken1 (line_replies memory starved old line)
+    → Underway table text before ended2 unread1 taken1 new
+served_on table text before ended ended2 unread0 unread1 taken0 taken1 old new read rest written lines units memory starved line u going cuts whole served more =
+    let (rest2, unread_is, cut) = unread_after ended2 unread0 unread1 rest line u.unread_is cuts in
+    let (read2, n) = next_line ended2 read rest rest2 line whole cut (u.there.cut going) (u.there.in_feeds going) in (
       read2,
       rest2,
-      written ++ line_replies memory starved old line block,
+      written ++ line_replies memory starved old line,
       lines ++ memory ∷ [],
-      units ++ choices_for starved (line_requests block (heard_at memory old.listener line)),
-      line_block block (heard_at memory old.listener line),
+      units ++ choices_for starved (line_units old.block (heard_at memory old.listener line)),
       record {
         text_is = u.text_is ∙ n.text_is;
-        cut = n.cut;
-        ahead_is = ahead_is;
-        taken_is = appended taken0 taken1 before written (line_replies memory starved old line block) u.taken_is more;
-        block_is = served.block_is;
-        goes_on = goes_on_by table read read2 written line lines units old.listener new.listener block (line_block block (heard_at memory old.listener line)) old.session new.session memory starved u.goes_on n.lines_are served.goes_on served.listener refl served.session;
+        there = n.there;
+        unread_is = unread_is;
+        taken_is = appended taken0 taken1 before written (line_replies memory starved old line) u.taken_is more;
+        goes_on = goes_on_by table read read2 written line lines units old.listener new.listener old.block new.block old.session new.session memory starved u.goes_on n.lines_are served.goes_on served.listener served.block served.session;
         last = has_last_by read read2 line lines old.listener new.listener memory u.last n.lines_are served.goes_on served.listener;
       },
     )
 
 -- one more line was served, and the run goes on
-pub underway_on : (table : Collation) (text before : List ℕ) (ahead0 ahead1 taken0 taken1 : Option (List ℕ)) (old new : Desk) (line : List ℕ) → Underway table text before ahead0 taken0 old → Cuts ahead0 ahead1 line → IsInLine line
-    → (memory : Bool) × (starved : Bool) × ((block : Option Block) → StandsFor old.block block → Served memory starved old new line block × Appends taken0 taken1 (line_replies memory starved old line block))
-    → Underway table text before ahead1 taken1 new
-underway_on table text before ahead0 ahead1 taken0 taken1 old new line (read, rest, written, lines, units, block, u) cuts whole (memory, starved, did) =
-    let (s, more) = did block u.block_is in
-    served_on table text before ahead0 ahead1 taken0 taken1 old new read rest written lines units block memory starved line u cuts whole s more
+pub underway_on : (table : Collation) (text before : List ℕ) (ended ended2 : Bool) (unread0 unread1 taken0 taken1 : Option (List ℕ)) (old new : Desk) (line : List ℕ) → Underway table text before ended unread0 taken0 old → ended ≡ false → Cuts ended2 unread0 unread1 line → IsInLine line
+    → (memory : Bool) × (starved : Bool) × Served memory starved old new line × Appends taken0 taken1 (line_replies memory starved old line) → Underway table text before ended2 unread1 taken1 new
+underway_on table text before ended ended2 unread0 unread1 taken0 taken1 old new line (read, rest, written, lines, units, u) going cuts whole (memory, starved, served, more) =
+    served_on table text before ended ended2 unread0 unread1 taken0 taken1 old new read rest written lines units memory starved line u going cuts whole served more
 
 -- what the reader did, by its answer
-pub gives_line : (old new : Reading) (left left_after : Option (List ℕ)) (failed failed_after : ℕ) (more : Bool) → Advances old new left left_after failed failed_after (Ok more) → more ≡ true → GivesLine old new left left_after failed failed_after
+pub gives_line : (old new : ReaderState) (left left_after : Option (List ℕ)) (failed failed_after : ℕ) (more : Bool) → Advances old new left left_after failed failed_after (Ok more) → more ≡ true → GivesLine old new left left_after failed failed_after
 gives_line old new left left_after failed failed_after true did is = did
 gives_line old new left left_after failed failed_after false did is = absurd (cc)
 
-pub gives_end : (old new : Reading) (left left_after : Option (List ℕ)) (failed failed_after : ℕ) (more : Bool) → Advances old new left left_after failed failed_after (Ok more) → more ≡ false → GivesEnd old new left left_after failed failed_after
+pub gives_end : (old new : ReaderState) (left left_after : Option (List ℕ)) (failed failed_after : ℕ) (more : Bool) → Advances old new left left_after failed failed_after (Ok more) → more ≡ false
+    → GivesEnd old new left left_after failed failed_after ⊎ EndsAgain old new left left_after failed failed_after
 gives_end old new left left_after failed failed_after true did is = absurd (cc)
 gives_end old new left left_after failed failed_after false did is = did
 
-pub stops_now : (old new : Reading) (left left_after : Option (List ℕ)) (failed failed_after : ℕ) (stop : ReadStop) → Advances old new left left_after failed failed_after (Err stop) → old.stop ≡ None → StopsNow old new left left_after failed failed_after stop
+pub stops_now : (old new : ReaderState) (left left_after : Option (List ℕ)) (failed failed_after : ℕ) (stop : ReadStop) → Advances old new left left_after failed failed_after (Err stop) → old.stop ≡ None → StopsNow old new left left_after failed failed_after stop
 stops_now old new left left_after failed failed_after stop did going =
     ⊎_elim (λ (now : StopsNow old new left left_after failed failed_after stop). now)
     (λ (again : StopsAgain old new left left_after failed failed_after stop). let stopped = again.stopped in absurd (cc)) did
 
--- all of the text is ahead of a new reader
-pub ahead_begun : (r : Reading) (left : Option (List ℕ)) (text : List ℕ) → r ≡ no_line → left ≡ Some text → ahead r left ≡ Some text
-ahead_begun r left text is left_is = ap (λ (x : Reading). ahead x left) is ∙ ap (λ (l : Option (List ℕ)). ahead no_line l) left_is
+-- no read failed where the end was met
+pub count_at_end : (old new : ReaderState) (left left_after : Option (List ℕ)) (failed failed_after : ℕ) → GivesEnd old new left left_after failed failed_after ⊎ EndsAgain old new left left_after failed failed_after → failed_after ≡ failed
+count_at_end old new left left_after failed failed_after end =
+    ⊎_elim (λ (now : GivesEnd old new left left_after failed failed_after). now.count) (λ (again : EndsAgain old new left left_after failed failed_after). again.count) end
+
+-- all of the text is unread by a new reader
+pub unread_begun : (r : ReaderState) (left : Option (List ℕ)) (text : List ℕ) → r ≡ no_line → left ≡ Some text → unread r left ≡ Some text
+unread_begun r left text is left_is = ap (λ (x : ReaderState). unread x left) is ∙ ap (λ (l : Option (List ℕ)). unread no_line l) left_is
 
 -- no read failed so far
 pub reads_kept : (f0 f1 f2 : ℕ) (r : Result (Unit {0}) RunFault) → f1 ≡ f0 → f2 ≡ f1 → IfErr r (λ ended. ReadsNone ended) → CountsReads f0 f2 r

@@ -1,42 +1,51 @@
 -- Want of memory shows: a line or a unit to which memory was refused has its reply in the output, or is one of a block that
 -- has it. Where there is no such line and no such unit, the output is the stated one.
-use Rattle.std.proofs.Common.{◌≡◌, ℕ, Bool, true, false, List, [], ◌∷◌, ◌++◌, map, Option, Some, None, Result, Ok, Err, refl, sym, ap, ◌∙◌, subst, append_assoc, inl, inr, ⊎_elim}
-use Rattle.std.specs.Prelude.{◌⊎◌, ◌||◌, if◌then◌else◌, option_to_list}
+use Rattle.std.proofs.Common.{◌≡◌, ℕ, Bool, true, false, List, [], ◌∷◌, ◌++◌, map, Option, Some, None, Result, Err, refl, sym, ap, ◌∙◌, subst, append_assoc, inl, inr, ⊎_elim}
+use Rattle.std.specs.Prelude.{◌⊎◌, if◌then◌else◌, option_to_list}
 use Rattle.coll_lex.specs.PhysicalLines.{lines_of}
-use Rattle.coll_lex.specs.LogicalLines.{LexerState, first_line, first_state, first_choice, later_choices, served, state_by, logical_lines}
+use Rattle.coll_lex.specs.LogicalLines.{LexerState, LogicalLine, number_of, first_line, first_state, first_choice, later_choices, fed, takes_memory, served, state_by, lines_by, logical_lines}
+use Rattle.coll_lex.specs.declared.tokens.Line.{Line}
 use Rattle.coll_lex.specs.declared.faults.LexFault.{LexFault}
 use Rattle.coll_lex.specs.declared.faults.LexFault.TheVariants as lex
-use Rattle.coll_bench.specs.History.{History, begun}
+use Rattle.coll_bench.specs.Histories.{History, begun}
 use Rattle.coll_bench.specs.SessionLines.{opening_of, heard}
-use Rattle.coll_bench.specs.Units.{Block, opened, with_line, wants_memory, is_starved, statement_of, targeted, requested, block_request, requests_at, block_after, refused_requests, refused_block, left_open, end_faults, dropped_faults, is_end_of_text, refusals, units}
-use Rattle.coll_bench.specs.Replies.{refused_line, reply, after, starved_line, reply_if, after_if, answers}
-use Rattle.coll_bench.specs.Serving.{heard_at, stop_at, line_requests, line_block}
-use Rattle.coll_bench.specs.Run.{written_from, starved_output, output, ShowsWant, WantShows}
-use Rattle.coll_table.specs.declared.plain.statements.PlainLine.{PlainLine}
+use Rattle.coll_bench.specs.Hearing.{heard_by, heard_at}
+use Rattle.coll_bench.specs.Units.{starved_at, fault_at, refused_at}
+use Rattle.coll_bench.specs.OpenBlocks.{open_at, kept_ended, kept_after, kept_units_at, kept_last_faults, kept_units}
+use Rattle.coll_bench.specs.Replies.{refused_line, reply, history_after, starved_line, reply_if, history_after_if, answers}
+use Rattle.coll_bench.specs.Serving.{stop_at, line_units, line_block}
+use Rattle.coll_bench.specs.Runs.{starved_output, output}
+use Rattle.coll_bench.specs.Laws.{ShowsWant, WantShows}
+use Rattle.coll_bench.specs.Underway.{written_from}
 use Rattle.coll_bench.specs.declared.faults.Fault.{Fault}
 use Rattle.coll_bench.specs.declared.faults.Fault.TheVariants as fault
-use Rattle.coll_bench.specs.declared.hearing.Opening.{Opening}
-use Rattle.coll_bench.specs.declared.hearing.Opening.TheVariants as opening
-use Rattle.coll_bench.specs.declared.hearing.Heard.{Heard}
-use Rattle.coll_bench.specs.declared.hearing.Heard.TheVariants as line
-use Rattle.coll_bench.specs.declared.requests.Request.{Request}
-use Rattle.coll_bench.specs.declared.requests.Request.TheVariants as request
-use Rattle.coll_bench.proofs.BlockLemmas.{is_starved-with_line}
-use Rattle.coll_bench.proofs.RunLemmas.{heard_later, units_on, units_stop}
+use Rattle.coll_bench.specs.declared.open_blocks.OpenBlock.{OpenBlock}
+use Rattle.coll_bench.specs.declared.open_blocks.SoFar.{SoFar}
+use Rattle.coll_bench.specs.declared.open_blocks.SoFar.TheVariants as so_far
+use Rattle.coll_bench.specs.declared.session_lines.Opening.{Opening}
+use Rattle.coll_bench.specs.declared.session_lines.Opening.TheVariants as opening
+use Rattle.coll_bench.specs.declared.session_lines.Heard.{Heard}
+use Rattle.coll_bench.specs.declared.session_lines.Heard.TheVariants as line
+use Rattle.coll_bench.specs.declared.session_lines.HeardLine.{HeardLine}
+use Rattle.coll_bench.specs.declared.units.Request.{Request}
+use Rattle.coll_bench.specs.declared.units.Request.TheVariants as request
+use Rattle.coll_bench.specs.declared.units.SessionUnit.{SessionUnit}
+use Rattle.coll_bench.proofs.HearingLemmas.{served_starved}
+use Rattle.coll_bench.proofs.RunLemmas.{output_kept, heard_later, units_on, units_stop}
 
--- the refusal for want of memory
-abbrev starved : Fault
-starved = fault.Lex lex.OutOfMemory
+-- the refusal for want of memory, of some line
+abbrev starved : ℕ → SessionUnit
+starved n = refused_at (starved_at n)
 
 -- it is one of these units
-abbrev Wants : List Request → Type 0
-Wants us = (first : List Request) × (last : List Request) × (us ≡ first ++ request.Refused starved ∷ last)
+abbrev Wants : List SessionUnit → Type 0
+Wants us = (n : ℕ) × (first : List SessionUnit) × (last : List SessionUnit) × (us ≡ first ++ starved n ∷ last)
 
-wants_first : (unit : Request) (later : List Request) → unit ≡ request.Refused starved → Wants (unit ∷ later)
-wants_first unit later is = ([], later, ap (λ (u : Request). u ∷ later) is)
+wants_first : (n : ℕ) (later : List SessionUnit) → Wants (starved n ∷ later)
+wants_first n later = (n, [], later, refl)
 
-wants_later : (front us : List Request) → Wants us → Wants (front ++ us)
-wants_later front us (first, last, is) = (front ++ first, last, ap (λ (x : List Request). front ++ x) is ∙ sym (append_assoc front first (request.Refused starved ∷ last)))
+wants_later : (front us : List SessionUnit) → Wants us → Wants (front ++ us)
+wants_later front us (n, first, last, is) = (n, front ++ first, last, ap (λ (x : List SessionUnit). front ++ x) is ∙ sym (append_assoc front first (starved n ∷ last)))
 
 shows_later : (front bytes : List ℕ) → ShowsWant bytes → ShowsWant (front ++ bytes)
 shows_later front bytes (before, later, is) = (front ++ before, later, ap (λ (x : List ℕ). front ++ x) is ∙ sym (append_assoc front before (starved_line ++ later)))
@@ -47,17 +56,18 @@ unfolding reply
 refused_reply true h f = refl
 refused_reply false h f = refl
 
-shows_at : (h : History) (first last : List Request) (choices : List Bool) → ShowsWant (answers h (first ++ request.Refused starved ∷ last) choices)
+shows_at : (h : History) (n : ℕ) (first last : List SessionUnit) (choices : List Bool) → ShowsWant (answers h (first ++ starved n ∷ last) choices)
 unfolding answers
-shows_at h [] last choices =
-    let later = answers (after_if (first_choice choices) h (request.Refused starved)) last (later_choices choices) in
-    ([], later, ap (λ (bytes : List ℕ). bytes ++ later) (refused_reply (first_choice choices) h starved))
-shows_at h (unit ∷ first) last choices =
-    let h2 = after_if (first_choice choices) h unit in
-    shows_later (reply_if (first_choice choices) h unit) (answers h2 (first ++ request.Refused starved ∷ last) (later_choices choices)) (shows_at h2 first last (later_choices choices))
+shows_at h n [] last choices =
+    let r = request.Refused (fault.Lex lex.OutOfMemory) in
+    let later = answers (history_after_if (first_choice choices) h r) last (later_choices choices) in
+    ([], later, ap (λ (bytes : List ℕ). bytes ++ later) (refused_reply (first_choice choices) h (fault.Lex lex.OutOfMemory)))
+shows_at h n (unit ∷ first) last choices =
+    let h2 = history_after_if (first_choice choices) h unit.request in
+    shows_later (reply_if (first_choice choices) h unit.request) (answers h2 (first ++ starved n ∷ last) (later_choices choices)) (shows_at h2 n first last (later_choices choices))
 
-answers_want : (h : History) (us : List Request) (choices : List Bool) → Wants us → ShowsWant (answers h us choices)
-answers_want h us choices (first, last, is) = subst (λ (x : List Request). ShowsWant (answers h x choices)) (sym is) (shows_at h first last choices)
+answers_want : (h : History) (us : List SessionUnit) (choices : List Bool) → Wants us → ShowsWant (answers h us choices)
+answers_want h us choices (n, first, last, is) = subst (λ (x : List SessionUnit). ShowsWant (answers h x choices)) (sym is) (shows_at h n first last choices)
 
 -- the replies where memory was refused to some units are those where it wasn't, or show it
 abbrev Exact : List ℕ → List ℕ → Type 0
@@ -66,102 +76,149 @@ Exact written stated = (written ≡ stated) ⊎ ShowsWant written
 exact_later : (front written stated : List ℕ) → Exact written stated → Exact (front ++ written) (front ++ stated)
 exact_later front written stated e = ⊎_elim (λ (same : written ≡ stated). inl (ap (λ (x : List ℕ). front ++ x) same)) (λ (shows : ShowsWant written). inr (shows_later front written shows)) e
 
-answers_step : (c : Bool) (h : History) (unit : Request) (later : List Request) (choices : List Bool) → ((h2 : History) → Exact (answers h2 later choices) (answers h2 later []))
-    → Exact (reply_if c h unit ++ answers (after_if c h unit) later choices) (reply_if false h unit ++ answers (after_if false h unit) later [])
-answers_step false h unit later choices ih = exact_later (reply_if false h unit) (answers (after_if false h unit) later choices) (answers (after_if false h unit) later []) (ih (after_if false h unit))
-answers_step true h (request.Asks command) later choices ih = let u = request.Asks command in exact_later (reply h u) (answers (after h u) later choices) (answers (after h u) later []) (ih (after h u))
-answers_step true h (request.Refused f) later choices ih = let u = request.Refused f in exact_later (reply h u) (answers (after h u) later choices) (answers (after h u) later []) (ih (after h u))
+answers_step : (c : Bool) (h : History) (asks : Request) (later : List SessionUnit) (choices : List Bool) → ((h2 : History) → Exact (answers h2 later choices) (answers h2 later []))
+    → Exact (reply_if c h asks ++ answers (history_after_if c h asks) later choices) (reply_if false h asks ++ answers (history_after_if false h asks) later [])
+answers_step false h asks later choices ih = exact_later (reply_if false h asks) (answers (history_after_if false h asks) later choices) (answers (history_after_if false h asks) later []) (ih (history_after_if false h asks))
+answers_step true h (request.Asks command) later choices ih = let u = request.Asks command in exact_later (reply h u) (answers (history_after h u) later choices) (answers (history_after h u) later []) (ih (history_after h u))
+answers_step true h (request.Refused f) later choices ih = let u = request.Refused f in exact_later (reply h u) (answers (history_after h u) later choices) (answers (history_after h u) later []) (ih (history_after h u))
 answers_step true h (request.States s) later choices ih = inr ([], answers h later choices, refl)
 
-answers_exact : (h : History) (us : List Request) (choices : List Bool) → Exact (answers h us choices) (answers h us [])
+answers_exact : (h : History) (us : List SessionUnit) (choices : List Bool) → Exact (answers h us choices) (answers h us [])
 unfolding answers
 answers_exact h [] choices = inl refl
-answers_exact h (unit ∷ later) choices = answers_step (first_choice choices) h unit later (later_choices choices) (λ h2. answers_exact h2 later (later_choices choices))
+answers_exact h (unit ∷ later) choices = answers_step (first_choice choices) h unit.request later (later_choices choices) (λ h2. answers_exact h2 later (later_choices choices))
 
--- a block one of whose lines was refused for want of memory is answered so
-starved_request : (block : Block) → is_starved block ≡ true → block_request block ≡ request.Refused starved
-unfolding statement_of
-starved_request block is = ap (λ (b : Bool). requested (if b then Err starved else targeted block.target block.lines)) is
+-- what is kept of a block, a line of which was refused for want of memory
+abbrev starved_block : ℕ → ℕ → Option OpenBlock
+starved_block n w = Some (open_at n (so_far.Starved w))
 
-starved_with : (block : Block) (l : Result PlainLine Fault) → is_starved block ≡ true → is_starved (with_line block l) ≡ true
-starved_with block l is = is_starved-with_line block l ∙ ap (λ (b : Bool). b || wants_memory l) is
+-- the last units of such a block
+starved_last : (n w m : ℕ) (f : LexFault) → Wants (map refused_at (kept_last_faults (starved_block n w) m f))
+starved_last n w m lex.DanglingEscape = wants_first w _
+starved_last n w m lex.LineTooLong = wants_first w _
+starved_last n w m lex.TooManyLines = wants_first w _
+starved_last n w m lex.NotUtf8 = wants_first w _
+starved_last n w m lex.OpenSymbol = wants_first w _
+starved_last n w m lex.EmptySymbol = wants_first w _
+starved_last n w m lex.BadName = wants_first w _
+starved_last n w m lex.BadCodePoint = wants_first w _
+starved_last n w m lex.OpenString = wants_first w _
+starved_last n w m lex.CharacterConstant = wants_first w _
+starved_last n w m lex.BadCharDirective = wants_first w _
+starved_last n w m lex.OutOfMemory = wants_first w _
 
-or_true : (b : Bool) → (b || true) ≡ true
-or_true true = refl
-or_true false = refl
-
-starved_by : (block : Block) → is_starved (with_line block (Err starved)) ≡ true
-starved_by block = is_starved-with_line block (Err starved) ∙ or_true (is_starved block)
-
-starved_left : (block : Block) → is_starved block ≡ true → left_open block ≡ starved
-starved_left block is = ap (λ (b : Bool). if b then starved else fault.BlockNotEnded) is
-
-starved_last : (ends : Bool) (block : Block) (f : LexFault) → is_starved block ≡ true → Wants (refusals (if ends then end_faults true (Some block) else dropped_faults (Some block) ++ fault.Lex f ∷ []))
-starved_last true block f is = wants_first (request.Refused (left_open block)) [] (ap request.Refused (starved_left block is))
-starved_last false block f is = ([], request.Refused (fault.Lex f) ∷ [], ap (λ (b : Bool). refusals ((if b then starved ∷ [] else []) ++ fault.Lex f ∷ [])) is)
-
-starved_units : (block : Block) (lines : List Heard) → is_starved block ≡ true → Wants (units true (Some block) lines)
-unfolding units requests_at block_after
-starved_units block [] is = wants_first (request.Refused (left_open block)) [] (ap request.Refused (starved_left block is))
-starved_units block (line.Stops f ∷ lines) is = starved_last (is_end_of_text f) block f is
-starved_units block (line.Refused opening.ReorderAfter f ∷ lines) is = wants_first (block_request block) _ (starved_request block is)
-starved_units block (line.Refused opening.ReorderEnd f ∷ lines) is = wants_first (block_request (with_line block (Err f))) _ (starved_request (with_line block (Err f)) (starved_with block (Err f) is))
-starved_units block (line.Refused opening.Neither f ∷ lines) is = starved_units (with_line block (Err f)) lines (starved_with block (Err f) is)
-starved_units block (line.Asks command ∷ lines) is = wants_later (request.Refused fault.BlockOpen ∷ []) (units true (Some block) lines) (starved_units block lines is)
-starved_units block (line.Misasks f ∷ lines) is = wants_later (request.Refused fault.BlockOpen ∷ []) (units true (Some block) lines) (starved_units block lines is)
-starved_units block (line.Opens target ∷ lines) is = wants_first (block_request block) _ (starved_request block is)
-starved_units block (line.Ends ∷ lines) is = wants_first (block_request block) _ (starved_request block is)
-starved_units block (line.Orders order ∷ lines) is = starved_units (with_line block (Ok order)) lines (starved_with block (Ok order) is)
+-- such a block is answered so, wherever it ends
+starved_units : (n w : ℕ) (lines : List HeardLine) → Wants (kept_units true (starved_block n w) lines)
+unfolding kept_units kept_units_at kept_after
+starved_units n w [] = wants_first w []
+starved_units n w (l ∷ lines) = by_heard l.number l.heard (starved_units n w lines)
+  where
+    by_heard : (m : ℕ) (h : Heard) → Wants (kept_units true (starved_block n w) lines) → Wants (kept_units true (starved_block n w) (record { number = m; heard = h } ∷ lines))
+    by_heard m (line.Stops f) next = starved_last n w m f
+    by_heard m (line.Refused opening.ReorderAfter f) next = wants_first w _
+    by_heard m (line.Refused opening.ReorderEnd f) next = wants_first w _
+    by_heard m (line.Refused opening.Neither f) next = next
+    by_heard m (line.Asks command) next = wants_later (refused_at (fault_at m fault.BlockOpen) ∷ []) (kept_units true (starved_block n w) lines) next
+    by_heard m (line.Misasks f) next = wants_later (refused_at (fault_at m fault.BlockOpen) ∷ []) (kept_units true (starved_block n w) lines) next
+    by_heard m (line.Opens target) next = wants_first w _
+    by_heard m line.Ends next = wants_first w _
+    by_heard m (line.Orders order) next = next
 
 -- a line that was refused for want of memory
-refused_wants : (block : Option Block) (o : Opening) (lines : List Heard) → Wants (refused_requests block o starved ++ units true (refused_block block o starved) lines)
-refused_wants None opening.ReorderAfter lines = starved_units (opened (Err starved)) lines refl
-refused_wants None opening.ReorderEnd lines = wants_first (request.Refused starved) _ refl
-refused_wants None opening.Neither lines = wants_first (request.Refused starved) _ refl
-refused_wants (Some block) opening.ReorderAfter lines = wants_later (block_request block ∷ []) (units true (Some (opened (Err starved))) lines) (starved_units (opened (Err starved)) lines refl)
-refused_wants (Some block) opening.ReorderEnd lines = wants_first (block_request (with_line block (Err starved))) _ (starved_request (with_line block (Err starved)) (starved_by block))
-refused_wants (Some block) opening.Neither lines = starved_units (with_line block (Err starved)) lines (starved_by block)
+abbrev refused_line_of : ℕ → Opening → HeardLine
+refused_line_of n o = record { number = n; heard = line.Refused o (fault.Lex lex.OutOfMemory) }
 
-starved_line_units : (block : Option Block) (s : LexerState) (bytes : List ℕ) (lines : List Heard) → Wants (units true block (option_to_list (heard_at true s bytes) ++ lines))
-unfolding heard_at served units requests_at block_after
-starved_line_units block s bytes lines = refused_wants block (opening_of (first_line s bytes)) lines
+refused_wants : (block : Option OpenBlock) (n : ℕ) (o : Opening) (lines : List HeardLine) → Wants (kept_units true block (refused_line_of n o ∷ lines))
+unfolding kept_units kept_units_at kept_after
+refused_wants None n opening.ReorderAfter lines = starved_units n n lines
+refused_wants None n opening.ReorderEnd lines = wants_first n _
+refused_wants None n opening.Neither lines = wants_first n _
+refused_wants (Some block) n opening.ReorderAfter lines = wants_later (kept_ended (Some block)) (kept_units true (starved_block n n) lines) (starved_units n n lines)
+refused_wants (Some block) n opening.ReorderEnd lines = ended block.so_far
+  where
+    ended : (s : SoFar) → Wants (kept_units true (Some (open_at block.line s)) (refused_line_of n opening.ReorderEnd ∷ lines))
+    ended (so_far.Gathers g) = wants_first n _
+    ended (so_far.Spoiled at) = wants_first n _
+    ended (so_far.Starved w) = wants_first w _
+refused_wants (Some block) n opening.Neither lines = stays block.so_far
+  where
+    stays : (s : SoFar) → Wants (kept_units true (Some (open_at block.line s)) (refused_line_of n opening.Neither ∷ lines))
+    stays (so_far.Gathers g) = starved_units block.line n lines
+    stays (so_far.Spoiled at) = starved_units block.line n lines
+    stays (so_far.Starved w) = starved_units block.line w lines
+
+starved_line_units : (block : Option OpenBlock) (s : LexerState) (bytes : List ℕ) (lines : List HeardLine) → takes_memory s bytes ≡ true → Wants (kept_units true block (option_to_list (heard_at true s bytes) ++ lines))
+unfolding heard_at
+starved_line_units block s bytes lines takes =
+    subst (λ (a : Result (Option Line × LexerState) LexFault). Wants (kept_units true block (option_to_list (heard_by (number_of s) (opening_of (first_line s bytes)) a) ++ lines))) (sym (served_starved s bytes takes))
+    (refused_wants block (number_of s) (opening_of (first_line s bytes)) lines)
+
+-- a line that no memory is taken for is served as if memory was there
+spared : (choices : List Bool) (s : LexerState) (bytes : List ℕ) (lines : List (List ℕ)) → takes_memory s bytes ≡ false → logical_lines (false ∷ choices) true s (bytes ∷ lines) ≡ logical_lines (true ∷ choices) true s (bytes ∷ lines)
+unfolding logical_lines served
+spared choices s bytes lines none =
+    ap (λ (b : Bool). lines_by s bytes (if b then Err lex.OutOfMemory else fed s bytes) ++ logical_lines choices true (state_by s (if b then Err lex.OutOfMemory else fed s bytes)) lines) (sym none)
 
 -- what the lines ask for, where memory was refused to some, is what they ask for, or shows it
-abbrev ExactUnits : List Request → List Request → Type 0
+abbrev ExactUnits : List SessionUnit → List SessionUnit → Type 0
 ExactUnits asked stated = (asked ≡ stated) ⊎ Wants asked
 
-served_units : (stop : Option LexFault) (block : Option Block) (x : Option Heard) (lines stated : List Heard) → stop_at x ≡ stop → ExactUnits (units true (line_block block x) lines) (units true (line_block block x) stated)
-    → ExactUnits (units true block (option_to_list x ++ lines)) (units true block (option_to_list x ++ stated))
+served_units : (stop : Option LexFault) (block : Option OpenBlock) (x : Option HeardLine) (lines stated : List HeardLine) → stop_at x ≡ stop → ExactUnits (kept_units true (line_block block x) lines) (kept_units true (line_block block x) stated)
+    → ExactUnits (kept_units true block (option_to_list x ++ lines)) (kept_units true block (option_to_list x ++ stated))
 served_units (Some f) block x lines stated is later = inl (units_stop true block x lines f is ∙ sym (units_stop true block x stated f is))
 served_units None block x lines stated is later =
-    ⊎_elim (λ (same : units true (line_block block x) lines ≡ units true (line_block block x) stated).
-    inl (units_on true block x lines is ∙ ap (λ (us : List Request). line_requests block x ++ us) same ∙ sym (units_on true block x stated is)))
-    (λ (wants : Wants (units true (line_block block x) lines)).
-    inr (subst (λ (us : List Request). Wants us) (sym (units_on true block x lines is)) (wants_later (line_requests block x) (units true (line_block block x) lines) wants)))
+    ⊎_elim (λ (same : kept_units true (line_block block x) lines ≡ kept_units true (line_block block x) stated).
+    inl (units_on true block x lines is ∙ ap (λ (us : List SessionUnit). line_units block x ++ us) same ∙ sym (units_on true block x stated is)))
+    (λ (wants : Wants (kept_units true (line_block block x) lines)).
+    inr (subst (λ (us : List SessionUnit). Wants us) (sym (units_on true block x lines is)) (wants_later (line_units block x) (kept_units true (line_block block x) lines) wants)))
     later
 
-units_exact : (choices : List Bool) (s : LexerState) (block : Option Block) (lines : List (List ℕ)) → ExactUnits (units true block (map heard (logical_lines choices true s lines))) (units true block (map heard (logical_lines [] true s lines)))
+abbrev ExactLines : List Bool → LexerState → Option OpenBlock → List (List ℕ) → Type 0
+ExactLines choices s block lines = ExactUnits (kept_units true block (map heard (logical_lines choices true s lines))) (kept_units true block (map heard (logical_lines [] true s lines)))
+
+-- where no choice is left, memory was there
+heard_later_none : (s : LexerState) (bytes : List ℕ) (lines : List (List ℕ))
+    → map heard (logical_lines [] true s (bytes ∷ lines)) ≡ option_to_list (heard_at false s bytes) ++ map heard (logical_lines [] true (state_by s (served false s bytes)) lines)
+unfolding logical_lines
+heard_later_none s bytes lines = heard_later false [] true s bytes lines
+
+exact_served : (choices : List Bool) (s : LexerState) (block : Option OpenBlock) (bytes : List ℕ) (lines : List (List ℕ)) → ExactLines choices (state_by s (served false s bytes)) (line_block block (heard_at false s bytes)) lines → ExactLines (false ∷ choices) s block (bytes ∷ lines)
+exact_served choices s block bytes lines later =
+    let x = heard_at false s bytes in
+    let s2 = state_by s (served false s bytes) in
+    subst (λ (hs : List HeardLine). ExactUnits (kept_units true block hs) (kept_units true block (map heard (logical_lines [] true s (bytes ∷ lines))))) (sym (heard_later false choices true s bytes lines))
+    (subst (λ (hs : List HeardLine). ExactUnits (kept_units true block (option_to_list x ++ map heard (logical_lines choices true s2 lines))) (kept_units true block hs)) (sym (heard_later_none s bytes lines))
+    (served_units (stop_at x) block x (map heard (logical_lines choices true s2 lines)) (map heard (logical_lines [] true s2 lines)) refl later))
+
+exact_starved : (takes : Bool) (choices : List Bool) (s : LexerState) (block : Option OpenBlock) (bytes : List ℕ) (lines : List (List ℕ)) → takes_memory s bytes ≡ takes → ExactLines (false ∷ choices) s block (bytes ∷ lines) → ExactLines (true ∷ choices) s block (bytes ∷ lines)
+exact_starved true choices s block bytes lines takes fine =
+    inr (subst (λ (hs : List HeardLine). Wants (kept_units true block hs)) (sym (heard_later true choices true s bytes lines))
+    (starved_line_units block s bytes (map heard (logical_lines choices true (state_by s (served true s bytes)) lines)) takes))
+exact_starved false choices s block bytes lines none fine =
+    subst (λ (ls : List LogicalLine). ExactUnits (kept_units true block (map heard ls)) (kept_units true block (map heard (logical_lines [] true s (bytes ∷ lines))))) (spared choices s bytes lines none) fine
+
+units_exact : (choices : List Bool) (s : LexerState) (block : Option OpenBlock) (lines : List (List ℕ)) → ExactLines choices s block lines
 unfolding logical_lines
 units_exact choices s block [] = inl refl
 units_exact [] s block (bytes ∷ lines) = inl refl
 units_exact (true ∷ choices) s block (bytes ∷ lines) =
-    inr (subst (λ (hs : List Heard). Wants (units true block hs)) (sym (heard_later true choices true s bytes lines))
-    (starved_line_units block s bytes (map heard (logical_lines choices true (state_by s (served true s bytes)) lines))))
-units_exact (false ∷ choices) s block (bytes ∷ lines) =
-    let x = heard_at false s bytes in
-    let s2 = state_by s (served false s bytes) in
-    subst (λ (hs : List Heard). ExactUnits (units true block hs) (units true block (map heard (logical_lines [] true s (bytes ∷ lines))))) (sym (heard_later false choices true s bytes lines))
-    (subst (λ (hs : List Heard). ExactUnits (units true block (option_to_list x ++ map heard (logical_lines choices true s2 lines))) (units true block hs)) (sym (heard_later false [] true s bytes lines))
-    (served_units (stop_at x) block x (map heard (logical_lines choices true s2 lines)) (map heard (logical_lines [] true s2 lines)) refl (units_exact choices s2 (line_block block x) lines)))
+    exact_starved (takes_memory s bytes) choices s block bytes lines refl (exact_served choices s block bytes lines (units_exact choices (state_by s (served false s bytes)) (line_block block (heard_at false s bytes)) lines))
+units_exact (false ∷ choices) s block (bytes ∷ lines) = exact_served choices s block bytes lines (units_exact choices (state_by s (served false s bytes)) (line_block block (heard_at false s bytes)) lines)
+
+-- what is written from the beginning, by what the session keeps
+written_exact : (choices : List Bool) (us_starved : List Bool) (h : History) (lines : List (List ℕ)) → Exact (written_from first_state None h choices us_starved true lines) (written_from first_state None h [] [] true lines)
+unfolding written_from
+written_exact choices us_starved h lines =
+    let asked = kept_units true None (map heard (logical_lines choices true first_state lines)) in
+    let stated = kept_units true None (map heard (logical_lines [] true first_state lines)) in
+    ⊎_elim (λ (same : asked ≡ stated). subst (λ (us : List SessionUnit). Exact (answers h us us_starved) (answers h stated [])) (sym same) (answers_exact h stated us_starved))
+    (λ (wants : Wants asked). inr (answers_want h asked us_starved wants))
+    (units_exact choices first_state None lines)
 
 pub want_shows : WantShows
-unfolding starved_output output written_from
+unfolding output
 want_shows lines_starved units_starved table text =
-    let h = begun table in
-    ⊎_elim
-    (λ (same : units true None (map heard (logical_lines lines_starved true first_state (lines_of text))) ≡ units true None (map heard (logical_lines [] true first_state (lines_of text)))).
-    subst (λ (us : List Request). Exact (answers h us units_starved) (answers h (units true None (map heard (logical_lines [] true first_state (lines_of text)))) [])) (sym same)
-    (answers_exact h (units true None (map heard (logical_lines [] true first_state (lines_of text)))) units_starved))
-    (λ (wants : Wants (units true None (map heard (logical_lines lines_starved true first_state (lines_of text))))).
-    inr (answers_want h (units true None (map heard (logical_lines lines_starved true first_state (lines_of text)))) units_starved wants))
-    (units_exact lines_starved first_state None (lines_of text))
+    let written = written_from first_state None (begun table) lines_starved units_starved true (lines_of text) in
+    let stated = written_from first_state None (begun table) [] [] true (lines_of text) in
+    subst (λ (bytes : List ℕ). Exact bytes (starved_output [] [] true table text)) (sym (output_kept lines_starved units_starved true table text))
+    (subst (λ (bytes : List ℕ). Exact written bytes) (sym (output_kept [] [] true table text)) (written_exact lines_starved units_starved (begun table) (lines_of text)))

@@ -4,18 +4,20 @@ use Rattle.coll_lex.specs.LogicalLines.{first_choice, later_choices}
 use Rattle.coll_lex.specs.Spelling.{spelled_symbol, spelled_code}
 use Rattle.coll_lex.specs.declared.faults.LexFault.TheVariants as lex
 use Rattle.coll_table.specs.Table.{Collation, entries_of}
-use Rattle.coll_bench.specs.History.{History, table_of, judged, taken_back}
-use Rattle.coll_bench.specs.SessionFaults.{fault_number, fault_name}
+use Rattle.coll_bench.specs.Histories.{History, table_now, judged, taken_back}
+use Rattle.coll_bench.specs.Faults.{fault_number, fault_name}
 use Rattle.coll_syntax.specs.declared.identifiers.Id.{Id}
 use Rattle.coll_syntax.specs.declared.identifiers.Id.TheVariants as id
 use Rattle.coll_table.specs.declared.entries.Entry.{Entry}
 use Rattle.coll_bench.specs.declared.faults.BenchFault.{BenchFault}
 use Rattle.coll_bench.specs.declared.faults.Fault.{Fault}
 use Rattle.coll_bench.specs.declared.faults.Fault.TheVariants as fault
-use Rattle.coll_bench.specs.declared.commands.Command.{Command}
-use Rattle.coll_bench.specs.declared.commands.Command.TheVariants as command
-use Rattle.coll_bench.specs.declared.requests.Request.{Request}
-use Rattle.coll_bench.specs.declared.requests.Request.TheVariants as request
+use Rattle.coll_bench.specs.declared.session_lines.Command.{Command}
+use Rattle.coll_bench.specs.declared.session_lines.Command.TheVariants as command
+use Rattle.coll_bench.specs.declared.units.Request.{Request}
+use Rattle.coll_bench.specs.declared.units.Request.TheVariants as request
+use Rattle.coll_bench.specs.declared.units.SessionUnit.{SessionUnit}
+use Rattle.coll_bench.specs.declared.units.FaultAt.{FaultAt}
 
 -- an identifier, spelled
 unfoldable pub spelled_id : Id → List ℕ
@@ -36,9 +38,9 @@ unfoldable pub refused_line : Fault → List ℕ
 refused_line f = codes "refused " ++ worded (decimal (fault_number f)) (fault_name f)
 
 -- the replies to faults, one after another
-unfoldable pub refused_lines : List Fault → List ℕ
+unfoldable pub refused_lines : List FaultAt → List ℕ
 refused_lines [] = []
-refused_lines (f ∷ later) = refused_line f ++ refused_lines later
+refused_lines (at ∷ later) = refused_line at.fault ++ refused_lines later
 
 -- one line of a listing: the rank, and the identifier
 unfoldable pub listed_line : ℕ → Entry → List ℕ
@@ -58,9 +60,10 @@ abbrev pub count_reply : List ℕ → Result History BenchFault → List ℕ
 count_reply word (Ok h) = counted_line word (length h.remaining)
 count_reply word (Err f) = refused_line (fault.Bench f)
 
+-- the reply to a command
 abbrev pub command_reply : History → Command → List ℕ
 command_reply h command.Undo = count_reply (codes "undone") (taken_back h)
-command_reply h command.List = listing (table_of h)
+command_reply h command.List = listing (table_now h)
 
 -- the reply to a unit
 unfoldable pub reply : History → Request → List ℕ
@@ -73,15 +76,16 @@ abbrev pub history_or : History → Result History BenchFault → History
 history_or before (Ok h) = h
 history_or before (Err f) = before
 
-abbrev pub after_command : History → Command → History
-after_command h command.Undo = history_or h (taken_back h)
-after_command h command.List = h
+-- the history after a command
+abbrev pub history_after_command : History → Command → History
+history_after_command h command.Undo = history_or h (taken_back h)
+history_after_command h command.List = h
 
 -- the history after a unit: one that is refused, and a listing, leave it
-unfoldable pub after : History → Request → History
-after h (request.Asks c) = after_command h c
-after h (request.States s) = history_or h (judged h s)
-after h (request.Refused f) = h
+unfoldable pub history_after : History → Request → History
+history_after h (request.Asks c) = history_after_command h c
+history_after h (request.States s) = history_or h (judged h s)
+history_after h (request.Refused f) = h
 
 -- what takes memory to answer may be refused for want of it
 abbrev pub may_starve : Request → Bool
@@ -97,8 +101,9 @@ starved_line = refused_line (fault.Lex lex.OutOfMemory)
 abbrev pub reply_if : Bool → History → Request → List ℕ
 reply_if starved h unit = if starved && may_starve unit then starved_line else reply h unit
 
-abbrev pub after_if : Bool → History → Request → History
-after_if starved h unit = if starved && may_starve unit then h else after h unit
+-- the history after a unit that was starved or not
+abbrev pub history_after_if : Bool → History → Request → History
+history_after_if starved h unit = if starved && may_starve unit then h else history_after h unit
 
 -- what is written for what a call of the history answered
 abbrev pub outcome_line : List ℕ → Result ℕ BenchFault → List ℕ
@@ -107,6 +112,6 @@ outcome_line word (Err f) = refused_line (fault.Bench f)
 
 -- the replies to units, joined. A choice that is true stands for a unit that memory was refused for; where no choice
 -- is left, memory was there
-unfoldable pub answers : History → List Request → List Bool → List ℕ
+unfoldable pub answers : History → List SessionUnit → List Bool → List ℕ
 answers h [] starved = []
-answers h (unit ∷ later) starved = reply_if (first_choice starved) h unit ++ answers (after_if (first_choice starved) h unit) later (later_choices starved)
+answers h (unit ∷ later) starved = reply_if (first_choice starved) h unit.request ++ answers (history_after_if (first_choice starved) h unit.request) later (later_choices starved)

@@ -3,57 +3,55 @@ use Rattle.std.specs.Prelude.{◌≡◌, ◌⊎◌, ℕ, Bool, false, ◌==◌, 
 use Rattle.std.specs.Io.KnownBytes.{Appends}
 use Rattle.coll_lex.specs.Devices.{AppendsFront, raised}
 use Rattle.coll_lex.specs.LineReading.{counted}
-use Rattle.coll_lex.specs.LogicalLines.{LexerState, first_state, number_of, first_line, served, state_by}
+use Rattle.coll_lex.specs.LogicalLines.{first_state, number_of, served, state_by}
 use Rattle.coll_lex.specs.declared.faults.LexFault.{LexFault}
 use Rattle.coll_lex.specs.declared.faults.LexFault.TheVariants as lex
 use Rattle.coll_lex.specs.declared.faults.ReadStop.{ReadStop}
 use Rattle.coll_lex.specs.declared.faults.ReadStop.TheVariants as read
 use Rattle.coll_lex.specs.declared.faults.WriteStop.TheVariants as write
 use Rattle.coll_table.specs.Table.{Collation}
-use Rattle.coll_bench.specs.History.{History, begun}
-use Rattle.coll_bench.specs.SessionLines.{opening_of}
-use Rattle.coll_bench.specs.Hearing.{heard_by}
-use Rattle.coll_bench.specs.SessionFaults.{fault_number}
-use Rattle.coll_bench.specs.Units.{Block, requests_at, block_after, stop_of, refusals, last_faults}
-use Rattle.coll_bench.specs.OpenBlock.{StandsFor}
-use Rattle.coll_bench.specs.Replies.{reply_if, after_if}
+use Rattle.coll_bench.specs.Histories.{History, begun}
+use Rattle.coll_bench.specs.Hearing.{heard_at}
+use Rattle.coll_bench.specs.Faults.{fault_number}
+use Rattle.coll_bench.specs.Units.{stop_of, refusals}
+use Rattle.coll_bench.specs.OpenBlocks.{kept_units_at, kept_after, kept_last_faults}
+use Rattle.coll_bench.specs.Replies.{reply_if, history_after_if}
 use Rattle.coll_bench.specs.declared.faults.Fault.TheVariants as faults
 use Rattle.coll_bench.specs.declared.faults.RunFault.{RunFault}
-use Rattle.coll_bench.specs.declared.hearing.Heard.{Heard}
-use Rattle.coll_bench.specs.declared.requests.Request.{Request}
-use Rattle.coll_bench.specs.declared.runs.Desk.{Desk}
+use Rattle.coll_bench.specs.declared.open_blocks.OpenBlock.{OpenBlock}
+use Rattle.coll_bench.specs.declared.session_lines.HeardLine.{HeardLine}
+use Rattle.coll_bench.specs.declared.units.SessionUnit.{SessionUnit}
+use Rattle.coll_bench.specs.declared.serving.Desk.{Desk}
 
--- the replies to some units, to each of which memory was refused or not, and the history after them
-unfoldable pub replies_to : (starved : Bool) → History → List Request → List ℕ
+-- the replies to some units, to each of which memory was refused or not
+unfoldable pub replies_to : (starved : Bool) → History → List SessionUnit → List ℕ
 replies_to starved h [] = []
-replies_to starved h (unit ∷ later) = reply_if starved h unit ++ replies_to starved (after_if starved h unit) later
+replies_to starved h (unit ∷ later) = reply_if starved h unit.request ++ replies_to starved (history_after_if starved h unit.request) later
 
-unfoldable pub history_after : (starved : Bool) → History → List Request → History
-history_after starved h [] = h
-history_after starved h (unit ∷ later) = history_after starved (after_if starved h unit) later
-
--- what is heard of a physical line, where memory was refused to it or not
-unfoldable pub heard_at : (starved : Bool) → LexerState → List ℕ → Option Heard
-heard_at starved s line = heard_by (opening_of (first_line s line)) (served starved s line)
+-- the history after some units, to each of which memory was refused or not
+unfoldable pub history_after_all : (starved : Bool) → History → List SessionUnit → History
+history_after_all starved h [] = h
+history_after_all starved h (unit ∷ later) = history_after_all starved (history_after_if starved h unit.request) later
 
 -- the fault at which the session ends, if what was heard has one
-abbrev pub stop_at : Option Heard → Option LexFault
+abbrev pub stop_at : Option HeardLine → Option LexFault
 stop_at None = None
-stop_at (Some line) = stop_of line
+stop_at (Some line) = stop_of line.heard
 
-abbrev pub requests_or_last : Option Block → Heard → Option LexFault → List Request
-requests_or_last block line None = requests_at block line
-requests_or_last block line (Some f) = refusals (last_faults block f)
+-- the units that a line completes, or the last ones
+abbrev pub units_or_last : Option OpenBlock → HeardLine → Option LexFault → List SessionUnit
+units_or_last block line None = kept_units_at block line
+units_or_last block line (Some f) = refusals (kept_last_faults block line.number f)
 
--- the units that a physical line completes
-unfoldable pub line_requests : Option Block → Option Heard → List Request
-line_requests block None = []
-line_requests block (Some line) = requests_or_last block line (stop_of line)
+-- the units that a physical line completes, by the block that is kept before it
+unfoldable pub line_units : Option OpenBlock → Option HeardLine → List SessionUnit
+line_units block None = []
+line_units block (Some line) = units_or_last block line (stop_of line.heard)
 
--- the block that is open after a physical line
-unfoldable pub line_block : Option Block → Option Heard → Option Block
+-- the block that is kept after a physical line
+unfoldable pub line_block : Option OpenBlock → Option HeardLine → Option OpenBlock
 line_block block None = block
-line_block block (Some line) = block_after block line
+line_block block (Some line) = kept_after block line
 
 -- a session at the beginning of a text
 pub record IsBegun (desk : Desk) (table : Collation) : Type 0 where
@@ -61,17 +59,12 @@ pub record IsBegun (desk : Desk) (table : Collation) : Type 0 where
   pub block : desk.block ≡ None
   pub session : desk.session ≡ begun table
 
--- what was heard was taken: the block and the history after it, and whose replies were to be written
-pub record Takes (starved : Bool) (old new : Desk) (line : Heard) (block : Option Block) : Type 0 where
-  pub block_is : StandsFor new.block (block_after block line)
-  pub session : new.session ≡ history_after starved old.session (requests_at block line)
-
 -- a physical line was served, and the session goes on
-pub record Served (memory starved : Bool) (old new : Desk) (line : List ℕ) (block : Option Block) : Type 0 where
+pub record Served (memory starved : Bool) (old new : Desk) (line : List ℕ) : Type 0 where
   pub goes_on : stop_at (heard_at memory old.listener line) ≡ None
   pub listener : new.listener ≡ state_by old.listener (served memory old.listener line)
-  pub block_is : StandsFor new.block (line_block block (heard_at memory old.listener line))
-  pub session : new.session ≡ history_after starved old.session (line_requests block (heard_at memory old.listener line))
+  pub block : new.block ≡ line_block old.block (heard_at memory old.listener line)
+  pub session : new.session ≡ history_after_all starved old.session (line_units old.block (heard_at memory old.listener line))
 
 -- the session ends with a write that failed
 abbrev pub write_failed : RunFault
@@ -87,21 +80,19 @@ EndsWith number f taken taken_after bytes ended =
     ((ended ≡ stopped_at number f) × Appends taken taken_after bytes) ⊎ ((ended ≡ write_failed) × AppendsFront taken taken_after bytes)
 
 -- the replies to the units that a physical line completes
-abbrev pub line_replies : (memory starved : Bool) → Desk → List ℕ → Option Block → List ℕ
-line_replies memory starved old line block = replies_to starved old.session (line_requests block (heard_at memory old.listener line))
+abbrev pub line_replies : (memory starved : Bool) → Desk → List ℕ → List ℕ
+line_replies memory starved old line = replies_to starved old.session (line_units old.block (heard_at memory old.listener line))
 
 -- the session ended at this line: at a fault of the lexer, or since a write failed
-abbrev pub EndsAtLine : (memory starved : Bool) → Desk → List ℕ → Option Block → Option (List ℕ) → Option (List ℕ) → RunFault → Type 0
-EndsAtLine memory starved old line block taken taken_after ended =
-    ((f : LexFault) × (stop_at (heard_at memory old.listener line) ≡ Some f) × EndsWith (number_of old.listener) f taken taken_after (line_replies memory starved old line block) ended)
-    ⊎ ((stop_at (heard_at memory old.listener line) ≡ None) × (ended ≡ write_failed) × AppendsFront taken taken_after (line_replies memory starved old line block))
+abbrev pub EndsAtLine : (memory starved : Bool) → Desk → List ℕ → Option (List ℕ) → Option (List ℕ) → RunFault → Type 0
+EndsAtLine memory starved old line taken taken_after ended =
+    ((f : LexFault) × (stop_at (heard_at memory old.listener line) ≡ Some f) × EndsWith (number_of old.listener) f taken taken_after (line_replies memory starved old line) ended)
+    ⊎ ((stop_at (heard_at memory old.listener line) ≡ None) × (ended ≡ write_failed) × AppendsFront taken taken_after (line_replies memory starved old line))
 
 -- what serving a physical line did
 abbrev pub ServesLine : Desk → Desk → List ℕ → Option (List ℕ) → Option (List ℕ) → Result (Unit {0}) RunFault → Type 0
-ServesLine old new line taken taken_after (Ok done) =
-    (memory : Bool) × (starved : Bool) × ((block : Option Block) → StandsFor old.block block → Served memory starved old new line block × Appends taken taken_after (line_replies memory starved old line block))
-ServesLine old new line taken taken_after (Err ended) =
-    (memory : Bool) × (starved : Bool) × ((block : Option Block) → StandsFor old.block block → EndsAtLine memory starved old line block taken taken_after ended)
+ServesLine old new line taken taken_after (Ok done) = (memory : Bool) × (starved : Bool) × Served memory starved old new line × Appends taken taken_after (line_replies memory starved old line)
+ServesLine old new line taken taken_after (Err ended) = (memory : Bool) × (starved : Bool) × EndsAtLine memory starved old line taken taken_after ended
 
 -- the session ended for another reason than a failed read
 abbrev pub ReadsNone : RunFault → Type 0
@@ -115,6 +106,7 @@ CountsStop stop ended = (failed : ℕ) → counted stop failed ≡ (if fault_num
 abbrev pub CountsEnd : ℕ → ℕ → RunFault → Type 0
 CountsEnd old new ended = new ≡ (if fault_number ended.fault == 68 then raised old else old)
 
+-- the same of a run that may have gone well
 abbrev pub CountsWrites : ℕ → ℕ → Result (Unit {0}) RunFault → Type 0
 CountsWrites old new (Ok done) = new ≡ old
 CountsWrites old new (Err ended) = CountsEnd old new ended
@@ -132,6 +124,7 @@ never_ran = record { input = 0; line = 0; fault = faults.Lex lex.OutOfMemory }
 abbrev pub read_failed : RunFault
 read_failed = record { input = 0; line = 0; fault = faults.Read read.ReadFault }
 
+-- the fault of a line too long
 abbrev pub too_long : LexFault
 too_long = lex.LineTooLong
 

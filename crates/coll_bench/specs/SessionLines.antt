@@ -1,7 +1,8 @@
 -- What a logical line of a session is: a command, a line of a delta, or a refused line.
-use Rattle.std.specs.Prelude.{ℕ, Bool, true, false, ◌==◌, nat_eq, if◌then◌else◌, List, [], ◌∷◌, Result, Ok, Err, codes}
+use Rattle.std.specs.Prelude.{ℕ, Bool, false, ◌==◌, nat_eq, if◌then◌else◌, List, [], ◌∷◌, Result, Ok, Err, codes}
 use Rattle.std.specs.List.{starts_with}
-use Rattle.coll_lex.specs.Directives.{past_blanks}
+use Rattle.coll_lex.specs.Blanks.{past_blanks}
+use Rattle.coll_lex.specs.Faults.{ends_text}
 use Rattle.coll_lex.specs.LogicalLines.{LogicalLine}
 use Rattle.coll_lex.specs.declared.tokens.Token.{Token}
 use Rattle.coll_lex.specs.declared.tokens.Token.TheVariants as token
@@ -14,12 +15,13 @@ use Rattle.coll_table.specs.declared.plain.delta_lines.PlainDeltaLine.TheVariant
 use Rattle.coll_syntax.specs.declared.syntax_faults.SyntaxFault.{SyntaxFault}
 use Rattle.coll_syntax.specs.declared.syntax_faults.SyntaxFault.TheVariants as syntax
 use Rattle.coll_bench.specs.declared.faults.Fault.TheVariants as fault
-use Rattle.coll_bench.specs.declared.commands.Command.{Command}
-use Rattle.coll_bench.specs.declared.commands.Command.TheVariants as command
-use Rattle.coll_bench.specs.declared.hearing.Opening.{Opening}
-use Rattle.coll_bench.specs.declared.hearing.Opening.TheVariants as openings
-use Rattle.coll_bench.specs.declared.hearing.Heard.{Heard}
-use Rattle.coll_bench.specs.declared.hearing.Heard.TheVariants.{Stops, Refused, Asks, Misasks, Opens, Ends, Orders}
+use Rattle.coll_bench.specs.declared.session_lines.Command.{Command}
+use Rattle.coll_bench.specs.declared.session_lines.Command.TheVariants as command
+use Rattle.coll_bench.specs.declared.session_lines.Opening.{Opening}
+use Rattle.coll_bench.specs.declared.session_lines.Opening.TheVariants as openings
+use Rattle.coll_bench.specs.declared.session_lines.Heard.{Heard}
+use Rattle.coll_bench.specs.declared.session_lines.HeardLine.{HeardLine}
+use Rattle.coll_bench.specs.declared.session_lines.Heard.TheVariants.{Stops, Refused, Asks, Misasks, Opens, Ends, Orders}
 
 -- what a physical line begins with, blanks skipped: the bytes alone decide, without regard to words or escapes
 unfoldable pub opening_of : List ℕ → Opening
@@ -67,29 +69,16 @@ tokens_heard opening [] = delta_heard opening (plain_delta_line [])
 tokens_heard opening (first ∷ rest) =
     if is_command first then command_heard first rest else delta_heard opening (plain_delta_line (first ∷ rest))
 
--- after a line that is too long, a line too many or a dangling escape no line follows
-abbrev pub ends_session : LexFault → Bool
-ends_session lex.LineTooLong = true
-ends_session lex.TooManyLines = true
-ends_session lex.DanglingEscape = true
-ends_session lex.NotUtf8 = false
-ends_session lex.OpenSymbol = false
-ends_session lex.EmptySymbol = false
-ends_session lex.BadName = false
-ends_session lex.BadCodePoint = false
-ends_session lex.OpenString = false
-ends_session lex.CharacterConstant = false
-ends_session lex.BadCharDirective = false
-ends_session lex.OutOfMemory = false
-
--- a line that the lexer refuses
+-- a line that the lexer refuses: no other comes after one that ends the text, or that is continued where the text ends
 abbrev pub fault_heard : Opening → LexFault → Heard
-fault_heard opening f = if ends_session f then Stops f else Refused opening (fault.Lex f)
+fault_heard opening lex.DanglingEscape = Stops lex.DanglingEscape
+fault_heard opening f = if ends_text f then Stops f else Refused opening (fault.Lex f)
 
+-- a line by its tokens or its fault
 abbrev pub line_heard : Opening → Result (List Token) LexFault → Heard
 line_heard opening (Ok tokens) = tokens_heard opening tokens
 line_heard opening (Err f) = fault_heard opening f
 
--- what a logical line is
-abbrev pub heard : LogicalLine → Heard
-heard line = line_heard (opening_of line.first) line.tokens
+-- what a logical line is, with its number
+abbrev pub heard : LogicalLine → HeardLine
+heard line = record { number = line.number; heard = line_heard (opening_of line.first) line.tokens }

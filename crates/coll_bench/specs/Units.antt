@@ -2,179 +2,249 @@
 --
 -- A block begins at an accepted `reorder-after`, or at a refused line whose first physical line begins with that
 -- text, and ends at the next `reorder-end` or `reorder-after`, or refused line that begins with either. Its one
--- answer comes where it ends.
-use Rattle.std.specs.Prelude.{ℕ, zero, suc, ◌==◌, Bool, true, false, ◌||◌, if◌then◌else◌, List, [], ◌∷◌, ◌++◌, map, Option, Some, None, Result, Ok, Err}
+-- answer comes where it ends, and is judged from all of its lines.
+use Rattle.std.specs.Prelude.{ℕ, Bool, nat_le, if◌then◌else◌, List, [], ◌∷◌, ◌++◌, map, length, Option, Some, None, option_to_list, Result, Ok, Err}
+use Rattle.std.specs.List.{flat_map}
 use Rattle.coll_lex.specs.declared.faults.LexFault.{LexFault}
 use Rattle.coll_lex.specs.declared.faults.LexFault.TheVariants as lex
-use Rattle.coll_lex.specs.Faults.{lex_fault_number}
-use Rattle.coll_bench.specs.SessionFaults.{fault_number}
-use Rattle.coll_bench.specs.declared.blocks.TheConstants.{MOST_BLOCK_LINES}
 use Rattle.coll_syntax.specs.declared.identifiers.Id.{Id}
-use Rattle.coll_table.specs.declared.plain.statements.PlainLine.{PlainLine}
-use Rattle.coll_table.specs.declared.plain.statements.PlainStatement.{PlainStatement}
-use Rattle.coll_table.specs.declared.plain.statements.PlainStatement.TheVariants as statement
 use Rattle.coll_syntax.specs.declared.syntax_faults.SyntaxFault.TheVariants as syntax
+use Rattle.coll_table.specs.declared.plain.statements.PlainLine.{PlainLine}
+use Rattle.coll_table.specs.declared.plain.statements.PlainStatement.TheVariants as statement
+use Rattle.coll_bench.specs.Faults.{is_want_of_memory}
+use Rattle.coll_bench.specs.Limits.{most_block_lines}
 use Rattle.coll_bench.specs.declared.faults.Fault.{Fault}
 use Rattle.coll_bench.specs.declared.faults.Fault.TheVariants as fault
-use Rattle.coll_bench.specs.declared.hearing.Opening.{Opening}
-use Rattle.coll_bench.specs.declared.hearing.Opening.TheVariants as opening
-use Rattle.coll_bench.specs.declared.hearing.Heard.{Heard}
-use Rattle.coll_bench.specs.declared.hearing.Heard.TheVariants as heard
-use Rattle.coll_bench.specs.declared.requests.Request.{Request}
-use Rattle.coll_bench.specs.declared.requests.Request.TheVariants as request
+use Rattle.coll_bench.specs.declared.session_lines.Opening.TheVariants as opening
+use Rattle.coll_bench.specs.declared.session_lines.Heard.{Heard}
+use Rattle.coll_bench.specs.declared.session_lines.Heard.TheVariants as heard
+use Rattle.coll_bench.specs.declared.session_lines.HeardLine.{HeardLine}
+use Rattle.coll_bench.specs.declared.units.Request.{Request}
+use Rattle.coll_bench.specs.declared.units.Request.TheVariants as request
+use Rattle.coll_bench.specs.declared.units.SessionUnit.{SessionUnit}
+use Rattle.coll_bench.specs.declared.units.FaultAt.{FaultAt}
 
--- a block that is open: the target of its first line, or that line's fault; and its further lines, each an order
--- line or the fault of a line that isn't taken in a block
-pub record Block : Type 0 where
+-- a unit of this line, which asks for this
+abbrev pub asked_at : ℕ → Request → SessionUnit
+asked_at line asks = record { line = line; request = asks }
+
+-- a line with this fault
+abbrev pub fault_at : ℕ → Fault → FaultAt
+fault_at line f = record { line = line; fault = f }
+
+-- the unit of a line that is refused
+abbrev pub refused_at : FaultAt → SessionUnit
+refused_at at = asked_at at.line (request.Refused at.fault)
+
+-- the order line that a line is, if it is one
+abbrev pub order_by : Heard → List PlainLine
+order_by (heard.Stops f) = []
+order_by (heard.Refused o f) = []
+order_by (heard.Asks c) = []
+order_by (heard.Misasks f) = []
+order_by (heard.Opens target) = []
+order_by heard.Ends = []
+order_by (heard.Orders order) = order ∷ []
+
+-- the order lines among some lines
+abbrev pub orders_in : List HeardLine → List PlainLine
+orders_in lines = flat_map (λ (line : HeardLine). order_by line.heard) lines
+
+-- the refusal of a command, known or not, that a block is open around
+abbrev pub command_refused_by : ℕ → Heard → List SessionUnit
+command_refused_by line (heard.Stops f) = []
+command_refused_by line (heard.Refused o f) = []
+command_refused_by line (heard.Asks c) = refused_at (fault_at line fault.BlockOpen) ∷ []
+command_refused_by line (heard.Misasks f) = refused_at (fault_at line fault.BlockOpen) ∷ []
+command_refused_by line (heard.Opens target) = []
+command_refused_by line heard.Ends = []
+command_refused_by line (heard.Orders order) = []
+
+-- the refusals of the commands among some lines of a block
+abbrev pub commands_refused_in : List HeardLine → List SessionUnit
+commands_refused_in lines = flat_map (λ (line : HeardLine). command_refused_by line.number line.heard) lines
+
+-- the first of two, if there is one
+abbrev pub or_else : {A : Type 0} → Option A → Option A → Option A
+or_else (Some x) later = Some x
+or_else None later = later
+
+-- the line, if it was refused for want of memory
+abbrev pub want_by : ℕ → Heard → Option ℕ
+want_by line (heard.Stops f) = None
+want_by line (heard.Refused o f) = if is_want_of_memory f then Some line else None
+want_by line (heard.Asks c) = None
+want_by line (heard.Misasks f) = None
+want_by line (heard.Opens target) = None
+want_by line heard.Ends = None
+want_by line (heard.Orders order) = None
+
+-- the first of some lines that was refused for want of memory
+unfoldable pub first_want : List HeardLine → Option ℕ
+first_want [] = None
+first_want (line ∷ lines) = or_else (want_by line.number line.heard) (first_want lines)
+
+-- the fault of a line that spoils a block with so many order lines before it: a refused line, or an order line too many
+abbrev pub spoils_by : (orders : ℕ) → ℕ → Heard → Option FaultAt
+spoils_by orders line (heard.Stops f) = None
+spoils_by orders line (heard.Refused o f) = Some (fault_at line f)
+spoils_by orders line (heard.Asks c) = None
+spoils_by orders line (heard.Misasks f) = None
+spoils_by orders line (heard.Opens target) = None
+spoils_by orders line heard.Ends = None
+spoils_by orders line (heard.Orders order) = if nat_le most_block_lines orders then Some (fault_at line (fault.Syntax syntax.BlockTooLong)) else None
+
+-- the fault of a line, if it spoils a block with these lines before it
+abbrev pub spoils : (before : List HeardLine) → HeardLine → Option FaultAt
+spoils before line = spoils_by (length (orders_in before)) line.number line.heard
+
+-- the fault of the first line that spoils a block with these lines before them
+unfoldable pub first_spoiler : (before lines : List HeardLine) → Option FaultAt
+first_spoiler before [] = None
+first_spoiler before (line ∷ lines) = or_else (spoils before line) (first_spoiler (before ++ line ∷ []) lines)
+
+-- a block that is open: the number of its first line, the target that this names or its fault, and the lines heard since
+pub record BlockLines : Type 0 where
+  pub line : ℕ
   pub target : Result Id Fault
-  pub lines : List (Result PlainLine Fault)
+  pub lines : List HeardLine
 
-abbrev pub opened : Result Id Fault → Block
-opened target = record { target = target; lines = [] }
+-- a block of which the first line was heard
+abbrev pub opened : ℕ → Result Id Fault → BlockLines
+opened line target = record { line = line; target = target; lines = [] }
 
-abbrev pub with_line : Block → Result PlainLine Fault → Block
-with_line block line = record { target = block.target; lines = block.lines ++ line ∷ [] }
+-- the block with a further line
+abbrev pub with_line : BlockLines → HeardLine → BlockLines
+with_line block line = record { line = block.line; target = block.target; lines = block.lines ++ line ∷ [] }
 
--- want of memory, which is 70
-abbrev pub is_want_of_memory : Fault → Bool
-is_want_of_memory f = fault_number f == 70
+-- the first line, if it was refused for want of memory
+abbrev pub target_want : ℕ → Result Id Fault → Option ℕ
+target_want line (Ok target) = None
+target_want line (Err f) = if is_want_of_memory f then Some line else None
 
-abbrev pub wants_memory : {A : Type 0} → Result A Fault → Bool
-wants_memory (Ok x) = false
-wants_memory (Err f) = is_want_of_memory f
+-- the first line of the block that was refused for want of memory
+abbrev pub want_in : BlockLines → Option ℕ
+want_in block = or_else (target_want block.line block.target) (first_want block.lines)
 
-abbrev pub some_wants_memory : List (Result PlainLine Fault) → Bool
-some_wants_memory [] = false
-some_wants_memory (line ∷ lines) = wants_memory line || some_wants_memory lines
+-- the unit of a block by its first line that spoils it: the statement, or the refusal
+abbrev pub stated_unless : Option FaultAt → ℕ → Id → List PlainLine → SessionUnit
+stated_unless None line target orders = asked_at line (request.States (statement.Block target orders))
+stated_unless (Some at) line target orders = refused_at at
 
--- a line of the block was refused for want of memory
-abbrev pub is_starved : Block → Bool
-is_starved block = wants_memory block.target || some_wants_memory block.lines
+-- the unit of a block by its first line and those after it: where the first is refused, its fault is the least
+abbrev pub unit_of : ℕ → Result Id Fault → List HeardLine → SessionUnit
+unit_of line (Ok target) lines = stated_unless (first_spoiler [] lines) line target (orders_in lines)
+unit_of line (Err f) lines = refused_at (fault_at line f)
 
-abbrev pub and_line : PlainLine → Result (List PlainLine) Fault → Result (List PlainLine) Fault
-and_line line (Ok lines) = Ok (line ∷ lines)
-and_line line (Err f) = Err f
+-- the fault of a line that was refused for want of memory
+abbrev pub starved_at : ℕ → FaultAt
+starved_at line = fault_at line (fault.Lex lex.OutOfMemory)
 
--- the order lines of a block with room for so many; the least line that spoils it gives its fault
-abbrev pub order_lines : ℕ → List (Result PlainLine Fault) → Result (List PlainLine) Fault
-order_lines room [] = Ok []
-order_lines room (Err f ∷ lines) = Err f
-order_lines zero (Ok line ∷ lines) = Err (fault.Syntax syntax.BlockTooLong)
-order_lines (suc room) (Ok line ∷ lines) = and_line line (order_lines room lines)
+-- a unit, unless a line was refused for want of memory, which then decides
+abbrev pub unless_starved : Option ℕ → SessionUnit → SessionUnit
+unless_starved (Some line) unit = refused_at (starved_at line)
+unless_starved None unit = unit
 
-abbrev pub block_of : Id → Result (List PlainLine) Fault → Result PlainStatement Fault
-block_of target (Ok lines) = Ok (statement.Block target lines)
-block_of target (Err f) = Err f
+-- the unit of a block at its end: its statement, or the fault that decides, which is want of memory where a line had it,
+-- and else that of the first line that spoils it
+unfoldable pub block_unit : BlockLines → SessionUnit
+block_unit block = unless_starved (want_in block) (unit_of block.line block.target block.lines)
 
-abbrev pub targeted : Result Id Fault → List (Result PlainLine Fault) → Result PlainStatement Fault
-targeted (Ok target) lines = block_of target (order_lines MOST_BLOCK_LINES lines)
-targeted (Err f) lines = Err f
+-- the unit of the block that is open, if one is
+abbrev pub ended_unit : Option BlockLines → List SessionUnit
+ended_unit None = []
+ended_unit (Some block) = block_unit block ∷ []
 
--- the statement of a block, or the fault that spoils it: want of memory where a line had it, else the least
-unfoldable pub statement_of : Block → Result PlainStatement Fault
-statement_of block = if is_starved block then Err (fault.Lex lex.OutOfMemory) else targeted block.target block.lines
+-- the unit of the block that ends with this line, which is none of it; where none is open, the line's own
+abbrev pub ended_or : Option BlockLines → SessionUnit → SessionUnit
+ended_or None own = own
+ended_or (Some block) own = block_unit block
 
-abbrev pub requested : Result PlainStatement Fault → Request
-requested (Ok s) = request.States s
-requested (Err f) = request.Refused f
+-- the unit of the block that ends with this line, which is one of it; where none is open, the line's own
+abbrev pub ended_with_or : Option BlockLines → HeardLine → SessionUnit → SessionUnit
+ended_with_or None line own = own
+ended_with_or (Some block) line own = block_unit (with_line block line)
 
--- the unit of a block at its end
-abbrev pub block_request : Block → Request
-block_request block = requested (statement_of block)
+-- the unit of a command, which is refused where a block is open
+abbrev pub outside_block : Option BlockLines → SessionUnit → SessionUnit
+outside_block None own = own
+outside_block (Some block) own = refused_at (fault_at own.line fault.BlockOpen)
 
--- the units that a refused line completes
-abbrev pub refused_requests : Option Block → Opening → Fault → List Request
-refused_requests None opening.ReorderAfter f = []
-refused_requests None opening.ReorderEnd f = request.Refused f ∷ []
-refused_requests None opening.Neither f = request.Refused f ∷ []
-refused_requests (Some block) opening.ReorderAfter f = block_request block ∷ []
-refused_requests (Some block) opening.ReorderEnd f = block_request (with_line block (Err f)) ∷ []
-refused_requests (Some block) opening.Neither f = []
+-- the unit of a line that a block takes, where none is open
+abbrev pub own_unit : Option BlockLines → SessionUnit → List SessionUnit
+own_unit None own = own ∷ []
+own_unit (Some block) own = []
 
--- the block that is open after a refused line
-abbrev pub refused_block : Option Block → Opening → Fault → Option Block
-refused_block None opening.ReorderAfter f = Some (opened (Err f))
-refused_block None opening.ReorderEnd f = None
-refused_block None opening.Neither f = None
-refused_block (Some block) opening.ReorderAfter f = Some (opened (Err f))
-refused_block (Some block) opening.ReorderEnd f = None
-refused_block (Some block) opening.Neither f = Some (with_line block (Err f))
-
--- what stands in a block is refused there; elsewhere it is this
-abbrev pub outside_blocks : Option Block → Request → Request
-outside_blocks None r = r
-outside_blocks (Some block) r = request.Refused fault.BlockOpen
-
-abbrev pub ended_block : Option Block → List Request
-ended_block None = []
-ended_block (Some block) = block_request block ∷ []
-
-abbrev pub ended_or_none : Option Block → Request
-ended_or_none None = request.Refused fault.NoBlock
-ended_or_none (Some block) = block_request block
-
-abbrev pub order_requests : Option Block → PlainLine → List Request
-order_requests None line = request.States (statement.Reweight line) ∷ []
-order_requests (Some block) line = []
-
-abbrev pub order_block : Option Block → PlainLine → Option Block
-order_block None line = None
-order_block (Some block) line = Some (with_line block (Ok line))
+-- the units that a line completes, under the block that is open before it
+abbrev pub units_by : Option BlockLines → ℕ → Heard → List SessionUnit
+units_by block n (heard.Stops f) = []
+units_by block n (heard.Refused opening.ReorderAfter f) = ended_unit block
+units_by block n (heard.Refused opening.ReorderEnd f) = ended_with_or block (record { number = n; heard = heard.Refused opening.ReorderEnd f }) (asked_at n (request.Refused f)) ∷ []
+units_by block n (heard.Refused opening.Neither f) = own_unit block (asked_at n (request.Refused f))
+units_by block n (heard.Asks c) = outside_block block (asked_at n (request.Asks c)) ∷ []
+units_by block n (heard.Misasks f) = outside_block block (asked_at n (request.Refused f)) ∷ []
+units_by block n (heard.Opens target) = ended_unit block
+units_by block n heard.Ends = ended_or block (asked_at n (request.Refused fault.NoBlock)) ∷ []
+units_by block n (heard.Orders order) = own_unit block (asked_at n (request.States (statement.Reweight order)))
 
 -- the units that a line completes
-unfoldable pub requests_at : Option Block → Heard → List Request
-requests_at block (heard.Stops f) = []
-requests_at block (heard.Refused o f) = refused_requests block o f
-requests_at block (heard.Asks c) = outside_blocks block (request.Asks c) ∷ []
-requests_at block (heard.Misasks f) = outside_blocks block (request.Refused f) ∷ []
-requests_at block (heard.Opens target) = ended_block block
-requests_at block heard.Ends = ended_or_none block ∷ []
-requests_at block (heard.Orders line) = order_requests block line
+unfoldable pub units_at : Option BlockLines → HeardLine → List SessionUnit
+units_at block line = units_by block line.number line.heard
+
+-- the block, if one is open, with a further line
+abbrev pub and_line : Option BlockLines → HeardLine → Option BlockLines
+and_line None line = None
+and_line (Some block) line = Some (with_line block line)
 
 -- the block that is open after a line
-unfoldable pub block_after : Option Block → Heard → Option Block
-block_after block (heard.Stops f) = None
-block_after block (heard.Refused o f) = refused_block block o f
-block_after block (heard.Asks c) = block
-block_after block (heard.Misasks f) = block
-block_after block (heard.Opens target) = Some (opened (Ok target))
-block_after block heard.Ends = None
-block_after block (heard.Orders line) = order_block block line
+abbrev pub block_by : Option BlockLines → ℕ → Heard → Option BlockLines
+block_by block n (heard.Stops f) = None
+block_by block n (heard.Refused opening.ReorderAfter f) = Some (opened n (Err f))
+block_by block n (heard.Refused opening.ReorderEnd f) = None
+block_by block n (heard.Refused opening.Neither f) = and_line block (record { number = n; heard = heard.Refused opening.Neither f })
+block_by block n (heard.Asks c) = and_line block (record { number = n; heard = heard.Asks c })
+block_by block n (heard.Misasks f) = and_line block (record { number = n; heard = heard.Misasks f })
+block_by block n (heard.Opens target) = Some (opened n (Ok target))
+block_by block n heard.Ends = None
+block_by block n (heard.Orders order) = and_line block (record { number = n; heard = heard.Orders order })
+
+-- the block that is open after a line
+unfoldable pub block_after : Option BlockLines → HeardLine → Option BlockLines
+block_after block line = block_by block line.number line.heard
+
+-- the fault of a block by the line of it that was refused for want of memory, if one was
+abbrev pub not_ended : ℕ → Option ℕ → FaultAt
+not_ended line (Some starved) = starved_at starved
+not_ended line None = fault_at line fault.BlockNotEnded
 
 -- the fault of a block that the end of the text leaves open
-abbrev pub left_open : Block → Fault
-left_open block = if is_starved block then fault.Lex lex.OutOfMemory else fault.BlockNotEnded
+unfoldable pub block_left_open : BlockLines → FaultAt
+block_left_open block = not_ended block.line (want_in block)
+
+-- the fault of a line, by its number, that is continued where the text ends
+abbrev pub dangling : Option ℕ → List FaultAt
+dangling None = []
+dangling (Some line) = fault_at line (fault.Lex lex.DanglingEscape) ∷ []
 
 -- the faults at the end of the text: that of the block that is open, or else of a line that is continued
-abbrev pub end_faults : (continued : Bool) → Option Block → List Fault
-end_faults true None = fault.Lex lex.DanglingEscape ∷ []
-end_faults false None = []
-end_faults continued (Some block) = left_open block ∷ []
+abbrev pub end_faults : Option BlockLines → (continued : Option ℕ) → List FaultAt
+end_faults None continued = dangling continued
+end_faults (Some block) continued = block_left_open block ∷ []
 
 -- a block that is dropped has no fault, but for a want of memory in it
-abbrev pub dropped_faults : Option Block → List Fault
+unfoldable pub dropped_faults : Option BlockLines → List FaultAt
 dropped_faults None = []
-dropped_faults (Some block) = if is_starved block then fault.Lex lex.OutOfMemory ∷ [] else []
+dropped_faults (Some block) = map starved_at (option_to_list (want_in block))
 
--- a dangling escape is met at the end of the text alone
-abbrev pub is_end_of_text : LexFault → Bool
-is_end_of_text f = lex_fault_number f == 9
+-- the last faults, at a line after which no other comes: where the text ends with a line that is continued, those of its
+-- end; at a line too long or too many its own, where a block that is open is dropped
+abbrev pub last_faults : Option BlockLines → ℕ → LexFault → List FaultAt
+last_faults block n lex.DanglingEscape = end_faults block (Some n)
+last_faults block n f = dropped_faults block ++ fault_at n (fault.Lex f) ∷ []
 
--- the last faults: at a dangling escape those of the end, and at a line too long or too many its own, where a block
--- that is open is dropped
-abbrev pub last_faults : Option Block → LexFault → List Fault
-last_faults block f = if is_end_of_text f then end_faults true block else dropped_faults block ++ fault.Lex f ∷ []
-
-abbrev pub refusals : List Fault → List Request
-refusals faults = map request.Refused faults
-
-abbrev pub requests_at_end : Bool → Option Block → List Request
-requests_at_end false block = []
-requests_at_end true block = refusals (end_faults false block)
-
-abbrev pub or_last : Option LexFault → Option Block → List Request → List Request
-or_last None block more = more
-or_last (Some f) block more = refusals (last_faults block f)
+-- the units of some faults
+abbrev pub refusals : List FaultAt → List SessionUnit
+refusals faults = map refused_at faults
 
 -- the fault at which the text ends, if the line has one
 abbrev pub stop_of : Heard → Option LexFault
@@ -186,7 +256,12 @@ stop_of (heard.Opens target) = None
 stop_of heard.Ends = None
 stop_of (heard.Orders line) = None
 
+-- the units at a line after which no other comes, or else those that it completes and those that come later
+abbrev pub last_or : Option LexFault → Option BlockLines → ℕ → List SessionUnit → List SessionUnit
+last_or None block n more = more
+last_or (Some f) block n more = refusals (last_faults block n f)
+
 -- the units of lines, under the block that is open before them; the test says whether the text's end is seen
-unfoldable pub units : Bool → Option Block → List Heard → List Request
-units ends block [] = requests_at_end ends block
-units ends block (line ∷ lines) = or_last (stop_of line) block (requests_at block line ++ units ends (block_after block line) lines)
+unfoldable pub units : Bool → Option BlockLines → List HeardLine → List SessionUnit
+units ends block [] = if ends then refusals (end_faults block None) else []
+units ends block (line ∷ lines) = last_or (stop_of line.heard) block line.number (units_at block line ++ units ends (block_after block line) lines)

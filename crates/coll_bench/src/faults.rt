@@ -1,16 +1,16 @@
 //! The faults that a session answers, and the one that ends a run.
 //!
 //! A fault of a lower part is kept as it came, so that it has one number and one name everywhere. A new kind of
-//! fault is a new variant with its number and its name here and in `specs/SessionFaults.antt`.
+//! fault is a new variant with its number and its name here and in `specs/Faults.antt`.
 
 ghost use Rattle.std.specs.Prelude.{◌≡◌};
-ghost use Rattle.coll_bench.specs.SessionFaults.{bench_fault_number, bench_fault_name, fault_number, fault_name};
+ghost use Rattle.coll_bench.specs.Faults.{bench_fault_number, bench_fault_name, fault_number, fault_name, is_want_of_memory as wants_memory, load_wants_memory as load_wants};
 ghost use Rattle.coll_table.specs.declared.refusals.Refusal.TheVariants.{OutOfMemory};
 ghost use Rattle.coll_bench.specs.declared.faults.BenchFault.TheVariants.{Table};
 
 use coll_lex::{LexFault, ReadStop, WriteStop};
 use coll_syntax::SyntaxFault;
-use coll_table::Refusal;
+use coll_table::{LoadCause, LoadFault, Refusal};
 use std::alloc::AllocError;
 use thiserror::Error;
 
@@ -70,7 +70,9 @@ pub enum Fault {
     Lex(LexFault),
     /// The grammar refused a line, or the arguments of a command.
     Syntax(SyntaxFault),
-    /// The history refused a statement, or had nothing to take back.
+    /// A table could not be loaded.
+    Load(LoadFault),
+    /// The table or the history refused a statement, or nothing was to be taken back.
     Bench(BenchFault),
     /// A block is open, and what the line asks for isn't taken there.
     BlockOpen,
@@ -92,6 +94,7 @@ impl Fault {
             Fault::Write(stop) => stop.number(),
             Fault::Lex(fault) => fault.number(),
             Fault::Syntax(fault) => fault.number(),
+            Fault::Load(fault) => fault.number(),
             Fault::Bench(fault) => fault.number(),
             Fault::BlockOpen => 62,
             Fault::BlockNotEnded => 63,
@@ -109,12 +112,36 @@ impl Fault {
             Fault::Write(stop) => stop.name(),
             Fault::Lex(fault) => fault.name(),
             Fault::Syntax(fault) => fault.name(),
+            Fault::Load(fault) => fault.name(),
             Fault::Bench(fault) => fault.name(),
             Fault::BlockOpen => "BlockOpen",
             Fault::BlockNotEnded => "BlockNotEnded",
             Fault::UnknownCommand => "UnknownCommand",
             Fault::NoBlock => "NoBlock",
         }
+    }
+
+    /// Whether memory was refused, whatever for.
+    pub fn is_want_of_memory(self) -> bool
+        ensures { result ≡ wants_memory self }
+    {
+        match self {
+            Fault::Lex(LexFault::OutOfMemory) => true,
+            Fault::Syntax(SyntaxFault::OutOfMemory) => true,
+            Fault::Load(fault) => load_wants_memory(fault.cause),
+            Fault::Bench(BenchFault::Table(Refusal::OutOfMemory)) => true,
+            _ => false,
+        }
+    }
+}
+
+// Whether a load was refused for want of memory.
+fn load_wants_memory(cause: LoadCause) -> bool
+    ensures { result ≡ load_wants cause }
+{
+    match cause {
+        LoadCause::OutOfMemory => true,
+        _ => false,
     }
 }
 

@@ -1,53 +1,93 @@
-//! What a line of a session is.
+//! Hearing the lines of a session.
 //!
 //! A physical line is handed to the lexer; where it ends a logical line, that line is a command, a line of a delta,
 //! or refused. What a line is depends on no table and on no block. For a line and for its block memory is taken here
-//! alone; a statement takes its own when it is judged. A new kind of line is a new variant of `Heard`, and a case of the
-//! definition of session lines.
+//! alone; a statement takes its own when it is judged.
 
-ghost use Rattle.std.specs.Prelude.{◌≡◌, ◌≤◌, Bool, IfOk, is_some, chars};
+ghost use Rattle.std.specs.Prelude.{◌≡◌, ◌≤◌, [], Bool, IfOk, chars, vec_capacity};
 ghost use Rattle.coll_lex.specs.LogicalLines.{pending, number_of, first_line};
-ghost use Rattle.coll_lex.specs.declared.tokens.TheConstants.{MOST_LINES};
+ghost use Rattle.coll_lex.specs.Limits.{most_lines};
 ghost use Rattle.coll_bench.specs.SessionLines.{opening_of, fault_heard, is_command as spells_command, is_command_word as spells_command_word, command_heard as spelled_command, alone as spelled_alone};
-ghost use Rattle.coll_bench.specs.Hearing.{Hears, HearsTokens, HearsDelta};
+ghost use Rattle.coll_bench.specs.Units.{stop_of};
+ghost use Rattle.coll_bench.specs.Hearing.{HasRoom, Hears, HearsTokens, HearsDelta, MakesRoom, no_memory as line_starved};
 
-use crate::blocks::Opened;
-use crate::commands::Command;
 use crate::faults::Fault;
+use crate::limits::MOST_BLOCK_LINES;
+use crate::session_lines::{Command, Heard, HeardLine, Opening};
 use coll_lex::{LexFault, Lexer, Line, Token, past_blanks, without_return};
 use coll_syntax::{SyntaxFault, is_word};
 use coll_table::{PlainDeltaLine, PlainLine, parse_plain_delta_line};
 use std::alloc::{AllocError, Global};
 use std::marker::Model;
 
-/// What the first physical line of a logical line begins with, blanks skipped, without regard to words or escapes.
-#[derive(Clone, Copy, Debug, PartialEq, Eq)]
-pub enum Opening {
-    /// `reorder-after`, so that the line opens a block even where it is refused.
-    ReorderAfter,
-    /// `reorder-end`, so that the line ends a block even where it is refused.
-    ReorderEnd,
-    /// Anything else.
-    Neither,
+/// A line that was heard, with the room for the lines of the block that it may open. Contracts see the line alone.
+#[derive(Debug, Drop)]
+pub struct Hearing {
+    line: HeardLine,
+    room: Vec<PlainLine>,
 }
 
-/// What a logical line of a session is.
-#[derive(Debug, Drop)]
-pub enum Heard {
-    /// A line too long, a line too many, or one that is to be continued where the text ends: no line follows.
-    Stops(LexFault),
-    /// A line that the lexer or the grammar refuses, and what it begins with.
-    Refused(Opening, Fault),
-    /// A command.
-    Asks(Command),
-    /// A command that isn't known, or whose arguments are refused.
-    Misasks(Fault),
-    /// `reorder-after`, with the room that its block needs.
-    Opens(Opened),
-    /// `reorder-end`.
-    Ends,
-    /// An order line.
-    Orders(PlainLine),
+impl Model for Hearing {
+    ghost use Rattle.std.specs.Prelude.{vec_capacity};
+    ghost use Rattle.coll_bench.specs.declared.session_lines.HeardLine.{HeardLine};
+    ghost use Rattle.coll_bench.specs.Hearing.{HasRoom};
+
+    ghost Value = { HeardLine };
+
+    ghost view = { λ h. h.line };
+
+    ghost invariant = { λ h. HasRoom h.line.heard (vec_capacity h.room) h.room.items };
+}
+
+impl Hearing {
+    // A line that opens no block.
+    fn without_room(alloc: Global, number: u32, heard: Heard) -> Hearing
+        requires { HasRoom heard 0 [] }
+        ensures { result ≡ record { number = number; heard = heard } }
+    {
+        Hearing {
+            line: HeardLine { number, heard },
+            room: Vec::new(alloc),
+        }
+    }
+
+    // The line, with the room for the block that it may open. Where memory for this is refused, so is the line.
+    fn with_room(alloc: Global, opening: Opening, number: u32, heard: Heard) -> Hearing
+        ensures { MakesRoom opening (record { number = number; heard = heard }) result }
+    {
+        match heard {
+            Heard::Opens(target) => match Vec::with_capacity(alloc, MOST_BLOCK_LINES) {
+                Ok(room) => Hearing {
+                    line: HeardLine {
+                        number,
+                        heard: Heard::Opens(target),
+                    },
+                    room,
+                },
+                Err(_) => Hearing::without_room(alloc, number, no_memory(opening)),
+            },
+            heard => Hearing::without_room(alloc, number, heard),
+        }
+    }
+
+    /// The fault at which the session ends, if the line has one.
+    pub fn stop(&self) -> Option<LexFault>
+        ensures { result ≡ stop_of self.now.heard }
+    {
+        match &self.line.heard {
+            Heard::Stops(fault) => Some(*fault),
+            _ => None,
+        }
+    }
+
+    /// The line, and the room for the block that it may open.
+    pub fn split(self) -> (HeardLine, Vec<PlainLine>)
+        ensures line { result.0 ≡ self }
+        ensures room { HasRoom result.0.heard (vec_capacity result.1) result.1.items }
+    {
+        let Hearing { line, room } = self;
+        (line, room)
+    }
 }
 
 /// A lexer that hears the lines of a session, and knows what the logical line that is open begins with.
@@ -87,33 +127,39 @@ impl Listener {
     /// Takes one more physical line, and answers what the logical line is that it ends, if it ends one with a token.
     ///
     /// Where memory is refused, the line is a refused one, and the logical line so far is dropped.
-    pub fn hear(&mut self, alloc: Global, line: &[u8]) -> Option<Heard>
+    pub fn hear(&mut self, alloc: Global, line: &[u8]) -> Option<Hearing>
         ensures { (starved : Bool) × Hears starved self.old self.new line.now result }
     {
         let opening = self.opening_at(line);
+        let number = self.lexer.next_number();
         match self.lexer.feed(line) {
-            Err(fault) => Some(refused_by_lexer(opening, fault)),
+            Err(fault) => Some(refused_by_lexer(alloc, number, opening, fault)),
             Ok(None) => {
                 self.opening = opening;
                 None
             }
-            Ok(Some(line)) => Some(line_heard(alloc, opening, &line)),
+            Ok(Some(line)) => {
+                let heard = tokens_heard(alloc, opening, &line);
+                Some(Hearing::with_room(alloc, opening, number, heard))
+            }
         }
     }
 
     /// The number of the logical line that the next physical line belongs to, which its fault carries.
     pub fn next_number(&self) -> u32
         ensures number { result ≡ number_of self.now }
-        ensures counted { self.now.count ≤ MOST_LINES }
+        ensures counted { self.now.count ≤ most_lines }
     {
         self.lexer.next_number()
     }
 
-    /// Ends the text, and answers whether it ends where a line is continued.
-    pub fn finish(&mut self) -> bool
-        ensures { result ≡ is_some (pending self.old) }
+    /// Ends the text, and answers the number of the line that is continued there, if one is.
+    pub fn finish(&mut self) -> Option<u32>
+        ensures { result ≡ pending self.old }
     {
-        self.lexer.finish().is_err()
+        let continued = self.lexer.pending();
+        let _ = self.lexer.finish();
+        continued
     }
 
     // What the logical line begins with that this physical line belongs to.
@@ -143,20 +189,27 @@ fn opening_of(line: &[u8]) -> Opening
 }
 
 // What a line is that the lexer refuses.
-fn refused_by_lexer(opening: Opening, fault: LexFault) -> Heard
-    ensures { result ≡ fault_heard opening fault }
+fn refused_by_lexer(alloc: Global, number: u32, opening: Opening, fault: LexFault) -> Hearing
+    ensures { result ≡ record { number = number; heard = fault_heard opening fault } }
 {
     match fault {
         LexFault::LineTooLong | LexFault::TooManyLines | LexFault::DanglingEscape => {
-            Heard::Stops(fault)
+            Hearing::without_room(alloc, number, Heard::Stops(fault))
         }
-        _ => Heard::Refused(opening, Fault::Lex(fault)),
+        _ => Hearing::without_room(alloc, number, Heard::Refused(opening, Fault::Lex(fault))),
     }
+}
+
+// A line for which memory was refused.
+fn no_memory(opening: Opening) -> Heard
+    ensures { result ≡ line_starved opening }
+{
+    Heard::Refused(opening, Fault::Lex(LexFault::OutOfMemory))
 }
 
 // What a line with tokens is.
 #[tactic(auto, unfolding(crate::specs::SessionLines::tokens_heard))]
-fn line_heard(alloc: Global, opening: Opening, line: &Line) -> Heard
+fn tokens_heard(alloc: Global, opening: Opening, line: &Line) -> Heard
     ensures { HearsTokens opening line.now.tokens result }
 {
     if let Some((first, arguments)) = line.tokens.get().split_first() {
@@ -215,18 +268,15 @@ fn alone(command: Command, arguments: &[Token]) -> Heard
     }
 }
 
-// What a line of a delta is, with the room for the block that it may open.
+// What a line of a delta is.
 fn delta_heard(alloc: Global, opening: Opening, line: &Line) -> Heard
     ensures { HearsDelta opening line.now.tokens result }
 {
     match parse_plain_delta_line(alloc, line) {
-        Ok(PlainDeltaLine::ReorderAfter(target)) => match Opened::new(alloc, target) {
-            Ok(opened) => Heard::Opens(opened),
-            Err(_) => Heard::Refused(opening, Fault::Lex(LexFault::OutOfMemory)),
-        },
+        Ok(PlainDeltaLine::ReorderAfter(target)) => Heard::Opens(target),
         Ok(PlainDeltaLine::ReorderEnd) => Heard::Ends,
         Ok(PlainDeltaLine::Order(line)) => Heard::Orders(line),
-        Err(SyntaxFault::OutOfMemory) => Heard::Refused(opening, Fault::Lex(LexFault::OutOfMemory)),
+        Err(SyntaxFault::OutOfMemory) => no_memory(opening),
         Err(fault) => Heard::Refused(opening, Fault::Syntax(fault)),
     }
 }

@@ -6,15 +6,14 @@
 //! that, and to make the room that every later undo needs before the table changes.
 
 ghost use Rattle.std.specs.Prelude.{◌≡◌, ◌≢◌, ◌↔◌, ◌<◌, ◌≤◌, ◌+◌, [], length, vec_len, vec_capacity, IsOk, IsTrue, Ok, Err, IfOk, IfErr, OnOk, OnErr};
-ghost use Rattle.coll_bench.specs.History.{History, begun, judged, taken_back, table_of, RefusesStatement};
+ghost use Rattle.coll_table.specs.Table.{collation};
+ghost use Rattle.coll_bench.specs.Histories.{History, begun, judged, taken_back, table_now, RefusesStatement};
 
 use crate::faults::BenchFault;
+use crate::limits::MOST_REMAINING;
 use coll_table::{PlainStatement, Record, Refusal, Table};
 use std::alloc::{AllocError, Global};
 use std::marker::Model;
-
-/// Most statements that remain.
-pub const MOST_REMAINING: usize = 65_535;
 
 /// An accepted statement, with the record that turns the table back, or, once it is undone, forward again.
 #[derive(Debug, Drop)]
@@ -35,7 +34,8 @@ pub struct Session {
 }
 
 impl Model for Session {
-    ghost use Rattle.coll_bench.specs.History.{History};
+    ghost use Rattle.coll_table.specs.Table.{collation};
+    ghost use Rattle.coll_bench.specs.Histories.{History};
 
     ghost Value = { History };
 
@@ -49,7 +49,7 @@ impl Model for Session {
 impl Session {
     /// A session on a table, in which nothing has happened yet. It takes no memory.
     pub fn new(alloc: Global, table: Table) -> Session
-        ensures { result ≡ begun table }
+        ensures { result ≡ begun (collation table) }
     {
         Session {
             table,
@@ -109,7 +109,7 @@ impl Session {
 
     /// The table now: the one at first, rewritten by the statements that remain, in order.
     pub fn table(&self) -> &Table
-        ensures { result.now ≡ table_of self.now }
+        ensures { collation result.now ≡ table_now self.now }
     {
         &self.table
     }

@@ -7,13 +7,13 @@
 ghost use Rattle.std.specs.Prelude.{◌≡◌, ◌++◌, ◌∷◌, [], Bool, length};
 ghost use Rattle.std.specs.Io.KnownBytes.{Keeps};
 ghost use Rattle.coll_lex.specs.Devices.{CountsErr, Sends};
-ghost use Rattle.coll_table.specs.Table.{entries_of};
-ghost use Rattle.coll_bench.specs.Replies.{spelled_id, worded, counted_line, refused_line, listed_line, listed_lines, listing, outcome_line, command_reply, after_command, reply_if, after_if};
+ghost use Rattle.coll_table.specs.Table.{collation, entries_of};
+ghost use Rattle.coll_bench.specs.Replies.{spelled_id, worded, counted_line, refused_line, listed_line, listed_lines, listing, outcome_line, command_reply, history_after_command, reply_if, history_after_if};
 
-use crate::commands::Command;
 use crate::faults::{BenchFault, Fault};
 use crate::histories::Session;
-use crate::requests::Request;
+use crate::session_lines::Command;
+use crate::units::Request;
 use coll_lex::{Sink, WriteStop, write_bytes, write_char, write_symbol};
 use coll_syntax::Id;
 use coll_table::{Entry, Table};
@@ -28,7 +28,7 @@ pub fn answer<W: Sink>(
     out: &mut W,
 ) -> Result<(), WriteStop>
     ensures answered { (starved : Bool) × Sends (W.taken out.old) (W.taken out.new) (reply_if starved session.old request) result
-        × (session.new ≡ after_if starved session.old request) }
+        × (session.new ≡ history_after_if starved session.old request) }
     ensures errors { CountsErr (W.failed out.old) (W.failed out.new) result }
 {
     respond(session, request, out)?;
@@ -58,7 +58,7 @@ fn flush<W: Sink>(out: &mut W) -> Result<(), WriteStop>
 // Does what a unit asks for, and writes its reply.
 fn respond<W: Sink>(session: &mut Session, request: Request, out: &mut W) -> Result<(), WriteStop>
     ensures answered { (starved : Bool) × Sends (W.taken out.old) (W.taken out.new) (reply_if starved session.old request) result
-        × (session.new ≡ after_if starved session.old request) }
+        × (session.new ≡ history_after_if starved session.old request) }
     ensures errors { CountsErr (W.failed out.old) (W.failed out.new) result }
 {
     match request {
@@ -74,7 +74,7 @@ fn respond<W: Sink>(session: &mut Session, request: Request, out: &mut W) -> Res
 // Does what a command asks for, and writes its reply. It takes no memory.
 fn obey<W: Sink>(session: &mut Session, command: Command, out: &mut W) -> Result<(), WriteStop>
     ensures sent { Sends (W.taken out.old) (W.taken out.new) (command_reply session.old command) result }
-    ensures after { session.new ≡ after_command session.old command }
+    ensures after { session.new ≡ history_after_command session.old command }
     ensures errors { CountsErr (W.failed out.old) (W.failed out.new) result }
 {
     match command {
@@ -104,7 +104,7 @@ fn write_outcome<W: Sink>(
 // Writes the entries of a table in their order, and how many there are.
 #[tactic(auto, unfolding(crate::specs::Replies::listing))]
 fn write_listing<W: Sink>(out: &mut W, table: &Table) -> Result<(), WriteStop>
-    ensures sent { Sends (W.taken out.old) (W.taken out.new) (listing table.now) result }
+    ensures sent { Sends (W.taken out.old) (W.taken out.new) (listing (collation table.now)) result }
     ensures errors { CountsErr (W.failed out.old) (W.failed out.new) result }
 {
     let entries = table.entries();

@@ -4,6 +4,9 @@
 //! parentheses, `-` for an entry's own, and `I` for `IGNORE`. A fault is shown by its number. A new kind of line is a row of
 //! the tables in `table_lines` and `delta_lines`.
 
+ghost use Rattle.std.specs.Prelude.{IfOk};
+ghost use Rattle.coll_lex.specs.Names.{AreTokens};
+
 mod copies;
 mod delta_lines;
 mod table_lines;
@@ -14,10 +17,13 @@ use std::alloc::{AllocError, Global};
 use std::test::Fail;
 
 /// The one logical line of a text.
-pub fn line_of(alloc: Global, text: &str) -> Result<Line, Fail> {
+pub fn line_of(alloc: Global, text: &str) -> Result<Line, Fail>
+    ensures { IfOk result (λ line. AreTokens line.tokens) }
+{
     let mut lexer = Lexer::new(alloc)?;
     let line = lexer.feed(text.as_bytes())?;
-    Ok(line.ok_or("a line with a token")?)
+    let line = line.ok_or("a line with a token")?;
+    Ok(line)
 }
 
 // The number of a fault, as a text.

@@ -1,6 +1,6 @@
 use Rattle.std.proofs.Common.{◌≡◌, ◌++◌, codes, decimal, ap, ◌∙◌}
 use Rattle.coll_lex.proofs.WritingLemmas.{AppendsFront-before, Sends-after, Sends-stopped}
-use Rattle.coll_bench.specs.SessionFaults.{fault_number, fault_name}
+use Rattle.coll_bench.specs.Faults.{fault_number, fault_name}
 use Rattle.coll_bench.specs.Replies.{refused_line, worded}
 use Rattle.coll_bench.proofs.replies.write_refused.Goals as goal
 

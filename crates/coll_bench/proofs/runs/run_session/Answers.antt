@@ -4,10 +4,10 @@ use Rattle.std.proofs.Common.{ℕ, List}
 use Rattle.std.specs.Prelude.{◌==◌, if◌then◌else◌}
 use Rattle.coll_lex.specs.Devices.{raised}
 use Rattle.coll_lex.specs.PhysicalLines.{IsInLine}
-use Rattle.coll_lex.specs.LineReading.{Reading, Cuts, ahead}
-use Rattle.coll_bench.specs.SessionFaults.{fault_number}
+use Rattle.coll_lex.specs.LineReading.{ReaderState, Cuts, unread}
+use Rattle.coll_bench.specs.Faults.{fault_number}
 use Rattle.coll_bench.proofs.ServingLemmas.{counts_after}
-use Rattle.coll_bench.proofs.RunSteps.{underway_begun, underway_on, ahead_begun, gives_line, gives_end, stops_now, reads_kept}
+use Rattle.coll_bench.proofs.RunSteps.{underway_begun, underway_on, unread_begun, gives_line, gives_end, count_at_end, stops_now, reads_kept}
 use Rattle.coll_bench.proofs.RunExits.{line_ended, cut_off_ended, text_ended, never_begun}
 use Rattle.coll_bench.proofs.runs.run_session.Goals as goal
 
@@ -21,12 +21,12 @@ returns-in_default-new-clause-run g c text before left_is taken_is =
 
 pub lines-init : goal.lines-init
 lines-init g c = record {
-  going = ap (λ (r : Reading). r.stop) c.in-Ok.ensures;
+  going = ap (λ (r : ReaderState). r.stop) c.in-Ok.ensures;
   reads = refl;
   writes = refl;
   underway = λ text before left_is taken_is.
-      underway_begun c.args.table text before (ahead c.in-Ok.reader (g.R.Source.left c.args.input.now)) (g.W.Sink.taken c.args.output.now) c.in-Ok-new.desk c.in-Ok-new.ensures
-      (ahead_begun c.in-Ok.reader (g.R.Source.left c.args.input.now) text c.in-Ok.ensures left_is) taken_is;
+      underway_begun c.args.table text before c.in-Ok.reader.ended (unread c.in-Ok.reader (g.R.Source.left c.args.input.now)) (g.W.Sink.taken c.args.output.now) c.in-Ok-new.desk c.in-Ok-new.ensures
+      (ap (λ (r : ReaderState). r.ended) c.in-Ok.ensures) (unread_begun c.in-Ok.reader (g.R.Source.left c.args.input.now) text c.in-Ok.ensures left_is) taken_is;
 }
 
 pub returns-in-Err-serve-clause-run : goal.returns-in-Err-serve-clause-run
@@ -34,9 +34,9 @@ returns-in-Err-serve-clause-run g c text before left_is taken_is =
     let left = g.R.Source.left in
     let taken = g.W.Sink.taken in
     let line = gives_line c.lines.reader c.advance.new.self (left c.lines.input) (left c.advance.new.input) (g.R.Source.failed c.lines.input) (g.R.Source.failed c.advance.new.input) c.in-Ok-true.field-0 c.in-Ok-true.ensures c.in-Ok-true.field-0-test in
-    line_ended c.args.table text before (left c.advance.new.input) (ahead c.lines.reader (left c.lines.input)) (ahead c.advance.new.self (left c.advance.new.input)) (taken c.lines.output) (taken c.serve.new.output)
-    c.lines.desk c.line.result.now c.in-Err-serve.ended (c.lines.invariant.underway text before left_is taken_is)
-    (subst (λ (l : List ℕ). Cuts (ahead c.lines.reader (left c.lines.input)) (ahead c.advance.new.self (left c.advance.new.input)) l) (sym c.line.ensures) line.cut)
+    line_ended c.args.table text before (left c.advance.new.input) c.lines.reader.ended c.advance.new.self.ended (unread c.lines.reader (left c.lines.input)) (unread c.advance.new.self (left c.advance.new.input)) (taken c.lines.output) (taken c.serve.new.output)
+    c.lines.desk c.line.result.now c.in-Err-serve.ended (c.lines.invariant.underway text before left_is taken_is) line.not_ended
+    (subst (λ (l : List ℕ). Cuts c.advance.new.self.ended (unread c.lines.reader (left c.lines.input)) (unread c.advance.new.self (left c.advance.new.input)) l) (sym c.line.ensures) line.cut)
     (subst (λ (l : List ℕ). IsInLine l) (sym c.line.ensures) line.whole) c.in-Err-serve.ensures.served
 
 pub lines-preserved : goal.lines-preserved
@@ -49,9 +49,9 @@ lines-preserved g c =
       reads = line.count ∙ c.lines.invariant.reads;
       writes = c.in_default-serve.ensures.errors ∙ c.lines.invariant.writes;
       underway = λ text before left_is taken_is.
-          underway_on c.args.table text before (ahead c.lines.reader (left c.lines.input)) (ahead c.advance.new.self (left c.advance.new.input)) (taken c.lines.output) (taken c.serve.new.output) c.lines.desk c.serve.new.self c.line.result.now
-          (c.lines.invariant.underway text before left_is taken_is)
-          (subst (λ (l : List ℕ). Cuts (ahead c.lines.reader (left c.lines.input)) (ahead c.advance.new.self (left c.advance.new.input)) l) (sym c.line.ensures) line.cut)
+          underway_on c.args.table text before c.lines.reader.ended c.advance.new.self.ended (unread c.lines.reader (left c.lines.input)) (unread c.advance.new.self (left c.advance.new.input)) (taken c.lines.output) (taken c.serve.new.output) c.lines.desk c.serve.new.self c.line.result.now
+          (c.lines.invariant.underway text before left_is taken_is) line.not_ended
+          (subst (λ (l : List ℕ). Cuts c.advance.new.self.ended (unread c.lines.reader (left c.lines.input)) (unread c.advance.new.self (left c.advance.new.input)) l) (sym c.line.ensures) line.cut)
           (subst (λ (l : List ℕ). IsInLine l) (sym c.line.ensures) line.whole) c.in_default-serve.ensures.served;
     }
 
@@ -60,15 +60,15 @@ returns-in-Ok-false-clause-run g c text before left_is taken_is =
     let left = g.R.Source.left in
     let taken = g.W.Sink.taken in
     let end = gives_end c.lines.reader c.advance.new.self (left c.lines.input) (left c.advance.new.input) (g.R.Source.failed c.lines.input) (g.R.Source.failed c.advance.new.input) c.in-Ok-false.field-0 c.in-Ok-false.ensures c.in-Ok-false.field-0-test in
-    text_ended c.args.table text before (ahead c.lines.reader (left c.lines.input)) (left c.advance.new.input) (taken c.lines.output) (taken c.finish.new.output) c.lines.desk c.advance.new.self.held c.finish.result
-    (c.lines.invariant.underway text before left_is taken_is) end.kept end.held end.end c.finish.ensures.ended
+    text_ended c.args.table text before c.lines.reader c.advance.new.self (left c.lines.input) (left c.advance.new.input) (taken c.lines.output) (taken c.finish.new.output) (g.R.Source.failed c.lines.input) (g.R.Source.failed c.advance.new.input)
+    c.lines.desk c.finish.result (c.lines.invariant.underway text before left_is taken_is) end c.finish.ensures.ended
 
 pub returns-in-Ok-false-clause-reads : goal.returns-in-Ok-false-clause-reads
 returns-in-Ok-false-clause-reads g c =
     let left = g.R.Source.left in
     let failed = g.R.Source.failed in
     let end = gives_end c.lines.reader c.advance.new.self (left c.lines.input) (left c.advance.new.input) (failed c.lines.input) (failed c.advance.new.input) c.in-Ok-false.field-0 c.in-Ok-false.ensures c.in-Ok-false.field-0-test in
-    reads_kept (failed c.args.input.now) (failed c.lines.input) (failed c.advance.new.input) c.finish.result c.lines.invariant.reads end.count c.finish.ensures.reads
+    reads_kept (failed c.args.input.now) (failed c.lines.input) (failed c.advance.new.input) c.finish.result c.lines.invariant.reads (count_at_end c.lines.reader c.advance.new.self (left c.lines.input) (left c.advance.new.input) (failed c.lines.input) (failed c.advance.new.input) end) c.finish.ensures.reads
 
 pub returns-in-Err-clause-run : goal.returns-in-Err-clause-run
 returns-in-Err-clause-run g c text before left_is taken_is =

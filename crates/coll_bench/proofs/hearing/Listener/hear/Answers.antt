@@ -23,8 +23,8 @@ invariant_of-self c = opens_as_none c.feed.new.self c.self.inside.opening (ap (�
 pub returns-in-Err : goal.returns-in-Err
 returns-in-Err c =
     subst (λ (s : LexerState). (starved : Bool) × Hears starved s c.feed.new.self c.args.line.now (Some c.refused_by_lexer.result)) c.self.view_is
-    (hears_fault c.self.inside.lexer c.feed.new.self c.args.line.now c.opening_at-opening.result c.in-Err.fault c.refused_by_lexer.result
-    (c.opening_at-opening.ensures ∙ ap (λ (t : LexerState). opening_of (first_line t c.args.line.now)) (sym c.self.view_is)) c.in-Err.ensures.dropped c.in-Err.ensures.err c.in-Err.ensures.room c.refused_by_lexer.ensures)
+    (hears_fault c.self.inside.lexer c.feed.new.self c.args.line.now c.opening_at-opening.result c.in-Err.fault c.refused_by_lexer.result c.next_number-number.result
+    (c.opening_at-opening.ensures ∙ ap (λ (t : LexerState). opening_of (first_line t c.args.line.now)) (sym c.self.view_is)) c.next_number-number.ensures.number c.in-Err.ensures.dropped c.in-Err.ensures.err c.in-Err.ensures.memory c.refused_by_lexer.ensures)
 
 pub returns-in-Ok-None : goal.returns-in-Ok-None
 returns-in-Ok-None c =
@@ -33,6 +33,6 @@ returns-in-Ok-None c =
 
 pub returns-in-Ok-Some : goal.returns-in-Ok-Some
 returns-in-Ok-Some c =
-    subst (λ (s : LexerState). (starved : Bool) × Hears starved s c.feed.new.self c.args.line.now (Some c.line_heard.result)) c.self.view_is
-    (hears_whole c.self.inside.lexer c.feed.new.self c.args.line.now c.opening_at-opening.result c.in-Ok-Some.line c.line_heard.result
-    (c.opening_at-opening.ensures ∙ ap (λ (t : LexerState). opening_of (first_line t c.args.line.now)) (sym c.self.view_is)) (rw c.in-Ok-Some.field-0-is at c.in-Ok-Some.ensures.ok) c.line_heard.ensures)
+    subst (λ (s : LexerState). (starved : Bool) × Hears starved s c.feed.new.self c.args.line.now (Some c.with_room.result)) c.self.view_is
+    (hears_whole c.self.inside.lexer c.feed.new.self c.args.line.now c.opening_at-opening.result c.in-Ok-Some.line c.tokens_heard-heard.result c.with_room.result c.next_number-number.result
+    (c.opening_at-opening.ensures ∙ ap (λ (t : LexerState). opening_of (first_line t c.args.line.now)) (sym c.self.view_is)) c.next_number-number.ensures.number (rw c.in-Ok-Some.field-0-is at c.in-Ok-Some.ensures.ok) c.tokens_heard-heard.ensures c.with_room.ensures)

@@ -2,7 +2,7 @@
 use Rattle.std.proofs.Common.{◌≡◌, List, [], ◌∷◌, ◌++◌, Ok, Err, sym, ap, ◌∙◌, subst, arith}
 use Rattle.coll_table.specs.Delta.{delta}
 use Rattle.coll_table.specs.Table.{Collation}
-use Rattle.coll_bench.specs.History.{History, judged}
+use Rattle.coll_bench.specs.Histories.{History, judged}
 use Rattle.coll_bench.specs.Kept.{history_of, Leads}
 use Rattle.coll_bench.specs.declared.histories.Kept.{Kept}
 use Rattle.coll_bench.specs.declared.faults.BenchFault.TheVariants.{Table, HistoryFull}

@@ -1,6 +1,6 @@
 -- An undo turns the last record, which leads back to the table before its statement.
 use Rattle.std.proofs.Common.{◌≡◌, Ok, Err, refl, subst, arith}
-use Rattle.coll_bench.specs.History.{History, taken_back}
+use Rattle.coll_bench.specs.Histories.{History, taken_back}
 use Rattle.coll_bench.specs.Kept.{Leads, history_of}
 use Rattle.coll_bench.specs.declared.faults.BenchFault.TheVariants.{NothingToUndo}
 use Rattle.coll_bench.proofs.HistoryLemmas.{nothing_left, taken_back_none, taken_back_last, Leads-last, Leads_shorter, LeadsOn_longer}

@@ -1,0 +1,109 @@
+-- A whole run of a session: what is written is a stated function of what is read.
+use Rattle.std.specs.Prelude.{◌≡◌, ◌==◌, ℕ, Bool, true, false, if◌then◌else◌, List, [], ◌∷◌, ◌++◌, map, Option, Some, None, Result, Ok, Err}
+use Rattle.coll_lex.specs.Devices.{raised}
+use Rattle.coll_lex.specs.PhysicalLines.{lines_of, IsInLine}
+use Rattle.coll_lex.specs.LogicalLines.{LogicalLine, first_state, logical_lines}
+use Rattle.coll_lex.specs.declared.tokens.Token.{Token}
+use Rattle.coll_lex.specs.declared.faults.LexFault.{LexFault}
+use Rattle.coll_lex.specs.declared.faults.LexFault.TheVariants as lex
+use Rattle.coll_lex.specs.declared.faults.ReadStop.TheVariants as read
+use Rattle.coll_table.specs.Table.{Collation}
+use Rattle.coll_table.specs.TextLines.{with_feeds}
+use Rattle.coll_bench.specs.Histories.{begun}
+use Rattle.coll_lex.specs.Faults.{ends_text}
+use Rattle.coll_bench.specs.SessionLines.{heard}
+use Rattle.coll_bench.specs.Faults.{fault_number}
+use Rattle.coll_bench.specs.Units.{units}
+use Rattle.coll_bench.specs.Replies.{answers}
+use Rattle.coll_bench.specs.declared.faults.Fault.{Fault}
+use Rattle.coll_bench.specs.declared.faults.Fault.TheVariants as fault
+use Rattle.coll_bench.specs.declared.faults.RunFault.{RunFault}
+
+-- what is written for a session text over a table, where memory was refused to these lines and these units; the test
+-- says whether the text's end is seen
+unfoldable pub starved_output : (lines_starved units_starved : List Bool) → (ends : Bool) → Collation → List ℕ → List ℕ
+starved_output lines_starved units_starved ends table text =
+    answers (begun table) (units ends None (map heard (logical_lines lines_starved ends first_state (lines_of text)))) units_starved
+
+-- what is written for a session text over a table
+unfoldable pub output : Collation → List ℕ → List ℕ
+output table text = starved_output [] [] true table text
+
+-- the line with its number, if it is the last of its text, or else one that comes later
+abbrev pub last_or : ℕ → Result (List Token) LexFault → Option (ℕ × LexFault) → Option (ℕ × LexFault)
+last_or number (Ok tokens) later = later
+last_or number (Err f) later = if ends_text f then Some (number, f) else later
+
+-- the first line that is too long or too many, with its number
+unfoldable pub last_line : List LogicalLine → Option (ℕ × LexFault)
+last_line [] = None
+last_line (line ∷ lines) = last_or line.number line.tokens (last_line lines)
+
+-- the last line of a text, if it has such a line
+abbrev pub last_of : List Bool → (ends : Bool) → List ℕ → Option (ℕ × LexFault)
+last_of starved ends text = last_line (logical_lines starved ends first_state (lines_of text))
+
+-- the whole text was served
+pub record RanToEnd (table : Collation) (text : List ℕ) (left : Option (List ℕ)) (written : List ℕ) (lines_starved units_starved : List Bool) : Type 0 where
+  pub output_is : written ≡ starved_output lines_starved units_starved true table text
+  pub no_last : last_of lines_starved true text ≡ None
+  pub left_is : left ≡ Some []
+
+-- a read failed: the lines read whole before it, each of which ends in a line feed, were served, and of the next a part was
+-- read
+pub record RanToReadFault (table : Collation) (text : List ℕ) (left : Option (List ℕ)) (written : List ℕ) (lines_starved units_starved : List Bool) (read part rest : List ℕ) : Type 0 where
+  pub text_is : text ≡ read ++ (part ++ rest)
+  pub in_feeds : read ≡ with_feeds (lines_of read)
+  pub whole : lines_of text ≡ lines_of read ++ lines_of (part ++ rest)
+  pub part_in_line : IsInLine part
+  pub left_is : left ≡ Some rest
+  pub output_is : written ≡ starved_output lines_starved units_starved false table read
+  pub no_last : last_of lines_starved false read ≡ None
+
+-- the text has a line too long, or a line too many, which was the last to be served
+pub record RanToLastLine (table : Collation) (text : List ℕ) (written : List ℕ) (lines_starved units_starved : List Bool) (number : ℕ) (f : LexFault) : Type 0 where
+  pub output_is : written ≡ starved_output lines_starved units_starved true table text
+  pub last : last_of lines_starved true text ≡ Some (number, f)
+
+-- memory was refused before the first line was read
+pub record NeverRan (text : List ℕ) (left : Option (List ℕ)) (written : List ℕ) : Type 0 where
+  pub nothing_written : written ≡ []
+  pub nothing_read : left ≡ Some text
+
+-- a run that ended with a fault of the lexer: want of memory before it began, or the fault of its last line
+abbrev pub RanToLexFault : Collation → List ℕ → Option (List ℕ) → List ℕ → ℕ → LexFault → Type 0
+RanToLexFault table text left written number lex.OutOfMemory = (number ≡ 0) × NeverRan text left written
+RanToLexFault table text left written number f = (lines_starved : List Bool) × (units_starved : List Bool) × RanToLastLine table text written lines_starved units_starved number f
+
+-- a run that ended with a fault
+abbrev pub RanToFault : Collation → List ℕ → Option (List ℕ) → List ℕ → ℕ → Fault → Type 0
+RanToFault table text left written number (fault.Read read.ReadFault) =
+    (number ≡ 0) × (lines_starved : List Bool) × (units_starved : List Bool) × (read : List ℕ) × (part : List ℕ) × (rest : List ℕ) × RanToReadFault table text left written lines_starved units_starved read part rest
+RanToFault table text left written number (fault.Read read.LineTooLong) = ⊥
+-- a write failed: a front of what was to be written was
+RanToFault table text left written number (fault.Write stop) =
+    (number ≡ 0) × (lines_starved : List Bool) × (units_starved : List Bool) × (back : List ℕ) × (starved_output lines_starved units_starved true table text ≡ written ++ back)
+RanToFault table text left written number (fault.Lex f) = RanToLexFault table text left written number f
+RanToFault table text left written number (fault.Syntax f) = ⊥
+RanToFault table text left written number (fault.Load f) = ⊥
+RanToFault table text left written number (fault.Bench f) = ⊥
+RanToFault table text left written number fault.BlockOpen = ⊥
+RanToFault table text left written number fault.BlockNotEnded = ⊥
+RanToFault table text left written number fault.UnknownCommand = ⊥
+RanToFault table text left written number fault.NoBlock = ⊥
+
+-- what a run over a text wrote, by its answer
+abbrev pub Ran : Collation → List ℕ → Option (List ℕ) → List ℕ → Result (Unit {0}) RunFault → Type 0
+Ran table text left written (Ok done) = (lines_starved : List Bool) × (units_starved : List Bool) × RanToEnd table text left written lines_starved units_starved
+Ran table text left written (Err ended) = (ended.input ≡ 0) × RanToFault table text left written ended.line ended.fault
+
+-- the theorem of a session: whatever text the source has, and whatever the sink took before, the bytes that the sink
+-- took are those that are stated for the text, and nothing else
+abbrev pub Runs : Collation → (left left_after taken taken_after : Option (List ℕ)) → Result (Unit {0}) RunFault → Type 0
+Runs table left left_after taken taken_after r =
+    (text before : List ℕ) → left ≡ Some text → taken ≡ Some before → (written : List ℕ) × (taken_after ≡ Some (before ++ written)) × Ran table text left_after written r
+
+-- a failed read is counted, and nothing else is
+abbrev pub CountsReads : ℕ → ℕ → Result (Unit {0}) RunFault → Type 0
+CountsReads old new (Ok done) = new ≡ old
+CountsReads old new (Err ended) = new ≡ (if fault_number ended.fault == 67 then raised old else old)

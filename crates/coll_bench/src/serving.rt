@@ -1,0 +1,236 @@
+//! Serving the lines of a session, one by one.
+//!
+//! A `Desk` is where a session stands between two lines: what the lexer was handed, what is kept of the block that is
+//! open, and the history. A line is heard, taken by the block, and the unit that it completes is answered; each of these
+//! is a function with an exact clause over what the desk keeps.
+
+ghost use Rattle.std.specs.Prelude.{◌≡◌, ◌+◌, ◌<◌, ◌++◌, Bool, IfOk, IfErr, OnOk, Option, option_to_list};
+ghost use Rattle.coll_lex.specs.Devices.{CountsErr, Sends};
+ghost use Rattle.coll_lex.specs.LogicalLines.{pending, number_of};
+ghost use Rattle.coll_lex.specs.Limits.{most_lines};
+ghost use Rattle.coll_table.specs.Table.{collation};
+ghost use Rattle.coll_bench.specs.OpenBlocks.{kept_after, kept_units_at, kept_end_faults, kept_dropped_faults, kept_last_faults};
+ghost use Rattle.coll_bench.specs.Replies.{refused_line, refused_lines};
+ghost use Rattle.coll_bench.specs.Units.{dangling as dangling_faults};
+ghost use Rattle.coll_bench.specs.Serving.{EndsWith, FinishesWith, IsCutOff, CountsEnd, CountsWrites, CountsStop, ReadsNone, write_failed as failed_write, too_long};
+
+use crate::faults::{Fault, RunFault};
+use crate::hearing::{Hearing, Listener};
+use crate::histories::Session;
+use crate::open_blocks::{OpenBlock, take_line};
+use crate::replies::{answer, refuse};
+use crate::units::FaultAt;
+use coll_lex::{LexFault, ReadStop, Sink, WriteStop};
+use coll_table::Table;
+use std::alloc::{AllocError, Global};
+
+/// Where a session stands between two lines.
+#[derive(Debug, Drop)]
+pub struct Desk {
+    listener: Listener,
+    block: Option<OpenBlock>,
+    session: Session,
+}
+
+impl Desk {
+    ghost use Rattle.coll_bench.specs.Serving.{IsBegun, ServesLine, replies_to, history_after_all};
+
+    /// A session at the beginning of a text.
+    pub fn new(alloc: Global, table: Table) -> Result<Desk, AllocError>
+        ensures { IfOk result (λ desk. IsBegun desk (collation table)) }
+    {
+        let listener = Listener::new(alloc)?;
+        Ok(Desk {
+            listener,
+            block: None,
+            session: Session::new(alloc, table),
+        })
+    }
+
+    /// Serves one physical line.
+    pub fn serve<W: Sink>(
+        &mut self,
+        alloc: Global,
+        line: &[u8],
+        output: &mut W,
+    ) -> Result<(), RunFault>
+        ensures served { ServesLine self.old self.new line.now (W.taken output.old) (W.taken output.new) result }
+        ensures counts { OnOk result (self.new.listener.count ≡ self.old.listener.count + 1) }
+        ensures room { OnOk result (self.old.listener.count < most_lines) }
+        ensures reads { IfErr result (λ ended. ReadsNone ended) }
+        ensures errors { CountsWrites (W.failed output.old) (W.failed output.new) result }
+    {
+        let number = self.listener.next_number();
+        let Some(hearing) = self.listener.hear(alloc, line) else {
+            return Ok(());
+        };
+        match hearing.stop() {
+            Some(fault) => Err(self.stop(number, fault, output)),
+            None => match self.take(hearing, output) {
+                Ok(()) => Ok(()),
+                Err(stop) => Err(write_failed(stop)),
+            },
+        }
+    }
+
+    // Takes what was heard of a line, and answers the unit that it completes.
+    fn take<W: Sink>(&mut self, hearing: Hearing, output: &mut W) -> Result<(), WriteStop>
+        ensures block { self.new.block ≡ kept_after self.old.block hearing }
+        ensures answered { (starved : Bool) × Sends (W.taken output.old) (W.taken output.new) (replies_to starved self.old.session (kept_units_at self.old.block hearing)) result
+            × (self.new.session ≡ history_after_all starved self.old.session (kept_units_at self.old.block hearing)) }
+        ensures listener { self.new.listener ≡ self.old.listener }
+        ensures errors { CountsErr (W.failed output.old) (W.failed output.new) result }
+    {
+        let (block, unit) = take_line(self.block.take(), hearing);
+        self.block = block;
+        match unit {
+            Some(unit) => answer(&mut self.session, unit.request, output),
+            None => Ok(()),
+        }
+    }
+
+    // Ends the session at a fault of the lexer, with its last replies.
+    fn stop<W: Sink>(&self, number: u32, fault: LexFault, output: &mut W) -> RunFault
+        ensures ended { EndsWith number fault (W.taken output.old) (W.taken output.new) (refused_lines (kept_last_faults self.now.block number fault)) result }
+        ensures reads { ReadsNone result }
+        ensures errors { CountsEnd (W.failed output.old) (W.failed output.new) result }
+    {
+        match write_last(&self.block, number, fault, output) {
+            Ok(()) => RunFault {
+                input: 0,
+                line: number,
+                fault: Fault::Lex(fault),
+            },
+            Err(stop) => write_failed(stop),
+        }
+    }
+
+    /// Ends the session with its text.
+    pub fn finish<W: Sink>(&mut self, output: &mut W) -> Result<(), RunFault>
+        ensures ended { FinishesWith (W.taken output.old) (W.taken output.new) (refused_lines (kept_end_faults self.old.block (pending self.old.listener))) result }
+        ensures reads { IfErr result (λ ended. ReadsNone ended) }
+        ensures errors { CountsWrites (W.failed output.old) (W.failed output.new) result }
+    {
+        let continued = self.listener.finish();
+        match write_end(&self.block, continued, output) {
+            Ok(()) => Ok(()),
+            Err(stop) => Err(write_failed(stop)),
+        }
+    }
+
+    /// Ends the session where no further line could be read.
+    pub fn cut_off<W: Sink>(&self, stop: ReadStop, output: &mut W) -> RunFault
+        ensures ended { IsCutOff stop (number_of self.now.listener) (W.taken output.old) (W.taken output.new)
+            (refused_lines (kept_last_faults self.now.block (number_of self.now.listener) too_long)) result }
+        ensures reads { CountsStop stop result }
+        ensures errors { CountsEnd (W.failed output.old) (W.failed output.new) result }
+    {
+        match stop {
+            ReadStop::LineTooLong => {
+                let number = self.listener.next_number();
+                self.stop(number, LexFault::LineTooLong, output)
+            }
+            ReadStop::ReadFault => RunFault {
+                input: 0,
+                line: 0,
+                fault: Fault::Read(ReadStop::ReadFault),
+            },
+        }
+    }
+}
+
+// The fault of a run of which a write failed.
+fn write_failed(stop: WriteStop) -> RunFault
+    ensures { result ≡ failed_write }
+{
+    RunFault {
+        input: 0,
+        line: 0,
+        fault: Fault::Write(stop),
+    }
+}
+
+// Writes the replies with which a session ends at a fault of the lexer.
+fn write_last<W: Sink>(
+    block: &Option<OpenBlock>,
+    number: u32,
+    fault: LexFault,
+    output: &mut W,
+) -> Result<(), WriteStop>
+    ensures sent { Sends (W.taken output.old) (W.taken output.new) (refused_lines (kept_last_faults block.now number fault)) result }
+    ensures errors { CountsErr (W.failed output.old) (W.failed output.new) result }
+{
+    match fault {
+        LexFault::DanglingEscape => write_end(block, Some(number), output),
+        _ => write_dropped(block, fault, output),
+    }
+}
+
+// Writes the replies with which a session ends at a line too long or too many, where a block that is open is dropped.
+fn write_dropped<W: Sink>(
+    block: &Option<OpenBlock>,
+    fault: LexFault,
+    output: &mut W,
+) -> Result<(), WriteStop>
+    ensures sent { Sends (W.taken output.old) (W.taken output.new) (refused_lines (kept_dropped_faults block.now) ++ refused_line (Fault.Lex fault)) result }
+    ensures errors { CountsErr (W.failed output.old) (W.failed output.new) result }
+{
+    refuse_if(dropped_fault(block), output)?;
+    refuse(Fault::Lex(fault), output)
+}
+
+// Writes the replies with which a session ends where its text does.
+fn write_end<W: Sink>(
+    block: &Option<OpenBlock>,
+    continued: Option<u32>,
+    output: &mut W,
+) -> Result<(), WriteStop>
+    ensures sent { Sends (W.taken output.old) (W.taken output.new) (refused_lines (kept_end_faults block.now continued)) result }
+    ensures errors { CountsErr (W.failed output.old) (W.failed output.new) result }
+{
+    refuse_if(end_fault(block, continued), output)
+}
+
+// Writes the reply to a fault, if there is one.
+fn refuse_if<W: Sink>(at: Option<FaultAt>, output: &mut W) -> Result<(), WriteStop>
+    ensures sent { Sends (W.taken output.old) (W.taken output.new) (refused_lines (option_to_list at)) result }
+    ensures errors { CountsErr (W.failed output.old) (W.failed output.new) result }
+{
+    match at {
+        Some(at) => refuse(at.fault, output),
+        None => Ok(()),
+    }
+}
+
+// The fault of a block that is dropped, if it has one.
+fn dropped_fault(block: &Option<OpenBlock>) -> Option<FaultAt>
+    ensures { option_to_list result ≡ kept_dropped_faults block.now }
+{
+    match block {
+        Some(block) => block.dropped(),
+        None => None,
+    }
+}
+
+// The fault with which a text ends: that of the block that is open, or of the line, by its number, that is continued.
+fn end_fault(block: &Option<OpenBlock>, continued: Option<u32>) -> Option<FaultAt>
+    ensures { option_to_list result ≡ kept_end_faults block.now continued }
+{
+    match block {
+        Some(block) => Some(block.left_open()),
+        None => dangling(continued),
+    }
+}
+
+// The fault of a line, by its number, that is continued where the text ends.
+fn dangling(continued: Option<u32>) -> Option<FaultAt>
+    ensures { option_to_list result ≡ dangling_faults continued }
+{
+    match continued {
+        Some(line) => Some(FaultAt {
+            line,
+            fault: Fault::Lex(LexFault::DanglingEscape),
+        }),
+        None => None,
+    }
+}
