@@ -31,12 +31,16 @@ const LEX_FAULTS: [(LexFault, &str); 12] = [
     (LexFault::OutOfMemory, "70 OutOfMemory"),
 ];
 
-const SYNTAX_FAULTS: [(SyntaxFault, &str); 7] = [
+const SYNTAX_FAULTS: [(SyntaxFault, &str); 11] = [
     (SyntaxFault::UnknownStatement, "20 UnknownStatement"),
     (SyntaxFault::MissingOperand, "21 MissingOperand"),
     (SyntaxFault::ExtraOperand, "22 ExtraOperand"),
     (SyntaxFault::BadRule, "23 BadRule"),
+    (SyntaxFault::TooManyLevels, "24 TooManyLevels"),
+    (SyntaxFault::WeightTooLong, "25 WeightTooLong"),
+    (SyntaxFault::ElementLength, "26 ElementLength"),
     (SyntaxFault::BlockTooLong, "27 BlockTooLong"),
+    (SyntaxFault::EmptyString, "28 EmptyString"),
     (SyntaxFault::BadOperand, "29 BadOperand"),
     (SyntaxFault::OutOfMemory, "70 OutOfMemory"),
 ];

@@ -9,7 +9,6 @@ ghost use Rattle.coll_lex.specs.Names.{AreTokens};
 
 mod copies;
 mod delta_lines;
-mod shown_faults;
 mod table_lines;
 
 use coll_lex::{Lexer, Line};
@@ -17,8 +16,8 @@ use coll_syntax::{Id, OrderLine, Rule, Rules, SyntaxFault, Weight};
 use std::alloc::{AllocError, Global};
 use std::test::Fail;
 
-// The one logical line of a text.
-fn line_of(alloc: Global, text: &str) -> Result<Line, Fail>
+/// The one logical line of a text.
+pub fn line_of(alloc: Global, text: &str) -> Result<Line, Fail>
     ensures { IfOk result (λ line. AreTokens line.tokens) }
 {
     let mut lexer = Lexer::new(alloc)?;
@@ -40,7 +39,8 @@ fn show_name(out: &mut String, name: &str) -> Result<(), AllocError> {
     Ok(())
 }
 
-fn show_id(out: &mut String, id: &Id) -> Result<(), AllocError> {
+/// An identifier: a character as it is, a name between its brackets, or `UNDEFINED`.
+pub fn show_id(out: &mut String, id: &Id) -> Result<(), AllocError> {
     match id {
         Id::Char(c) => out.push(*c)?,
         Id::Named(name) => {

@@ -1,7 +1,6 @@
-//! Tests of `coll_lex`: physical and logical lines, tokens, spellings, devices and the shown text of faults.
+//! Tests of `coll_lex`: physical and logical lines, tokens, spellings and devices.
 
 mod counting;
 mod lexing;
 mod line_reading;
-mod shown_faults;
 mod spelling;

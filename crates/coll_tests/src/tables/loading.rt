@@ -12,7 +12,7 @@ fn the_first_table_gives_its_entries_in_order(rt: HostRuntime) -> Result<(), Fai
     let table = loaded(rt.alloc(), FIRST_TABLE)?;
     assert_eq!(rt; table.len(), 4);
     assert_order(&rt, &table, "<abc");
-    let copy = table.try_copy()?;
+    let copy = table.try_copy(rt.alloc())?;
     assert_order(&rt, &copy, "<abc");
     Ok(())
 }
