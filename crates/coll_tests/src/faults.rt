@@ -1,4 +1,6 @@
-//! The text that each fault is shown as: its number, a blank, and its name, whatever fault it stands in.
+//! The text that each fault is shown as: its number, a blank, and its name.
+//!
+//! A table has all variants of its type; a fault that another one holds is shown as itself, which one row for each shows.
 
 use coll_bench::{BenchFault, Fault, RunFault};
 use coll_lex::{LexFault, ReadStop, WriteStop};
@@ -9,14 +11,14 @@ use std::fmt::Display;
 use std::process::Abort;
 use std::test::Fail;
 
-const READ_STOPS: [(ReadStop, &str); 2] = [
+const READ_STOPS: &[(ReadStop, &str)] = &[
     (ReadStop::LineTooLong, "10 LineTooLong"),
     (ReadStop::ReadFault, "67 ReadFault"),
 ];
 
-const WRITE_STOPS: [(WriteStop, &str); 1] = [(WriteStop::WriteFault, "68 WriteFault")];
+const WRITE_STOPS: &[(WriteStop, &str)] = &[(WriteStop::WriteFault, "68 WriteFault")];
 
-const LEX_FAULTS: [(LexFault, &str); 12] = [
+const LEX_FAULTS: &[(LexFault, &str)] = &[
     (LexFault::NotUtf8, "1 NotUtf8"),
     (LexFault::OpenSymbol, "2 OpenSymbol"),
     (LexFault::EmptySymbol, "3 EmptySymbol"),
@@ -31,7 +33,7 @@ const LEX_FAULTS: [(LexFault, &str); 12] = [
     (LexFault::OutOfMemory, "70 OutOfMemory"),
 ];
 
-const SYNTAX_FAULTS: [(SyntaxFault, &str); 11] = [
+const SYNTAX_FAULTS: &[(SyntaxFault, &str)] = &[
     (SyntaxFault::UnknownStatement, "20 UnknownStatement"),
     (SyntaxFault::MissingOperand, "21 MissingOperand"),
     (SyntaxFault::ExtraOperand, "22 ExtraOperand"),
@@ -45,7 +47,9 @@ const SYNTAX_FAULTS: [(SyntaxFault, &str); 11] = [
     (SyntaxFault::OutOfMemory, "70 OutOfMemory"),
 ];
 
-const LOAD_CAUSES: [(LoadCause, &str); 10] = [
+const LOAD_CAUSES: &[(LoadCause, &str)] = &[
+    (LoadCause::Lex(LexFault::NotUtf8), "1 NotUtf8"),
+    (LoadCause::Syntax(SyntaxFault::BadRule), "23 BadRule"),
     (LoadCause::NoCategory, "30 NoCategory"),
     (LoadCause::NoRules, "31 NoRules"),
     (LoadCause::DeclaredTwice, "33 DeclaredTwice"),
@@ -58,7 +62,7 @@ const LOAD_CAUSES: [(LoadCause, &str); 10] = [
     (LoadCause::OutOfMemory, "70 OutOfMemory"),
 ];
 
-const REFUSALS: [(Refusal, &str); 7] = [
+const REFUSALS: &[(Refusal, &str)] = &[
     (Refusal::NotDeclared, "34 NotDeclared"),
     (Refusal::Full, "42 Full"),
     (Refusal::TargetNotPlaced, "50 TargetNotPlaced"),
@@ -68,96 +72,72 @@ const REFUSALS: [(Refusal, &str); 7] = [
     (Refusal::OutOfMemory, "70 OutOfMemory"),
 ];
 
-const BENCH_FAULTS: [(BenchFault, &str); 2] = [
+const BENCH_FAULTS: &[(BenchFault, &str)] = &[
+    (BenchFault::Table(Refusal::NotPlaced), "54 NotPlaced"),
     (BenchFault::NothingToUndo, "60 NothingToUndo"),
     (BenchFault::HistoryFull, "66 HistoryFull"),
 ];
 
-const FAULTS: [(Fault, &str); 4] = [
+const LOAD_FAULT: LoadFault = LoadFault {
+    line: 12,
+    cause: LoadCause::PlacedTwice,
+};
+
+const FAULTS: &[(Fault, &str)] = &[
+    (Fault::Read(ReadStop::ReadFault), "67 ReadFault"),
+    (Fault::Write(WriteStop::WriteFault), "68 WriteFault"),
+    (Fault::Lex(LexFault::OpenSymbol), "2 OpenSymbol"),
+    (Fault::Syntax(SyntaxFault::BadOperand), "29 BadOperand"),
+    (Fault::Load(LOAD_FAULT), "35 PlacedTwice"),
+    (Fault::Bench(BenchFault::HistoryFull), "66 HistoryFull"),
     (Fault::BlockOpen, "62 BlockOpen"),
     (Fault::BlockNotEnded, "63 BlockNotEnded"),
     (Fault::UnknownCommand, "64 UnknownCommand"),
     (Fault::NoBlock, "69 NoBlock"),
 ];
 
-// Asserts that a fault is shown so.
-fn is_shown(
+const WITH_LINES: &[(RunFault, &str)] = &[(
+    RunFault {
+        input: 0,
+        line: 65_536,
+        fault: Fault::Lex(LexFault::LineTooLong),
+    },
+    "65536: 10 LineTooLong",
+)];
+
+// Asserts that each of these faults is shown so.
+fn assert_shown<F: Display>(
     rt: &impl Abort,
     alloc: Global,
-    fault: impl Display + Drop,
-    text: &str,
+    faults: &[(F, &str)],
 ) -> Result<(), Fail> {
-    assert_eq!(rt; format!(in alloc; "{fault}")?.as_str(), text);
+    for (fault, text) in faults {
+        let shown = format!(in alloc; "{fault}")?;
+        assert_eq!(rt; shown.as_str(), *text);
+    }
     Ok(())
 }
 
 #[test]
 fn a_fault_of_a_line_or_a_device_is_shown_by_number_and_name(rt: HostRuntime) -> Result<(), Fail> {
-    for (stop, text) in READ_STOPS {
-        is_shown(&rt, rt.alloc(), stop, text)?;
-        is_shown(&rt, rt.alloc(), Fault::Read(stop), text)?;
-    }
-    for (stop, text) in WRITE_STOPS {
-        is_shown(&rt, rt.alloc(), stop, text)?;
-        is_shown(&rt, rt.alloc(), Fault::Write(stop), text)?;
-    }
-    for (fault, text) in LEX_FAULTS {
-        is_shown(&rt, rt.alloc(), fault, text)?;
-        is_shown(&rt, rt.alloc(), LoadCause::Lex(fault), text)?;
-        is_shown(&rt, rt.alloc(), Fault::Lex(fault), text)?;
-    }
-    Ok(())
+    assert_shown(&rt, rt.alloc(), READ_STOPS)?;
+    assert_shown(&rt, rt.alloc(), WRITE_STOPS)?;
+    assert_shown(&rt, rt.alloc(), LEX_FAULTS)?;
+    assert_shown(&rt, rt.alloc(), SYNTAX_FAULTS)
 }
 
 #[test]
-fn a_fault_of_a_table_or_a_statement_is_shown_by_number_and_name(
+fn a_fault_of_a_table_or_a_session_is_shown_by_number_and_name(
     rt: HostRuntime,
 ) -> Result<(), Fail> {
-    for (fault, text) in SYNTAX_FAULTS {
-        is_shown(&rt, rt.alloc(), fault, text)?;
-        is_shown(&rt, rt.alloc(), LoadCause::Syntax(fault), text)?;
-        is_shown(&rt, rt.alloc(), Fault::Syntax(fault), text)?;
-    }
-    for (cause, text) in LOAD_CAUSES {
-        is_shown(&rt, rt.alloc(), cause, text)?;
-    }
-    for (refusal, text) in REFUSALS {
-        is_shown(&rt, rt.alloc(), refusal, text)?;
-        is_shown(&rt, rt.alloc(), BenchFault::Table(refusal), text)?;
-        is_shown(
-            &rt,
-            rt.alloc(),
-            Fault::Bench(BenchFault::Table(refusal)),
-            text,
-        )?;
-    }
-    Ok(())
-}
-
-#[test]
-fn a_fault_of_a_session_is_shown_by_number_and_name(rt: HostRuntime) -> Result<(), Fail> {
-    for (fault, text) in BENCH_FAULTS {
-        is_shown(&rt, rt.alloc(), fault, text)?;
-        is_shown(&rt, rt.alloc(), Fault::Bench(fault), text)?;
-    }
-    for (fault, text) in FAULTS {
-        is_shown(&rt, rt.alloc(), fault, text)?;
-    }
-    Ok(())
+    assert_shown(&rt, rt.alloc(), LOAD_CAUSES)?;
+    assert_shown(&rt, rt.alloc(), REFUSALS)?;
+    assert_shown(&rt, rt.alloc(), BENCH_FAULTS)?;
+    assert_shown(&rt, rt.alloc(), FAULTS)
 }
 
 #[test]
 fn the_fault_of_a_load_or_a_run_is_shown_with_its_line(rt: HostRuntime) -> Result<(), Fail> {
-    let load = LoadFault {
-        line: 12,
-        cause: LoadCause::PlacedTwice,
-    };
-    is_shown(&rt, rt.alloc(), load, "line 12: 35 PlacedTwice")?;
-    let run = RunFault {
-        input: 0,
-        line: 65_536,
-        fault: Fault::Lex(LexFault::LineTooLong),
-    };
-    is_shown(&rt, rt.alloc(), run, "65536: 10 LineTooLong")?;
-    Ok(())
+    assert_shown(&rt, rt.alloc(), &[(LOAD_FAULT, "line 12: 35 PlacedTwice")])?;
+    assert_shown(&rt, rt.alloc(), WITH_LINES)
 }

@@ -4,7 +4,7 @@
 //! would: what it asks for is asserted first. A ring is shown as the list of its nodes' tags; in the random sequences
 //! a node's tag is its number.
 
-use coll_order::{NodeId, Place, RingId, Rings, link_takes_back_unlink, unlink_takes_back_link};
+use coll_order::{NodeId, Place, RingId, Rings};
 use std::alloc::{AllocError, Global};
 use std::process::Abort;
 use std::test::Fail;
@@ -58,6 +58,15 @@ impl Stage {
             self.node_names.push(node)?;
         }
         Ok(())
+    }
+
+    // Another store with the same rings and nodes, by the same numbers.
+    fn try_copy(&self, alloc: Global) -> Result<Stage, AllocError> {
+        Ok(Stage {
+            rings: self.rings.try_copy(alloc)?,
+            ring_names: Vec::from_slice(alloc, &self.ring_names)?,
+            node_names: Vec::from_slice(alloc, &self.node_names)?,
+        })
     }
 
     fn ring(&self, rt: &impl Abort, ring: usize) -> RingId {
@@ -165,64 +174,55 @@ fn stage_with(alloc: Global, rings: usize, tags: &[usize]) -> Result<Stage, Allo
     Ok(stage)
 }
 
+// Two nodes are linked, the second one behind the first.
+const LINKED: &[Call] = &[Call::Link(0, At::Head(0)), Call::Link(1, At::After(0))];
+
+const MOVED_BEHIND: &[Call] = &[Call::Unlink(0, At::Head(0)), Call::Link(0, At::After(1))];
+
 #[test]
 fn a_node_goes_from_the_head_behind_the_other(rt: HostRuntime) -> Result<(), Fail> {
     let mut stage = stage_with(rt.alloc(), 1, &[1, 2])?;
-    stage.perform_all(
-        &rt,
-        &[Call::Link(0, At::Head(0)), Call::Link(1, At::After(0))],
-    );
-    let mut copy = Stage::new(rt.alloc());
-    copy.rings = stage.rings.try_copy(rt.alloc())?;
-    copy.ring_names.push(stage.ring(&rt, 0))?;
-    stage.perform_all(
-        &rt,
-        &[Call::Unlink(0, At::Head(0)), Call::Link(0, At::After(1))],
-    );
+    stage.perform_all(&rt, LINKED);
+    stage.assert_ring(&rt, 0, &[1, 2]);
+    stage.perform_all(&rt, MOVED_BEHIND);
     stage.assert_ring(&rt, 0, &[2, 1]);
     assert_eq!(rt; stage.rings.steps(), 4);
-    copy.assert_ring(&rt, 0, &[1, 2]);
-    assert_eq!(rt; copy.rings.steps(), 2);
     Ok(())
 }
+
+const LEFT_ALONE: &[Call] = &[
+    Call::Link(0, At::Head(0)),
+    Call::Link(1, At::Head(1)),
+    Call::Unlink(0, At::Head(0)),
+];
+
+const VISITED_AND_DROPPED: &[Call] = &[Call::Unlink(0, At::After(1)), Call::Drop(0)];
 
 #[test]
 fn a_node_goes_into_another_ring_and_is_dropped(rt: HostRuntime) -> Result<(), Fail> {
     let mut stage = stage_with(rt.alloc(), 2, &[7, 8])?;
-    stage.perform_all(
-        &rt,
-        &[
-            Call::Link(0, At::Head(0)),
-            Call::Link(1, At::Head(1)),
-            Call::Unlink(0, At::Head(0)),
-        ],
-    );
+    stage.perform_all(&rt, LEFT_ALONE);
     stage.assert_ring(&rt, 0, &[]);
     stage.perform(&rt, Call::Link(0, At::After(1)));
     stage.assert_ring(&rt, 1, &[8, 7]);
-    assert_eq!(rt; stage.rings.steps(), 4);
-    stage.perform_all(&rt, &[Call::Unlink(0, At::After(1)), Call::Drop(0)]);
+    stage.perform_all(&rt, VISITED_AND_DROPPED);
     stage.assert_ring(&rt, 1, &[8]);
     assert_eq!(rt; stage.rings.steps(), 5);
     Ok(())
 }
 
+const LAST_DROPPED: &[Call] = &[Call::Unlink(1, At::After(0)), Call::Drop(1)];
+
 #[test]
 fn a_copy_and_its_source_change_apart(rt: HostRuntime) -> Result<(), Fail> {
-    link_takes_back_unlink();
-    unlink_takes_back_link();
     let mut stage = stage_with(rt.alloc(), 1, &[1, 2])?;
-    stage.perform_all(
-        &rt,
-        &[Call::Link(1, At::Head(0)), Call::Link(0, At::Head(0))],
-    );
-    let mut copy = stage.rings.try_copy(rt.alloc())?;
-    let added = copy.new_ring()?;
-    assert!(rt; copy.is_ring(added));
-    assert!(rt; !stage.rings.is_ring(added));
-    let last = stage.node(&rt, 1);
-    stage.perform_all(&rt, &[Call::Unlink(1, At::After(0)), Call::Drop(1)]);
-    assert!(rt; copy.is_linked(last));
+    stage.perform_all(&rt, LINKED);
+    let mut copy = stage.try_copy(rt.alloc())?;
+    copy.add_rings(1)?;
+    stage.perform_all(&rt, LAST_DROPPED);
+    stage.assert_ring(&rt, 0, &[1]);
+    copy.assert_ring(&rt, 0, &[1, 2]);
+    assert!(rt; !stage.rings.is_ring(copy.ring(&rt, 1)));
     Ok(())
 }
 

@@ -9,21 +9,28 @@ mod replies;
 use crate::tables::examples::{FIRST_TABLE, loaded};
 use coll_bench::{RunFault, run_session};
 use coll_lex::{Sink, Source};
-use coll_table::LoadFault;
 use std::alloc::Global;
+use std::process::Abort;
 
 /// What a session over the first table answers.
 fn run<R: Source, W: Sink>(
+    rt: &impl Abort,
     alloc: Global,
     input: &mut R,
     output: &mut W,
-) -> Result<Result<(), RunFault>, LoadFault> {
-    let table = loaded(alloc, FIRST_TABLE)?;
-    Ok(run_session(alloc, table, input, output))
+) -> Result<(), RunFault> {
+    let Ok(table) = loaded(alloc, FIRST_TABLE) else {
+        panic!(rt; "the first table is not loaded");
+    };
+    run_session(alloc, table, input, output)
 }
 
-/// A character is moved, and moved back: each line, and what is written once it is served.
-pub const MOVED: [(&str, &str); 7] = [
+/// The lines of the session in which a character is moved, and moved back.
+pub const MOVED_TEXT: &[u8] =
+    b":list\nreorder-after <U0063>\n<U0061>\nreorder-end\n:list\n:undo\n:list\n";
+
+/// Each of these lines, and what is written once it is served.
+pub const MOVED: &[(&str, &str)] = &[
     (
         ":list\n",
         "1 <BASE>\n2 <U0061>\n3 <U0062>\n4 <U0063>\nlisted 4\n",

@@ -3,6 +3,7 @@
 use super::{line_of, show_fault, show_id, show_name, show_order};
 use coll_syntax::{DeltaLine, parse_delta_line};
 use std::alloc::{AllocError, Global};
+use std::process::Abort;
 use std::test::Fail;
 
 // What a text says as a line of a delta, in short.
@@ -47,88 +48,94 @@ fn shown(alloc: Global, line: &DeltaLine) -> Result<String, AllocError> {
     Ok(out)
 }
 
-#[test]
-fn declarations_and_lines_without_effect(rt: HostRuntime) -> Result<(), Fail> {
-    for (text, want) in [
-        ("collating-symbol <X>", "symbol <X>"),
-        ("collating-symbol <X> <X>", "22"),
-        ("collating-element <ch> from \"ch\"", "element <ch> ch"),
-        ("collating-element <ch> from \"c\"", "26"),
-        ("script <N>", "script"),
-        ("script N", "29"),
-        ("LC_COLLATE", "LC_COLLATE"),
-        ("LC_COLLATE LC_COLLATE", "22"),
-        ("END LC_COLLATE", "END"),
-        ("END", "21"),
-        ("END LC_CTYPE", "29"),
-        ("copy \"iso14651_t1\"", "copy"),
-        ("copy \"\"", "copy"),
-        ("copy \"<X>a\"", "copy"),
-        ("copy", "21"),
-        ("copy iso14651_t1", "29"),
-        ("copy <X>", "29"),
-        ("copy \"x\" \"y\"", "22"),
-    ] {
-        assert_eq!(rt; said(rt.alloc(), text)?.as_str(), want, "at {text}");
+// Asserts what each of these texts says as a line of a delta.
+fn assert_said(rt: &impl Abort, alloc: Global, rows: &[(&str, &str)]) -> Result<(), Fail> {
+    for (text, want) in rows {
+        let given = said(alloc, text)?;
+        assert_eq!(rt; given.as_str(), *want, "at {text}");
     }
     Ok(())
 }
+
+const DECLARATIONS_AND_LINES_WITHOUT_EFFECT: &[(&str, &str)] = &[
+    ("collating-symbol <X>", "symbol <X>"),
+    ("collating-symbol <X> <X>", "22"),
+    ("collating-element <ch> from \"ch\"", "element <ch> ch"),
+    ("collating-element <ch> from \"c\"", "26"),
+    ("script <N>", "script"),
+    ("script N", "29"),
+    ("LC_COLLATE", "LC_COLLATE"),
+    ("LC_COLLATE LC_COLLATE", "22"),
+    ("END LC_COLLATE", "END"),
+    ("END", "21"),
+    ("END LC_CTYPE", "29"),
+    ("copy \"iso14651_t1\"", "copy"),
+    ("copy \"\"", "copy"),
+    ("copy \"<X>a\"", "copy"),
+    ("copy", "21"),
+    ("copy iso14651_t1", "29"),
+    ("copy <X>", "29"),
+    ("copy \"x\" \"y\"", "22"),
+];
+
+#[test]
+fn declarations_and_lines_without_effect(rt: HostRuntime) -> Result<(), Fail> {
+    assert_said(&rt, rt.alloc(), DECLARATIONS_AND_LINES_WITHOUT_EFFECT)
+}
+
+const BLOCKS_AND_SECTIONS: &[(&str, &str)] = &[
+    ("reorder-after <U0061>", "after a"),
+    ("reorder\\-after \u{E4}", "after \u{E4}"),
+    ("reorder-after<BASE> # note", "after <BASE>"),
+    ("reorder-after UNDEFINED", "after UNDEFINED"),
+    ("reorder-after", "21"),
+    ("reorder-after ab", "29"),
+    ("reorder-after IGNORE", "29"),
+    ("reorder-after \"a\"", "29"),
+    ("reorder-after ;", "29"),
+    ("reorder-after a b", "22"),
+    ("reorder-afterwards a", "20"),
+    ("reorder-end", "end"),
+    ("reorder-end ,", "22"),
+    ("reorder-section-after <S> <T>", "section <S> <T>"),
+    ("reorder-section-after <Q> <Q>", "section <Q> <Q>"),
+    ("reorder-section-after", "21"),
+    ("reorder-section-after <S>", "21"),
+    ("reorder-section-after <S> T", "29"),
+    ("reorder-section-after <U0053> <T>", "29"),
+    ("reorder-section-after <S> <U0054>", "29"),
+    ("reorder-section-after <S>,<T>", "29"),
+    ("reorder-section-after <S> <T> <R>", "22"),
+];
 
 #[test]
 fn blocks_and_sections(rt: HostRuntime) -> Result<(), Fail> {
-    for (text, want) in [
-        ("reorder-after <U0061>", "after a"),
-        ("reorder\\-after \u{E4}", "after \u{E4}"),
-        ("reorder-after<BASE> # note", "after <BASE>"),
-        ("reorder-after UNDEFINED", "after UNDEFINED"),
-        ("reorder-after", "21"),
-        ("reorder-after ab", "29"),
-        ("reorder-after IGNORE", "29"),
-        ("reorder-after \"a\"", "29"),
-        ("reorder-after ;", "29"),
-        ("reorder-after a b", "22"),
-        ("reorder-afterwards a", "20"),
-        ("reorder-end", "end"),
-        ("reorder-end ,", "22"),
-        ("reorder-section-after <S> <T>", "section <S> <T>"),
-        ("reorder-section-after <Q> <Q>", "section <Q> <Q>"),
-        ("reorder-section-after", "21"),
-        ("reorder-section-after <S>", "21"),
-        ("reorder-section-after <S> T", "29"),
-        ("reorder-section-after <U0053> <T>", "29"),
-        ("reorder-section-after <S> <U0054>", "29"),
-        ("reorder-section-after <S>,<T>", "29"),
-        ("reorder-section-after <S> <T> <R>", "22"),
-    ] {
-        assert_eq!(rt; said(rt.alloc(), text)?.as_str(), want, "at {text}");
-    }
-    Ok(())
+    assert_said(&rt, rt.alloc(), BLOCKS_AND_SECTIONS)
 }
+
+const ORDER_LINES_AND_FIRST_TOKENS: &[(&str, &str)] = &[
+    ("<BASE>", "order <BASE>"),
+    ("UNDEFINED <BASE>", "order UNDEFINED with (<BASE>)"),
+    (
+        "<ch> <ch>;<BASE>;<MIN>;IGNORE",
+        "order <ch> with (<ch>) (<BASE>) (<MIN>) I",
+    ),
+    ("<U0062> <U0062>;;;;", "order b with (b) - - - -"),
+    (":;", "order : with - -"),
+    (":<X>", "order : with (<X>)"),
+    ("a b c", "22"),
+    ("a UNDEFINED", "29"),
+    ("bogus", "20"),
+    ("order_start forward", "20"),
+    ("order_end", "20"),
+    ("section <N>", "20"),
+    ("symbol-equivalence <A> <B>", "20"),
+    (";", "20"),
+    ("\"a\"", "20"),
+    (":undo", "20"),
+];
 
 #[test]
 fn order_lines_and_first_tokens(rt: HostRuntime) -> Result<(), Fail> {
-    for (text, want) in [
-        ("<BASE>", "order <BASE>"),
-        ("UNDEFINED <BASE>", "order UNDEFINED with (<BASE>)"),
-        (
-            "<ch> <ch>;<BASE>;<MIN>;IGNORE",
-            "order <ch> with (<ch>) (<BASE>) (<MIN>) I",
-        ),
-        ("<U0062> <U0062>;;;;", "order b with (b) - - - -"),
-        (":;", "order : with - -"),
-        (":<X>", "order : with (<X>)"),
-        ("a b c", "22"),
-        ("a UNDEFINED", "29"),
-        ("bogus", "20"),
-        ("order_start forward", "20"),
-        ("order_end", "20"),
-        ("section <N>", "20"),
-        ("symbol-equivalence <A> <B>", "20"),
-        (";", "20"),
-        ("\"a\"", "20"),
-        (":undo", "20"),
-    ] {
-        assert_eq!(rt; said(rt.alloc(), text)?.as_str(), want, "at {text}");
-    }
-    Ok(())
+    assert_said(&rt, rt.alloc(), ORDER_LINES_AND_FIRST_TOKENS)
 }

@@ -3,6 +3,7 @@
 use super::{line_of, show_fault, show_name, show_order, show_rules};
 use coll_syntax::{TableLine, parse_table_line};
 use std::alloc::{AllocError, Global};
+use std::process::Abort;
 use std::test::Fail;
 
 // What a text says as a line of a table, in short.
@@ -49,225 +50,227 @@ fn shown(alloc: Global, line: &TableLine) -> Result<String, AllocError> {
     Ok(out)
 }
 
-#[test]
-fn declarations(rt: HostRuntime) -> Result<(), Fail> {
-    for (text, want) in [
-        ("collating-symbol <X>", "symbol <X>"),
-        ("collating-symbol<X># note", "symbol <X>"),
-        ("collating-symbol", "21"),
-        ("collating-symbol <U0058>", "29"),
-        ("collating-symbol X", "29"),
-        ("collating-symbol \"X\"", "29"),
-        ("collating-symbol ;", "29"),
-        ("collating-symbol <X> <Y>", "22"),
-        ("collating-symbol <X>;", "22"),
-        (
-            "collating-element <ch> from \"<U0063><U0068>\"",
-            "element <ch> ch",
-        ),
-        ("collating-element <ch> from \"c\\h\"", "element <ch> ch"),
-        ("collating-element", "21"),
-        ("collating-element <ch>", "21"),
-        ("collating-element <ch> from", "21"),
-        ("collating-element <U0063> from \"ch\"", "29"),
-        ("collating-element ch from \"ch\"", "29"),
-        ("collating-element <ch> for \"ch\"", "29"),
-        ("collating-element <ch> \"ch\"", "29"),
-        ("collating-element <ch> from <ch>", "29"),
-        ("collating-element <ch> from ch", "29"),
-        ("collating-element <ch> from \"ch\" \"ch\"", "22"),
-    ] {
-        assert_eq!(rt; said(rt.alloc(), text)?.as_str(), want, "at {text}");
+// Asserts what each of these texts says as a line of a table.
+fn assert_said(rt: &impl Abort, alloc: Global, rows: &[(&str, &str)]) -> Result<(), Fail> {
+    for (text, want) in rows {
+        let given = said(alloc, text)?;
+        assert_eq!(rt; given.as_str(), *want, "at {text}");
     }
     Ok(())
 }
+
+const DECLARATIONS: &[(&str, &str)] = &[
+    ("collating-symbol <X>", "symbol <X>"),
+    ("collating-symbol<X># note", "symbol <X>"),
+    ("collating-symbol", "21"),
+    ("collating-symbol <U0058>", "29"),
+    ("collating-symbol X", "29"),
+    ("collating-symbol \"X\"", "29"),
+    ("collating-symbol ;", "29"),
+    ("collating-symbol <X> <Y>", "22"),
+    ("collating-symbol <X>;", "22"),
+    (
+        "collating-element <ch> from \"<U0063><U0068>\"",
+        "element <ch> ch",
+    ),
+    ("collating-element <ch> from \"c\\h\"", "element <ch> ch"),
+    ("collating-element", "21"),
+    ("collating-element <ch>", "21"),
+    ("collating-element <ch> from", "21"),
+    ("collating-element <U0063> from \"ch\"", "29"),
+    ("collating-element ch from \"ch\"", "29"),
+    ("collating-element <ch> for \"ch\"", "29"),
+    ("collating-element <ch> \"ch\"", "29"),
+    ("collating-element <ch> from <ch>", "29"),
+    ("collating-element <ch> from ch", "29"),
+    ("collating-element <ch> from \"ch\" \"ch\"", "22"),
+];
+
+#[test]
+fn declarations(rt: HostRuntime) -> Result<(), Fail> {
+    assert_said(&rt, rt.alloc(), DECLARATIONS)
+}
+
+const ELEMENT_STRINGS: &[(&str, &str)] = &[
+    ("collating-element <p> from \"\"", "28"),
+    ("collating-element <p> from \"\" x", "28"),
+    ("collating-element <p> from \"a\"", "26"),
+    ("collating-element <p> from \"ab\"", "element <p> ab"),
+    (
+        "collating-element <p> from \"abcdefghijklmnop\"",
+        "element <p> abcdefghijklmnop",
+    ),
+    ("collating-element <p> from \"abcdefghijklmnopq\"", "26"),
+    ("collating-element <p> from \"abcdefghijklmnopq\" x", "26"),
+    ("collating-element <p> from \"a<X>\"", "29"),
+    ("collating-element <p> from \"<X>\"", "29"),
+    ("collating-element <p> from \"abcdefghijklmnopq<X>\"", "29"),
+    (
+        "collating-element <p> from \"\u{E4}\u{1F600}\"",
+        "element <p> \u{E4}\u{1F600}",
+    ),
+];
 
 #[test]
 fn strings_of_elements(rt: HostRuntime) -> Result<(), Fail> {
-    for (text, want) in [
-        ("collating-element <p> from \"\"", "28"),
-        ("collating-element <p> from \"\" x", "28"),
-        ("collating-element <p> from \"a\"", "26"),
-        ("collating-element <p> from \"ab\"", "element <p> ab"),
-        (
-            "collating-element <p> from \"abcdefghijklmnop\"",
-            "element <p> abcdefghijklmnop",
-        ),
-        ("collating-element <p> from \"abcdefghijklmnopq\"", "26"),
-        ("collating-element <p> from \"abcdefghijklmnopq\" x", "26"),
-        ("collating-element <p> from \"a<X>\"", "29"),
-        ("collating-element <p> from \"<X>\"", "29"),
-        ("collating-element <p> from \"abcdefghijklmnopq<X>\"", "29"),
-        (
-            "collating-element <p> from \"\u{E4}\u{1F600}\"",
-            "element <p> \u{E4}\u{1F600}",
-        ),
-    ] {
-        assert_eq!(rt; said(rt.alloc(), text)?.as_str(), want, "at {text}");
-    }
-    Ok(())
+    assert_said(&rt, rt.alloc(), ELEMENT_STRINGS)
 }
+
+const RULES: &[(&str, &str)] = &[
+    ("order_start", "start"),
+    ("\\order_start", "start"),
+    ("order_start forward", "start forward"),
+    ("order_start backward", "start backward"),
+    ("order_start position", "start forward,position"),
+    ("order_start forward,position", "start forward,position"),
+    ("order_start position,forward", "start forward,position"),
+    ("order_start backward,position", "start backward,position"),
+    ("order_start position , backward", "start backward,position"),
+    (
+        "order_start forward;backward;forward;forward,position",
+        "start forward backward forward forward,position",
+    ),
+    ("order_start forward;", "23"),
+    ("order_start ;forward", "23"),
+    ("order_start ;", "23"),
+    ("order_start forward <N>", "23"),
+    ("order_start forward backward", "23"),
+    ("order_start forward,backward", "23"),
+    ("order_start forward,backward;forward", "23"),
+    ("order_start position,position", "23"),
+    ("order_start forward,", "23"),
+    ("order_start ,", "23"),
+    ("order_start backward,position,forward", "23"),
+    ("order_start \"forward\"", "23"),
+    ("order_start a", "23"),
+    ("order_start forwards", "23"),
+];
 
 #[test]
 fn rules_of_a_table(rt: HostRuntime) -> Result<(), Fail> {
-    for (text, want) in [
-        ("order_start", "start"),
-        ("\\order_start", "start"),
-        ("order_start forward", "start forward"),
-        ("order_start backward", "start backward"),
-        ("order_start position", "start forward,position"),
-        ("order_start forward,position", "start forward,position"),
-        ("order_start position,forward", "start forward,position"),
-        ("order_start backward,position", "start backward,position"),
-        ("order_start position , backward", "start backward,position"),
-        (
-            "order_start forward;backward;forward;forward,position",
-            "start forward backward forward forward,position",
-        ),
-        ("order_start forward;", "23"),
-        ("order_start ;forward", "23"),
-        ("order_start ;", "23"),
-        ("order_start forward <N>", "23"),
-        ("order_start forward backward", "23"),
-        ("order_start forward,backward", "23"),
-        ("order_start forward,backward;forward", "23"),
-        ("order_start position,position", "23"),
-        ("order_start forward,", "23"),
-        ("order_start ,", "23"),
-        ("order_start backward,position,forward", "23"),
-        ("order_start \"forward\"", "23"),
-        ("order_start a", "23"),
-        ("order_start forwards", "23"),
-    ] {
-        assert_eq!(rt; said(rt.alloc(), text)?.as_str(), want, "at {text}");
-    }
-    Ok(())
+    assert_said(&rt, rt.alloc(), RULES)
 }
+
+const FIFTH_OPERANDS_AND_SECTIONS: &[(&str, &str)] = &[
+    ("order_start forward;forward;forward;forward;forward", "24"),
+    ("order_start forward;forward;forward;forward;", "24"),
+    (
+        "order_start forward;forward;forward;forward;<N> bogus,",
+        "24",
+    ),
+    ("order_start forward;forward;forward;forward,;forward", "23"),
+    ("order_start forward;;forward;forward;forward", "23"),
+    ("order_start <N>", "start <N>"),
+    ("order_start <N>;backward", "start <N> backward"),
+    (
+        "order_start <N>;forward;position",
+        "start <N> forward forward,position",
+    ),
+    ("order_start <N>;", "23"),
+    ("order_start <N>;<M>", "23"),
+    ("order_start <N> forward", "22"),
+    ("order_start <N>,forward", "22"),
+    ("order_start <N> <M>", "22"),
+    ("order_start <U004E>", "29"),
+    ("order_start <U004E>;forward", "29"),
+    ("order_end", "order_end"),
+    ("order_end ,", "22"),
+    ("section <N>", "section <N>"),
+    ("section", "21"),
+    ("section N", "29"),
+    ("section <U004E>", "29"),
+    ("section <N> <M>", "22"),
+    ("script <N>", "script"),
+    ("script", "21"),
+    ("script \"N\"", "29"),
+    ("script <N>;", "22"),
+];
 
 #[test]
 fn fifth_operands_and_sections(rt: HostRuntime) -> Result<(), Fail> {
-    for (text, want) in [
-        ("order_start forward;forward;forward;forward;forward", "24"),
-        ("order_start forward;forward;forward;forward;", "24"),
-        (
-            "order_start forward;forward;forward;forward;<N> bogus,",
-            "24",
-        ),
-        ("order_start forward;forward;forward;forward,;forward", "23"),
-        ("order_start forward;;forward;forward;forward", "23"),
-        ("order_start <N>", "start <N>"),
-        ("order_start <N>;backward", "start <N> backward"),
-        (
-            "order_start <N>;forward;position",
-            "start <N> forward forward,position",
-        ),
-        ("order_start <N>;", "23"),
-        ("order_start <N>;<M>", "23"),
-        ("order_start <N> forward", "22"),
-        ("order_start <N>,forward", "22"),
-        ("order_start <N> <M>", "22"),
-        ("order_start <U004E>", "29"),
-        ("order_start <U004E>;forward", "29"),
-        ("order_end", "order_end"),
-        ("order_end ,", "22"),
-        ("section <N>", "section <N>"),
-        ("section", "21"),
-        ("section N", "29"),
-        ("section <U004E>", "29"),
-        ("section <N> <M>", "22"),
-        ("script <N>", "script"),
-        ("script", "21"),
-        ("script \"N\"", "29"),
-        ("script <N>;", "22"),
-    ] {
-        assert_eq!(rt; said(rt.alloc(), text)?.as_str(), want, "at {text}");
-    }
-    Ok(())
+    assert_said(&rt, rt.alloc(), FIFTH_OPERANDS_AND_SECTIONS)
 }
+
+const ENDS_AND_FIRST_TOKENS: &[(&str, &str)] = &[
+    ("END LC_COLLATE", "END"),
+    ("END", "21"),
+    ("END LC_CTYPE", "29"),
+    ("END <LC_COLLATE>", "29"),
+    ("END LC_COLLATE LC_COLLATE", "22"),
+    ("a", "order a"),
+    (":", "order :"),
+    ("<U0061>", "order a"),
+    ("<BASE>", "order <BASE>"),
+    ("UNDEFINED", "order UNDEFINED"),
+    ("bogus", "20"),
+    ("IGNORE", "20"),
+    (";", "20"),
+    (",", "20"),
+    ("\"a\"", "20"),
+    ("LC_COLLATE", "20"),
+    ("copy \"x\"", "20"),
+    ("reorder-after a", "20"),
+    ("reorder-end", "20"),
+    ("reorder-section-after <S> <T>", "20"),
+    ("symbol-equivalence <A> <B>", "20"),
+];
 
 #[test]
 fn ends_and_first_tokens(rt: HostRuntime) -> Result<(), Fail> {
-    for (text, want) in [
-        ("END LC_COLLATE", "END"),
-        ("END", "21"),
-        ("END LC_CTYPE", "29"),
-        ("END <LC_COLLATE>", "29"),
-        ("END LC_COLLATE LC_COLLATE", "22"),
-        ("a", "order a"),
-        (":", "order :"),
-        ("<U0061>", "order a"),
-        ("<BASE>", "order <BASE>"),
-        ("UNDEFINED", "order UNDEFINED"),
-        ("bogus", "20"),
-        ("IGNORE", "20"),
-        (";", "20"),
-        (",", "20"),
-        ("\"a\"", "20"),
-        ("LC_COLLATE", "20"),
-        ("copy \"x\"", "20"),
-        ("reorder-after a", "20"),
-        ("reorder-end", "20"),
-        ("reorder-section-after <S> <T>", "20"),
-        ("symbol-equivalence <A> <B>", "20"),
-    ] {
-        assert_eq!(rt; said(rt.alloc(), text)?.as_str(), want, "at {text}");
-    }
-    Ok(())
+    assert_said(&rt, rt.alloc(), ENDS_AND_FIRST_TOKENS)
 }
+
+const WEIGHTS: &[(&str, &str)] = &[
+    (
+        "<U0061> <U0061>;<BASE>;\"<S>a\";IGNORE",
+        "order a with (a) (<BASE>) (<S>a) I",
+    ),
+    ("a ;", "order a with - -"),
+    ("a b;", "order a with (b) -"),
+    ("a ;;b;;;", "order a with - - (b) - - -"),
+    ("a a", "order a with (a)"),
+    ("a \"a\"", "order a with (a)"),
+    ("a \"aa\"", "order a with (aa)"),
+    ("a \"IGNORE\"", "order a with (IGNORE)"),
+    ("a IG\\NORE", "order a with I"),
+    ("UNDEFINED ;IGNORE", "order UNDEFINED with - I"),
+    ("<X> <X>", "order <X> with (<X>)"),
+    (
+        "a \"abcdefghijklmnopqrstuvwxyz012345\"",
+        "order a with (abcdefghijklmnopqrstuvwxyz012345)",
+    ),
+    ("a \"abcdefghijklmnopqrstuvwxyz0123456\"", "25"),
+    ("a \"\"", "28"),
+    ("a b;\"\" c", "28"),
+];
 
 #[test]
 fn weights_of_order_lines(rt: HostRuntime) -> Result<(), Fail> {
-    for (text, want) in [
-        (
-            "<U0061> <U0061>;<BASE>;\"<S>a\";IGNORE",
-            "order a with (a) (<BASE>) (<S>a) I",
-        ),
-        ("a ;", "order a with - -"),
-        ("a b;", "order a with (b) -"),
-        ("a ;;b;;;", "order a with - - (b) - - -"),
-        ("a a", "order a with (a)"),
-        ("a \"a\"", "order a with (a)"),
-        ("a \"aa\"", "order a with (aa)"),
-        ("a \"IGNORE\"", "order a with (IGNORE)"),
-        ("a IG\\NORE", "order a with I"),
-        ("UNDEFINED ;IGNORE", "order UNDEFINED with - I"),
-        ("<X> <X>", "order <X> with (<X>)"),
-        (
-            "a \"abcdefghijklmnopqrstuvwxyz012345\"",
-            "order a with (abcdefghijklmnopqrstuvwxyz012345)",
-        ),
-        ("a \"abcdefghijklmnopqrstuvwxyz0123456\"", "25"),
-        ("a \"\"", "28"),
-        ("a b;\"\" c", "28"),
-    ] {
-        assert_eq!(rt; said(rt.alloc(), text)?.as_str(), want, "at {text}");
-    }
-    Ok(())
+    assert_said(&rt, rt.alloc(), WEIGHTS)
 }
+
+const NO_SEMICOLONS: &[(&str, &str)] = &[
+    ("a b c", "22"),
+    ("a b <X>", "22"),
+    ("a b <U0062>", "22"),
+    ("a b IGNORE", "22"),
+    ("a IGNORE b", "22"),
+    ("a b \"c\"", "22"),
+    ("a b \"\"", "22"),
+    ("a b \"abcdefghijklmnopqrstuvwxyz0123456\"", "22"),
+    ("a b;c d;ef", "22"),
+    ("a b UNDEFINED", "29"),
+    ("a b cd", "29"),
+    ("a b,c", "29"),
+    ("<U0062>..<U0064>", "29"),
+    ("a UNDEFINED", "29"),
+    ("a ,", "29"),
+    ("a bc", "29"),
+    ("a b;;cd", "29"),
+    ("a bc;\"\"", "29"),
+];
 
 #[test]
 fn tokens_where_a_semicolon_is_wanted(rt: HostRuntime) -> Result<(), Fail> {
-    for (text, want) in [
-        ("a b c", "22"),
-        ("a b <X>", "22"),
-        ("a b <U0062>", "22"),
-        ("a b IGNORE", "22"),
-        ("a IGNORE b", "22"),
-        ("a b \"c\"", "22"),
-        ("a b \"\"", "22"),
-        ("a b \"abcdefghijklmnopqrstuvwxyz0123456\"", "22"),
-        ("a b;c d;ef", "22"),
-        ("a b UNDEFINED", "29"),
-        ("a b cd", "29"),
-        ("a b,c", "29"),
-        ("<U0062>..<U0064>", "29"),
-        ("a UNDEFINED", "29"),
-        ("a ,", "29"),
-        ("a bc", "29"),
-        ("a b;;cd", "29"),
-        ("a bc;\"\"", "29"),
-    ] {
-        assert_eq!(rt; said(rt.alloc(), text)?.as_str(), want, "at {text}");
-    }
-    Ok(())
+    assert_said(&rt, rt.alloc(), NO_SEMICOLONS)
 }

@@ -3,52 +3,55 @@
 
 use crate::devices::{Script, ScriptedReader, ScriptedWriter, Step};
 use coll_lex::{Counted, LineReader, ReadStop, Sink, Source};
+use std::process::Abort;
 use std::test::Fail;
 
-#[test]
-fn a_read_is_one_read_of_the_device(rt: HostRuntime) {
-    for number in 0..=255 {
-        let script = Script::of(number);
-        let mut input = Counted::new(ScriptedReader::new(script, b"a text of some bytes"));
-        for call in 0..4_usize {
-            let mut buf = [0; 8];
-            let answer = input.read(&mut buf);
-            assert_eq!(rt; answer.ok(), script.step(call).most(), "{number} {call}");
-            assert_eq!(rt; input.device().calls, call.saturating_add(1), "{number}");
-            assert_eq!(rt; input.errors(), input.device().errors, "{number} {call}");
-        }
+// Asserts that a call answers as its script says, in one call of the device.
+fn assert_one_call(
+    rt: &impl Abort,
+    answer: Option<usize>,
+    step: Step,
+    calls_before: usize,
+    calls: usize,
+) {
+    assert_eq!(rt; answer, step.most());
+    assert_eq!(rt; calls, calls_before.saturating_add(1));
+}
+
+fn assert_reads(rt: &impl Abort, script: Script) {
+    let mut input = Counted::new(ScriptedReader::new(script, b"a text of some bytes"));
+    for call in 0..4_usize {
+        let answer = input.read(&mut [0; 8]).ok();
+        assert_one_call(rt, answer, script.step(call), call, input.device().calls);
+        assert_eq!(rt; input.errors(), input.device().errors);
+    }
+}
+
+fn assert_writes(rt: &impl Abort, script: Script) {
+    let mut out = Counted::new(ScriptedWriter::new(script));
+    for call in 0..4_usize {
+        let answer = out.write(b"bytes").ok();
+        assert_one_call(rt, answer, script.step(call), call, out.device().calls);
+        assert_eq!(rt; out.errors(), out.device().errors);
+    }
+}
+
+fn assert_flushes(rt: &impl Abort, script: Script) {
+    let mut out = Counted::new(ScriptedWriter::new(script));
+    for call in 0..4_usize {
+        let fails = out.flush().is_err();
+        assert_eq!(rt; fails, script.step(call) == Step::Error);
+        assert_eq!(rt; out.device().calls, call.saturating_add(1));
+        assert_eq!(rt; out.errors(), out.device().errors);
     }
 }
 
 #[test]
-fn a_write_is_one_write_of_the_device(rt: HostRuntime) {
+fn a_call_of_a_counted_device_is_one_call_of_the_device(rt: HostRuntime) {
     for number in 0..=255 {
-        let script = Script::of(number);
-        let mut out = Counted::new(ScriptedWriter::new(script));
-        for call in 0..4_usize {
-            let answer = out.write(b"bytes");
-            assert_eq!(rt; answer.ok(), script.step(call).most(), "{number} {call}");
-            assert_eq!(rt; out.device().calls, call.saturating_add(1), "{number}");
-            assert_eq!(rt; out.errors(), out.device().errors, "{number} {call}");
-        }
-    }
-}
-
-#[test]
-fn a_flush_is_one_flush_of_the_device(rt: HostRuntime) {
-    for number in 0..=255 {
-        let script = Script::of(number);
-        let mut out = Counted::new(ScriptedWriter::new(script));
-        for call in 0..4_usize {
-            let answer = out.flush();
-            assert_eq!(rt;
-                answer.is_err(),
-                script.step(call) == Step::Error,
-                "{number}"
-            );
-            assert_eq!(rt; out.device().calls, call.saturating_add(1), "{number}");
-            assert_eq!(rt; out.errors(), out.device().errors, "{number} {call}");
-        }
+        assert_reads(&rt, Script::of(number));
+        assert_writes(&rt, Script::of(number));
+        assert_flushes(&rt, Script::of(number));
     }
 }
 
@@ -64,31 +67,40 @@ fn ended_lines(rest: &[u8]) -> usize {
         .count()
 }
 
+// Goes on until no line is given, and answers how many were, and what then stopped the reader.
+fn read_all<R: Source>(
+    rt: &impl Abort,
+    reader: &mut LineReader,
+    input: &mut R,
+) -> (usize, Result<bool, ReadStop>) {
+    for given in 0..8 {
+        let answer = reader.advance(input);
+        if answer != Ok(true) {
+            return (given, answer);
+        }
+    }
+    panic!(rt; "more lines than the text has");
+}
+
+fn assert_still(rt: &impl Abort, reader: &mut LineReader, input: &mut Counted<ScriptedReader>, last: Result<bool, ReadStop>) {
+    let calls = input.device().calls;
+    for _ in 0..3 {
+        assert_eq!(rt; reader.advance(input), last);
+        assert!(rt; reader.line().is_empty());
+    }
+    assert_eq!(rt; input.device().calls, calls);
+}
+
 #[test]
 fn nothing_is_read_after_the_end_or_a_stop(rt: HostRuntime) -> Result<(), Fail> {
     for number in 0..=255 {
         let mut reader = LineReader::new(rt.alloc())?;
         let mut input = Counted::new(ScriptedReader::new(Script::of(number), TEXT));
-        let mut given: usize = 0;
-        let mut last = reader.advance(&mut input);
-        for _ in 0..8 {
-            if last != Ok(true) {
-                break;
-            }
-            given = given.saturating_add(1);
-            last = reader.advance(&mut input);
-        }
-        assert_ne!(rt; last, Ok(true), "{number}");
-        let ended = ended_lines(input.device().text);
+        let (given, last) = read_all(&rt, &mut reader, &mut input);
         if last == Err(ReadStop::ReadFault) {
-            assert_eq!(rt; given, ended, "{number}");
+            assert_eq!(rt; given, ended_lines(input.device().text), "{number}");
         }
-        let calls = input.device().calls;
-        for _ in 0..3 {
-            assert_eq!(rt; reader.advance(&mut input), last, "{number}");
-            assert!(rt; reader.line().is_empty(), "{number}");
-        }
-        assert_eq!(rt; input.device().calls, calls, "{number}");
+        assert_still(&rt, &mut reader, &mut input, last);
     }
     Ok(())
 }

@@ -1,8 +1,9 @@
 //! Tables of physical lines and the answers to them, in the order of POSIX.1-2017, 7.3: continuation, characters
-//! made literal, directives, symbols, strings, and the line that begins the category.
+//! made literal, directives, symbols, strings, and the line that begins the category. A new rule of lines is a new row.
 
 use coll_lex::{LexFault, Lexer, Line, Piece, TextBuf, Token};
 use std::alloc::{AllocError, Global};
+use std::process::Abort;
 use std::test::Fail;
 
 // A token as the tables show it: a word as it is, a symbol in brackets, a character between apostrophes, and a
@@ -65,342 +66,357 @@ fn write_answer(
     Ok(())
 }
 
-// The answers to these lines, and to the end of the text, with a bar between them. A line that gives no logical
-// line is a dash.
-fn answers(alloc: Global, lines: &[&str]) -> Result<String, AllocError> {
-    let mut lexer = Lexer::new(alloc)?;
-    let mut out = String::new(alloc);
+// Writes the answers to these lines and to the end of the text, with a bar between them. A line that gives no
+// logical line is a dash.
+fn write_answers(out: &mut String, lexer: &mut Lexer, lines: &[&str]) -> Result<(), AllocError> {
     for line in lines {
-        write_answer(&mut out, lexer.feed(line.as_bytes()))?;
+        write_answer(out, lexer.feed(line.as_bytes()))?;
         out.push_str(" | ")?;
     }
     match lexer.finish() {
-        Ok(()) => out.push_str("end")?,
-        Err(fault) => out.push_str(fault.name())?,
+        Ok(()) => out.push_str("end"),
+        Err(fault) => out.push_str(fault.name()),
     }
+}
+
+fn answers(alloc: Global, lines: &[&str]) -> Result<String, AllocError> {
+    let mut lexer = Lexer::new(alloc)?;
+    let mut out = String::new(alloc);
+    write_answers(&mut out, &mut lexer, lines)?;
     Ok(out)
 }
 
-#[test]
-fn words_strings_and_symbols_go_on_in_the_next_line(rt: HostRuntime) -> Result<(), Fail> {
-    let alloc = rt.alloc();
-    assert_eq!(rt;
-        answers(alloc, &["a\\", "b \"x\\", "y\" <p\\>q> # c"])?.as_str(),
-        "- | - | 1: ab \"xy\" <p>q> | end"
-    );
-    assert_eq!(rt;
-        answers(alloc, &["<a\\", "b>;\\", ",c"])?.as_str(),
-        "- | - | 1: <ab> ; , c | end"
-    );
-    assert_eq!(rt;
-        answers(alloc, &["\"<a\\", "b>\""])?.as_str(),
-        "- | 1: \"<ab>\" | end"
-    );
-    assert_eq!(rt;
-        answers(alloc, &["\\", "\\", "a"])?.as_str(),
-        "- | - | 1: a | end"
-    );
+// The physical lines of a text, and the answers to them.
+type Answered = (&'static [&'static str], &'static str);
+
+// Asserts that each of these texts has its answers.
+fn assert_answers(rt: &impl Abort, alloc: Global, rows: &[Answered]) -> Result<(), AllocError> {
+    for (lines, wanted) in rows {
+        let given = answers(alloc, lines)?;
+        assert_eq!(rt; given.as_str(), *wanted);
+    }
     Ok(())
 }
+
+const CONTINUED: &[Answered] = &[
+    (
+        &["a\\", "b \"x\\", "y\" <p\\>q> # c"],
+        "- | - | 1: ab \"xy\" <p>q> | end",
+    ),
+    (&["<a\\", "b>;\\", ",c"], "- | - | 1: <ab> ; , c | end"),
+    (&["\"<a\\", "b>\""], "- | 1: \"<ab>\" | end"),
+    (&["\\", "\\", "a"], "- | - | 1: a | end"),
+];
+
+#[test]
+fn words_strings_and_symbols_go_on_in_the_next_line(rt: HostRuntime) -> Result<(), Fail> {
+    assert_answers(&rt, rt.alloc(), CONTINUED)?;
+    Ok(())
+}
+
+const COMMENTS: &[Answered] = &[
+    (&["# x \\", "b"], "- | 2: b | end"),
+    (&["a # x \\", "b"], "1: a | 2: b | end"),
+    (&["a\\# x \\", "b"], "- | 1: a# x b | end"),
+    (&["# \"a <b", "\\# c"], "- | 2: # c | end"),
+];
 
 #[test]
 fn a_comment_is_not_continued(rt: HostRuntime) -> Result<(), Fail> {
-    let alloc = rt.alloc();
-    assert_eq!(rt;
-        answers(alloc, &["# x \\", "b"])?.as_str(),
-        "- | 2: b | end"
-    );
-    assert_eq!(rt;
-        answers(alloc, &["a # x \\", "b"])?.as_str(),
-        "1: a | 2: b | end"
-    );
-    assert_eq!(rt;
-        answers(alloc, &["a\\# x \\", "b"])?.as_str(),
-        "- | 1: a# x b | end"
-    );
-    assert_eq!(rt;
-        answers(alloc, &["# \"a <b", "\\# c"])?.as_str(),
-        "- | 2: # c | end"
-    );
+    assert_answers(&rt, rt.alloc(), COMMENTS)?;
     Ok(())
 }
 
+const ENDS: &[Answered] = &[
+    (&["a \\"], "- | DanglingEscape"),
+    (&["\"a \\"], "- | DanglingEscape"),
+    (&["a \\", ""], "- | 1: a | end"),
+];
+
 #[test]
 fn the_text_ends_where_a_line_is_continued(rt: HostRuntime) -> Result<(), Fail> {
-    let alloc = rt.alloc();
-    assert_eq!(rt; answers(alloc, &["a \\"])?.as_str(), "- | DanglingEscape");
-    assert_eq!(rt; answers(alloc, &["\"a \\"])?.as_str(), "- | DanglingEscape");
-    assert_eq!(rt; answers(alloc, &["a \\", ""])?.as_str(), "- | 1: a | end");
+    assert_answers(&rt, rt.alloc(), ENDS)?;
     Ok(())
 }
+
+const DIRECTIVES: &[Answered] = &[
+    (
+        &["escape_char /", "comment_char %", "a/;b%c"],
+        "- | - | 3: a;b | end",
+    ),
+    (
+        &["  comment_char\t%  what follows", "a%b"],
+        "- | 2: a | end",
+    ),
+    (&["comment_char % \\", "a%b"], "- | 2: a | end"),
+    (
+        &["comment_char #", "escape_char \\", "a\\#b#c"],
+        "- | - | 3: a#b | end",
+    ),
+];
+
+#[test]
+fn directives_choose_the_two_characters(rt: HostRuntime) -> Result<(), Fail> {
+    assert_answers(&rt, rt.alloc(), DIRECTIVES)?;
+    Ok(())
+}
+
+const DIRECTIVES_AT_FAULT: &[Answered] = &[
+    (&["comment_char \\", "a#b"], "BadCharDirective | 2: a | end"),
+    (&["comment_char", "a#b"], "BadCharDirective | 2: a | end"),
+    (&["comment_char %x", "a#b"], "BadCharDirective | 2: a | end"),
+    (&["escape_char #", "a#b"], "BadCharDirective | 2: a | end"),
+    (&["escape_char a", "a#b"], "BadCharDirective | 2: a | end"),
+    (
+        &["comment_char %\\", "a#b"],
+        "BadCharDirective | 2: a | end",
+    ),
+    (&["comment_char \"", "a#b"], "BadCharDirective | 2: a | end"),
+];
+
+#[test]
+fn a_directive_may_be_at_fault(rt: HostRuntime) -> Result<(), Fail> {
+    assert_answers(&rt, rt.alloc(), DIRECTIVES_AT_FAULT)?;
+    Ok(())
+}
+
+const LIKE_DIRECTIVES: &[Answered] = &[
+    (
+        &["a \\", "comment_char %", "b%c"],
+        "- | 1: a comment_char % | 3: b%c | end",
+    ),
+    (
+        &["comment\\_char %", "b%c"],
+        "1: comment_char % | 2: b%c | end",
+    ),
+    (
+        &["comment_char;", "comment_char<X>", "comment_char#"],
+        "1: comment_char ; | 2: comment_char <X> | 3: comment_char | end",
+    ),
+    (&["comment_char\r\r"], "1: comment_char\r | end"),
+];
+
+#[test]
+fn what_looks_like_a_directive_may_be_text(rt: HostRuntime) -> Result<(), Fail> {
+    assert_answers(&rt, rt.alloc(), LIKE_DIRECTIVES)?;
+    Ok(())
+}
+
+const LINE_ENDS: &[Answered] = &[
+    (&["a\\\r", "b\r"], "- | 1: ab | end"),
+    (&["a\\\r\r", "b\rc"], "1: a\r | 2: b\rc | end"),
+    (&["a\\\\", "b"], "1: a\\ | 2: b | end"),
+    (&["a\\ ", "\\ "], "1: a  | 2:   | end"),
+];
+
+#[test]
+fn carriage_returns_and_escapes_at_the_end(rt: HostRuntime) -> Result<(), Fail> {
+    assert_answers(&rt, rt.alloc(), LINE_ENDS)?;
+    Ok(())
+}
+
+const SYMBOLS: &[Answered] = &[
+    (
+        &["<U0061><U00000061><U61><u0061>"],
+        "1: 'a' 'a' <U61> <u0061> | end",
+    ),
+    (
+        &["<\\U0041><U000000061><U00e9><U00E9><UD7FF><U10FFFF>"],
+        "1: 'A' <U000000061> 'é' 'é' '\u{d7ff}' '\u{10ffff}' | end",
+    ),
+    (
+        &["<U110000>", "<UD800>", "<UFFFFFFFF>"],
+        "BadCodePoint | BadCodePoint | BadCodePoint | end",
+    ),
+    (
+        &["<>", "<a b>", "<a\tb>", "<\u{7f}>", "<\u{1}>", "<a"],
+        "EmptySymbol | BadName | BadName | BadName | BadName | OpenSymbol | end",
+    ),
+    (
+        &["<\u{80}\u{a0}>", "<\\d\\x\\0>", "<a\"b<#;,>"],
+        "1: <\u{80}\u{a0}> | 2: <dx0> | 3: <a\"b<#;,> | end",
+    ),
+];
+
+#[test]
+fn symbols_are_decided_after_unescaping(rt: HostRuntime) -> Result<(), Fail> {
+    assert_answers(&rt, rt.alloc(), SYMBOLS)?;
+    Ok(())
+}
+
+// A name of 64 characters, which have two bytes each, and one of 65.
+const LONGEST_NAMES: &[Answered] = &[
+    (
+        &["<éééééééééééééééééééééééééééééééééééééééééééééééééééééééééééééééé>"],
+        "1: <éééééééééééééééééééééééééééééééééééééééééééééééééééééééééééééééé> | end",
+    ),
+    (
+        &["<ééééééééééééééééééééééééééééééééééééééééééééééééééééééééééééééééé>"],
+        "BadName | end",
+    ),
+];
+
+#[test]
+fn a_name_has_at_most_sixty_four_characters(rt: HostRuntime) -> Result<(), Fail> {
+    assert_answers(&rt, rt.alloc(), LONGEST_NAMES)?;
+    Ok(())
+}
+
+const STRINGS: &[Answered] = &[
+    (
+        &["\"\\n\"", "\"a\\d065\"", "\"a", "\"<a"],
+        "1: \"n\" | CharacterConstant | OpenString | OpenSymbol | end",
+    ),
+    (
+        &["\"<S><U0061> #;,\\\"\"", "\"\"", "a\"b\"c"],
+        "1: \"<S>a #;,\"\" | 2: \"\" | 3: a \"b\" c | end",
+    ),
+    (
+        &["\"<>", "\"<U110000>\""],
+        "EmptySymbol | BadCodePoint | end",
+    ),
+];
+
+#[test]
+fn strings_hold_characters_and_names(rt: HostRuntime) -> Result<(), Fail> {
+    assert_answers(&rt, rt.alloc(), STRINGS)?;
+    Ok(())
+}
+
+const WORDS: &[Answered] = &[
+    (
+        &["a;b,c<d>e\"f\"g#h", "> a>b", " \t "],
+        "1: a ; b , c <d> e \"f\" g | 2: > a>b | - | end",
+    ),
+    (
+        &["IG\\NORE", "or\\der_end", "\\0", "\\8\\;"],
+        "1: IGNORE | CharacterConstant | CharacterConstant | 4: 8; | end",
+    ),
+];
+
+#[test]
+fn words_end_before_separators(rt: HostRuntime) -> Result<(), Fail> {
+    assert_answers(&rt, rt.alloc(), WORDS)?;
+    Ok(())
+}
+
+const AFTER_FAULTS: &[Answered] = &[
+    (&["a\\d \\", "b"], "CharacterConstant | 2: b | end"),
+    (
+        &["a \\", "b\\d \\", "c"],
+        "- | CharacterConstant | 3: c | end",
+    ),
+];
+
+#[test]
+fn after_a_fault_the_next_line_begins_a_new_one(rt: HostRuntime) -> Result<(), Fail> {
+    assert_answers(&rt, rt.alloc(), AFTER_FAULTS)?;
+    Ok(())
+}
+
+// Asserts that a line is refused with this fault, or else taken, and that the open line then begins here.
+fn assert_feeds(
+    rt: &impl Abort,
+    lexer: &mut Lexer,
+    line: &[u8],
+    fault: Option<LexFault>,
+    pending: Option<u32>,
+) {
+    assert_eq!(rt; lexer.feed(line).err(), fault);
+    assert_eq!(rt; lexer.pending(), pending);
+}
+
+const LINES_TO_AN_OPEN_ONE: &[(&[u8], Option<u32>)] =
+    &[(b"# nothing", None), (b"a \\", Some(2)), (b"b \\", Some(2))];
 
 #[test]
 fn the_open_line_has_the_number_of_its_first_line(rt: HostRuntime) -> Result<(), Fail> {
     let mut lexer = Lexer::new(rt.alloc())?;
     assert_eq!(rt; lexer.pending(), None);
-    assert!(rt; lexer.feed(b"# nothing").is_ok());
-    assert!(rt; lexer.feed(b"a \\").is_ok());
-    assert_eq!(rt; lexer.pending(), Some(2));
-    assert!(rt; lexer.feed(b"b \\").is_ok());
-    assert_eq!(rt; lexer.pending(), Some(2));
-    assert!(rt; lexer.finish().is_err());
+    for (line, pending) in LINES_TO_AN_OPEN_ONE {
+        assert_feeds(&rt, &mut lexer, line, None, *pending);
+    }
+    assert_eq!(rt; lexer.finish(), Err(LexFault::DanglingEscape));
     assert_eq!(rt; lexer.pending(), None);
     Ok(())
 }
 
-#[test]
-fn directives_choose_the_two_characters(rt: HostRuntime) -> Result<(), Fail> {
-    let alloc = rt.alloc();
-    assert_eq!(rt;
-        answers(alloc, &["escape_char /", "comment_char %", "a/;b%c"])?.as_str(),
-        "- | - | 3: a;b | end"
-    );
-    assert_eq!(rt;
-        answers(alloc, &["  comment_char\t%  what follows", "a%b"])?.as_str(),
-        "- | 2: a | end"
-    );
-    assert_eq!(rt;
-        answers(alloc, &["comment_char % \\", "a%b"])?.as_str(),
-        "- | 2: a | end"
-    );
-    assert_eq!(rt;
-        answers(alloc, &["comment_char #", "escape_char \\", "a\\#b#c"])?.as_str(),
-        "- | - | 3: a#b | end"
-    );
-    let mut lexer = Lexer::new(alloc)?;
-    assert!(rt; lexer.feed(b"escape_char /").is_ok());
-    assert_eq!(rt; lexer.chars().escape, '/');
-    assert_eq!(rt; lexer.chars().comment, '#');
-    Ok(())
-}
-
-#[test]
-fn a_directive_may_be_at_fault(rt: HostRuntime) -> Result<(), Fail> {
-    let alloc = rt.alloc();
-    for line in [
-        "comment_char \\",
-        "comment_char",
-        "comment_char %x",
-        "escape_char #",
-        "escape_char a",
-        "comment_char %\\",
-        "comment_char \"",
-    ] {
-        assert_eq!(rt;
-            answers(alloc, &[line, "a#b"])?.as_str(),
-            "BadCharDirective | 2: a | end",
-            "{line}"
-        );
-    }
-    Ok(())
-}
-
-#[test]
-fn what_looks_like_a_directive_may_be_text(rt: HostRuntime) -> Result<(), Fail> {
-    let alloc = rt.alloc();
-    assert_eq!(rt;
-        answers(alloc, &["a \\", "comment_char %", "b%c"])?.as_str(),
-        "- | 1: a comment_char % | 3: b%c | end"
-    );
-    assert_eq!(rt;
-        answers(alloc, &["comment\\_char %", "b%c"])?.as_str(),
-        "1: comment_char % | 2: b%c | end"
-    );
-    assert_eq!(rt;
-        answers(
-            alloc,
-            &["comment_char;", "comment_char<X>", "comment_char#"]
-        )?
-        .as_str(),
-        "1: comment_char ; | 2: comment_char <X> | 3: comment_char | end"
-    );
-    assert_eq!(rt;
-        answers(alloc, &["comment_char\r\r"])?.as_str(),
-        "1: comment_char\r | end"
-    );
-    Ok(())
-}
-
-#[test]
-fn carriage_returns_and_escapes_at_the_end(rt: HostRuntime) -> Result<(), Fail> {
-    let alloc = rt.alloc();
-    assert_eq!(rt;
-        answers(alloc, &["a\\\r", "b\r"])?.as_str(),
-        "- | 1: ab | end"
-    );
-    assert_eq!(rt;
-        answers(alloc, &["a\\\r\r", "b\rc"])?.as_str(),
-        "1: a\r | 2: b\rc | end"
-    );
-    assert_eq!(rt;
-        answers(alloc, &["a\\\\", "b"])?.as_str(),
-        "1: a\\ | 2: b | end"
-    );
-    assert_eq!(rt;
-        answers(alloc, &["a\\ ", "\\ "])?.as_str(),
-        "1: a  | 2:   | end"
-    );
-    Ok(())
-}
-
-#[test]
-fn symbols_are_decided_after_unescaping(rt: HostRuntime) -> Result<(), Fail> {
-    let alloc = rt.alloc();
-    assert_eq!(rt;
-        answers(alloc, &["<U0061><U00000061><U61><u0061>"])?.as_str(),
-        "1: 'a' 'a' <U61> <u0061> | end"
-    );
-    assert_eq!(rt;
-        answers(
-            alloc,
-            &["<\\U0041><U000000061><U00e9><U00E9><UD7FF><U10FFFF>"]
-        )?
-        .as_str(),
-        "1: 'A' <U000000061> 'é' 'é' '\u{d7ff}' '\u{10ffff}' | end"
-    );
-    assert_eq!(rt;
-        answers(alloc, &["<U110000>", "<UD800>", "<UFFFFFFFF>"])?.as_str(),
-        "BadCodePoint | BadCodePoint | BadCodePoint | end"
-    );
-    assert_eq!(rt;
-        answers(
-            alloc,
-            &["<>", "<a b>", "<a\tb>", "<\u{7f}>", "<\u{1}>", "<a"]
-        )?
-        .as_str(),
-        "EmptySymbol | BadName | BadName | BadName | BadName | OpenSymbol | end"
-    );
-    assert_eq!(rt;
-        answers(alloc, &["<\u{80}\u{a0}>", "<\\d\\x\\0>", "<a\"b<#;,>"])?.as_str(),
-        "1: <\u{80}\u{a0}> | 2: <dx0> | 3: <a\"b<#;,> | end"
-    );
-    Ok(())
-}
-
-#[test]
-fn a_name_has_at_most_sixty_four_characters(rt: HostRuntime) -> Result<(), Fail> {
-    let alloc = rt.alloc();
-    let longest = "éééééééééééééééééééééééééééééééééééééééééééééééééééééééééééééééé";
-    assert_eq!(rt; longest.chars().count(), 64);
-    let line = format!(in alloc; "<{longest}>")?;
-    let shown = format!(in alloc; "1: <{longest}> | end")?;
-    assert_eq!(rt; answers(alloc, &[line.as_str()])?.as_str(), shown.as_str());
-    let line = format!(in alloc; "<{longest}é>")?;
-    assert_eq!(rt; answers(alloc, &[line.as_str()])?.as_str(), "BadName | end");
-    Ok(())
-}
-
-#[test]
-fn strings_hold_characters_and_names(rt: HostRuntime) -> Result<(), Fail> {
-    let alloc = rt.alloc();
-    assert_eq!(rt;
-        answers(alloc, &["\"\\n\"", "\"a\\d065\"", "\"a", "\"<a"])?.as_str(),
-        "1: \"n\" | CharacterConstant | OpenString | OpenSymbol | end"
-    );
-    assert_eq!(rt;
-        answers(alloc, &["\"<S><U0061> #;,\\\"\"", "\"\"", "a\"b\"c"])?.as_str(),
-        "1: \"<S>a #;,\"\" | 2: \"\" | 3: a \"b\" c | end"
-    );
-    assert_eq!(rt;
-        answers(alloc, &["\"<>", "\"<U110000>\""])?.as_str(),
-        "EmptySymbol | BadCodePoint | end"
-    );
-    Ok(())
-}
-
-#[test]
-fn words_end_before_separators(rt: HostRuntime) -> Result<(), Fail> {
-    let alloc = rt.alloc();
-    assert_eq!(rt;
-        answers(alloc, &["a;b,c<d>e\"f\"g#h", "> a>b", " \t "])?.as_str(),
-        "1: a ; b , c <d> e \"f\" g | 2: > a>b | - | end"
-    );
-    assert_eq!(rt;
-        answers(alloc, &["IG\\NORE", "or\\der_end", "\\0", "\\8\\;"])?.as_str(),
-        "1: IGNORE | CharacterConstant | CharacterConstant | 4: 8; | end"
-    );
-    Ok(())
-}
-
-#[test]
-fn after_a_fault_the_next_line_begins_a_new_one(rt: HostRuntime) -> Result<(), Fail> {
-    let alloc = rt.alloc();
-    assert_eq!(rt;
-        answers(alloc, &["a\\d \\", "b"])?.as_str(),
-        "CharacterConstant | 2: b | end"
-    );
-    assert_eq!(rt;
-        answers(alloc, &["a \\", "b\\d \\", "c"])?.as_str(),
-        "- | CharacterConstant | 3: c | end"
-    );
-    Ok(())
-}
+// A continued line, and then lines that end it, as they aren't UTF-8, whatever else they are.
+const LINES_AND_NO_TEXTS: &[(&[u8], Option<LexFault>, Option<u32>)] = &[
+    (b"a \\", None, Some(1)),
+    (b"# \xff", Some(LexFault::NotUtf8), None),
+    (b"comment_char % \xff", Some(LexFault::NotUtf8), None),
+    (b"a\\d \xff", Some(LexFault::NotUtf8), None),
+];
 
 #[test]
 fn each_line_is_tested_as_text(rt: HostRuntime) -> Result<(), Fail> {
     let mut lexer = Lexer::new(rt.alloc())?;
-    assert!(rt; lexer.feed(b"a \\").is_ok());
-    assert_eq!(rt; lexer.feed(b"# \xff").err(), Some(LexFault::NotUtf8));
-    assert_eq!(rt; lexer.pending(), None);
-    assert_eq!(rt;
-        lexer.feed(b"comment_char % \xff").err(),
-        Some(LexFault::NotUtf8)
-    );
-    assert_eq!(rt; lexer.feed(b"a\\d \xff").err(), Some(LexFault::NotUtf8));
+    for (line, fault, pending) in LINES_AND_NO_TEXTS {
+        assert_feeds(&rt, &mut lexer, line, *fault, *pending);
+    }
     assert_eq!(rt; lexer.chars().comment, '#');
-    assert_eq!(rt; lexer.outside(b"comment_char % \xff"), Ok(false));
-    assert_eq!(rt; lexer.chars().comment, '%');
-    assert_eq!(rt;
-        lexer.outside(b"escape_char \xff"),
-        Err(LexFault::BadCharDirective)
-    );
     Ok(())
 }
+
+// So many blanks.
+fn blanks(alloc: Global, count: usize) -> Result<Vec<u8>, AllocError> {
+    vec![in alloc; b' '; count]
+}
+
+// Lengths of lines of blanks, and the fault of each; the line outside the category has the same one.
+const LENGTHS: &[(usize, Option<LexFault>)] =
+    &[(65_536, None), (65_537, Some(LexFault::LineTooLong))];
 
 #[test]
 fn a_line_has_at_most_65_536_bytes(rt: HostRuntime) -> Result<(), Fail> {
-    let most = vec![in rt.alloc(); b' '; 65_536]?;
-    let more = vec![in rt.alloc(); b' '; 65_537]?;
     let mut lexer = Lexer::new(rt.alloc())?;
-    assert!(rt; lexer.feed(most.as_slice()).is_ok());
-    assert_eq!(rt;
-        lexer.feed(more.as_slice()).err(),
-        Some(LexFault::LineTooLong)
-    );
-    assert_eq!(rt; lexer.outside(most.as_slice()), Ok(false));
-    assert_eq!(rt; lexer.outside(more.as_slice()), Err(LexFault::LineTooLong));
+    for (length, fault) in LENGTHS {
+        let line = blanks(rt.alloc(), *length)?;
+        assert_feeds(&rt, &mut lexer, &line, *fault, None);
+        assert_eq!(rt; lexer.outside(&line).err(), *fault);
+    }
     Ok(())
 }
 
+// Two bytes that continue the line, 65,534, two more, and 65,535.
 #[test]
 fn the_lengths_of_joined_lines_are_added(rt: HostRuntime) -> Result<(), Fail> {
-    let most = vec![in rt.alloc(); b' '; 65_534]?;
-    let more = vec![in rt.alloc(); b' '; 65_535]?;
+    let most = blanks(rt.alloc(), 65_534)?;
+    let more = blanks(rt.alloc(), 65_535)?;
     let mut lexer = Lexer::new(rt.alloc())?;
-    assert!(rt; lexer.feed(b"\\\r").is_ok());
-    assert!(rt; lexer.feed(most.as_slice()).is_ok());
-    assert!(rt; lexer.feed(b"\\\r").is_ok());
-    assert_eq!(rt;
-        lexer.feed(more.as_slice()).err(),
-        Some(LexFault::LineTooLong)
-    );
-    assert_eq!(rt; lexer.pending(), None);
+    let too_long = Some(LexFault::LineTooLong);
+    assert_feeds(&rt, &mut lexer, b"\\\r", None, Some(1));
+    assert_feeds(&rt, &mut lexer, &most, None, None);
+    assert_feeds(&rt, &mut lexer, b"\\\r", None, Some(3));
+    assert_feeds(&rt, &mut lexer, &more, too_long, None);
     Ok(())
 }
+
+// Lines outside the category, and whether each begins it. A directive among them counts from the next line on.
+const OUTSIDE: &[(&[u8], Result<bool, LexFault>)] = &[
+    (b"LC_COLLATE;", Ok(false)),
+    (b"LC_COLLATE \\", Ok(false)),
+    (b"LC_COLLATE%x", Ok(false)),
+    (b"LC_COLLATES", Ok(false)),
+    (b"LC\\_COLLATE", Ok(false)),
+    (b"\xff\"<\\", Ok(false)),
+    (b" \tLC_COLLATE\r", Ok(true)),
+    (b"LC_COLLATE  # \xff", Ok(true)),
+    (b"comment_char % \xff", Ok(false)),
+    (b"LC_COLLATE%x", Ok(true)),
+    (b"escape_char \xff", Err(LexFault::BadCharDirective)),
+    (b"escape_char /", Ok(false)),
+];
 
 #[test]
 fn the_category_begins_by_its_bytes(rt: HostRuntime) -> Result<(), Fail> {
     let mut lexer = Lexer::new(rt.alloc())?;
-    assert_eq!(rt; lexer.outside(b"LC_COLLATE;"), Ok(false));
-    assert_eq!(rt; lexer.outside(b"LC_COLLATE \\"), Ok(false));
-    assert_eq!(rt; lexer.outside(b"LC_COLLATE%x"), Ok(false));
-    assert_eq!(rt; lexer.outside(b"LC_COLLATES"), Ok(false));
-    assert_eq!(rt; lexer.outside(b"LC\\_COLLATE"), Ok(false));
-    assert_eq!(rt; lexer.outside(b"\xff\"<\\"), Ok(false));
-    assert_eq!(rt; lexer.outside(b" \tLC_COLLATE\r"), Ok(true));
-    assert_eq!(rt; lexer.outside(b"LC_COLLATE  # \xff"), Ok(true));
-    assert_eq!(rt; lexer.outside(b"comment_char %"), Ok(false));
-    assert_eq!(rt; lexer.outside(b"LC_COLLATE%x"), Ok(true));
+    for (line, begins) in OUTSIDE {
+        assert_eq!(rt; lexer.outside(line), *begins);
+    }
+    assert_eq!(rt; lexer.chars().comment, '%');
+    assert_eq!(rt; lexer.chars().escape, '/');
     Ok(())
 }
 

@@ -1,32 +1,33 @@
 //! Sessions whose reader or writer fails in mid-text.
 
 use crate::devices::{Failure, ShortReader, ShortWriter};
-use crate::sessions::{MOVED, run};
+use crate::sessions::{MOVED, MOVED_TEXT, run};
 use coll_bench::{Fault, RunFault};
 use coll_lex::{Counted, ReadStop, Sink, Source, WriteStop};
 use std::alloc::{AllocError, Global};
+use std::process::Abort;
 use std::test::Fail;
 
-// The text of the session that moves a character and moves it back.
-fn moved_text(alloc: Global) -> Result<String, AllocError> {
-    let mut text = String::new(alloc);
-    for (line, _) in MOVED {
-        text.push_str(line)?;
+// All that is written for the session's text.
+fn all_replies(alloc: Global) -> Result<String, AllocError> {
+    let mut replies = String::new(alloc);
+    for (_, reply) in MOVED {
+        replies.push_str(reply)?;
     }
-    Ok(text)
+    Ok(replies)
 }
 
-// The replies to the lines of that text which stand whole in so many of its bytes.
-fn replies_within(alloc: Global, bytes: usize) -> Result<String, AllocError> {
-    let mut replies = String::new(alloc);
+// How many bytes are written for the lines that stand whole in so many bytes of that text.
+fn written_within(bytes: usize) -> usize {
     let mut end = 0_usize;
+    let mut written = 0_usize;
     for (line, reply) in MOVED {
         end = end.saturating_add(line.len());
         if end <= bytes {
-            replies.push_str(reply)?;
+            written = written.saturating_add(reply.len());
         }
     }
-    Ok(replies)
+    written
 }
 
 const READ_FAULT: RunFault = RunFault {
@@ -35,24 +36,32 @@ const READ_FAULT: RunFault = RunFault {
     fault: Fault::Read(ReadStop::ReadFault),
 };
 
+// Asserts what a session answers and writes whose n-th read fails, if it comes so far.
+fn assert_read(
+    rt: &impl Abort,
+    alloc: Global,
+    replies: &str,
+    fails_at: usize,
+    answer: Result<(), RunFault>,
+) {
+    let mut input = Counted::new(ShortReader::new(MOVED_TEXT, fails_at));
+    let mut output = Counted::new(Vec::new(alloc));
+    assert_eq!(rt; run(rt, alloc, &mut input, &mut output), answer, "at {fails_at}");
+    assert_eq!(rt; input.errors(), u64::from(answer.is_err()), "at {fails_at}");
+    let end = written_within(fails_at.saturating_sub(1).saturating_mul(3));
+    let written = output.device().as_slice();
+    assert_eq!(rt; Some(written), replies.as_bytes().get(..end), "at {fails_at}");
+}
+
 // The text has 66 bytes, which 22 reads give. A further read finds its end.
 #[test]
 fn a_read_that_fails_ends_the_session_without_a_reply(rt: HostRuntime) -> Result<(), Fail> {
-    let text = moved_text(rt.alloc())?;
-    assert_eq!(rt; text.len(), 66);
-    for fails_at in 1..26_usize {
-        let mut input = Counted::new(ShortReader::new(text.as_bytes(), fails_at));
-        let mut output = Counted::new(Vec::new(rt.alloc()));
-        let answer = run(rt.alloc(), &mut input, &mut output)?;
-        let fails = fails_at <= 23;
-        let want = if fails { Err(READ_FAULT) } else { Ok(()) };
-        assert_eq!(rt; answer, want, "at {fails_at}");
-        assert_eq!(rt; input.errors(), u64::from(fails), "at {fails_at}");
-        let given = fails_at.saturating_sub(1).saturating_mul(3);
-        let replies = replies_within(rt.alloc(), given)?;
-        let written = output.device().as_slice();
-        assert_eq!(rt; written, replies.as_bytes(), "at {fails_at}");
+    let replies = all_replies(rt.alloc())?;
+    assert_eq!(rt; MOVED_TEXT.len(), 66);
+    for fails_at in 1..=23 {
+        assert_read(&rt, rt.alloc(), replies.as_str(), fails_at, Err(READ_FAULT));
     }
+    assert_read(&rt, rt.alloc(), replies.as_str(), 24, Ok(()));
     Ok(())
 }
 
@@ -62,30 +71,37 @@ const WRITE_FAULT: RunFault = RunFault {
     fault: Fault::Write(WriteStop::WriteFault),
 };
 
+// Whether a session has no n-th write or flush that could fail. Asserts that it writes all replies if so, and else answers
+// the fault and has written a front of them.
+fn is_whole(
+    rt: &impl Abort,
+    alloc: Global,
+    replies: &str,
+    fails_at: usize,
+    failure: Failure,
+) -> bool {
+    let writer = ShortWriter::new(Vec::new(alloc), fails_at, failure);
+    let mut output = Counted::new(writer);
+    let answer = run(rt, alloc, &mut Counted::new(MOVED_TEXT), &mut output);
+    let taken = output.device().taken.as_slice();
+    if answer.is_ok() {
+        assert_eq!(rt; taken, replies.as_bytes());
+    } else {
+        assert_eq!(rt; answer, Err(WRITE_FAULT), "at {fails_at}");
+        assert!(rt; replies.as_bytes().starts_with(taken), "at {fails_at}");
+    }
+    assert_eq!(rt; output.errors(), u64::from(answer.is_err()), "at {fails_at}");
+    answer.is_ok()
+}
+
 // Each write and each flush of the session fails in turn, up to a run in which none is left to fail.
 #[test]
 fn a_write_that_fails_leaves_a_front_of_the_replies(rt: HostRuntime) -> Result<(), Fail> {
-    let text = moved_text(rt.alloc())?;
-    let replies = replies_within(rt.alloc(), text.len())?;
+    let replies = all_replies(rt.alloc())?;
     for failure in [Failure::Error, Failure::TakesNothing] {
-        let mut is_whole = false;
-        for fails_at in 1..1_000 {
-            let mut input = Counted::new(text.as_bytes());
-            let writer = ShortWriter::new(Vec::new(rt.alloc()), fails_at, failure);
-            let mut output = Counted::new(writer);
-            let answer = run(rt.alloc(), &mut input, &mut output)?;
-            let taken = output.device().taken.as_slice();
-            if answer.is_ok() {
-                assert_eq!(rt; taken, replies.as_bytes());
-                assert_eq!(rt; output.errors(), 0);
-                is_whole = true;
-                break;
-            }
-            assert_eq!(rt; answer, Err(WRITE_FAULT), "at {fails_at}");
-            assert_eq!(rt; output.errors(), 1, "at {fails_at}");
-            assert!(rt; replies.as_bytes().starts_with(taken), "at {fails_at}");
-        }
-        assert!(rt; is_whole);
+        let whole =
+            (1..1_000).find(|at| is_whole(&rt, rt.alloc(), replies.as_str(), *at, failure));
+        assert!(rt; whole.is_some());
     }
     Ok(())
 }

@@ -5,7 +5,7 @@ use coll_lex::Counted;
 use std::cell::Cell;
 use std::io;
 use std::io::{ErrorKind, Read, Write};
-use std::test::Fail;
+use std::process::Abort;
 
 // Gives a line per read, and keeps how many bytes were flushed when each read began.
 #[derive(Drop)]
@@ -48,11 +48,23 @@ impl Write for TellingWriter<'_> {
     }
 }
 
+// Asserts that at each read all replies to the lines before were flushed.
+fn assert_flushed(rt: &impl Abort, seen: &[usize]) {
+    let mut written = 0_usize;
+    let mut reads = seen.iter();
+    for (_, reply) in MOVED {
+        assert_eq!(rt; reads.next(), Some(&written));
+        written = written.saturating_add(reply.len());
+    }
+    assert_eq!(rt; reads.next(), Some(&written));
+    assert_eq!(rt; reads.next(), None);
+}
+
 #[test]
-fn each_reply_is_flushed_before_the_next_line_is_read(rt: HostRuntime) -> Result<(), Fail> {
+fn each_reply_is_flushed_before_the_next_line_is_read(rt: HostRuntime) {
     let flushed = Cell::new(0);
     let mut input = Counted::new(WatchingReader {
-        lines: MOVED.as_slice(),
+        lines: MOVED,
         flushed: &flushed,
         seen: Vec::new(rt.alloc()),
     });
@@ -60,15 +72,6 @@ fn each_reply_is_flushed_before_the_next_line_is_read(rt: HostRuntime) -> Result
         taken: 0,
         flushed: &flushed,
     });
-    let answer = run(rt.alloc(), &mut input, &mut output)?;
-    assert_eq!(rt; answer, Ok(()));
-    let mut wanted = Vec::new(rt.alloc());
-    let mut written = 0_usize;
-    wanted.push(written)?;
-    for (_, replies) in MOVED {
-        written = written.saturating_add(replies.len());
-        wanted.push(written)?;
-    }
-    assert_eq!(rt; input.device().seen.as_slice(), wanted.as_slice());
-    Ok(())
+    assert_eq!(rt; run(&rt, rt.alloc(), &mut input, &mut output), Ok(()));
+    assert_flushed(&rt, input.device().seen.as_slice());
 }

@@ -3,28 +3,46 @@
 use crate::tables::examples::{FIRST_TABLE, assert_order, block, loaded};
 use coll_bench::{BenchFault, Session};
 use coll_table::Refusal;
+use std::process::Abort;
 use std::test::Fail;
+
+// Asserts that a session has this order, and so many statements to be taken back.
+fn assert_session(rt: &impl Abort, session: &Session, order: &str, remaining: u32) {
+    assert_order(rt, session.table(), order);
+    assert_eq!(rt; session.remaining_len(), remaining);
+}
+
+// The target and the order line of a block, what answers it, the order after it, and how many statements then remain.
+const STATEMENTS: &[(&str, &str, Result<u32, BenchFault>, &str, u32)] = &[
+    ("c", "a", Ok(1), "<bca", 1),
+    (
+        "q",
+        "b",
+        Err(BenchFault::Table(Refusal::TargetNotPlaced)),
+        "<bca",
+        1,
+    ),
+    ("a", "b", Ok(2), "<cab", 2),
+];
+
+// The answers when these are taken back, and the orders then.
+const UNDONE: &[(Result<u32, BenchFault>, &str, u32)] = &[
+    (Ok(1), "<bca", 1),
+    (Ok(0), "<abc", 0),
+    (Err(BenchFault::NothingToUndo), "<abc", 0),
+];
 
 #[test]
 fn statements_are_accepted_and_taken_back(rt: HostRuntime) -> Result<(), Fail> {
-    let first = block(rt.alloc(), "c", &["a"])?;
-    let refused = block(rt.alloc(), "q", &["b"])?;
-    let second = block(rt.alloc(), "a", &["b"])?;
-    let table = loaded(rt.alloc(), FIRST_TABLE)?;
-    let mut session = Session::new(rt.alloc(), table);
-    assert_eq!(rt; session.undo(), Err(BenchFault::NothingToUndo));
-    assert_eq!(rt; session.statement(first), Ok(1));
-    assert_order(&rt, session.table(), "<bca");
-    let answer = session.statement(refused);
-    assert_eq!(rt; answer, Err(BenchFault::Table(Refusal::TargetNotPlaced)));
-    assert_order(&rt, session.table(), "<bca");
-    assert_eq!(rt; session.statement(second), Ok(2));
-    assert_order(&rt, session.table(), "<cab");
-    assert_eq!(rt; session.remaining_len(), 2);
-    assert_eq!(rt; session.undo(), Ok(1));
-    assert_order(&rt, session.table(), "<bca");
-    assert_eq!(rt; session.undo(), Ok(0));
-    assert_order(&rt, session.table(), "<abc");
-    assert_eq!(rt; session.remaining_len(), 0);
+    let mut session = Session::new(rt.alloc(), loaded(rt.alloc(), FIRST_TABLE)?);
+    for (target, line, answer, order, remaining) in STATEMENTS {
+        let statement = block(rt.alloc(), target, &[*line])?;
+        assert_eq!(rt; session.statement(statement), *answer);
+        assert_session(&rt, &session, order, *remaining);
+    }
+    for (answer, order, remaining) in UNDONE {
+        assert_eq!(rt; session.undo(), *answer);
+        assert_session(&rt, &session, order, *remaining);
+    }
     Ok(())
 }

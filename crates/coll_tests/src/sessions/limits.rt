@@ -1,43 +1,63 @@
 //! Sessions that meet a limit.
 
 use crate::sessions::run;
-use coll_bench::{Fault, RunFault};
+use coll_bench::{Fault, MOST_REMAINING, RunFault};
 use coll_lex::{Counted, LexFault, MOST_LINE_BYTES};
+use std::alloc::{AllocError, Global};
+use std::process::Abort;
 use std::test::Fail;
 
+// The text of a front, a part so many times, and a rest.
+fn repeated(
+    alloc: Global,
+    front: &[u8],
+    part: &[u8],
+    count: usize,
+    rest: &[u8],
+) -> Result<Vec<u8>, AllocError> {
+    let mut text = Vec::from_slice(alloc, front)?;
+    for _ in 0..count {
+        text.extend_from_slice(part)?;
+    }
+    text.extend_from_slice(rest)?;
+    Ok(text)
+}
+
+// Asserts what a session over this text answers, and with which replies it ends.
+fn assert_ends(
+    rt: &impl Abort,
+    alloc: Global,
+    text: &[u8],
+    answer: Result<(), RunFault>,
+    replies: &str,
+) {
+    let mut output = Counted::new(Vec::new(alloc));
+    assert_eq!(rt; run(rt, alloc, &mut Counted::new(text), &mut output), answer);
+    assert!(rt; output.device().ends_with(replies.as_bytes()));
+}
+
+const LINE_TOO_LONG: RunFault = RunFault {
+    input: 0,
+    line: 2,
+    fault: Fault::Lex(LexFault::LineTooLong),
+};
+
+// One byte more than a line may have, in an open block.
 #[test]
 fn a_line_too_long_drops_the_open_block_and_ends_the_session(rt: HostRuntime) -> Result<(), Fail> {
-    let mut text = Vec::new(rt.alloc());
-    text.extend_from_slice(b"reorder-after <U0061>\n")?;
-    text.extend_from_slice(&vec![in rt.alloc(); b'a'; MOST_LINE_BYTES + 1]?)?;
-    text.extend_from_slice(b"\n:list\n")?;
-    let mut input = Counted::new(text.as_slice());
-    let mut output = Counted::new(Vec::new(rt.alloc()));
-    let answer = run(rt.alloc(), &mut input, &mut output)?;
-    let want = RunFault {
-        input: 0,
-        line: 2,
-        fault: Fault::Lex(LexFault::LineTooLong),
-    };
-    assert_eq!(rt; answer, Err(want));
-    let replies = b"refused 10 LineTooLong\n".as_slice();
-    assert_eq!(rt; output.device().as_slice(), replies);
+    let opened = b"reorder-after <U0061>\n";
+    let text = repeated(rt.alloc(), opened, b"a", MOST_LINE_BYTES + 1, b"\n:list\n")?;
+    let replies = "refused 10 LineTooLong\n";
+    assert_ends(&rt, rt.alloc(), &text, Err(LINE_TOO_LONG), replies);
     Ok(())
 }
 
 // One block more than may remain, and then one is taken back.
 #[test]
 fn a_full_history_refuses_a_statement(rt: HostRuntime) -> Result<(), Fail> {
-    let mut text = Vec::new(rt.alloc());
-    for _ in 0..65_536_u32 {
-        text.extend_from_slice(b"reorder-after <U0061>\nreorder-end\n")?;
-    }
-    text.extend_from_slice(b":undo\n")?;
-    let mut input = Counted::new(text.as_slice());
-    let mut output = Counted::new(Vec::new(rt.alloc()));
-    let answer = run(rt.alloc(), &mut input, &mut output)?;
-    assert_eq!(rt; answer, Ok(()));
-    let replies = b"ok 65535\nrefused 66 HistoryFull\nundone 65534\n".as_slice();
-    assert!(rt; output.device().ends_with(replies));
+    let block = b"reorder-after <U0061>\nreorder-end\n";
+    let text = repeated(rt.alloc(), b"", block, MOST_REMAINING + 1, b":undo\n")?;
+    let replies = "ok 65535\nrefused 66 HistoryFull\nundone 65534\n";
+    assert_ends(&rt, rt.alloc(), &text, Ok(()), replies);
     Ok(())
 }

@@ -5,6 +5,8 @@ use crate::tables::examples::{FIRST_TABLE, assert_order, loaded};
 use coll_lex::{Counted, LexFault, Source};
 use coll_syntax::SyntaxFault;
 use coll_table::{LoadCause, LoadFault, load};
+use std::alloc::Global;
+use std::process::Abort;
 use std::test::Fail;
 
 #[test]
@@ -29,7 +31,7 @@ fn lines_may_be_spelled_in_many_ways(rt: HostRuntime) -> Result<(), Fail> {
 }
 
 // A text, and the line and the cause of its first fault.
-const FAULTS: [(&[u8], u32, LoadCause); 21] = [
+const FAULTS: &[(&[u8], u32, LoadCause)] = &[
     (b"", 0, LoadCause::NoCategory),
     (b"LC_COLLATE x\n", 1, LoadCause::NoCategory),
     (b"LC_COLLATE\nEND LC_COLLATE\n", 2, LoadCause::NoRules),
@@ -111,36 +113,77 @@ const FAULTS: [(&[u8], u32, LoadCause); 21] = [
         3,
         LoadCause::Syntax(SyntaxFault::ExtraOperand),
     ),
+    (
+        b"LC_COLLATE\ncollating-symbol <X> <Y>\n",
+        2,
+        LoadCause::Syntax(SyntaxFault::ExtraOperand),
+    ),
+    (
+        b"LC_COLLATE\ncollating-symbol X\n",
+        2,
+        LoadCause::Syntax(SyntaxFault::BadOperand),
+    ),
+    (
+        b"LC_COLLATE\norder_start backwards\n",
+        2,
+        LoadCause::Syntax(SyntaxFault::BadRule),
+    ),
+    (
+        b"LC_COLLATE\norder_start\norder_end <X>\n",
+        3,
+        LoadCause::Syntax(SyntaxFault::ExtraOperand),
+    ),
+    (
+        b"LC_COLLATE\nreorder-end\n",
+        2,
+        LoadCause::Syntax(SyntaxFault::UnknownStatement),
+    ),
+    (
+        b"LC_COLLATE\nEND\n",
+        2,
+        LoadCause::Syntax(SyntaxFault::MissingOperand),
+    ),
+    (
+        b"LC_COLLATE\nEND LC_CTYPE\n",
+        2,
+        LoadCause::Syntax(SyntaxFault::BadOperand),
+    ),
+    (
+        b"LC_COLLATE\nEND LC_COLLATE ;\n",
+        2,
+        LoadCause::Syntax(SyntaxFault::ExtraOperand),
+    ),
 ];
 
 #[test]
 fn the_first_line_at_fault_decides(rt: HostRuntime) {
     for (text, line, cause) in FAULTS {
-        assert_eq!(rt;
-            loaded(rt.alloc(), text).err(),
-            Some(LoadFault { line, cause }),
-            "at {cause}"
-        );
+        let want = LoadFault {
+            line: *line,
+            cause: *cause,
+        };
+        assert_eq!(rt; loaded(rt.alloc(), text).err(), Some(want), "at {cause}");
     }
+}
+
+const READ_FAULT: LoadFault = LoadFault {
+    line: 0,
+    cause: LoadCause::ReadFault,
+};
+
+// Asserts the fault of a load whose n-th read fails, if it comes so far.
+fn assert_read(rt: &impl Abort, alloc: Global, fails_at: usize, fault: Option<LoadFault>) {
+    let mut input = Counted::new(ShortReader::new(FIRST_TABLE, fails_at));
+    assert_eq!(rt; load(alloc, &mut input).err(), fault, "at {fails_at}");
+    assert_eq!(rt; input.errors(), u64::from(fault.is_some()), "at {fails_at}");
 }
 
 // The first table has 111 bytes, which 37 reads give; its last line feed is the last of them. A read that fails is the fault
 // unless the lines before it decide, and a read behind the category isn't made.
 #[test]
 fn a_read_that_fails_within_the_category_is_the_fault(rt: HostRuntime) {
-    let want = LoadFault {
-        line: 0,
-        cause: LoadCause::ReadFault,
-    };
-    for fails_at in 1..40 {
-        let mut input = Counted::new(ShortReader::new(FIRST_TABLE, fails_at));
-        let fault = load(rt.alloc(), &mut input).err();
-        let fails = fails_at <= 37;
-        assert_eq!(rt;
-            fault,
-            if fails { Some(want) } else { None },
-            "at {fails_at}"
-        );
-        assert_eq!(rt; input.errors(), u64::from(fails), "at {fails_at}");
+    for fails_at in 1..=37 {
+        assert_read(&rt, rt.alloc(), fails_at, Some(READ_FAULT));
     }
+    assert_read(&rt, rt.alloc(), 38, None);
 }

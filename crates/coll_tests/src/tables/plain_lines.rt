@@ -21,34 +21,33 @@ fn said_in_a_delta(alloc: Global, text: &str) -> Result<String, Fail> {
     Ok(said)
 }
 
+const LINES: &[(&str, &str)] = &[
+    ("reorder-after <U0061>", "after a"),
+    ("reorder\\-after \u{E4}", "after \u{E4}"),
+    ("reorder-after<BASE> # note", "after <BASE>"),
+    ("reorder-end", "end"),
+    ("<BASE>", "<BASE>"),
+    (":", ":"),
+    ("bogus", "20 UnknownStatement"),
+    ("UNDEFINED", "20 UnknownStatement"),
+    (";", "20 UnknownStatement"),
+    ("\"a\"", "20 UnknownStatement"),
+    ("collating-symbol <X>", "20 UnknownStatement"),
+    ("reorder-after", "21 MissingOperand"),
+    ("reorder-after UNDEFINED", "29 BadOperand"),
+    ("reorder-after ;", "29 BadOperand"),
+    ("reorder-after ; b", "29 BadOperand"),
+    ("reorder-after a b", "22 ExtraOperand"),
+    ("reorder-end ,", "22 ExtraOperand"),
+    ("a a", "22 ExtraOperand"),
+    ("<BASE>;", "22 ExtraOperand"),
+];
+
 #[test]
 fn lines_of_a_delta_are_read_by_their_tokens(rt: HostRuntime) -> Result<(), Fail> {
-    for (text, want) in [
-        ("reorder-after <U0061>", "after a"),
-        ("reorder\\-after \u{E4}", "after \u{E4}"),
-        ("reorder-after<BASE> # note", "after <BASE>"),
-        ("reorder-end", "end"),
-        ("<BASE>", "<BASE>"),
-        (":", ":"),
-        ("bogus", "20 UnknownStatement"),
-        ("UNDEFINED", "20 UnknownStatement"),
-        (";", "20 UnknownStatement"),
-        ("\"a\"", "20 UnknownStatement"),
-        ("collating-symbol <X>", "20 UnknownStatement"),
-        ("reorder-after", "21 MissingOperand"),
-        ("reorder-after UNDEFINED", "29 BadOperand"),
-        ("reorder-after ;", "29 BadOperand"),
-        ("reorder-after ; b", "29 BadOperand"),
-        ("reorder-after a b", "22 ExtraOperand"),
-        ("reorder-end ,", "22 ExtraOperand"),
-        ("a a", "22 ExtraOperand"),
-        ("<BASE>;", "22 ExtraOperand"),
-    ] {
-        assert_eq!(rt;
-            said_in_a_delta(rt.alloc(), text)?.as_str(),
-            want,
-            "at {text}"
-        );
+    for (text, want) in LINES {
+        let said = said_in_a_delta(rt.alloc(), text)?;
+        assert_eq!(rt; said.as_str(), *want, "at {text}");
     }
     Ok(())
 }
