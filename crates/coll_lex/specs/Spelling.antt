@@ -1,7 +1,7 @@
 -- The canonical spellings of names and characters.
 --
 -- Each spelling takes what follows it, so that a whole line is spelled by putting one spelling into the next.
--- They are read back under the comment character `%` and the escape character `/`.
+-- They are read back under the escape character `/` and each comment character (`ReadingBack`).
 use Rattle.std.specs.Prelude.{ℕ, zero, suc, ◌+◌, ◌/◌, ◌%◌, Bool, ◌||◌, ◌==◌, nat_lt, if◌then◌else◌, List, [], ◌∷◌, ◌++◌}
 use Rattle.coll_lex.specs.Characters.{slash, less_than, greater_than, capital_u}
 

@@ -124,6 +124,8 @@ impl Lexer {
     ghost use Rattle.coll_lex.specs.declared.faults.LexFault.TheVariants.{OutOfMemory, DanglingEscape};
 
     /// A lexer at the beginning of a text, with the comment character `#` and the escape character `\`.
+    ///
+    /// It takes no memory today; its callers are ready for one that does.
     pub fn new(alloc: Global) -> Result<Lexer, AllocError>
         ensures { IfOk result (λ lexer. lexer ≡ first_state) }
     {

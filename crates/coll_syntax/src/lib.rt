@@ -4,7 +4,8 @@
 //! it from left to right, and the first token that doesn't fit gives the fault. The types come first (`identifiers`,
 //! `weights`, `rules`, `statements`, `lines`), then the reading of tokens (`keywords`, `operands`, `elements`,
 //! `weight_lists`, `rule_lists`, `order_lines`) and of whole lines (`table_lines`, `delta_lines`); `syntax_faults` has the
-//! faults. What a line says is defined in the file of the same name in `specs/`. A new kind of line is a variant of
+//! faults. What a line says is defined in `specs/`: `identifiers` in `Identifier`, `weight_lists` in `Weights`, `rule_lists` in
+//! `Rules`, what is proper in `Proper`, and the others in the file of their name. A new kind of line is a variant of
 //! `TableLine` or `DeltaLine`, its keyword, its case in `specs/TableLines.antt` or `specs/DeltaLines.antt`, and its arm in
 //! the parser.
 #![tactic(auto)]

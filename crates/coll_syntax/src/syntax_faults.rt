@@ -22,7 +22,7 @@ pub enum SyntaxFault {
     ExtraOperand,
     /// What stands between two semicolons after `order_start` is no rule.
     BadRule,
-    /// A fifth rule.
+    /// A fifth operand of `order_start`, whatever it holds.
     TooManyLevels,
     /// A weight has more than 32 identifiers.
     WeightTooLong,

@@ -28,9 +28,9 @@ mod tables;
 mod text_lines;
 
 pub use entries::Entry;
-pub use limits::{MOST_DECLARATIONS, MOST_ENTRIES};
+pub use limits::{MOST_DECLARATIONS, MOST_ENTRIES, limits_are_stated};
 pub use load_faults::{LoadCause, LoadFault};
-pub use loading::load;
+pub use loading::{load, texts_are_well_formed};
 pub use plain::{PlainDeltaLine, PlainLine, PlainStatement, parse_plain_delta_line};
 pub(crate) use plain::{PlainTableLine, parse_plain_table_line};
 pub use records::Record;

@@ -13,7 +13,7 @@ use coll_table::load;
 use std::io::BufWriter;
 use std::process::ExitCode;
 
-/// The first table: a collating symbol and three letters, each with its own weight at the one level.
+/// The first table: a collating symbol and three letters.
 const FIRST_TABLE: &str = "LC_COLLATE
 collating-symbol <BASE>
 order_start forward

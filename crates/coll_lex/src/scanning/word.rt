@@ -1,7 +1,7 @@
 //! The moves outside symbols and strings: words, separators, and what begins a symbol, a string or a comment.
 //!
-//! The tests stand in the order of the definition of tokens, so that nothing need be known of the comment
-//! character.
+//! The tests stand in the order of the kinds of characters (`specs/Kinds.antt`), so that nothing need be known of the
+//! comment character.
 
 ghost use Rattle.std.specs.Prelude.{◌≡◌, ◌≢◌, ◌<◌, ℕ, [], ◌∷◌, ◌++◌, length, OnOk, OnErr, IfErr};
 ghost use Rattle.coll_lex.specs.Marked.{Plain, Literal};
