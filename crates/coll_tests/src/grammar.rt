@@ -14,6 +14,7 @@ mod table_lines;
 use coll_lex::{Lexer, Line};
 use coll_syntax::{Id, OrderLine, Rule, Rules, SyntaxFault, Weight};
 use std::alloc::{AllocError, Global};
+use std::process::Abort;
 use std::test::Fail;
 
 /// The one logical line of a text.
@@ -26,9 +27,48 @@ pub fn line_of(alloc: Global, text: &str) -> Result<Line, Fail>
     Ok(line)
 }
 
-// The number of a fault, as a text.
-fn show_fault(alloc: Global, fault: SyntaxFault) -> Result<String, AllocError> {
-    format!(in alloc; "{}", fault.number())
+/// Where a line stands.
+#[derive(Clone, Copy)]
+pub enum Place {
+    Table,
+    Delta,
+}
+
+// Shows what a line says in this place.
+fn show(out: &mut String, alloc: Global, place: Place, line: &Line) -> Result<(), AllocError>
+    requires { AreTokens line.now.tokens }
+{
+    match place {
+        Place::Table => table_lines::show(out, alloc, line),
+        Place::Delta => delta_lines::show(out, alloc, line),
+    }
+}
+
+// What a text says as a line in this place, in short.
+fn said(alloc: Global, place: Place, text: &str) -> Result<String, Fail> {
+    let line = line_of(alloc, text)?;
+    let mut out = String::new(alloc);
+    show(&mut out, alloc, place, &line)?;
+    Ok(out)
+}
+
+/// Asserts what each of these texts says as a line in this place.
+pub fn assert_said(
+    rt: &impl Abort,
+    alloc: Global,
+    place: Place,
+    rows: &[(&str, &str)],
+) -> Result<(), Fail> {
+    for (text, want) in rows {
+        let given = said(alloc, place, text)?;
+        assert_eq!(rt; given.as_str(), *want, "at {text}");
+    }
+    Ok(())
+}
+
+// The number of a fault.
+fn show_fault(out: &mut String, fault: SyntaxFault) -> Result<(), AllocError> {
+    write!(out, "{}", fault.number())
 }
 
 // A name between its brackets, after a blank.

@@ -1,31 +1,32 @@
 //! Lines of deltas.
 
-use super::{line_of, show_fault, show_id, show_name, show_order};
+ghost use Rattle.coll_lex.specs.Names.{AreTokens};
+
+use super::{Place, assert_said, show_fault, show_id, show_name, show_order};
+use coll_lex::Line;
 use coll_syntax::{DeltaLine, parse_delta_line};
 use std::alloc::{AllocError, Global};
-use std::process::Abort;
 use std::test::Fail;
 
-// What a text says as a line of a delta, in short.
-fn said(alloc: Global, text: &str) -> Result<String, Fail> {
-    let line = line_of(alloc, text)?;
-    let shown = match parse_delta_line(alloc, &line) {
-        Ok(read) => shown(alloc, &read)?,
-        Err(fault) => show_fault(alloc, fault)?,
-    };
-    Ok(shown)
+/// Shows what a line says as one of a delta.
+pub fn show(out: &mut String, alloc: Global, line: &Line) -> Result<(), AllocError>
+    requires { AreTokens line.now.tokens }
+{
+    match parse_delta_line(alloc, line) {
+        Ok(read) => show_read(out, &read),
+        Err(fault) => show_fault(out, fault),
+    }
 }
 
-fn shown(alloc: Global, line: &DeltaLine) -> Result<String, AllocError> {
-    let mut out = String::new(alloc);
+fn show_read(out: &mut String, line: &DeltaLine) -> Result<(), AllocError> {
     match line {
         DeltaLine::Symbol(name) => {
             out.push_str("symbol")?;
-            show_name(&mut out, name.get())?;
+            show_name(out, name.get())?;
         }
         DeltaLine::Element { name, text } => {
             out.push_str("element")?;
-            show_name(&mut out, name.get())?;
+            show_name(out, name.get())?;
             out.push(' ')?;
             out.push_str(text.get())?;
         }
@@ -35,24 +36,15 @@ fn shown(alloc: Global, line: &DeltaLine) -> Result<String, AllocError> {
         DeltaLine::Copy => out.push_str("copy")?,
         DeltaLine::ReorderAfter(target) => {
             out.push_str("after ")?;
-            show_id(&mut out, target)?;
+            show_id(out, target)?;
         }
         DeltaLine::ReorderEnd => out.push_str("end")?,
         DeltaLine::SectionAfter { moved, after } => {
             out.push_str("section")?;
-            show_name(&mut out, moved.get())?;
-            show_name(&mut out, after.get())?;
+            show_name(out, moved.get())?;
+            show_name(out, after.get())?;
         }
-        DeltaLine::Order(line) => show_order(&mut out, line)?,
-    }
-    Ok(out)
-}
-
-// Asserts what each of these texts says as a line of a delta.
-fn assert_said(rt: &impl Abort, alloc: Global, rows: &[(&str, &str)]) -> Result<(), Fail> {
-    for (text, want) in rows {
-        let given = said(alloc, text)?;
-        assert_eq!(rt; given.as_str(), *want, "at {text}");
+        DeltaLine::Order(line) => show_order(out, line)?,
     }
     Ok(())
 }
@@ -80,7 +72,12 @@ const DECLARATIONS_AND_LINES_WITHOUT_EFFECT: &[(&str, &str)] = &[
 
 #[test]
 fn declarations_and_lines_without_effect(rt: HostRuntime) -> Result<(), Fail> {
-    assert_said(&rt, rt.alloc(), DECLARATIONS_AND_LINES_WITHOUT_EFFECT)
+    assert_said(
+        &rt,
+        rt.alloc(),
+        Place::Delta,
+        DECLARATIONS_AND_LINES_WITHOUT_EFFECT,
+    )
 }
 
 const BLOCKS_AND_SECTIONS: &[(&str, &str)] = &[
@@ -110,7 +107,7 @@ const BLOCKS_AND_SECTIONS: &[(&str, &str)] = &[
 
 #[test]
 fn blocks_and_sections(rt: HostRuntime) -> Result<(), Fail> {
-    assert_said(&rt, rt.alloc(), BLOCKS_AND_SECTIONS)
+    assert_said(&rt, rt.alloc(), Place::Delta, BLOCKS_AND_SECTIONS)
 }
 
 const ORDER_LINES_AND_FIRST_TOKENS: &[(&str, &str)] = &[
@@ -137,5 +134,5 @@ const ORDER_LINES_AND_FIRST_TOKENS: &[(&str, &str)] = &[
 
 #[test]
 fn order_lines_and_first_tokens(rt: HostRuntime) -> Result<(), Fail> {
-    assert_said(&rt, rt.alloc(), ORDER_LINES_AND_FIRST_TOKENS)
+    assert_said(&rt, rt.alloc(), Place::Delta, ORDER_LINES_AND_FIRST_TOKENS)
 }

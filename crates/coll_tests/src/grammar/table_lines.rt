@@ -1,60 +1,52 @@
 //! Lines of tables.
 
-use super::{line_of, show_fault, show_name, show_order, show_rules};
+ghost use Rattle.coll_lex.specs.Names.{AreTokens};
+
+use super::{Place, assert_said, show_fault, show_name, show_order, show_rules};
+use coll_lex::Line;
 use coll_syntax::{TableLine, parse_table_line};
 use std::alloc::{AllocError, Global};
-use std::process::Abort;
 use std::test::Fail;
 
-// What a text says as a line of a table, in short.
-fn said(alloc: Global, text: &str) -> Result<String, Fail> {
-    let line = line_of(alloc, text)?;
-    let shown = match parse_table_line(alloc, &line) {
-        Ok(read) => shown(alloc, &read)?,
-        Err(fault) => show_fault(alloc, fault)?,
-    };
-    Ok(shown)
+/// Shows what a line says as one of a table.
+pub fn show(out: &mut String, alloc: Global, line: &Line) -> Result<(), AllocError>
+    requires { AreTokens line.now.tokens }
+{
+    match parse_table_line(alloc, line) {
+        Ok(read) => show_read(out, &read),
+        Err(fault) => show_fault(out, fault),
+    }
 }
 
-fn shown(alloc: Global, line: &TableLine) -> Result<String, AllocError> {
-    let mut out = String::new(alloc);
+fn show_read(out: &mut String, line: &TableLine) -> Result<(), AllocError> {
     match line {
         TableLine::Symbol(name) => {
             out.push_str("symbol")?;
-            show_name(&mut out, name.get())?;
+            show_name(out, name.get())?;
         }
         TableLine::Element { name, text } => {
             out.push_str("element")?;
-            show_name(&mut out, name.get())?;
+            show_name(out, name.get())?;
             out.push(' ')?;
             out.push_str(text.get())?;
         }
         TableLine::OrderStart { section, rules } => {
             out.push_str("start")?;
             if let Some(name) = section {
-                show_name(&mut out, name.get())?;
+                show_name(out, name.get())?;
             }
             if let Some(rules) = rules {
-                show_rules(&mut out, rules)?;
+                show_rules(out, rules)?;
             }
         }
         TableLine::OrderEnd => out.push_str("order_end")?,
         TableLine::Section(name) => {
             out.push_str("section")?;
-            show_name(&mut out, name.get())?;
+            show_name(out, name.get())?;
         }
         TableLine::Script => out.push_str("script")?,
         TableLine::EndCategory => out.push_str("END")?,
-        TableLine::Order(line) => show_order(&mut out, line)?,
-    }
-    Ok(out)
-}
-
-// Asserts what each of these texts says as a line of a table.
-fn assert_said(rt: &impl Abort, alloc: Global, rows: &[(&str, &str)]) -> Result<(), Fail> {
-    for (text, want) in rows {
-        let given = said(alloc, text)?;
-        assert_eq!(rt; given.as_str(), *want, "at {text}");
+        TableLine::Order(line) => show_order(out, line)?,
     }
     Ok(())
 }
@@ -88,7 +80,7 @@ const DECLARATIONS: &[(&str, &str)] = &[
 
 #[test]
 fn declarations(rt: HostRuntime) -> Result<(), Fail> {
-    assert_said(&rt, rt.alloc(), DECLARATIONS)
+    assert_said(&rt, rt.alloc(), Place::Table, DECLARATIONS)
 }
 
 const ELEMENT_STRINGS: &[(&str, &str)] = &[
@@ -113,7 +105,7 @@ const ELEMENT_STRINGS: &[(&str, &str)] = &[
 
 #[test]
 fn strings_of_elements(rt: HostRuntime) -> Result<(), Fail> {
-    assert_said(&rt, rt.alloc(), ELEMENT_STRINGS)
+    assert_said(&rt, rt.alloc(), Place::Table, ELEMENT_STRINGS)
 }
 
 const RULES: &[(&str, &str)] = &[
@@ -148,7 +140,7 @@ const RULES: &[(&str, &str)] = &[
 
 #[test]
 fn rules_of_a_table(rt: HostRuntime) -> Result<(), Fail> {
-    assert_said(&rt, rt.alloc(), RULES)
+    assert_said(&rt, rt.alloc(), Place::Table, RULES)
 }
 
 const FIFTH_OPERANDS_AND_SECTIONS: &[(&str, &str)] = &[
@@ -188,7 +180,7 @@ const FIFTH_OPERANDS_AND_SECTIONS: &[(&str, &str)] = &[
 
 #[test]
 fn fifth_operands_and_sections(rt: HostRuntime) -> Result<(), Fail> {
-    assert_said(&rt, rt.alloc(), FIFTH_OPERANDS_AND_SECTIONS)
+    assert_said(&rt, rt.alloc(), Place::Table, FIFTH_OPERANDS_AND_SECTIONS)
 }
 
 const ENDS_AND_FIRST_TOKENS: &[(&str, &str)] = &[
@@ -217,7 +209,7 @@ const ENDS_AND_FIRST_TOKENS: &[(&str, &str)] = &[
 
 #[test]
 fn ends_and_first_tokens(rt: HostRuntime) -> Result<(), Fail> {
-    assert_said(&rt, rt.alloc(), ENDS_AND_FIRST_TOKENS)
+    assert_said(&rt, rt.alloc(), Place::Table, ENDS_AND_FIRST_TOKENS)
 }
 
 const WEIGHTS: &[(&str, &str)] = &[
@@ -246,7 +238,7 @@ const WEIGHTS: &[(&str, &str)] = &[
 
 #[test]
 fn weights_of_order_lines(rt: HostRuntime) -> Result<(), Fail> {
-    assert_said(&rt, rt.alloc(), WEIGHTS)
+    assert_said(&rt, rt.alloc(), Place::Table, WEIGHTS)
 }
 
 const NO_SEMICOLONS: &[(&str, &str)] = &[
@@ -272,5 +264,5 @@ const NO_SEMICOLONS: &[(&str, &str)] = &[
 
 #[test]
 fn tokens_where_a_semicolon_is_wanted(rt: HostRuntime) -> Result<(), Fail> {
-    assert_said(&rt, rt.alloc(), NO_SEMICOLONS)
+    assert_said(&rt, rt.alloc(), Place::Table, NO_SEMICOLONS)
 }

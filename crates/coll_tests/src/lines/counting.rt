@@ -82,7 +82,12 @@ fn read_all<R: Source>(
     panic!(rt; "more lines than the text has");
 }
 
-fn assert_still(rt: &impl Abort, reader: &mut LineReader, input: &mut Counted<ScriptedReader>, last: Result<bool, ReadStop>) {
+fn assert_still(
+    rt: &impl Abort,
+    reader: &mut LineReader,
+    input: &mut Counted<ScriptedReader>,
+    last: Result<bool, ReadStop>,
+) {
     let calls = input.device().calls;
     for _ in 0..3 {
         assert_eq!(rt; reader.advance(input), last);

@@ -1,6 +1,7 @@
 //! Tables of physical lines and the answers to them, in the order of POSIX.1-2017, 7.3: continuation, characters
 //! made literal, directives, symbols, strings, and the line that begins the category. A new rule of lines is a new row.
 
+use crate::long_texts::repeated;
 use coll_lex::{LexFault, Lexer, Line, Piece, TextBuf, Token};
 use std::alloc::{AllocError, Global};
 use std::process::Abort;
@@ -326,8 +327,11 @@ fn assert_feeds(
     assert_eq!(rt; lexer.pending(), pending);
 }
 
-const LINES_TO_AN_OPEN_ONE: &[(&[u8], Option<u32>)] =
-    &[(b"# nothing", None), (b"a \\", Some(2)), (b"b \\", Some(2))];
+const LINES_TO_AN_OPEN_ONE: &[(&[u8], Option<u32>)] = &[
+    (b"# nothing", None),
+    (b"a \\", Some(2)),
+    (b"b \\", Some(2)),
+];
 
 #[test]
 fn the_open_line_has_the_number_of_its_first_line(rt: HostRuntime) -> Result<(), Fail> {
@@ -359,20 +363,17 @@ fn each_line_is_tested_as_text(rt: HostRuntime) -> Result<(), Fail> {
     Ok(())
 }
 
-// So many blanks.
-fn blanks(alloc: Global, count: usize) -> Result<Vec<u8>, AllocError> {
-    vec![in alloc; b' '; count]
-}
-
 // Lengths of lines of blanks, and the fault of each; the line outside the category has the same one.
-const LENGTHS: &[(usize, Option<LexFault>)] =
-    &[(65_536, None), (65_537, Some(LexFault::LineTooLong))];
+const LENGTHS: &[(usize, Option<LexFault>)] = &[
+    (65_536, None),
+    (65_537, Some(LexFault::LineTooLong)),
+];
 
 #[test]
 fn a_line_has_at_most_65_536_bytes(rt: HostRuntime) -> Result<(), Fail> {
     let mut lexer = Lexer::new(rt.alloc())?;
     for (length, fault) in LENGTHS {
-        let line = blanks(rt.alloc(), *length)?;
+        let line = repeated(rt.alloc(), b"", b" ", *length, b"")?;
         assert_feeds(&rt, &mut lexer, &line, *fault, None);
         assert_eq!(rt; lexer.outside(&line).err(), *fault);
     }
@@ -382,8 +383,8 @@ fn a_line_has_at_most_65_536_bytes(rt: HostRuntime) -> Result<(), Fail> {
 // Two bytes that continue the line, 65,534, two more, and 65,535.
 #[test]
 fn the_lengths_of_joined_lines_are_added(rt: HostRuntime) -> Result<(), Fail> {
-    let most = blanks(rt.alloc(), 65_534)?;
-    let more = blanks(rt.alloc(), 65_535)?;
+    let most = repeated(rt.alloc(), b"", b" ", 65_534, b"")?;
+    let more = repeated(rt.alloc(), b"", b" ", 65_535, b"")?;
     let mut lexer = Lexer::new(rt.alloc())?;
     let too_long = Some(LexFault::LineTooLong);
     assert_feeds(&rt, &mut lexer, b"\\\r", None, Some(1));

@@ -1,21 +1,35 @@
 //! Lines as a device gives them: cut at line feeds, up to the longest, the end and errors.
 
 use crate::devices::ShortReader;
+use crate::long_texts::repeated;
 use coll_lex::{Counted, LineReader, MOST_LINE_BYTES, ReadStop, Source};
+use std::process::Abort;
 use std::test::Fail;
 
 // Lines of 2, 1, 0 and 9 bytes, and a last one of 4 that no line feed ends.
 const TEXT: &[u8; 20] = b"ab\nc\n\nlong line\nlast";
 
+const LINES: &[&[u8]] = &[b"ab", b"c", b"", b"long line", b"last"];
+
+// Asserts that a reader gives this line, or stands at the end.
+fn assert_next<R: Source>(
+    rt: &impl Abort,
+    reader: &mut LineReader,
+    input: &mut R,
+    line: Option<&[u8]>,
+) {
+    assert_eq!(rt; reader.next(input), Ok(line));
+}
+
 #[test]
 fn lines_are_given_without_their_line_feeds(rt: HostRuntime) -> Result<(), Fail> {
     let mut reader = LineReader::new(rt.alloc())?;
     let mut input = Counted::new(TEXT.as_slice());
-    for line in ["ab", "c", "", "long line", "last"] {
-        assert_eq!(rt; reader.next(&mut input), Ok(Some(line.as_bytes())));
+    for line in LINES {
+        assert_next(&rt, &mut reader, &mut input, Some(*line));
     }
-    assert_eq!(rt; reader.next(&mut input), Ok(None));
-    assert_eq!(rt; reader.next(&mut input), Ok(None));
+    assert_next(&rt, &mut reader, &mut input, None);
+    assert_next(&rt, &mut reader, &mut input, None);
     assert_eq!(rt; input.errors(), 0);
     Ok(())
 }
@@ -24,7 +38,7 @@ fn lines_are_given_without_their_line_feeds(rt: HostRuntime) -> Result<(), Fail>
 fn a_text_without_bytes_has_no_line(rt: HostRuntime) -> Result<(), Fail> {
     let mut reader = LineReader::new(rt.alloc())?;
     let mut input = Counted::new(b"".as_slice());
-    assert_eq!(rt; reader.advance(&mut input), Ok(false));
+    assert_next(&rt, &mut reader, &mut input, None);
     assert!(rt; reader.line().is_empty());
     Ok(())
 }
@@ -33,64 +47,73 @@ fn a_text_without_bytes_has_no_line(rt: HostRuntime) -> Result<(), Fail> {
 fn a_carriage_return_stays(rt: HostRuntime) -> Result<(), Fail> {
     let mut reader = LineReader::new(rt.alloc())?;
     let mut input = Counted::new(b"a\r\n\r".as_slice());
-    assert_eq!(rt; reader.next(&mut input), Ok(Some(b"a\r".as_slice())));
-    assert_eq!(rt; reader.next(&mut input), Ok(Some(b"\r".as_slice())));
+    assert_next(&rt, &mut reader, &mut input, Some(b"a\r"));
+    assert_next(&rt, &mut reader, &mut input, Some(b"\r"));
     Ok(())
 }
 
-// How many lines are given before the n-th read, of three bytes each, fails.
-const LINES_BEFORE: [usize; 8] = [0, 1, 3, 3, 3, 3, 4, 4];
+// Which read, of three bytes each, fails, and how many lines are given before it.
+const LINES_BEFORE: &[(usize, usize)] = &[
+    (1, 0),
+    (2, 1),
+    (3, 3),
+    (4, 3),
+    (5, 3),
+    (6, 3),
+    (7, 4),
+    (8, 4),
+];
+
+// Asserts that a reader gives so many lines, and then stops at the n-th read, which is the last.
+fn assert_stops(rt: &impl Abort, reader: &mut LineReader, fails_at: usize, lines: usize) {
+    let mut input = Counted::new(ShortReader::new(TEXT, fails_at));
+    for _ in 0..lines {
+        assert_eq!(rt; reader.advance(&mut input), Ok(true));
+    }
+    assert_eq!(rt; input.errors(), 0);
+    for _ in 0..2 {
+        assert_eq!(rt; reader.advance(&mut input), Err(ReadStop::ReadFault));
+    }
+    assert_eq!(rt; (input.device().reads, input.errors()), (fails_at, 1));
+}
 
 #[test]
 fn a_read_that_fails_stops_the_reader_for_good(rt: HostRuntime) -> Result<(), Fail> {
-    for (before, lines) in LINES_BEFORE.into_iter().enumerate() {
-        let fails_at = before.saturating_add(1);
+    for (fails_at, lines) in LINES_BEFORE {
         let mut reader = LineReader::new(rt.alloc())?;
-        let mut input = Counted::new(ShortReader::new(TEXT, fails_at));
-        for _ in 0..lines {
-            assert_eq!(rt; reader.advance(&mut input), Ok(true), "at {fails_at}");
-        }
-        assert_eq!(rt; input.errors(), 0, "at {fails_at}");
-        assert_eq!(rt;
-            reader.advance(&mut input),
-            Err(ReadStop::ReadFault),
-            "at {fails_at}"
-        );
-        assert_eq!(rt;
-            reader.next(&mut input),
-            Err(ReadStop::ReadFault),
-            "at {fails_at}"
-        );
-        assert_eq!(rt; input.device().reads, fails_at);
-        assert_eq!(rt; input.errors(), 1, "at {fails_at}");
+        assert_stops(&rt, &mut reader, *fails_at, *lines);
     }
     Ok(())
 }
 
+// Asserts that a reader gives a line of the most bytes, all alike.
+fn assert_longest<R: Source>(rt: &impl Abort, reader: &mut LineReader, input: &mut R) {
+    assert_eq!(rt; reader.advance(input), Ok(true));
+    assert_eq!(rt; reader.line().len(), MOST_LINE_BYTES);
+    assert!(rt; reader.line().iter().all(|byte| *byte == b'a'));
+}
+
+// One that a line feed ends, and one at the end.
 #[test]
 fn a_line_of_the_most_bytes_is_given(rt: HostRuntime) -> Result<(), Fail> {
-    let mut text = vec![in rt.alloc(); b'a'; MOST_LINE_BYTES]?;
-    text.push(b'\n')?;
-    text.extend_from_slice(&vec![in rt.alloc(); b'b'; MOST_LINE_BYTES]?)?;
+    let line = repeated(rt.alloc(), b"", b"a", MOST_LINE_BYTES, b"\n")?;
+    let text = repeated(rt.alloc(), &line, b"a", MOST_LINE_BYTES, b"")?;
     let mut reader = LineReader::new(rt.alloc())?;
     let mut input = Counted::new(text.as_slice());
-    for byte in [b'a', b'b'] {
-        assert_eq!(rt; reader.advance(&mut input), Ok(true));
-        assert_eq!(rt; reader.line().len(), MOST_LINE_BYTES);
-        assert!(rt; reader.line().iter().all(|b| *b == byte));
-    }
-    assert_eq!(rt; reader.advance(&mut input), Ok(false));
+    assert_longest(&rt, &mut reader, &mut input);
+    assert_longest(&rt, &mut reader, &mut input);
+    assert_next(&rt, &mut reader, &mut input, None);
     Ok(())
 }
 
 #[test]
 fn a_line_of_one_byte_more_stops_the_reader(rt: HostRuntime) -> Result<(), Fail> {
-    let mut text = vec![in rt.alloc(); b'a'; MOST_LINE_BYTES]?;
-    text.extend_from_slice(b"a\nb\n")?;
+    let text = repeated(rt.alloc(), b"", b"a", MOST_LINE_BYTES, b"a\nb\n")?;
     let mut reader = LineReader::new(rt.alloc())?;
     let mut input = Counted::new(text.as_slice());
-    assert_eq!(rt; reader.next(&mut input), Err(ReadStop::LineTooLong));
-    assert_eq!(rt; reader.next(&mut input), Err(ReadStop::LineTooLong));
+    for _ in 0..2 {
+        assert_eq!(rt; reader.next(&mut input), Err(ReadStop::LineTooLong));
+    }
     assert!(rt; reader.line().is_empty());
     assert_eq!(rt; input.errors(), 0);
     Ok(())
@@ -98,22 +121,14 @@ fn a_line_of_one_byte_more_stops_the_reader(rt: HostRuntime) -> Result<(), Fail>
 
 #[test]
 fn lines_go_on_past_the_end_of_the_buffer(rt: HostRuntime) -> Result<(), Fail> {
-    let mut text = Vec::new(rt.alloc());
-    for _ in 0..10_000 {
-        text.extend_from_slice(b"a line of some bytes\nand another\n")?;
-    }
+    let lines = b"a line of some bytes\nand another\n";
+    let text = repeated(rt.alloc(), b"", lines, 10_000, b"")?;
     let mut reader = LineReader::new(rt.alloc())?;
     let mut input = Counted::new(ShortReader::new(&text, 0));
     for _ in 0..10_000 {
-        assert_eq!(rt;
-            reader.next(&mut input),
-            Ok(Some(b"a line of some bytes".as_slice()))
-        );
-        assert_eq!(rt;
-            reader.next(&mut input),
-            Ok(Some(b"and another".as_slice()))
-        );
+        assert_next(&rt, &mut reader, &mut input, Some(b"a line of some bytes"));
+        assert_next(&rt, &mut reader, &mut input, Some(b"and another"));
     }
-    assert_eq!(rt; reader.next(&mut input), Ok(None));
+    assert_next(&rt, &mut reader, &mut input, None);
     Ok(())
 }

@@ -46,11 +46,15 @@ fn assert_read(
 ) {
     let mut input = Counted::new(ShortReader::new(MOVED_TEXT, fails_at));
     let mut output = Counted::new(Vec::new(alloc));
-    assert_eq!(rt; run(rt, alloc, &mut input, &mut output), answer, "at {fails_at}");
-    assert_eq!(rt; input.errors(), u64::from(answer.is_err()), "at {fails_at}");
+    assert_eq!(rt; run(rt, alloc, &mut input, &mut output), answer);
+    assert_eq!(rt; input.errors(), u64::from(answer.is_err()));
     let end = written_within(fails_at.saturating_sub(1).saturating_mul(3));
     let written = output.device().as_slice();
-    assert_eq!(rt; Some(written), replies.as_bytes().get(..end), "at {fails_at}");
+    assert_eq!(rt;
+        Some(written),
+        replies.as_bytes().get(..end),
+        "at {fails_at}"
+    );
 }
 
 // The text has 66 bytes, which 22 reads give. A further read finds its end.
@@ -87,10 +91,10 @@ fn is_whole(
     if answer.is_ok() {
         assert_eq!(rt; taken, replies.as_bytes());
     } else {
-        assert_eq!(rt; answer, Err(WRITE_FAULT), "at {fails_at}");
+        assert_eq!(rt; answer, Err(WRITE_FAULT));
         assert!(rt; replies.as_bytes().starts_with(taken), "at {fails_at}");
     }
-    assert_eq!(rt; output.errors(), u64::from(answer.is_err()), "at {fails_at}");
+    assert_eq!(rt; output.errors(), u64::from(answer.is_err()));
     answer.is_ok()
 }
 
@@ -99,8 +103,7 @@ fn is_whole(
 fn a_write_that_fails_leaves_a_front_of_the_replies(rt: HostRuntime) -> Result<(), Fail> {
     let replies = all_replies(rt.alloc())?;
     for failure in [Failure::Error, Failure::TakesNothing] {
-        let whole =
-            (1..1_000).find(|at| is_whole(&rt, rt.alloc(), replies.as_str(), *at, failure));
+        let whole = (1..1_000).find(|at| is_whole(&rt, rt.alloc(), replies.as_str(), *at, failure));
         assert!(rt; whole.is_some());
     }
     Ok(())

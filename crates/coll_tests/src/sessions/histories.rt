@@ -3,6 +3,7 @@
 use crate::tables::examples::{FIRST_TABLE, assert_order, block, loaded};
 use coll_bench::{BenchFault, Session};
 use coll_table::Refusal;
+use std::alloc::Global;
 use std::process::Abort;
 use std::test::Fail;
 
@@ -32,17 +33,26 @@ const UNDONE: &[(Result<u32, BenchFault>, &str, u32)] = &[
     (Err(BenchFault::NothingToUndo), "<abc", 0),
 ];
 
+fn assert_statements(rt: &impl Abort, alloc: Global, session: &mut Session) -> Result<(), Fail> {
+    for (target, line, answer, order, remaining) in STATEMENTS {
+        let statement = block(alloc, target, &[*line])?;
+        assert_eq!(rt; session.statement(statement), *answer);
+        assert_session(rt, session, order, *remaining);
+    }
+    Ok(())
+}
+
+fn assert_undone(rt: &impl Abort, session: &mut Session) {
+    for (answer, order, remaining) in UNDONE {
+        assert_eq!(rt; session.undo(), *answer);
+        assert_session(rt, session, order, *remaining);
+    }
+}
+
 #[test]
 fn statements_are_accepted_and_taken_back(rt: HostRuntime) -> Result<(), Fail> {
     let mut session = Session::new(rt.alloc(), loaded(rt.alloc(), FIRST_TABLE)?);
-    for (target, line, answer, order, remaining) in STATEMENTS {
-        let statement = block(rt.alloc(), target, &[*line])?;
-        assert_eq!(rt; session.statement(statement), *answer);
-        assert_session(&rt, &session, order, *remaining);
-    }
-    for (answer, order, remaining) in UNDONE {
-        assert_eq!(rt; session.undo(), *answer);
-        assert_session(&rt, &session, order, *remaining);
-    }
+    assert_statements(&rt, rt.alloc(), &mut session)?;
+    assert_undone(&rt, &mut session);
     Ok(())
 }

@@ -1,27 +1,12 @@
 //! Sessions that meet a limit.
 
+use crate::long_texts::repeated;
 use crate::sessions::run;
 use coll_bench::{Fault, MOST_REMAINING, RunFault};
 use coll_lex::{Counted, LexFault, MOST_LINE_BYTES};
-use std::alloc::{AllocError, Global};
+use std::alloc::Global;
 use std::process::Abort;
 use std::test::Fail;
-
-// The text of a front, a part so many times, and a rest.
-fn repeated(
-    alloc: Global,
-    front: &[u8],
-    part: &[u8],
-    count: usize,
-    rest: &[u8],
-) -> Result<Vec<u8>, AllocError> {
-    let mut text = Vec::from_slice(alloc, front)?;
-    for _ in 0..count {
-        text.extend_from_slice(part)?;
-    }
-    text.extend_from_slice(rest)?;
-    Ok(text)
-}
 
 // Asserts what a session over this text answers, and with which replies it ends.
 fn assert_ends(
@@ -32,7 +17,10 @@ fn assert_ends(
     replies: &str,
 ) {
     let mut output = Counted::new(Vec::new(alloc));
-    assert_eq!(rt; run(rt, alloc, &mut Counted::new(text), &mut output), answer);
+    assert_eq!(rt;
+        run(rt, alloc, &mut Counted::new(text), &mut output),
+        answer
+    );
     assert!(rt; output.device().ends_with(replies.as_bytes()));
 }
 

@@ -1,7 +1,8 @@
 //! Statements applied to the first table, and turned back.
 
 use crate::tables::examples::{FIRST_TABLE, assert_order, block, id, loaded};
-use coll_table::{PlainLine, PlainStatement, Record, Refusal, Table};
+use coll_table::{PlainLine, PlainStatement, Refusal, Table};
+use std::alloc::{AllocError, Global};
 use std::process::Abort;
 use std::test::Fail;
 
@@ -15,13 +16,20 @@ const BLOCKS: &[(&str, &[&str], &str)] = &[
 ];
 
 // Asserts that the first table, rewritten by a statement, has this order, and the first one turned back.
-fn assert_turns(rt: &impl Abort, table: &mut Table, mut record: Record, after: &str) {
+fn assert_turns(
+    rt: &impl Abort,
+    table: &mut Table,
+    statement: &PlainStatement,
+    after: &str,
+) -> Result<(), Refusal> {
+    let mut record = table.apply(statement)?;
     assert_order(rt, table, after);
     assert_eq!(rt; table.flip(&mut record), 0);
     assert_order(rt, table, "<abc");
     assert_eq!(rt; table.flip(&mut record), 0);
     table.forget(record);
     assert_order(rt, table, after);
+    Ok(())
 }
 
 #[test]
@@ -29,8 +37,7 @@ fn a_block_is_applied_turned_back_and_applied_again(rt: HostRuntime) -> Result<(
     for (target, lines, after) in BLOCKS {
         let statement = block(rt.alloc(), target, lines)?;
         let mut table = loaded(rt.alloc(), FIRST_TABLE)?;
-        let record = table.apply(&statement)?;
-        assert_turns(&rt, &mut table, record, after);
+        assert_turns(&rt, &mut table, &statement, after)?;
     }
     Ok(())
 }
@@ -56,12 +63,24 @@ fn assert_refused(
     assert_order(rt, table, "<abc");
 }
 
+fn assert_refused_block(
+    rt: &impl Abort,
+    alloc: Global,
+    table: &mut Table,
+    target: &str,
+    lines: &[&str],
+    refusal: Refusal,
+) -> Result<(), AllocError> {
+    let statement = block(alloc, target, lines)?;
+    assert_refused(rt, table, &statement, refusal);
+    Ok(())
+}
+
 #[test]
 fn a_refused_block_changes_nothing(rt: HostRuntime) -> Result<(), Fail> {
     let mut table = loaded(rt.alloc(), FIRST_TABLE)?;
     for (target, lines, refusal) in REFUSED_BLOCKS {
-        let statement = block(rt.alloc(), target, lines)?;
-        assert_refused(&rt, &mut table, &statement, *refusal);
+        assert_refused_block(&rt, rt.alloc(), &mut table, target, lines, *refusal)?;
     }
     Ok(())
 }

@@ -175,7 +175,7 @@ const READ_FAULT: LoadFault = LoadFault {
 fn assert_read(rt: &impl Abort, alloc: Global, fails_at: usize, fault: Option<LoadFault>) {
     let mut input = Counted::new(ShortReader::new(FIRST_TABLE, fails_at));
     assert_eq!(rt; load(alloc, &mut input).err(), fault, "at {fails_at}");
-    assert_eq!(rt; input.errors(), u64::from(fault.is_some()), "at {fails_at}");
+    assert_eq!(rt; input.errors(), u64::from(fault.is_some()));
 }
 
 // The first table has 111 bytes, which 37 reads give; its last line feed is the last of them. A read that fails is the fault

@@ -3,19 +3,27 @@
 
 use crate::grammar::{line_of, show_id};
 use coll_table::{PlainDeltaLine, parse_plain_delta_line};
-use std::alloc::Global;
+use std::alloc::{AllocError, Global};
 use std::test::Fail;
 
-// What a line of a delta says, or its fault.
-fn said_in_a_delta(alloc: Global, text: &str) -> Result<String, Fail> {
-    let mut said = String::new(alloc);
-    match parse_plain_delta_line(alloc, &line_of(alloc, text)?) {
-        Ok(PlainDeltaLine::ReorderAfter(target)) => {
-            said.push_str("after ")?;
-            show_id(&mut said, &target)?;
+// Shows what a line of a delta says.
+fn show(out: &mut String, line: &PlainDeltaLine) -> Result<(), AllocError> {
+    match line {
+        PlainDeltaLine::ReorderAfter(target) => {
+            out.push_str("after ")?;
+            show_id(out, target)
         }
-        Ok(PlainDeltaLine::ReorderEnd) => said.push_str("end")?,
-        Ok(PlainDeltaLine::Order(line)) => show_id(&mut said, &line.id)?,
+        PlainDeltaLine::ReorderEnd => out.push_str("end"),
+        PlainDeltaLine::Order(line) => show_id(out, &line.id),
+    }
+}
+
+// What a text says as a line of a delta, or its fault.
+fn said_in_a_delta(alloc: Global, text: &str) -> Result<String, Fail> {
+    let line = line_of(alloc, text)?;
+    let mut said = String::new(alloc);
+    match parse_plain_delta_line(alloc, &line) {
+        Ok(read) => show(&mut said, &read)?,
         Err(fault) => write!(said, "{fault}")?,
     }
     Ok(said)
