@@ -86,6 +86,7 @@ RanToFault table text left written number (fault.Write stop) =
 RanToFault table text left written number (fault.Lex f) = RanToLexFault table text left written number f
 RanToFault table text left written number (fault.Syntax f) = ⊥
 RanToFault table text left written number (fault.Load f) = ⊥
+RanToFault table text left written number (fault.Table f) = ⊥
 RanToFault table text left written number (fault.Bench f) = ⊥
 RanToFault table text left written number fault.BlockOpen = ⊥
 RanToFault table text left written number fault.BlockNotEnded = ⊥

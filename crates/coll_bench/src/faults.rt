@@ -72,7 +72,9 @@ pub enum Fault {
     Syntax(SyntaxFault),
     /// A table could not be loaded.
     Load(LoadFault),
-    /// The table or the history refused a statement, or nothing was to be taken back.
+    /// A table refused a statement of which no history is kept.
+    Table(Refusal),
+    /// The table or the history of a session refused a statement, or nothing was to be taken back.
     Bench(BenchFault),
     /// A block is open, and what the line asks for isn't taken there.
     BlockOpen,
@@ -95,6 +97,7 @@ impl Fault {
             Fault::Lex(fault) => fault.number(),
             Fault::Syntax(fault) => fault.number(),
             Fault::Load(fault) => fault.number(),
+            Fault::Table(refusal) => refusal.number(),
             Fault::Bench(fault) => fault.number(),
             Fault::BlockOpen => 62,
             Fault::BlockNotEnded => 63,
@@ -113,6 +116,7 @@ impl Fault {
             Fault::Lex(fault) => fault.name(),
             Fault::Syntax(fault) => fault.name(),
             Fault::Load(fault) => fault.name(),
+            Fault::Table(refusal) => refusal.name(),
             Fault::Bench(fault) => fault.name(),
             Fault::BlockOpen => "BlockOpen",
             Fault::BlockNotEnded => "BlockNotEnded",
@@ -129,6 +133,7 @@ impl Fault {
             Fault::Lex(LexFault::OutOfMemory) => true,
             Fault::Syntax(SyntaxFault::OutOfMemory) => true,
             Fault::Load(fault) => load_wants_memory(fault.cause),
+            Fault::Table(Refusal::OutOfMemory) => true,
             Fault::Bench(BenchFault::Table(Refusal::OutOfMemory)) => true,
             _ => false,
         }

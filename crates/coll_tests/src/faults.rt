@@ -89,6 +89,7 @@ const FAULTS: &[(Fault, &str)] = &[
     (Fault::Lex(LexFault::OpenSymbol), "2 OpenSymbol"),
     (Fault::Syntax(SyntaxFault::BadOperand), "29 BadOperand"),
     (Fault::Load(LOAD_FAULT), "35 PlacedTwice"),
+    (Fault::Table(Refusal::Full), "42 Full"),
     (Fault::Bench(BenchFault::HistoryFull), "66 HistoryFull"),
     (Fault::BlockOpen, "62 BlockOpen"),
     (Fault::BlockNotEnded, "63 BlockNotEnded"),
