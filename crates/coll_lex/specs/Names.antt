@@ -9,7 +9,7 @@ use Rattle.coll_lex.specs.declared.tokens.Piece.{Piece}
 use Rattle.coll_lex.specs.declared.tokens.Piece.TheVariants as piece
 use Rattle.coll_lex.specs.declared.faults.LexFault.{LexFault}
 
--- a name: what stands between the brackets of a symbol that is no code point
+-- a name: what stands between the brackets of a symbol that spells no code point, allowed or not
 abbrev pub IsName : List ℕ → Type 0
 IsName name = symbol_of name ≡ Ok (piece.Name name)
 

@@ -1,4 +1,4 @@
-//! Names: what stands between the brackets of a symbol and is no code point.
+//! Names: what stands between the brackets of a symbol and spells no code point.
 //!
 //! The scan of symbols decides by these tests what a symbol stands for; `is_name` is for names that come from
 //! elsewhere. A change here is a change of `symbol_of` in `specs/Tokens.antt`.

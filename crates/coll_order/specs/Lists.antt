@@ -40,7 +40,7 @@ abbrev pub without : NodeId → List NodeId → List NodeId
 without node [] = []
 without node (first ∷ rest) = if same_node node first then without node rest else first ∷ without node rest
 
--- a list that begins after a place, with a node put directly after a place that is in it
+-- a list that begins after a place, with a node put directly after a place, if that place is in it
 abbrev pub put_after : Place → NodeId → Place → List NodeId → List NodeId
 put_after place node start [] = if same_place place start then node ∷ [] else []
 put_after place node start (first ∷ rest) =

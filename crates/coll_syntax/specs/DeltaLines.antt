@@ -1,5 +1,5 @@
--- What a line of a delta says, read from its tokens (`reorder-after` and `reorder-end` as in ISO/IEC 14651; declarations
--- and order lines as in POSIX.1-2017, 7.3.2; the others are the project's own).
+-- What a line of a delta says, read from its tokens (`reorder-after` and `reorder-end` as in ISO/IEC 14651; category lines
+-- as in POSIX.1-2017, 7.3, declarations and order lines as in 7.3.2; the others are the project's own).
 use Rattle.std.specs.Prelude.{List, [], ◌∷◌, Option, Some, None, Result, Err, codes}
 use Rattle.coll_lex.specs.declared.tokens.Token.{Token}
 use Rattle.coll_syntax.specs.Keywords.{keyword_of}

@@ -18,7 +18,8 @@ characters_of (piece.Name name ∷ pieces) = None
 abbrev pub short_text : List ℕ → Result (List ℕ) SyntaxFault
 short_text cs = if nat_le 2 (length cs) && nat_le (length cs) 16 then Ok cs else Err ElementLength
 
--- the characters that the string of a collating element spells: it may be empty, hold a name, or be too short or too long
+-- the characters that the string of a collating element spells; it is at fault where it is empty, then where it holds a
+-- name, then where it is too short or too long
 abbrev pub element_text : List Piece → Result (List ℕ) SyntaxFault
 element_text [] = Err EmptyString
 element_text (p ∷ pieces) = and_then (wanted (characters_of (p ∷ pieces))) short_text

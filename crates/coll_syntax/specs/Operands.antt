@@ -29,7 +29,7 @@ abbrev pub ended : {A : Type 0} → A → List Token → Result A SyntaxFault
 ended read [] = Ok read
 ended read (_ ∷ _) = Err ExtraOperand
 
--- an operand of this kind and what follows it; it may be missing
+-- an operand of this kind, and then what follows it; where it is missing, that is the fault
 abbrev pub operand : {A B : Type 0} → (Token → Result A SyntaxFault) → List Token → (A → List Token → Result B SyntaxFault) → Result B SyntaxFault
 operand kind [] next = Err MissingOperand
 operand kind (t ∷ rest) next = and_then (kind t) (λ read. next read rest)

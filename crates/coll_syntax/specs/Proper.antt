@@ -15,7 +15,8 @@ use Rattle.coll_syntax.specs.declared.lines.TableLine.TheVariants as table
 use Rattle.coll_syntax.specs.declared.lines.DeltaLine.{DeltaLine}
 use Rattle.coll_syntax.specs.declared.lines.DeltaLine.TheVariants as delta
 
--- a name that an identifier has is a name: 1 to 64 characters, none blank or control, and no code point
+-- a name that an identifier has is a name: 1 to 64 characters, none blank or control, and not `U` with four to eight
+-- hexadecimal digits
 abbrev pub IsId : Id → Type 0
 IsId (Char c) = Unit {0}
 IsId (Named name) = IsName name

@@ -36,8 +36,8 @@ pub enum TableLine {
     Order(OrderLine),
 }
 
-/// A line of a delta: `reorder-after` and `reorder-end` are those of ISO/IEC 14651, declarations and order lines those of
-/// POSIX.1-2017, 7.3.2; the others are the project's own.
+/// A line of a delta: `reorder-after` and `reorder-end` are those of ISO/IEC 14651, category lines, declarations and order
+/// lines those of POSIX.1-2017, 7.3 and 7.3.2; the others are the project's own.
 #[derive(Debug, Drop)]
 pub enum DeltaLine {
     /// `collating-symbol <X>`: declares the name.

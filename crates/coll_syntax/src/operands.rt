@@ -1,7 +1,7 @@
 //! The operands that several lines share: an identifier, a name, a pair of names, and the end of a line.
 //!
 //! Each call is the definition of its name in `specs/Identifier.antt` or `specs/Operands.antt`. What is found is lent
-//! where it can be; `copied_name` and `id_of` take memory.
+//! where it can be; a call that is handed an allocator takes memory.
 
 ghost use Rattle.std.specs.Prelude.{◌≡◌, ◌≢◌, Ok, Err, IsTrue, IfOk, IfErr, chars, nat_lt};
 ghost use Rattle.std.specs.List.{list_all};
