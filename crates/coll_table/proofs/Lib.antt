@@ -1,16 +1,3 @@
-pub mod CategorySteps
-pub mod EntryLemmas
-pub mod FindSteps
-pub mod LineCounts
-pub mod LoadLemmas
 pub mod LookUps
-pub mod NameLemmas
-pub mod NextSteps
 pub mod PlaceLookUps
-pub mod PlacingLemmas
-pub mod ReadTables
 pub mod Sameness
-pub mod SectionLemmas
-pub mod TableLemmas
-pub mod TakeLemmas
-pub mod TextSteps

@@ -1,9 +1,12 @@
 -- What a statement makes of a table: the table rewritten, or the refusal.
 use Rattle.std.specs.Prelude.{if◌then◌else◌, nat_le, not, List, [], ◌∷◌, ◌++◌, Option, Some, None, Result, Ok, Err, length}
-use Rattle.coll_syntax.specs.Identifier.{has_id}
-use Rattle.coll_table.specs.Table.{Collation, Section, entries_of, is_known, is_placed}
-use Rattle.coll_table.specs.Placement.{without, placed_after}
+use Rattle.std.specs.Option.{option_or}
+use Rattle.coll_syntax.specs.Identifier.{same_id, has_id}
 use Rattle.coll_syntax.specs.declared.identifiers.Id.{Id}
+use Rattle.coll_table.specs.Table.{Collation, Section, entries_of, is_known, is_placed}
+use Rattle.coll_table.specs.Entries.{entry_of}
+use Rattle.coll_table.specs.Placement.{without, placed_after, entry_at}
+use Rattle.coll_table.specs.declared.entries.Entry.{Entry}
 use Rattle.coll_table.specs.declared.plain.statements.PlainLine.{PlainLine}
 use Rattle.coll_table.specs.declared.plain.statements.PlainStatement.{PlainStatement}
 use Rattle.coll_table.specs.declared.plain.statements.PlainStatement.TheVariants.{Block, Reweight}
@@ -15,28 +18,37 @@ use Rattle.coll_table.specs.declared.refusals.Refusal.TheVariants.{NotDeclared, 
 abbrev pub line_refusal : Collation → List Id → Id → Option Refusal
 line_refusal table before id =
     if has_id before id then Some TwiceInBlock
-    else (if not (is_known table id) then Some NotDeclared
+    else (if not (is_known table.declared id) then Some NotDeclared
     else None)
-
--- the first of two refusals
-abbrev pub first_refusal : Option Refusal → Option Refusal → Option Refusal
-first_refusal (Some refusal) later = Some refusal
-first_refusal None later = later
 
 -- why the lines of a block are refused, the first line that is
 abbrev pub lines_refusal : Collation → List Id → List PlainLine → Option Refusal
 lines_refusal table before [] = None
 lines_refusal table before (line ∷ lines) =
-    first_refusal (line_refusal table before line.id) (lines_refusal table (before ++ line.id ∷ []) lines)
+    option_or (line_refusal table before line.id) (lines_refusal table (before ++ line.id ∷ []) lines)
 
--- the sections with an entry moved, or newly placed, directly after the target
-abbrev pub moved : List Section → Id → PlainLine → List Section
-moved sections target line = placed_after (without sections line.id) target (record { id = line.id })
+-- an entry that a table doesn't have yet: its own weight at each level, and none for a collating symbol
+abbrev pub new_entry : Collation → Id → Entry
+new_entry table id = entry_of (length table.rules) table.declared (record { id = id; weights = None })
 
--- the sections with the entry of each line of a block moved, or newly placed: the first after the target, each further one after the line before
-abbrev pub all_moved : List Section → Id → List PlainLine → List Section
-all_moved sections target [] = sections
-all_moved sections target (line ∷ lines) = all_moved (moved sections target line) line.id lines
+-- the entry that stands, or a new one
+abbrev pub entry_or : Option Entry → Entry → Entry
+entry_or (Some entry) new = entry
+entry_or None new = new
+
+-- the entry that a line of a block places: the identifier's own where it has one, and else a new one
+abbrev pub block_entry : Collation → Id → Entry
+block_entry table id = entry_or (entry_at (entries_of table) id) (new_entry table id)
+
+-- the table with an entry moved, or newly placed, directly after the target
+abbrev pub moved : Collation → Id → Id → Collation
+moved table target id = record table { sections = placed_after (without table.sections id) target (block_entry table id) }
+
+-- the table with the entry of each line of a block moved, or newly placed: the first after the target, each further one after
+-- the line before
+abbrev pub all_moved : Collation → Id → List PlainLine → Collation
+all_moved table target [] = table
+all_moved table target (line ∷ lines) = all_moved (moved table target line.id) line.id lines
 
 -- a table that results, unless it has too many entries
 abbrev pub within_limit : Collation → Result Collation Refusal
@@ -51,12 +63,12 @@ unless_refused None table = within_limit table
 abbrev pub block_delta : Collation → Id → List PlainLine → Result Collation Refusal
 block_delta table target lines =
     if not (is_placed table target) then Err TargetNotPlaced
-    else unless_refused (lines_refusal table (target ∷ []) lines) (record table { sections = all_moved table.sections target lines })
+    else unless_refused (lines_refusal table (target ∷ []) lines) (all_moved table target lines)
 
 -- why an order line outside a block is refused: it has no weights to give
 abbrev pub reweight_refusal : Collation → Id → Refusal
 reweight_refusal table id =
-    if not (is_known table id) then NotDeclared
+    if not (is_known table.declared id) then NotDeclared
     else (if not (is_placed table id) then NotPlaced
     else NoWeights)
 

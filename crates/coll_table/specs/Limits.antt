@@ -5,6 +5,10 @@ use Rattle.std.specs.Prelude.{ℕ}
 abbrev pub most_entries : ℕ
 most_entries = 262_144
 
--- the most names that a table declares
+-- the most declarations of a table
 abbrev pub most_declarations : ℕ
 most_declarations = 262_144
+
+-- the most sections of a table, the first counted
+abbrev pub most_sections : ℕ
+most_sections = 1_024

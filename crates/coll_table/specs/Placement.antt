@@ -1,9 +1,14 @@
--- Taking an entry out of a table's sections, and putting one in.
-use Rattle.std.specs.Prelude.{if◌then◌else◌, not, List, [], ◌∷◌, filter, map}
+-- Finding an entry in a table's sections, taking it out, and putting one in.
+use Rattle.std.specs.Prelude.{if◌then◌else◌, not, List, [], ◌∷◌, Option, Some, None, filter, map}
 use Rattle.coll_syntax.specs.Identifier.{same_id}
 use Rattle.coll_table.specs.Table.{Section}
 use Rattle.coll_syntax.specs.declared.identifiers.Id.{Id}
 use Rattle.coll_table.specs.declared.entries.Entry.{Entry}
+
+-- the entry of an identifier, if it has one
+abbrev pub entry_at : List Entry → Id → Option Entry
+entry_at [] id = None
+entry_at (entry ∷ entries) id = if same_id id entry.id then Some entry else entry_at entries id
 
 -- the entries without that of an identifier
 abbrev pub entries_without : List Entry → Id → List Entry

@@ -1,6 +1,6 @@
 -- Records: what undoes a statement, and does it again.
 use Rattle.std.specs.Prelude.{◌≡◌}
-use Rattle.coll_table.specs.Table.{TableValue, collation}
+use Rattle.coll_table.specs.TableLayout.{TableValue, collation}
 use Rattle.coll_table.specs.WellFormed.{IsWellFormed}
 
 -- what a record keeps: the other table

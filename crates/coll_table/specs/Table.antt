@@ -1,41 +1,46 @@
--- What a table is: the names that it declares, and sections with their entries in order.
-use Rattle.std.specs.Prelude.{ℕ, Bool, true, List, [], ◌∷◌, ◌++◌, Option, map}
-use Rattle.coll_syntax.specs.Identifier.{has_name, has_id}
+-- What a table is: its rules, what it declares, and its sections with their entries in order (POSIX.1-2017, 7.3.2).
+use Rattle.std.specs.Prelude.{ℕ, Bool, true, false, List, [], ◌∷◌, ◌++◌, Option, Some, None, map, length}
+use Rattle.std.specs.List.{flat_map, list_any}
+use Rattle.coll_syntax.specs.Identifier.{same_name, has_name, has_id}
 use Rattle.coll_syntax.specs.declared.identifiers.Id.{Id}
 use Rattle.coll_syntax.specs.declared.identifiers.Id.TheVariants.{Char, Named, Undefined}
+use Rattle.coll_syntax.specs.declared.rules.Rule.{Rule}
+use Rattle.coll_table.specs.declared.declarations.Declaration.{Declaration}
+use Rattle.coll_table.specs.declared.declarations.Declaration.TheVariants.{Symbol, Element}
 use Rattle.coll_table.specs.declared.entries.Entry.{Entry}
 
--- a section: its name, which the first has not, and its entries in order
+-- a section: its name, which the first has not, and its entries in order (the project's own)
 pub record Section : Type 0 where
   pub name : Option (List ℕ)
   pub entries : List Entry
 
--- a table: the names declared, in order, and the sections, in order
+-- a table: the rules of its levels (7.3.2.3), what it declares, in order (7.3.2.1 and 7.3.2.2), and its sections, in order
 pub record Collation : Type 0 where
-  pub declared : List (List ℕ)
+  pub rules : List Rule
+  pub declared : List Declaration
   pub sections : List Section
 
--- a table as contracts see it; today it is the names and the sections themselves
-abbrev pub TableValue : Type 0
-TableValue = Collation
+-- the name that a declaration declares
+abbrev pub name_of : Declaration → List ℕ
+name_of (Symbol name) = name
+name_of (Element name text) = name
 
--- the names and the sections of a table: each clause of a public call reads a table through this word
-abbrev pub collation : TableValue → Collation
-collation table = table
+-- the string of a declaration, if it has one
+abbrev pub text_of : Declaration → List (List ℕ)
+text_of (Symbol name) = []
+text_of (Element name text) = text ∷ []
 
--- the names that a table declares
-abbrev pub declared_of : Collation → List (List ℕ)
-declared_of table = table.declared
+-- the names that are declared, in order
+abbrev pub names_of : List Declaration → List (List ℕ)
+names_of declared = map name_of declared
 
--- some entries, and after them those of the sections that follow
-abbrev pub followed_by : List Entry → List Section → List Entry
-followed_by entries [] = entries
-followed_by entries (section ∷ sections) = entries ++ followed_by section.entries sections
+-- the strings of the collating elements that are declared, in order
+abbrev pub texts_of : List Declaration → List (List ℕ)
+texts_of declared = flat_map text_of declared
 
 -- the entries of all sections, joined
 abbrev pub joined_entries : List Section → List Entry
-joined_entries [] = []
-joined_entries (section ∷ sections) = followed_by section.entries sections
+joined_entries sections = flat_map (λ (section : Section). section.entries) sections
 
 -- the entries of a table, in order
 abbrev pub entries_of : Collation → List Entry
@@ -45,20 +50,40 @@ entries_of table = joined_entries table.sections
 abbrev pub ids_of : List Entry → List Id
 ids_of entries = map (λ (entry : Entry). entry.id) entries
 
--- a table declares a name
-abbrev pub is_declared : Collation → List ℕ → Bool
-is_declared table name = has_name table.declared name
+-- the name of a section, if it has one
+abbrev pub named : Option (List ℕ) → List (List ℕ)
+named None = []
+named (Some name) = name ∷ []
+
+-- the names of sections, in order
+abbrev pub section_names : List Section → List (List ℕ)
+section_names sections = flat_map (λ (section : Section). named section.name) sections
+
+-- an identifier stands in these sections
+abbrev pub is_placed_in : List Section → Id → Bool
+is_placed_in sections id = has_id (ids_of (joined_entries sections)) id
 
 -- an identifier stands in a table
 abbrev pub is_placed : Collation → Id → Bool
-is_placed table id = has_id (ids_of (entries_of table)) id
+is_placed table id = is_placed_in table.sections id
 
--- an identifier may be used where these names are declared: characters and UNDEFINED need no declaration
-abbrev pub is_known_among : List (List ℕ) → Id → Bool
-is_known_among declared (Char c) = true
-is_known_among declared (Named name) = has_name declared name
-is_known_among declared Undefined = true
+-- a name is declared
+abbrev pub is_declared : List Declaration → List ℕ → Bool
+is_declared declared name = has_name (names_of declared) name
 
--- an identifier may be used in a table
-abbrev pub is_known : Collation → Id → Bool
-is_known table id = is_known_among table.declared id
+-- an identifier may be used where this is declared: characters and UNDEFINED need no declaration
+abbrev pub is_known : List Declaration → Id → Bool
+is_known declared (Char c) = true
+is_known declared (Named name) = is_declared declared name
+is_known declared Undefined = true
+
+-- a declaration declares a name as a collating symbol
+abbrev pub declares_symbol : List ℕ → Declaration → Bool
+declares_symbol name (Symbol declared) = same_name name declared
+declares_symbol name (Element declared text) = false
+
+-- an identifier is a collating symbol where this is declared
+abbrev pub is_symbol : List Declaration → Id → Bool
+is_symbol declared (Char c) = false
+is_symbol declared (Named name) = list_any (declares_symbol name) declared
+is_symbol declared Undefined = false

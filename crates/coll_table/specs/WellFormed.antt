@@ -1,27 +1,76 @@
 -- What is true of every table.
-use Rattle.std.specs.Prelude.{◌≡◌, ◌≤◌, ℕ, Bool, false, IsTrue, List, [], ◌∷◌, length, All}
+use Rattle.std.specs.Prelude.{◌≡◌, ◌≤◌, ℕ, Bool, true, false, IsTrue, List, [], ◌∷◌, length, All, Option, Some, None}
 use Rattle.std.specs.List.{list_any}
 use Rattle.coll_lex.specs.Names.{IsName}
 use Rattle.coll_syntax.specs.Identifier.{same_name, same_id}
-use Rattle.coll_table.specs.Table.{Collation, ids_of, entries_of, is_known_among}
+use Rattle.coll_syntax.specs.Proper.{IsElementText, IsProperWeight}
 use Rattle.coll_syntax.specs.declared.identifiers.Id.{Id}
-use Rattle.coll_table.specs.Limits.{most_entries, most_declarations}
+use Rattle.coll_syntax.specs.declared.weights.Weight.{Weight}
+use Rattle.coll_table.specs.declared.declarations.Declaration.{Declaration}
+use Rattle.coll_table.specs.declared.entries.Entry.{Entry}
+use Rattle.coll_table.specs.Table.{Collation, Section, names_of, texts_of, entries_of, ids_of, section_names, is_known, is_symbol, is_placed}
+use Rattle.coll_table.specs.Entries.{names_only, ids_named}
+use Rattle.coll_table.specs.Limits.{most_entries, most_declarations, most_sections}
 
 -- no member of a list is the same as a later one
 abbrev pub AreDistinct : {X : Type 0} → (X → X → Bool) → List X → Type 0
 AreDistinct same [] = Unit {0}
 AreDistinct same (x ∷ xs) = (list_any (same x) xs ≡ false) × AreDistinct same xs
 
--- each identifier of a list may be used where these names are declared
-abbrev pub AreKnown : List (List ℕ) → List Id → Type 0
-AreKnown declared [] = Unit {0}
-AreKnown declared (id ∷ ids) = IsTrue (is_known_among declared id) × AreKnown declared ids
+-- a section has no name
+abbrev pub IsUnnamed : Section → Type 0
+IsUnnamed section = section.name ≡ None
 
--- what is declared are names, each once; identifiers placed are distinct, each name placed is declared, and the limits hold
-pub record IsWellFormed (table : Collation) : Type 0 where
-  pub names : All IsName table.declared
-  pub distinct_names : AreDistinct same_name table.declared
+-- a section has a name, and that is one
+abbrev pub IsNamed : Section → Type 0
+IsNamed section = (name : List ℕ) × (section.name ≡ Some name) × IsName name
+
+-- the first section has no name, and each other has one
+abbrev pub FirstIsUnnamed : List Section → Type 0
+FirstIsUnnamed [] = ⊥
+FirstIsUnnamed (first ∷ others) = IsUnnamed first × All IsNamed others
+
+-- a weight that an entry may keep: within the limits of the language, and no list that names only the entry
+abbrev pub IsKeptWeight : Id → Weight → Type 0
+IsKeptWeight id weight = IsProperWeight weight × (names_only id weight ≡ false)
+
+-- the weights of an entry that is a collating symbol, or is none
+abbrev pub HasWeights : (levels : ℕ) → (symbol : Bool) → Entry → Type 0
+HasWeights levels true entry = entry.weights ≡ []
+HasWeights levels false entry = (length entry.weights ≡ levels) × All (IsKeptWeight entry.id) entry.weights
+
+-- an entry has one weight for each level, and none if it is a collating symbol
+abbrev pub IsWeighted : (levels : ℕ) → List Declaration → Entry → Type 0
+IsWeighted levels declared entry = HasWeights levels (is_symbol declared entry.id) entry
+
+-- an identifier may be used
+abbrev pub IsKnown : List Declaration → Id → Type 0
+IsKnown declared id = IsTrue (is_known declared id)
+
+-- each identifier that an entry's weights name is placed
+abbrev pub HasPlacedWeights : Collation → Entry → Type 0
+HasPlacedWeights table entry = All (λ id. IsTrue (is_placed table id)) (ids_named entry)
+
+-- all that holds of a table but for its weights being placed, as it does of a table that is being read
+pub record IsBuilt (table : Collation) : Type 0 where
+  pub few_levels : length table.rules ≤ 4
+  pub names : All IsName (names_of table.declared)
+  pub texts : All IsElementText (texts_of table.declared)
+  pub distinct_names : AreDistinct same_name (names_of table.declared)
+  pub distinct_texts : AreDistinct same_name (texts_of table.declared)
+  pub first_unnamed : FirstIsUnnamed table.sections
+  pub distinct_sections : AreDistinct same_name (section_names table.sections)
   pub distinct_entries : AreDistinct same_id (ids_of (entries_of table))
-  pub known : AreKnown table.declared (ids_of (entries_of table))
+  pub known : All (IsKnown table.declared) (ids_of (entries_of table))
+  pub weighted : All (IsWeighted (length table.rules) table.declared) (entries_of table)
   pub few_entries : length (entries_of table) ≤ most_entries
   pub few_declarations : length table.declared ≤ most_declarations
+  pub few_sections : length table.sections ≤ most_sections
+
+-- the rules are one to four; every name is one; names declared, strings, names of sections and identifiers placed are
+-- distinct; the first section alone has no name; each name placed is declared, each identifier in a weight is placed; the
+-- limits hold
+pub record IsWellFormed (table : Collation) : Type 0 where
+  pub built : IsBuilt table
+  pub some_levels : 1 ≤ length table.rules
+  pub weights_placed : All (HasPlacedWeights table) (entries_of table)

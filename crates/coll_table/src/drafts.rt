@@ -1,163 +1,69 @@
 //! The table that is being read.
 //!
-//! A `Draft` keeps of the lines accepted so far what the next one is judged by: whether an order is open, whether there
-//! was one, and the table. Each method judges one kind of line, as `line_cause` of `specs/Reading.antt` does from the list of
-//! the lines before it. After a refusal the draft is given up. What may stand where is changed in `line_cause` first; what a
-//! draft keeps may change as long as it says as much of the lines before (`draft_of` of `specs/Drafts.antt`).
+//! A `Draft` keeps of the lines accepted so far what the next one is judged by (`DraftState` of `specs/Drafts.antt`): whether an
+//! order is open, the rules, and a table that grows, with the number of the line of each entry. Each method judges one kind
+//! of line, as `cause_after` does. After a refusal the draft is given up. What may stand where is changed in
+//! `specs/Drafts.antt` first.
 
-ghost use Rattle.std.specs.Prelude.{◌≡◌, ◌≢◌, [], Ok, Err, IfOk, IfErr, OnOk};
-ghost use Rattle.coll_lex.specs.Names.{IsName};
-ghost use Rattle.coll_table.specs.PlainTableLines.{DeclaresName};
-ghost use Rattle.coll_table.specs.Reading.{is_end};
-ghost use Rattle.coll_table.specs.declared.plain.table_lines.PlainTableLine.TheVariants.{Symbol, OrderStart, OrderEnd, Order, EndCategory};
+ghost use Rattle.std.specs.Prelude.{◌≡◌, ◌≢◌, [], Some, None, IfOk, IfErr, OnOk};
+ghost use Rattle.coll_syntax.specs.Proper.{IsProperTableLine};
+ghost use Rattle.coll_table.specs.WellFormed.{IsWellFormed};
+ghost use Rattle.coll_table.specs.TableLayout.{collation};
 ghost use Rattle.coll_table.specs.declared.load_faults.LoadCause.TheVariants.{OutOfMemory};
 
-use crate::{LoadCause, MOST_DECLARATIONS, MOST_ENTRIES, PlainLine, PlainTableLine, Table};
-use coll_lex::TextBuf;
-use std::alloc::Global;
+use crate::building::Builder;
+use crate::{LoadFault, Table};
+use coll_syntax::{Rules, TableLine};
+use std::alloc::{AllocError, Global};
 use std::marker::Model;
 
 /// A table that is being read.
-#[derive(Drop)]
-pub struct Draft {
+#[derive(Debug, Drop)]
+pub(crate) struct Draft {
     order_open: bool,
-    started: bool,
-    table: Table,
+    rules: Option<Rules>,
+    builder: Builder,
+    numbers: Vec<u32>,
 }
 
 impl Model for Draft {
     ghost use Rattle.coll_table.specs.Drafts.{DraftState};
+    ghost use Rattle.coll_table.specs.SoundDrafts.{IsSoundDraft};
 
     ghost Value = { DraftState };
 
-    ghost view = { λ d. record { order_open = d.order_open; started = d.started; table = d.table } };
+    ghost view = { λ d. record { order_open = d.order_open; rules = d.rules; declared = d.builder.declared; sections = d.builder.sections; numbers = d.numbers.items } };
+
+    ghost invariant = { λ d. IsSoundDraft (record { order_open = d.order_open; rules = d.rules; declared = d.builder.declared; sections = d.builder.sections; numbers = d.numbers.items }) };
 }
 
 impl Draft {
-    ghost use Rattle.coll_table.specs.Drafts.{draft_of, Accepts, RefusesNext, IsLineCause};
+    ghost use Rattle.coll_table.specs.Drafts.{Numbered, draft_of, line_fault, table_of, is_end};
+    ghost use Rattle.coll_table.specs.Loading.{draft_after};
 
-    /// A draft before the first line. It takes no memory.
-    pub fn new(alloc: Global) -> Draft
-        ensures { result ≡ draft_of [] }
+    /// A draft before the first line.
+    pub(crate) fn new(alloc: Global) -> Result<Draft, AllocError>
+        ensures { IfOk result (λ draft. draft ≡ draft_of []) }
     {
-        Draft {
-            order_open: false,
-            started: false,
-            table: Table::new(alloc),
-        }
+        unreachable!();
+    }
+
+    /// Judges one more line, which has this number, and keeps what it says. The answer tells whether it ends the category.
+    pub(crate) fn take(&mut self, number: u32, line: TableLine) -> Result<bool, LoadFault>
+        requires proper { IsProperTableLine line }
+        ensures ok { OnOk result (line_fault self.old (record { number = number; line = line }) ≡ None) }
+        ensures after { OnOk result (self.new ≡ draft_after self.old (record { number = number; line = line })) }
+        ensures ended { IfOk result (λ ended. ended ≡ is_end line) }
+        ensures err { IfErr result (λ fault. fault.cause ≢ OutOfMemory → line_fault self.old (record { number = number; line = line }) ≡ Some fault) }
+    {
+        unreachable!();
     }
 
     /// The table read.
-    pub fn into_table(self) -> Table
-        ensures { result ≡ self.table }
+    pub(crate) fn into_table(self) -> Table
+        requires { IsWellFormed (table_of self) }
+        ensures { collation result ≡ table_of self }
     {
-        self.table
-    }
-
-    /// Judges one more line, and keeps what it says. The answer tells whether it ends the category.
-    pub fn take(&mut self, line: PlainTableLine) -> Result<bool, LoadCause>
-        requires { DeclaresName line }
-        ensures ok { OnOk result (Accepts self.old line self.new) }
-        ensures ended { IfOk result (λ ended. ended ≡ is_end line) }
-        ensures err { IfErr result (λ cause. cause ≢ OutOfMemory → RefusesNext self.old line cause) }
-        ensures cause { IfErr result IsLineCause }
-    {
-        match line {
-            PlainTableLine::Symbol(name) => {
-                self.declare(&name)?;
-                return Ok(false);
-            }
-            PlainTableLine::OrderStart => {
-                self.start();
-                return Ok(false);
-            }
-            PlainTableLine::OrderEnd => {
-                self.stop()?;
-                return Ok(false);
-            }
-            PlainTableLine::Order(line) => {
-                self.place(line)?;
-                return Ok(false);
-            }
-            PlainTableLine::EndCategory => {
-                self.end()?;
-                return Ok(true);
-            }
-        }
-    }
-
-    /// A declaration.
-    fn declare(&mut self, name: &TextBuf) -> Result<(), LoadCause>
-        requires { IsName name.now }
-        ensures ok { OnOk result (Accepts self.old (Symbol name.now) self.new) }
-        ensures err { IfErr result (λ cause. cause ≢ OutOfMemory → RefusesNext self.old (Symbol name.now) cause) }
-        ensures cause { IfErr result IsLineCause }
-    {
-        if self.table.declares(name) {
-            return Err(LoadCause::DeclaredTwice);
-        }
-        if self.table.declared_len() >= MOST_DECLARATIONS {
-            return Err(LoadCause::Full);
-        }
-        self.table.declare(name)?;
-        Ok(())
-    }
-
-    /// `order_start`.
-    fn start(&mut self)
-        ensures { Accepts self.old OrderStart self.new }
-    {
-        self.order_open = true;
-        self.started = true;
-    }
-
-    /// `order_end`.
-    fn stop(&mut self) -> Result<(), LoadCause>
-        ensures ok { OnOk result (Accepts self.old OrderEnd self.new) }
-        ensures err { IfErr result (λ cause. cause ≢ OutOfMemory → RefusesNext self.old OrderEnd cause) }
-        ensures cause { IfErr result IsLineCause }
-    {
-        if !self.order_open {
-            return Err(LoadCause::OutsideOrder);
-        }
-        self.order_open = false;
-        Ok(())
-    }
-
-    /// An order line.
-    fn place(&mut self, line: PlainLine) -> Result<(), LoadCause>
-        ensures ok { OnOk result (Accepts self.old (Order line) self.new) }
-        ensures err { IfErr result (λ cause. cause ≢ OutOfMemory → RefusesNext self.old (Order line) cause) }
-        ensures cause { IfErr result IsLineCause }
-    {
-        if !self.order_open {
-            return Err(LoadCause::OutsideOrder);
-        }
-        if !self.table.is_known(&line.id) {
-            return Err(LoadCause::NotDeclared);
-        }
-        if self.table.is_placed(&line.id) {
-            return Err(LoadCause::PlacedTwice);
-        }
-        if self.table.len() >= MOST_ENTRIES {
-            return Err(LoadCause::Full);
-        }
-        self.table.place_last(line.id)?;
-        Ok(())
-    }
-
-    /// `END LC_COLLATE`.
-    fn end(&mut self) -> Result<(), LoadCause>
-        ensures ok { OnOk result (Accepts self.old EndCategory self.new) }
-        ensures err { IfErr result (λ cause. cause ≢ OutOfMemory → RefusesNext self.old EndCategory cause) }
-        ensures cause { IfErr result IsLineCause }
-    {
-        if self.order_open {
-            return Err(LoadCause::OutsideOrder);
-        }
-        if !self.started {
-            return Err(LoadCause::NoRules);
-        }
-        Ok(())
+        unreachable!();
     }
 }

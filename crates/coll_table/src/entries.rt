@@ -1,12 +1,32 @@
 //! The entries of a table.
 //!
-//! An entry is plain data, which an order line gives; what an order line gains, an entry gains.
+//! An entry is plain data: what stands at a place of the order, and how it weighs at each level. Which weights an order line
+//! gives it is `entry_of` of `specs/Entries.antt`.
 
-use coll_syntax::Id;
+ghost use Rattle.std.specs.Prelude.{◌≡◌, length, map};
 
-/// A place of a table's order.
+use coll_lex::ListBuf;
+use coll_syntax::{Id, Weight};
+
+/// A place of a table's order (POSIX.1-2017, 7.3.2.4).
 #[derive(Debug, Drop)]
 pub struct Entry {
-    /// What stands there.
-    pub id: Id,
+    pub(crate) id: Id,
+    pub(crate) weights: ListBuf<Weight>,
+}
+
+impl Entry {
+    /// What stands there: a character, a name that the table declares, or `UNDEFINED`.
+    pub fn id(&self) -> &Id
+        ensures { result.now ≡ self.now.id }
+    {
+        &self.id
+    }
+
+    /// Its weights, one for each level of the table; a collating symbol has none.
+    pub fn weights(&self) -> &[Weight]
+        ensures { result.now ≡ self.now.weights }
+    {
+        self.weights.get()
+    }
 }

@@ -1,38 +1,48 @@
 //! Tables of a collation order, and the statements that rewrite them.
 //!
-//! A `Table` is read by `load`, and rewritten by `apply`, which gives a `Record` that `flip` turns back. A way through the
-//! crate, each file with its definitions in `specs/`:
+//! A `Table` is read by `load`, or by a `Loader` line by line, and rewritten by `apply`, which gives a `Record` that `flip` turns
+//! back. A way through the crate, each file with its definitions in `specs/`:
 //!
-//! - `plain/`: what a line of a table or a delta says (`PlainTableLines`, `PlainDeltaLines`, `PlainOrderLines`);
-//! - `text_lines` and `steps`: the lines of a text, taken one after another (`TextLines`);
-//! - `drafts`: a line, judged by those before it (`Drafts`);
-//! - `loading`: a text, read (`Reading`, `CategoryReading`, `Loads`), with its `load_faults` (`LoadFaults`);
-//! - `tables`, `entries`, `names`, `places` and `limits`: what a table is (`Table`, `WellFormed`, `Sound`, `LookUps`, `Limits`);
-//! - `deltas` and `refusals`: a statement, applied (`Delta`, `Placement`, `Refusals`);
+//! - `declarations`, `entries` and `limits`: what a table is made of (`Table`, `Entries`, `WellFormed`, `Limits`);
+//! - `contents`, `node_names`, `node_ids` and `bodies`: rings of nodes, and what each node is (`TableLayout`, `NodeLookUps`, `Bodies`);
+//! - `tables` and `walks`: a table, read (`Walks`);
+//! - `building`: a table that grows (`Building`);
+//! - `drafts`: the lines of a category, each judged by those before it (`Drafts`);
+//! - `loaders` and `loading`: a text, read line by line (`Reading`, `Loading`, `Loads`), with its `load_faults` (`LoadFaults`);
+//! - `plain/`: what a line of a delta says (`PlainDeltaLines`, `PlainOrderLines`);
+//! - `names`, `places`, `deltas` and `refusals`: a statement, applied (`LookUps`, `Delta`, `Placement`, `Refusals`);
 //! - `records`: a statement, taken back (`Record`).
 #![tactic(auto)]
 
+mod bodies;
+mod building;
+mod contents;
+mod declarations;
 mod deltas;
 mod drafts;
 mod entries;
 mod limits;
 mod load_faults;
+mod loaders;
 mod loading;
 mod names;
+mod node_ids;
+mod node_names;
 mod places;
 mod plain;
 mod records;
 mod refusals;
-mod steps;
 mod tables;
-mod text_lines;
+mod walks;
 
+pub use declarations::Declaration;
 pub use entries::Entry;
-pub use limits::{MOST_DECLARATIONS, MOST_ENTRIES, limits_are_stated};
+pub use limits::{MOST_DECLARATIONS, MOST_ENTRIES, MOST_SECTIONS, limits_are_stated};
 pub use load_faults::{LoadCause, LoadFault};
+pub use loaders::Loader;
 pub use loading::{load, texts_are_well_formed};
 pub use plain::{PlainDeltaLine, PlainLine, PlainStatement, parse_plain_delta_line};
-pub(crate) use plain::{PlainTableLine, parse_plain_table_line};
 pub use records::Record;
 pub use refusals::Refusal;
 pub use tables::Table;
+pub use walks::{Declared, DeclaredItem, Walk, WalkItem};

@@ -54,15 +54,27 @@ pub enum LoadCause {
     NoCategory,
     /// The category ends without an `order_start`.
     NoRules,
+    /// An `order_start` gives other rules than the first one.
+    RulesDiffer,
     /// A name is declared that an earlier line declares.
     DeclaredTwice,
-    /// An order line names what no earlier line declares.
+    /// An order line has a name that no earlier line declares, or a weight names what no line declares.
     NotDeclared,
     /// An order line has an identifier that an earlier one has.
     PlacedTwice,
-    /// An order line or `order_end` stands where no order is open, or the category ends where one is.
+    /// A collating symbol is given weights.
+    SymbolWithWeights,
+    /// An order line gives more weights than there are levels.
+    TooManyWeights,
+    /// A weight names what is placed nowhere.
+    WeightNotPlaced,
+    /// A collating element has the string of an earlier one.
+    StringTwice,
+    /// A section begins that an earlier line begins.
+    SectionTwice,
+    /// An order line, `section` or `order_end` stands where no order is open, or the category ends where one is.
     OutsideOrder,
-    /// The table has no room for one more entry or declaration.
+    /// The table has no room for one more entry, declaration or section.
     Full,
     /// The text ends before its category does.
     NoEnd,
@@ -84,9 +96,15 @@ impl LoadCause {
             LoadCause::Syntax(fault) => fault.number(),
             LoadCause::NoCategory => 30,
             LoadCause::NoRules => 31,
+            LoadCause::RulesDiffer => 32,
             LoadCause::DeclaredTwice => 33,
             LoadCause::NotDeclared => 34,
             LoadCause::PlacedTwice => 35,
+            LoadCause::SymbolWithWeights => 36,
+            LoadCause::TooManyWeights => 37,
+            LoadCause::WeightNotPlaced => 38,
+            LoadCause::StringTwice => 39,
+            LoadCause::SectionTwice => 40,
             LoadCause::OutsideOrder => 41,
             LoadCause::Full => 42,
             LoadCause::NoEnd => 43,
@@ -104,9 +122,15 @@ impl LoadCause {
             LoadCause::Syntax(fault) => fault.name(),
             LoadCause::NoCategory => "NoCategory",
             LoadCause::NoRules => "NoRules",
+            LoadCause::RulesDiffer => "RulesDiffer",
             LoadCause::DeclaredTwice => "DeclaredTwice",
             LoadCause::NotDeclared => "NotDeclared",
             LoadCause::PlacedTwice => "PlacedTwice",
+            LoadCause::SymbolWithWeights => "SymbolWithWeights",
+            LoadCause::TooManyWeights => "TooManyWeights",
+            LoadCause::WeightNotPlaced => "WeightNotPlaced",
+            LoadCause::StringTwice => "StringTwice",
+            LoadCause::SectionTwice => "SectionTwice",
             LoadCause::OutsideOrder => "OutsideOrder",
             LoadCause::Full => "Full",
             LoadCause::NoEnd => "NoEnd",

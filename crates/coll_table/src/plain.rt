@@ -5,8 +5,7 @@
 mod delta_lines;
 mod order_lines;
 mod statements;
-mod table_lines;
+
 
 pub use delta_lines::{PlainDeltaLine, parse_plain_delta_line};
 pub use statements::{PlainLine, PlainStatement};
-pub use table_lines::{PlainTableLine, parse_plain_table_line};

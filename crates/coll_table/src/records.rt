@@ -46,7 +46,7 @@ impl Table {
         ensures back { turn self.new kept.new ≡ self.old }
         ensures steps { result ≡ 0 }
     {
-        let _ = &self.declared;
+        let _ = &self.body;
         mem::swap(self, &mut kept.other);
         0
     }

@@ -1,0 +1,154 @@
+//! A table that grows.
+//!
+//! A `Builder` puts declarations, sections and entries behind those that are there, and answers what is there by look-ups. What
+//! contracts see of it are the two lists (`Parts` of `specs/Building.antt`); `finish` makes the table of them. It judges
+//! nothing: what may be put where is for its caller to know.
+
+ghost use Rattle.std.specs.Prelude.{◌≡◌, ◌∷◌, ◌++◌, [], ◌<◌, Some, false, IfOk, OnOk, OnErr, length};
+ghost use Rattle.coll_syntax.specs.Identifier.{has_name};
+
+use crate::bodies::Body;
+use crate::{Declaration, Entry, Table, Walk};
+use coll_lex::TextBuf;
+use coll_syntax::{Id, Rules};
+use std::alloc::{AllocError, Global};
+use std::marker::Model;
+
+/// A table that grows.
+#[derive(Debug, Drop)]
+pub(crate) struct Builder {
+    body: Body,
+}
+
+impl Model for Builder {
+    ghost use Rattle.coll_table.specs.Building.{Parts};
+
+    ghost Value = { Parts };
+
+    ghost use Rattle.coll_table.specs.Building.{no_parts};
+
+    ghost view = { λ b. no_parts };
+}
+
+impl Builder {
+    ghost use Rattle.coll_table.specs.Building.{no_parts, table_with};
+    ghost use Rattle.coll_table.specs.Loading.{with_last, with_section};
+    ghost use Rattle.coll_table.specs.Table.{name_of, text_of, texts_of, is_declared, is_known, is_symbol, is_placed_in, section_names, joined_entries};
+    ghost use Rattle.coll_table.specs.Drafts.{has_text};
+    ghost use Rattle.coll_table.specs.TableLayout.{collation};
+    ghost use Rattle.coll_table.specs.Walks.{met};
+    ghost use Rattle.coll_table.specs.WellFormed.{IsWellFormed};
+
+    /// Nothing declared, and an empty first section.
+    pub(crate) fn new(alloc: Global) -> Result<Builder, AllocError>
+        ensures { IfOk result (λ builder. builder ≡ no_parts) }
+    {
+        unreachable!();
+    }
+
+    /// Whether a name is declared.
+    pub(crate) fn declares(&self, name: &TextBuf) -> bool
+        ensures { result ≡ is_declared self.now.declared name.now }
+    {
+        unreachable!();
+    }
+
+    /// Whether a collating element has this string.
+    pub(crate) fn has_text(&self, text: &TextBuf) -> bool
+        ensures { result ≡ has_name (texts_of self.now.declared) text.now }
+    {
+        unreachable!();
+    }
+
+    /// Whether a section has this name.
+    pub(crate) fn has_section(&self, name: &TextBuf) -> bool
+        ensures { result ≡ has_name (section_names self.now.sections) name.now }
+    {
+        unreachable!();
+    }
+
+    /// Whether an identifier stands in a section.
+    pub(crate) fn is_placed(&self, id: &Id) -> bool
+        ensures { result ≡ is_placed_in self.now.sections id.now }
+    {
+        unreachable!();
+    }
+
+    /// Whether an identifier may be used: a name has to be declared.
+    pub(crate) fn is_known(&self, id: &Id) -> bool
+        ensures { result ≡ is_known self.now.declared id.now }
+    {
+        unreachable!();
+    }
+
+    /// Whether an identifier is a collating symbol.
+    pub(crate) fn is_symbol(&self, id: &Id) -> bool
+        ensures { result ≡ is_symbol self.now.declared id.now }
+    {
+        unreachable!();
+    }
+
+    /// The number of entries, in all sections together.
+    pub(crate) fn len(&self) -> usize
+        ensures { result ≡ length (joined_entries self.now.sections) }
+    {
+        unreachable!();
+    }
+
+    /// The number of declarations.
+    pub(crate) fn declared_len(&self) -> usize
+        ensures { result ≡ length self.now.declared }
+    {
+        unreachable!();
+    }
+
+    /// The number of sections, the first counted.
+    pub(crate) fn section_len(&self) -> usize
+        ensures { result ≡ length self.now.sections }
+    {
+        unreachable!();
+    }
+
+    /// Puts a declaration behind all others.
+    pub(crate) fn declare(&mut self, new: Declaration) -> Result<(), AllocError>
+        requires name { is_declared self.old.declared (name_of new) ≡ false }
+        requires text { has_text self.old.declared (text_of new) ≡ false }
+        ensures ok { OnOk result (self.new ≡ record self.old { declared = self.old.declared ++ new ∷ [] }) }
+        ensures err { OnErr result (self.new ≡ self.old) }
+    {
+        unreachable!();
+    }
+
+    /// Begins a section behind all others.
+    pub(crate) fn begin_section(&mut self, name: TextBuf) -> Result<(), AllocError>
+        requires { has_name (section_names self.old.sections) name ≡ false }
+        ensures ok { OnOk result (self.new ≡ record self.old { sections = with_section self.old.sections name }) }
+        ensures err { OnErr result (self.new ≡ self.old) }
+    {
+        unreachable!();
+    }
+
+    /// Puts an entry behind all others, in the last section.
+    pub(crate) fn place_last(&mut self, entry: Entry) -> Result<(), AllocError>
+        requires { is_placed_in self.old.sections entry.id ≡ false }
+        ensures ok { OnOk result (self.new ≡ record self.old { sections = with_last self.old.sections entry }) }
+        ensures err { OnErr result (self.new ≡ self.old) }
+    {
+        unreachable!();
+    }
+
+    /// A walk through the sections and entries so far.
+    pub(crate) fn walk(&self) -> Walk<'_>
+        ensures { result ≡ met self.now.sections }
+    {
+        unreachable!();
+    }
+
+    /// The table of these parts and these rules.
+    pub(crate) fn finish(self, rules: Rules) -> Table
+        requires { IsWellFormed (table_with rules self) }
+        ensures { collation result ≡ table_with rules self }
+    {
+        unreachable!();
+    }
+}

@@ -1,0 +1,1 @@
+//! Nodes by identifier.
