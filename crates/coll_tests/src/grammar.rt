@@ -93,7 +93,8 @@ pub fn show_id(out: &mut String, id: &Id) -> Result<(), AllocError> {
     Ok(())
 }
 
-fn show_weight(out: &mut String, weight: &Weight) -> Result<(), AllocError> {
+/// A weight: `I` for `IGNORE`, `-` for the entry's own, a list between parentheses.
+pub fn show_weight(out: &mut String, weight: &Weight) -> Result<(), AllocError> {
     match weight {
         Weight::Ignore => out.push('I')?,
         Weight::Own => out.push('-')?,
@@ -133,7 +134,8 @@ fn show_rule(out: &mut String, rule: Rule) -> Result<(), AllocError> {
     Ok(())
 }
 
-fn show_rules(out: &mut String, rules: &Rules) -> Result<(), AllocError> {
+/// The rules, each after a blank.
+pub fn show_rules(out: &mut String, rules: &Rules) -> Result<(), AllocError> {
     for rule in rules.get() {
         show_rule(out, *rule)?;
     }

@@ -1,6 +1,10 @@
-//! Tables: how their texts are read, and how statements rewrite them.
+//! Tables: how their texts are read, how they are looked at, and how statements rewrite them.
 
 mod deltas;
 pub mod examples;
+mod limits;
+mod line_by_line;
 mod loading;
 mod plain_lines;
+mod reading;
+mod shown;

@@ -1,8 +1,9 @@
 //! Tables, identifiers and statements that several tests use.
 
+use crate::tables::shown::shown;
 use coll_lex::{Counted, ListBuf, TextBuf};
 use coll_syntax::Id;
-use coll_table::{LoadFault, PlainLine, PlainStatement, Table, load};
+use coll_table::{LoadCause, LoadFault, Loader, PlainLine, PlainStatement, Table, WalkItem, load};
 use std::alloc::{AllocError, Global};
 use std::process::Abort;
 
@@ -10,9 +11,80 @@ use std::process::Abort;
 pub const FIRST_TABLE: &[u8] =
     b"LC_COLLATE\ncollating-symbol <BASE>\norder_start forward\n<BASE>\n<U0061>\n<U0062>\n<U0063>\norder_end\nEND LC_COLLATE\n";
 
+/// A table of four levels with two sections, line by line.
+pub const BASE_TABLE: &[&str] = &[
+    "comment_char %",
+    "escape_char /",
+    "LC_COLLATE",
+    "collating-symbol <BASE>",
+    "collating-symbol <MIN>",
+    "collating-symbol <CAP>",
+    "order_start forward;backward;forward;forward,position",
+    "<BASE>",
+    "<MIN>",
+    "<CAP>",
+    "<U0061> <U0061>;<BASE>;<MIN>;IGNORE",
+    "<U0041> <U0061>;<BASE>;<CAP>;IGNORE",
+    "<U0062> <U0062>;<BASE>;<MIN>;IGNORE",
+    "<U0063> <U0063>;<BASE>;<MIN>;IGNORE",
+    "<U0064> <U0064>;<BASE>;<MIN>;IGNORE",
+    "section <PUNCT>",
+    "<U002D> IGNORE;IGNORE;IGNORE;<U002D>",
+    "order_end",
+    "END LC_COLLATE",
+];
+
 /// The table that the text is.
 pub fn loaded(alloc: Global, text: &[u8]) -> Result<Table, LoadFault> {
     load(alloc, &mut Counted::new(text))
+}
+
+/// Hands lines to a loader.
+pub fn hand_in(loader: &mut Loader, lines: &[&str]) -> Result<(), LoadFault> {
+    for line in lines {
+        loader.line(line.as_bytes())?;
+    }
+    Ok(())
+}
+
+/// A loader before the first line.
+pub fn new_loader(alloc: Global) -> Result<Loader, LoadFault> {
+    match Loader::new(alloc) {
+        Ok(loader) => Ok(loader),
+        Err(_) => Err(LoadFault {
+            line: 0,
+            cause: LoadCause::OutOfMemory,
+        }),
+    }
+}
+
+/// The table that these lines are.
+pub fn loaded_lines(alloc: Global, lines: &[&str]) -> Result<Table, LoadFault> {
+    let mut loader = new_loader(alloc)?;
+    hand_in(&mut loader, lines)?;
+    loader.finish()
+}
+
+/// Lines as one text, each with its line feed.
+pub fn text_of(alloc: Global, lines: &[&str]) -> Result<Vec<u8>, AllocError> {
+    let mut text = Vec::new(alloc);
+    for line in lines {
+        text.extend_from_slice(line.as_bytes())?;
+        text.push(b'\n')?;
+    }
+    Ok(text)
+}
+
+/// Asserts that a table is so, shown in short.
+pub fn assert_shown(
+    rt: &impl Abort,
+    alloc: Global,
+    table: &Table,
+    want: &str,
+) -> Result<(), AllocError> {
+    let given = shown(alloc, table)?;
+    assert_eq!(rt; given.as_str(), want);
+    Ok(())
 }
 
 /// Asserts that a table has these identifiers in order, where `<` stands for a name and `?` for UNDEFINED.
@@ -22,17 +94,22 @@ pub fn assert_order(rt: &impl Abort, table: &Table, order: &str) {
 
 fn has_order(table: &Table, order: &str) -> bool {
     let mut wanted = order.chars();
-    for entry in table.entries() {
-        let there = match &entry.id {
-            Id::Char(c) => *c,
-            Id::Named(_) => '<',
-            Id::Undefined => '?',
-        };
-        if wanted.next() != Some(there) {
-            return false;
+    for item in table.walk() {
+        if let WalkItem::Entry(entry) = item {
+            if wanted.next() != Some(short(entry.id())) {
+                return false;
+            }
         }
     }
     wanted.next().is_none()
+}
+
+fn short(id: &Id) -> char {
+    match id {
+        Id::Char(c) => *c,
+        Id::Named(_) => '<',
+        Id::Undefined => '?',
+    }
 }
 
 /// The identifier of a text: a character, `UNDEFINED`, or else a name.

@@ -1,7 +1,7 @@
 //! Table texts: the table that each is, or the line and the cause of its first fault.
 
 use crate::devices::ShortReader;
-use crate::tables::examples::{FIRST_TABLE, assert_order, loaded};
+use crate::tables::examples::{BASE_TABLE, FIRST_TABLE, assert_order, loaded, text_of};
 use coll_lex::{Counted, LexFault, Source};
 use coll_syntax::SyntaxFault;
 use coll_table::{LoadCause, LoadFault, load};
@@ -14,8 +14,6 @@ fn the_first_table_gives_its_entries_in_order(rt: HostRuntime) -> Result<(), Fai
     let table = loaded(rt.alloc(), FIRST_TABLE)?;
     assert_eq!(rt; table.len(), 4);
     assert_order(&rt, &table, "<abc");
-    let copy = table.try_copy(rt.alloc())?;
-    assert_order(&rt, &copy, "<abc");
     Ok(())
 }
 
@@ -88,11 +86,7 @@ const FAULTS: &[(&[u8], u32, LoadCause)] = &[
         2,
         LoadCause::Syntax(SyntaxFault::UnknownStatement),
     ),
-    (
-        b"LC_COLLATE\nUNDEFINED\n",
-        2,
-        LoadCause::Syntax(SyntaxFault::UnknownStatement),
-    ),
+    (b"LC_COLLATE\nUNDEFINED\n", 2, LoadCause::OutsideOrder),
     (
         b"LC_COLLATE\ncollating-symbol\n",
         2,
@@ -104,14 +98,14 @@ const FAULTS: &[(&[u8], u32, LoadCause)] = &[
         LoadCause::Syntax(SyntaxFault::BadOperand),
     ),
     (
-        b"LC_COLLATE\norder_start forward;forward\n",
-        2,
-        LoadCause::Syntax(SyntaxFault::BadRule),
+        b"LC_COLLATE\norder_start\na a;a\n<A>\n",
+        3,
+        LoadCause::TooManyWeights,
     ),
     (
         b"LC_COLLATE\norder_start\na a\n<A>\n",
-        3,
-        LoadCause::Syntax(SyntaxFault::ExtraOperand),
+        4,
+        LoadCause::NotDeclared,
     ),
     (
         b"LC_COLLATE\ncollating-symbol <X> <Y>\n",
@@ -186,4 +180,45 @@ fn a_read_that_fails_within_the_category_is_the_fault(rt: HostRuntime) {
         assert_read(&rt, rt.alloc(), fails_at, Some(READ_FAULT));
     }
     assert_read(&rt, rt.alloc(), 38, None);
+}
+
+// Where a front of the base table ends within a line, and the fault that it then is.
+const CUT_LINES: &[(usize, &str, u32, LoadCause)] = &[
+    (2, "LC_COLLAT", 3, LoadCause::NoCategory),
+    (2, "LC_COLLATE", 3, LoadCause::NoEnd),
+    (18, "E", 19, LoadCause::OutsideOrder),
+    (18, "END", 19, LoadCause::Syntax(SyntaxFault::MissingOperand)),
+    (
+        18,
+        "END LC_COLLAT",
+        19,
+        LoadCause::Syntax(SyntaxFault::BadOperand),
+    ),
+];
+
+#[test]
+fn a_cut_line_is_judged_as_it_stands(rt: HostRuntime) -> Result<(), Fail> {
+    for (whole, cut, line, cause) in CUT_LINES {
+        let mut text = text_of(rt.alloc(), &BASE_TABLE[..(*whole).min(19)])?;
+        text.extend_from_slice(cut.as_bytes())?;
+        let want = LoadFault {
+            line: *line,
+            cause: *cause,
+        };
+        assert_eq!(rt; loaded(rt.alloc(), text.as_slice()).err(), Some(want), "at {cut}");
+    }
+    Ok(())
+}
+
+#[test]
+fn each_front_of_a_table_is_a_fault_but_for_the_last_line_feed(
+    rt: HostRuntime,
+) -> Result<(), Fail> {
+    let text = text_of(rt.alloc(), BASE_TABLE)?;
+    let whole = text.len().saturating_sub(1);
+    for count in 0..whole {
+        assert!(rt; loaded(rt.alloc(), &text[..count]).is_err(), "at {count}");
+    }
+    assert!(rt; loaded(rt.alloc(), &text[..whole]).is_ok());
+    Ok(())
 }

@@ -1,0 +1,134 @@
+#!/usr/bin/env python3
+"""Loads a large table, and prints the processor time and the peak memory.
+
+Run by hand, with the toolchain's `rt` on the path; no gate runs it:
+
+    bench/load_table.py
+
+It writes a table of the shape of a real one: 82,000 declarations, and 105,000 entries in 23 sections, half of them collating
+symbols and half characters with four weights, of which two are names; some 6 MB. It builds a small program over
+coll_table that loads a file, and runs it on this table, on one of twice the size, and on one with no entries. All of it
+stands in a temporary folder, which is removed at the end. The first build proves the crates below and takes some minutes;
+with a folder as its argument the script keeps what it builds there, and a second run is quick.
+
+Targets: 0.25 s of processor time, and 90 MB of memory in all; twice the table in at most 2.2 times that time.
+"""
+
+import os
+import resource
+import shutil
+import subprocess
+import sys
+import tempfile
+
+ROOT = os.path.dirname(os.path.dirname(os.path.abspath(__file__)))
+CRATES = ("coll_lex", "coll_order", "coll_syntax", "coll_table")
+DECLARATIONS = 82_000
+ENTRIES = 105_000
+SECTIONS = 23
+RUNS = 7
+
+PROGRAM = """#![tactic(auto)]
+
+use anyhow::{Context, Result};
+use coll_lex::Counted;
+use coll_table::load;
+use std::env;
+use std::fs::File;
+
+fn main(rt: HostRuntime) -> Result<()> {
+    let path = env::args(&rt)?.nth(1).context("a file is wanted")?;
+    let mut input = Counted::new(File::open(&rt, path.as_str())?);
+    let table = load(rt.alloc(), &mut input)?;
+    println!(rt; "{} entries", table.len())?;
+    Ok(())
+}
+"""
+
+
+def table_lines(entries, declarations):
+    """The lines of a table with so many entries and declarations."""
+    yield "comment_char %\nescape_char /\nLC_COLLATE\n"
+    for number in range(declarations):
+        yield f"collating-symbol <S{number:07d}>\n"
+    yield "order_start forward;backward;forward;forward,position\n"
+    each = entries // SECTIONS
+    for number in range(entries):
+        if number and number % each == 0 and number // each < SECTIONS:
+            yield f"section <PART{number // each:02d}>\n"
+        half = number // 2
+        if number % 2 == 0:
+            yield f"<S{half:07d}>\n"
+        else:
+            code = 0x10000 + half
+            yield f"<U{code:08X}> <S{half:07d}>;<S{half // 2:07d}>;IGNORE;<U{code:08X}>\n"
+    yield "order_end\nEND LC_COLLATE\n"
+
+
+def build(work):
+    """The program, built in this folder over copies of the crates."""
+    for name in CRATES:
+        crate = os.path.join(work, "crates", name)
+        os.makedirs(crate, exist_ok=True)
+        for part in ("src", "specs", "proofs"):
+            shutil.rmtree(os.path.join(crate, part), ignore_errors=True)
+            shutil.copytree(os.path.join(ROOT, "crates", name, part), os.path.join(crate, part))
+    with open(os.path.join(ROOT, "crates.txt")) as lines:
+        own = [line for line in lines if line.split(":")[0] in CRATES]
+    with open(os.path.join(work, "crates.txt"), "w") as out:
+        out.writelines(own + ["load_table: coll_lex coll_table anyhow\n"])
+    program = os.path.join(work, "crates", "load_table")
+    os.makedirs(os.path.join(program, "src"), exist_ok=True)
+    with open(os.path.join(program, "src", "main.rt"), "w") as out:
+        out.write(PROGRAM)
+    empty = written(work, "empty", 0, 0)
+    subprocess.run(["rt", "run", "--", empty], cwd=program, check=True, stdout=subprocess.DEVNULL)
+    return os.path.join(program, "out", "load_table")
+
+
+def written(work, name, entries, declarations):
+    """The file with a table of so many entries and declarations."""
+    path = os.path.join(work, name + ".txt")
+    with open(path, "w") as out:
+        out.writelines(table_lines(entries, declarations))
+    return path
+
+
+def measured(program, text):
+    """What the program printed, its least processor time in seconds, and its peak memory in kilobytes.
+
+    GNU time starts the program, since a child of this script would count the script's own memory.
+    """
+    times, memory = [], 0
+    for _ in range(RUNS):
+        before = resource.getrusage(resource.RUSAGE_CHILDREN)
+        run = subprocess.run(["/usr/bin/time", "-f", "%M", program, text], capture_output=True, text=True)
+        after = resource.getrusage(resource.RUSAGE_CHILDREN)
+        if run.returncode != 0:
+            sys.exit(f"the program ended with status {run.returncode}: {run.stderr}")
+        times.append(after.ru_utime + after.ru_stime - before.ru_utime - before.ru_stime)
+        memory = max(memory, int(run.stderr.split()[-1]))
+    return run.stdout.strip(), sorted(times), memory
+
+
+def main(work):
+    program = build(work)
+    tables = [
+        ("none", written(work, "empty", 0, 0)),
+        ("one", written(work, "table", ENTRIES, DECLARATIONS)),
+        ("twice", written(work, "twice", 2 * ENTRIES, 2 * DECLARATIONS)),
+    ]
+    for name, path in tables:
+        said, times, memory = measured(program, path)
+        size = os.path.getsize(path)
+        print(f"{name}: {size} bytes, {said}: least {times[0]:.3f} s, middle {times[RUNS // 2]:.3f} s of {RUNS} runs, {memory} kB")
+    print("targets: one in 0.25 s and 90000 kB, twice in 2.2 times that time")
+
+
+if __name__ == "__main__":
+    if len(sys.argv) > 1:
+        os.makedirs(sys.argv[1], exist_ok=True)
+        main(sys.argv[1])
+    else:
+        with tempfile.TemporaryDirectory() as folder:
+            main(folder)
