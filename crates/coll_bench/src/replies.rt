@@ -7,7 +7,8 @@
 ghost use Rattle.std.specs.Prelude.{◌≡◌, ◌++◌, ◌∷◌, [], Bool, length};
 ghost use Rattle.std.specs.Io.KnownBytes.{Keeps};
 ghost use Rattle.coll_lex.specs.Devices.{CountsErr, Sends};
-ghost use Rattle.coll_table.specs.Table.{collation, entries_of};
+ghost use Rattle.coll_table.specs.TableLayout.{collation};
+ghost use Rattle.coll_table.specs.Table.{entries_of};
 ghost use Rattle.coll_bench.specs.Replies.{spelled_id, worded, counted_line, refused_line, listed_line, listed_lines, listing, outcome_line, command_reply, history_after_command, reply_if, history_after_if};
 
 use crate::faults::{BenchFault, Fault};
