@@ -19,9 +19,7 @@ fn run<R: Source, W: Sink>(
     input: &mut R,
     output: &mut W,
 ) -> Result<(), RunFault> {
-    let Ok(table) = loaded(alloc, FIRST_TABLE) else {
-        panic!(rt; "the first table is not loaded");
-    };
+    let table = loaded(alloc, FIRST_TABLE).expect(rt, "the first table");
     run_session(alloc, table, input, output)
 }
 

@@ -6,7 +6,6 @@ use super::{Place, assert_said, show_fault, show_id, show_name, show_order};
 use coll_lex::Line;
 use coll_syntax::{DeltaLine, parse_delta_line};
 use std::alloc::{AllocError, Global};
-use std::test::Fail;
 
 /// Shows what a line says as one of a delta.
 pub fn show(out: &mut String, alloc: Global, line: &Line) -> Result<(), AllocError>
@@ -71,13 +70,13 @@ const DECLARATIONS_AND_LINES_WITHOUT_EFFECT: &[(&str, &str)] = &[
 ];
 
 #[test]
-fn declarations_and_lines_without_effect(rt: HostRuntime) -> Result<(), Fail> {
+fn declarations_and_lines_without_effect(rt: HostRuntime) {
     assert_said(
         &rt,
         rt.alloc(),
         Place::Delta,
         DECLARATIONS_AND_LINES_WITHOUT_EFFECT,
-    )
+    );
 }
 
 const BLOCKS_AND_SECTIONS: &[(&str, &str)] = &[
@@ -106,8 +105,8 @@ const BLOCKS_AND_SECTIONS: &[(&str, &str)] = &[
 ];
 
 #[test]
-fn blocks_and_sections(rt: HostRuntime) -> Result<(), Fail> {
-    assert_said(&rt, rt.alloc(), Place::Delta, BLOCKS_AND_SECTIONS)
+fn blocks_and_sections(rt: HostRuntime) {
+    assert_said(&rt, rt.alloc(), Place::Delta, BLOCKS_AND_SECTIONS);
 }
 
 const ORDER_LINES_AND_FIRST_TOKENS: &[(&str, &str)] = &[
@@ -133,6 +132,6 @@ const ORDER_LINES_AND_FIRST_TOKENS: &[(&str, &str)] = &[
 ];
 
 #[test]
-fn order_lines_and_first_tokens(rt: HostRuntime) -> Result<(), Fail> {
-    assert_said(&rt, rt.alloc(), Place::Delta, ORDER_LINES_AND_FIRST_TOKENS)
+fn order_lines_and_first_tokens(rt: HostRuntime) {
+    assert_said(&rt, rt.alloc(), Place::Delta, ORDER_LINES_AND_FIRST_TOKENS);
 }

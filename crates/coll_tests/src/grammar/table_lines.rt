@@ -6,7 +6,6 @@ use super::{Place, assert_said, show_fault, show_name, show_order, show_rules};
 use coll_lex::Line;
 use coll_syntax::{TableLine, parse_table_line};
 use std::alloc::{AllocError, Global};
-use std::test::Fail;
 
 /// Shows what a line says as one of a table.
 pub fn show(out: &mut String, alloc: Global, line: &Line) -> Result<(), AllocError>
@@ -79,8 +78,8 @@ const DECLARATIONS: &[(&str, &str)] = &[
 ];
 
 #[test]
-fn declarations(rt: HostRuntime) -> Result<(), Fail> {
-    assert_said(&rt, rt.alloc(), Place::Table, DECLARATIONS)
+fn declarations(rt: HostRuntime) {
+    assert_said(&rt, rt.alloc(), Place::Table, DECLARATIONS);
 }
 
 const ELEMENT_STRINGS: &[(&str, &str)] = &[
@@ -104,8 +103,8 @@ const ELEMENT_STRINGS: &[(&str, &str)] = &[
 ];
 
 #[test]
-fn strings_of_elements(rt: HostRuntime) -> Result<(), Fail> {
-    assert_said(&rt, rt.alloc(), Place::Table, ELEMENT_STRINGS)
+fn strings_of_elements(rt: HostRuntime) {
+    assert_said(&rt, rt.alloc(), Place::Table, ELEMENT_STRINGS);
 }
 
 const RULES: &[(&str, &str)] = &[
@@ -139,8 +138,8 @@ const RULES: &[(&str, &str)] = &[
 ];
 
 #[test]
-fn rules_of_a_table(rt: HostRuntime) -> Result<(), Fail> {
-    assert_said(&rt, rt.alloc(), Place::Table, RULES)
+fn rules_of_a_table(rt: HostRuntime) {
+    assert_said(&rt, rt.alloc(), Place::Table, RULES);
 }
 
 const FIFTH_OPERANDS_AND_SECTIONS: &[(&str, &str)] = &[
@@ -179,8 +178,8 @@ const FIFTH_OPERANDS_AND_SECTIONS: &[(&str, &str)] = &[
 ];
 
 #[test]
-fn fifth_operands_and_sections(rt: HostRuntime) -> Result<(), Fail> {
-    assert_said(&rt, rt.alloc(), Place::Table, FIFTH_OPERANDS_AND_SECTIONS)
+fn fifth_operands_and_sections(rt: HostRuntime) {
+    assert_said(&rt, rt.alloc(), Place::Table, FIFTH_OPERANDS_AND_SECTIONS);
 }
 
 const ENDS_AND_FIRST_TOKENS: &[(&str, &str)] = &[
@@ -208,8 +207,8 @@ const ENDS_AND_FIRST_TOKENS: &[(&str, &str)] = &[
 ];
 
 #[test]
-fn ends_and_first_tokens(rt: HostRuntime) -> Result<(), Fail> {
-    assert_said(&rt, rt.alloc(), Place::Table, ENDS_AND_FIRST_TOKENS)
+fn ends_and_first_tokens(rt: HostRuntime) {
+    assert_said(&rt, rt.alloc(), Place::Table, ENDS_AND_FIRST_TOKENS);
 }
 
 const WEIGHTS: &[(&str, &str)] = &[
@@ -237,8 +236,8 @@ const WEIGHTS: &[(&str, &str)] = &[
 ];
 
 #[test]
-fn weights_of_order_lines(rt: HostRuntime) -> Result<(), Fail> {
-    assert_said(&rt, rt.alloc(), Place::Table, WEIGHTS)
+fn weights_of_order_lines(rt: HostRuntime) {
+    assert_said(&rt, rt.alloc(), Place::Table, WEIGHTS);
 }
 
 const NO_SEMICOLONS: &[(&str, &str)] = &[
@@ -263,6 +262,6 @@ const NO_SEMICOLONS: &[(&str, &str)] = &[
 ];
 
 #[test]
-fn tokens_where_a_semicolon_is_wanted(rt: HostRuntime) -> Result<(), Fail> {
-    assert_said(&rt, rt.alloc(), Place::Table, NO_SEMICOLONS)
+fn tokens_where_a_semicolon_is_wanted(rt: HostRuntime) {
+    assert_said(&rt, rt.alloc(), Place::Table, NO_SEMICOLONS);
 }

@@ -1,5 +1,6 @@
 //! Texts of whole sessions, and their replies.
 
+use crate::assertions::assert_same;
 use crate::devices::{Failure, ShortReader, ShortWriter};
 use crate::sessions::run;
 use coll_bench::RunFault;
@@ -151,8 +152,8 @@ const SESSIONS: &[(&[u8], &str)] = &[
 
 // Asserts that a session ended with its input, and has written these replies.
 fn assert_replies(rt: &impl Abort, answer: Result<(), RunFault>, written: &[u8], replies: &str) {
-    assert_eq!(rt; answer, Ok(()), "for {replies}");
-    assert_eq!(rt; written, replies.as_bytes(), "for {replies}");
+    assert_same(rt, replies, answer, Ok(()));
+    assert_same(rt, replies, written, replies.as_bytes());
 }
 
 #[test]
