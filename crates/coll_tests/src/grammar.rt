@@ -11,7 +11,7 @@ mod delta_lines;
 mod table_lines;
 
 use crate::assertions::assert_same;
-use coll_lex::{Lexer, Line};
+use coll_lex::{Lexer, Line, TextBuf};
 use coll_syntax::{Id, OrderLine, Rule, Rules, SyntaxFault, Weight};
 use std::alloc::{AllocError, Global};
 use std::process::Abort;
@@ -69,6 +69,19 @@ fn show_name(out: &mut String, name: &str) -> Result<(), AllocError> {
     out.push_str(name)?;
     out.push('>')?;
     Ok(())
+}
+
+// A keyword and a name.
+fn show_named(out: &mut String, keyword: &str, name: &TextBuf) -> Result<(), AllocError> {
+    out.push_str(keyword)?;
+    show_name(out, name.get())
+}
+
+// A collating element, with its characters.
+fn show_element(out: &mut String, name: &TextBuf, text: &TextBuf) -> Result<(), AllocError> {
+    show_named(out, "element", name)?;
+    out.push(' ')?;
+    out.push_str(text.get())
 }
 
 /// An identifier: a character as it is, a name between its brackets, or `UNDEFINED`.

@@ -2,52 +2,54 @@
 
 ghost use Rattle.coll_lex.specs.Names.{AreTokens};
 
-use super::{Place, assert_said, show_fault, show_name, show_order, show_rules};
-use coll_lex::Line;
-use coll_syntax::{TableLine, parse_table_line};
+use super::{
+    Place, assert_said, show_element, show_fault, show_name, show_named, show_order, show_rules,
+};
+use coll_lex::{Line, TextBuf};
+use coll_syntax::{Rules, SyntaxFault, TableLine, parse_table_line};
 use std::alloc::{AllocError, Global};
 
 /// Shows what a line says as one of a table.
 pub fn show(out: &mut String, alloc: Global, line: &Line) -> Result<(), AllocError>
     requires { AreTokens line.now.tokens }
 {
-    match parse_table_line(alloc, line) {
-        Ok(read) => show_read(out, &read),
-        Err(fault) => show_fault(out, fault),
+    let read = parse_table_line(alloc, line);
+    show_answer(out, &read)
+}
+
+fn show_answer(out: &mut String, read: &Result<TableLine, SyntaxFault>) -> Result<(), AllocError> {
+    match read {
+        Ok(line) => show_read(out, line),
+        Err(fault) => show_fault(out, *fault),
     }
 }
 
 fn show_read(out: &mut String, line: &TableLine) -> Result<(), AllocError> {
     match line {
-        TableLine::Symbol(name) => {
-            out.push_str("symbol")?;
-            show_name(out, name.get())?;
-        }
-        TableLine::Element { name, text } => {
-            out.push_str("element")?;
-            show_name(out, name.get())?;
-            out.push(' ')?;
-            out.push_str(text.get())?;
-        }
-        TableLine::OrderStart { section, rules } => {
-            out.push_str("start")?;
-            if let Some(name) = section {
-                show_name(out, name.get())?;
-            }
-            if let Some(rules) = rules {
-                show_rules(out, rules)?;
-            }
-        }
-        TableLine::OrderEnd => out.push_str("order_end")?,
-        TableLine::Section(name) => {
-            out.push_str("section")?;
-            show_name(out, name.get())?;
-        }
-        TableLine::Script => out.push_str("script")?,
-        TableLine::EndCategory => out.push_str("END")?,
-        TableLine::Order(line) => show_order(out, line)?,
+        TableLine::Symbol(name) => show_named(out, "symbol", name),
+        TableLine::Element { name, text } => show_element(out, name, text),
+        TableLine::OrderStart { section, rules } => show_start(out, section, rules),
+        TableLine::OrderEnd => out.push_str("order_end"),
+        TableLine::Section(name) => show_named(out, "section", name),
+        TableLine::Script => out.push_str("script"),
+        TableLine::EndCategory => out.push_str("END"),
+        TableLine::Order(line) => show_order(out, line),
     }
-    Ok(())
+}
+
+fn show_start(
+    out: &mut String,
+    section: &Option<TextBuf>,
+    rules: &Option<Rules>,
+) -> Result<(), AllocError> {
+    out.push_str("start")?;
+    if let Some(name) = section {
+        show_name(out, name.get())?;
+    }
+    match rules {
+        Some(rules) => show_rules(out, rules),
+        None => Ok(()),
+    }
 }
 
 const DECLARATIONS: &[(&str, &str)] = &[
