@@ -49,12 +49,17 @@ fn assert_copied(rt: &impl Abort, alloc: Global, weight: &Weight, want: &str) {
     assert_same(rt, want, shown.as_str(), want);
 }
 
+// A weight of a character and a name.
+fn weight_of_two(rt: &impl Abort, alloc: Global, c: char, name: TextBuf) -> Weight {
+    let ids = Vec::from_array(alloc, [Id::Char(c), Id::Named(name)]);
+    Weight::Names(ListBuf::new(ids.expect(rt, "a list")))
+}
+
 #[test]
 fn a_copied_weight(rt: HostRuntime) {
-    let ids = [Id::Char('a'), Id::Named(name_of(&rt, rt.alloc(), "MIN"))];
-    let ids = Vec::from_array(rt.alloc(), ids).expect(&rt, "a list");
-    let names = Weight::Names(ListBuf::new(ids));
-    assert_copied(&rt, rt.alloc(), &names, "(a<MIN>)");
+    let name = name_of(&rt, rt.alloc(), "MIN");
+    let two = weight_of_two(&rt, rt.alloc(), 'a', name);
+    assert_copied(&rt, rt.alloc(), &two, "(a<MIN>)");
     assert_copied(&rt, rt.alloc(), &Weight::Own, "-");
     assert_copied(&rt, rt.alloc(), &Weight::Ignore, "I");
 }

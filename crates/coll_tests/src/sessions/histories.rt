@@ -1,7 +1,7 @@
 //! The calls of a session, one after another.
 
 use crate::assertions::assert_same;
-use crate::tables::examples::{FIRST_TABLE, assert_order, block, loaded};
+use crate::tables::examples::{assert_order, block, first_table};
 use coll_bench::{BenchFault, Session};
 use coll_table::Refusal;
 use std::alloc::Global;
@@ -50,8 +50,7 @@ fn assert_undone(rt: &impl Abort, session: &mut Session) {
 
 #[test]
 fn statements_are_accepted_and_taken_back(rt: HostRuntime) {
-    let table = loaded(rt.alloc(), FIRST_TABLE).expect(&rt, "the first table");
-    let mut session = Session::new(rt.alloc(), table);
+    let mut session = Session::new(rt.alloc(), first_table(&rt, rt.alloc()));
     assert_statements(&rt, rt.alloc(), &mut session);
     assert_undone(&rt, &mut session);
 }

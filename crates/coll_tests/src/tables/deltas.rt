@@ -1,7 +1,7 @@
 //! Statements applied to the first table, and turned back.
 
 use crate::assertions::assert_same;
-use crate::tables::examples::{FIRST_TABLE, assert_order, block, id, loaded};
+use crate::tables::examples::{assert_order, block, first_table, id};
 use coll_table::{PlainLine, PlainStatement, Refusal, Table};
 use std::alloc::Global;
 use std::process::Abort;
@@ -26,12 +26,23 @@ fn assert_turns(rt: &impl Abort, table: &mut Table, statement: &PlainStatement, 
     assert_order(rt, table, after);
 }
 
+fn assert_block_turns(
+    rt: &impl Abort,
+    alloc: Global,
+    table: &mut Table,
+    target: &str,
+    lines: &[&str],
+    after: &str,
+) {
+    let statement = block(alloc, target, lines).expect(rt, "a block");
+    assert_turns(rt, table, &statement, after);
+}
+
 #[test]
 fn a_block_is_applied_turned_back_and_applied_again(rt: HostRuntime) {
     for (target, lines, after) in BLOCKS {
-        let statement = block(rt.alloc(), target, lines).expect(&rt, "a block");
-        let mut table = loaded(rt.alloc(), FIRST_TABLE).expect(&rt, "the first table");
-        assert_turns(&rt, &mut table, &statement, after);
+        let mut table = first_table(&rt, rt.alloc());
+        assert_block_turns(&rt, rt.alloc(), &mut table, target, lines, after);
     }
 }
 
@@ -69,12 +80,16 @@ fn assert_refused_block(
     assert_refused(rt, table, &statement, refusal);
 }
 
+fn assert_refused_blocks(rt: &impl Abort, alloc: Global, table: &mut Table) {
+    for (target, lines, refusal) in REFUSED_BLOCKS {
+        assert_refused_block(rt, alloc, table, target, lines, *refusal);
+    }
+}
+
 #[test]
 fn a_refused_block_changes_nothing(rt: HostRuntime) {
-    let mut table = loaded(rt.alloc(), FIRST_TABLE).expect(&rt, "the first table");
-    for (target, lines, refusal) in REFUSED_BLOCKS {
-        assert_refused_block(&rt, rt.alloc(), &mut table, target, lines, *refusal);
-    }
+    let mut table = first_table(&rt, rt.alloc());
+    assert_refused_blocks(&rt, rt.alloc(), &mut table);
 }
 
 const REFUSED_LINES: &[(&str, Refusal)] = &[
@@ -97,10 +112,14 @@ fn assert_refused_line(
     assert_refused(rt, table, &statement, refusal);
 }
 
+fn assert_refused_lines(rt: &impl Abort, alloc: Global, table: &mut Table) {
+    for (text, refusal) in REFUSED_LINES {
+        assert_refused_line(rt, alloc, table, text, *refusal);
+    }
+}
+
 #[test]
 fn an_order_line_outside_a_block_is_refused(rt: HostRuntime) {
-    let mut table = loaded(rt.alloc(), FIRST_TABLE).expect(&rt, "the first table");
-    for (text, refusal) in REFUSED_LINES {
-        assert_refused_line(&rt, rt.alloc(), &mut table, text, *refusal);
-    }
+    let mut table = first_table(&rt, rt.alloc());
+    assert_refused_lines(&rt, rt.alloc(), &mut table);
 }

@@ -15,6 +15,11 @@ pub fn loaded(alloc: Global, text: &[u8]) -> Result<Table, LoadFault> {
     load(alloc, &mut Counted::new(text))
 }
 
+/// The first table.
+pub fn first_table(rt: &impl Abort, alloc: Global) -> Table {
+    loaded(alloc, FIRST_TABLE).expect(rt, "the first table")
+}
+
 /// Asserts that a table has these identifiers in order, where `<` stands for a name and `?` for UNDEFINED.
 pub fn assert_order(rt: &impl Abort, table: &Table, order: &str) {
     assert!(rt; has_order(table, order), "another order than {order}");

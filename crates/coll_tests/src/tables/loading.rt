@@ -1,7 +1,8 @@
 //! Table texts: the table that each is, or the line and the cause of its first fault.
 
+use crate::assertions::assert_same;
 use crate::devices::ShortReader;
-use crate::tables::examples::{FIRST_TABLE, assert_order, loaded};
+use crate::tables::examples::{FIRST_TABLE, assert_order, first_table, loaded};
 use coll_lex::{Counted, LexFault, Source};
 use coll_syntax::SyntaxFault;
 use coll_table::{LoadCause, LoadFault, load};
@@ -10,13 +11,12 @@ use std::process::Abort;
 use std::test::Fail;
 
 #[test]
-fn the_first_table_gives_its_entries_in_order(rt: HostRuntime) -> Result<(), Fail> {
-    let table = loaded(rt.alloc(), FIRST_TABLE)?;
-    assert_eq!(rt; table.len(), 4);
+fn the_first_table_gives_its_entries_in_order(rt: HostRuntime) {
+    let table = first_table(&rt, rt.alloc());
+    assert_same(&rt, "the entries", table.len(), 4);
     assert_order(&rt, &table, "<abc");
-    let copy = table.try_copy(rt.alloc())?;
+    let copy = table.try_copy(rt.alloc()).expect(&rt, "a copy");
     assert_order(&rt, &copy, "<abc");
-    Ok(())
 }
 
 // Escapes, continued lines, comments, carriage returns, and what stands before and behind the category.
