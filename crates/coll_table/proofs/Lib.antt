@@ -1,3 +1,4 @@
+pub mod DraftSteps
 pub mod LookUps
 pub mod PlaceLookUps
 pub mod Sameness
