@@ -1,4 +1,5 @@
 pub mod DraftSteps
+pub mod LineCauses
 pub mod LookUps
 pub mod PlaceLookUps
 pub mod Sameness
