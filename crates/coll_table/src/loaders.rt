@@ -190,7 +190,6 @@ impl Loader {
     }
 
     // Takes a logical line of the category.
-    #[tactic(auto, using(crate::proofs::LineCauses::refused_cause))]
     fn take_logical(&mut self, line: &Line) -> Result<(), LoadFault>
         requires tokens { AreTokens line.now.tokens }
         requires going { self.old.ended ≡ false }
