@@ -1,6 +1,7 @@
 pub mod DraftSteps
 pub mod LineCauses
 pub mod LineCounts
+pub mod LoadEnds
 pub mod LoadSteps
 pub mod LookUps
 pub mod PlaceLookUps

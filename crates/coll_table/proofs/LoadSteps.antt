@@ -24,7 +24,7 @@ use Rattle.coll_table.proofs.LineCounts.{outside_count, outside_room, outside_to
 -- The definition of reading, one line on.
 
 -- without a line nothing is decided
-outcome_before-nil : (ends : Bool) (s : LexerState) → outcome_before ends s [] ≡ Undecided NoCategory
+pub outcome_before-nil : (ends : Bool) (s : LexerState) → outcome_before ends s [] ≡ Undecided NoCategory
 unfolding outcome_before
 outcome_before-nil ends s = refl
 
@@ -44,12 +44,12 @@ unfolding outcome_before
 outcome_before-fault ends s line lines fault e = rw e refl
 
 -- without a line of the category nothing is decided
-outcome_within-nil : (before : List Numbered) → outcome_within before [] ≡ Undecided NoEnd
+pub outcome_within-nil : (before : List Numbered) → outcome_within before [] ≡ Undecided NoEnd
 unfolding outcome_within
 outcome_within-nil before = refl
 
 -- the first line of the category decides, or leaves it to the later ones
-outcome_within-cons : (before : List Numbered) (line : LogicalLine) (lines : List LogicalLine) → outcome_within before (line ∷ lines) ≡ by_tokens line.number before line.tokens (λ read. outcome_within (before ++ read ∷ []) lines)
+pub outcome_within-cons : (before : List Numbered) (line : LogicalLine) (lines : List LogicalLine) → outcome_within before (line ∷ lines) ≡ by_tokens line.number before line.tokens (λ read. outcome_within (before ++ read ∷ []) lines)
 unfolding outcome_within
 outcome_within-cons before line lines = refl
 
@@ -91,13 +91,13 @@ Judged before s taken (Err fault) = (ends : Bool) (lines : List (List ℕ)) → 
 pub stands_first : StandsAfter [] first_loader
 stands_first = record { said = refl; faultless = refl; none_before = λ _. refl; closed = λ _. refl; few = omega arith }
 
-from_ended : (ends : Bool) (before : List Numbered) (s : LoaderState) (lines : List (List ℕ)) → s.ended ≡ true → outcome_from ends before s lines ≡ Decided (Ok (table_of s.draft))
+pub from_ended : (ends : Bool) (before : List Numbered) (s : LoaderState) (lines : List (List ℕ)) → s.ended ≡ true → outcome_from ends before s lines ≡ Decided (Ok (table_of s.draft))
 from_ended ends before s lines e = rw e refl
 
-from_within : (ends : Bool) (before : List Numbered) (s : LoaderState) (lines : List (List ℕ)) → s.ended ≡ false → s.begun ≡ true → outcome_from ends before s lines ≡ outcome_within before (logical_lines [] ends s.lexer lines)
+pub from_within : (ends : Bool) (before : List Numbered) (s : LoaderState) (lines : List (List ℕ)) → s.ended ≡ false → s.begun ≡ true → outcome_from ends before s lines ≡ outcome_within before (logical_lines [] ends s.lexer lines)
 from_within ends before s lines e f = rw e (rw f refl)
 
-from_before : (ends : Bool) (before : List Numbered) (s : LoaderState) (lines : List (List ℕ)) → s.ended ≡ false → s.begun ≡ false → outcome_from ends before s lines ≡ outcome_before ends s.lexer lines
+pub from_before : (ends : Bool) (before : List Numbered) (s : LoaderState) (lines : List (List ℕ)) → s.ended ≡ false → s.begun ≡ false → outcome_from ends before s lines ≡ outcome_before ends s.lexer lines
 from_before ends before s lines e f = rw e (rw f refl)
 
 -- what is counted of a line that is taken
