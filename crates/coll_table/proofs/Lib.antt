@@ -6,3 +6,5 @@ pub mod LoadSteps
 pub mod LookUps
 pub mod PlaceLookUps
 pub mod Sameness
+pub mod TextLoading
+pub mod TextSteps
