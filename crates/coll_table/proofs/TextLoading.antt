@@ -1,9 +1,10 @@
 -- A text that is read line by line: what is known of it after some lines, and what each end of the reading says of it.
-use Rattle.std.proofs.Common.{◌≡◌, ◌≢◌, ℕ, ◌+◌, ◌<◌, Bool, true, false, List, [], ◌∷◌, ◌++◌, length, Option, Some, None, Result, Ok, Err, ◌⊎◌, sym, ap, subst, ◌∙◌, refl, arith, append_assoc, append-nil, length-append}
+use Rattle.std.proofs.Common.{◌≡◌, ◌≢◌, ℕ, ◌+◌, ◌<◌, Bool, true, false, List, [], ◌∷◌, ◌++◌, length, Option, Some, None, Result, Ok, Err, ◌⊎◌, ⊎_elim, sym, ap, subst, ◌∙◌, refl, arith, append_assoc, append-nil, length-append}
 use Rattle.std.proofs.lemmas.Bool.{false≢true}
 use Rattle.std.proofs.lemmas.Grind.{flat_map-append}
 use Rattle.std.specs.Io.KnownBytes.{prepend_known}
-use Rattle.coll_lex.specs.LineReading.{ReaderState, no_line, GivesLine, GivesEnd, EndsAgain, StopsNow, StopsAgain}
+use Rattle.std.specs.Prelude.{IfOk, IfErr}
+use Rattle.coll_lex.specs.LineReading.{ReaderState, no_line, Advances, GivesLine, GivesEnd, EndsAgain, StopsNow, StopsAgain}
 use Rattle.coll_lex.specs.PhysicalLines.{line_feed, lines_of}
 use Rattle.coll_lex.specs.LogicalLines.{number_of}
 use Rattle.coll_lex.specs.Limits.{most_line_bytes}
@@ -15,14 +16,14 @@ use Rattle.coll_table.specs.Table.{Collation}
 use Rattle.coll_table.specs.TableLayout.{TableValue, collation}
 use Rattle.coll_table.specs.Drafts.{Numbered, table_of, at_line}
 use Rattle.coll_table.specs.Loading.{LoaderState, first_loader, loaded_line, loaded}
-use Rattle.coll_table.specs.Loads.{with_feeds, stop_fault, IsUndecided, StopsWithin, FaultSays, Loads}
+use Rattle.coll_table.specs.Loads.{with_feeds, stop_fault, IsUndecided, StopsWithin, FaultSays, Loads, counted_by, CountsFault}
 use Rattle.coll_table.specs.Reading.{Outcome, Decided, outcome_of, answer_at_end, reads}
 use Rattle.coll_table.specs.SoundLoaders.{IsLineCause}
 use Rattle.coll_table.specs.declared.load_faults.LoadFault.{LoadFault}
 use Rattle.coll_table.specs.declared.load_faults.LoadCause.{LoadCause}
 use Rattle.coll_table.specs.declared.load_faults.LoadCause.TheVariants.{Lex, Syntax, ReadFault, OutOfMemory}
 use Rattle.coll_table.proofs.LoadEnds.{loaded_ended, ends_here, undecided_here, long_line}
-use Rattle.coll_table.proofs.LoadSteps.{outcome_from, StandsAfter, LeadsOn, Judged, stands_first, from_ended, judged}
+use Rattle.coll_table.proofs.LoadSteps.{outcome_from, StandsAfter, CountsOne, LeadsOn, Judged, stands_first, from_ended, judged}
 use Rattle.coll_table.proofs.TextSteps.{IsUnread, gives_first, was_last, stops_long, stops_short}
 
 -- of the text these lines were taken, and the rest is unread; what they decide is what the loader decides
@@ -56,6 +57,16 @@ sets_out start = record {
       decides = λ ends more. refl;
     };
 }
+
+-- the reader gave a line
+pub gives_line : (old new : ReaderState) (left left_after : Option (List ℕ)) (failed failed_after : ℕ) (is_line : Bool) → is_line ≡ true → Advances old new left left_after failed failed_after (Ok is_line) → GivesLine old new left left_after failed failed_after
+gives_line old new left left_after failed failed_after true e h = h
+gives_line old new left left_after failed failed_after false e h = absurd (false≢true e)
+
+-- the reader gave none
+pub gives_none : (old new : ReaderState) (left left_after : Option (List ℕ)) (failed failed_after : ℕ) (is_line : Bool) → is_line ≡ false → Advances old new left left_after failed failed_after (Ok is_line) → GivesEnd old new left left_after failed failed_after ⊎ EndsAgain old new left left_after failed failed_after
+gives_none old new left left_after failed failed_after true e h = absurd (false≢true (sym e))
+gives_none old new left left_after failed failed_after false e h = h
 
 -- lines and one more, and those behind it
 one_behind : (whole : List (List ℕ)) (line : List ℕ) (more : List (List ℕ)) → (whole ++ line ∷ []) ++ more ≡ whole ++ line ∷ more
@@ -125,7 +136,7 @@ module _ (start : Option (List ℕ)) (reader : ReaderState) (left : Option (List
             reads_decided text (Err fault) (from_here text e (new.line ∷ lines_of first.rest) first.first ∙ decides true (lines_of first.rest)))
 
     -- a line more that is longer than a line may be
-    pub stopped_long : reader.stop ≡ None → StopsNow reader new left left_after failed failed_after stop.LineTooLong ⊎ StopsAgain reader new left left_after failed failed_after stop.LineTooLong → Loads start left_after (Err (stop_fault (number_of s.lexer) stop.LineTooLong))
+    stopped_long : reader.stop ≡ None → StopsNow reader new left left_after failed failed_after stop.LineTooLong ⊎ StopsAgain reader new left left_after failed failed_after stop.LineTooLong → Loads start left_after (Err (stop_fault (number_of s.lexer) stop.LineTooLong))
     stopped_long none stops = λ text e.
         let at = way.read text e in
         let first = stops_long reader new left left_after failed failed_after at.rest at.unread none stops in
@@ -134,7 +145,7 @@ module _ (start : Option (List ℕ)) (reader : ReaderState) (left : Option (List
         reads_decided text (Err fault) (from_here text e (first.line ∷ first.later) first.first ∙ decides true first.later)
 
     -- a read that failed
-    pub stopped_short : reader.stop ≡ None → StopsNow reader new left left_after failed failed_after stop.ReadFault ⊎ StopsAgain reader new left left_after failed failed_after stop.ReadFault → Loads start left_after (Err (stop_fault (number_of s.lexer) stop.ReadFault))
+    stopped_short : reader.stop ≡ None → StopsNow reader new left left_after failed failed_after stop.ReadFault ⊎ StopsAgain reader new left left_after failed failed_after stop.ReadFault → Loads start left_after (Err (stop_fault (number_of s.lexer) stop.ReadFault))
     stopped_short none stops = λ text e.
         let at = way.read text e in
         let cut = stops_short reader new left left_after failed failed_after at.rest at.unread none stops in (
@@ -150,3 +161,54 @@ module _ (start : Option (List ℕ)) (reader : ReaderState) (left : Option (List
             subst IsUndecided (sym (ap (outcome_of false) (sym (append-nil at.whole)) ∙ at.decides false [])) (undecided_here way.before s way.stands going),
           ),
         )
+
+    -- a reader that stops
+    pub stopped : (why : ReadStop) → reader.stop ≡ None → Advances reader new left left_after failed failed_after (Err why) → Loads start left_after (Err (stop_fault (number_of s.lexer) why))
+    stopped stop.LineTooLong none stops = stopped_long none stops
+    stopped stop.ReadFault none stops = stopped_short none stops
+
+    -- a line more that was taken is counted, as long as the category goes on
+    pub counts : (line : List ℕ) (after : LoaderState) → loaded_line s line ≡ Ok after → after.ended ≡ false → CountsOne s.lexer after.lexer
+    counts line after taken on =
+        let leads : LeadsOn way.before s line after = subst (Judged way.before s line) taken (judged way.before s line way.stands) in
+        leads.counts on
+
+    -- no line more
+    pub all_read : GivesEnd reader new left left_after failed failed_after ⊎ EndsAgain reader new left left_after failed failed_after → (text : List ℕ) → start ≡ Some text → reads text ≡ loaded s
+    all_read ends text e =
+        let at = way.read text e in
+        let none = was_last reader new left left_after failed failed_after at.rest at.unread ends in
+        let all : lines_of text ≡ at.whole = at.lines ∙ (ap (λ lines. at.whole ++ lines) none ∙ append-nil at.whole) in
+        reads_by text s.lexer.count (outcome_from true way.before s []) (from_here text e [] none) (ap length all ∙ sym (at.count going))
+        ∙ ends_here way.before s way.stands
+
+-- the category has ended
+pub ended_reads : (start : Option (List ℕ)) (reader : ReaderState) (left : Option (List ℕ)) (s : LoaderState) → OnWay start reader left s → s.ended ≡ true → (text : List ℕ) → start ≡ Some text → reads text ≡ loaded s
+ended_reads start reader left s way ended text e =
+    let at = way.read text e in
+    reads_decided text (Ok (table_of s.draft))
+    (ap (outcome_of true) at.lines ∙ (at.decides true (lines_of at.rest) ∙ from_ended true way.before s (lines_of at.rest) ended))
+    ∙ sym (loaded_ended way.before s way.stands ended)
+
+-- what a loader answers at the end is the answer to the text
+pub loads : (start left_after : Option (List ℕ)) (s : LoaderState) (result : Result TableValue LoadFault) → ((text : List ℕ) → start ≡ Some text → reads text ≡ loaded s) → IfOk result (λ table. loaded s ≡ Ok (collation table)) → IfErr result (λ fault. fault.cause ≢ OutOfMemory → loaded s ≡ Err fault) → IfErr result (λ fault. IsLineCause fault.cause) → Loads start left_after result
+loads start left_after s (Ok table) all ok err own = λ text e. all text e ∙ ok
+loads start left_after s (Err fault) all ok err own = λ text e. fault_says text left_after fault.line fault.cause own (λ memory. all text e ∙ err memory)
+
+counted_lines : (cause : LoadCause) (count : ℕ) → IsLineCause cause → counted_by cause count ≡ count
+counted_lines ReadFault count own = absurd own
+counted_lines _ count own = refl
+
+-- a fault of lines is no read error
+pub counts_none : (old new : ℕ) (result : Result TableValue LoadFault) → new ≡ old → IfErr result (λ fault. IsLineCause fault.cause) → CountsFault old new result
+counts_none old new (Ok table) e own = e
+counts_none old new (Err fault) e own = e ∙ sym (counted_lines fault.cause old own)
+
+-- where the reader gives no line it counts no error
+pub counts_end : (old new : ReaderState) (left left_after : Option (List ℕ)) (failed failed_after : ℕ) → GivesEnd old new left left_after failed failed_after ⊎ EndsAgain old new left left_after failed failed_after → failed_after ≡ failed
+counts_end old new left left_after failed failed_after h = ⊎_elim (λ now. now.count) (λ again. again.count) h
+
+-- where it stops, it counts a read error
+pub counts_stop : (old new : ReaderState) (left left_after : Option (List ℕ)) (failed failed_after number : ℕ) (why : ReadStop) → old.stop ≡ None → Advances old new left left_after failed failed_after (Err why) → failed_after ≡ counted_by (stop_fault number why).cause failed
+counts_stop old new left left_after failed failed_after number stop.LineTooLong none h = ⊎_elim (λ now. now.count) (λ again. again.count) h
+counts_stop old new left left_after failed failed_after number stop.ReadFault none h = ⊎_elim (λ now. now.count) (λ again. let both : None ≡ Some stop.ReadFault = sym none ∙ again.stopped in cc) h
