@@ -13,7 +13,7 @@ ghost use Rattle.coll_syntax.specs.declared.weights.Weight.TheVariants.{Own};
 ghost use Rattle.coll_table.specs.Drafts.{has_text, levels_of};
 ghost use Rattle.coll_table.specs.Entries.{kept_weight, kept_weights, names_only, given_weights};
 ghost use Rattle.coll_table.specs.Loading.{rules_after};
-ghost use Rattle.coll_table.specs.SoundDrafts.{IsProperDeclaration, MayBePut};
+ghost use Rattle.coll_table.specs.SoundDrafts.{IsSoundDraft, IsProperDeclaration, MayBePut};
 ghost use Rattle.coll_table.specs.Table.{name_of, text_of};
 ghost use Rattle.coll_table.specs.WellFormed.{IsWellFormed};
 ghost use Rattle.coll_table.specs.TableLayout.{collation};
@@ -67,6 +67,7 @@ impl Draft {
     }
 
     /// Judges one more line, which has this number, and keeps what it says. The answer tells whether it ends the category.
+    #[tactic(auto, unfolding(crate::specs::Drafts::line_fault, crate::specs::Loading::draft_with))]
     pub(crate) fn take(&mut self, number: u32, line: TableLine) -> Result<bool, LoadFault>
         requires proper { IsProperTableLine line }
         ensures ok { OnOk result (line_fault self.old (record { number = number; line = line }) ≡ None) }
@@ -97,6 +98,7 @@ impl Draft {
     }
 
     /// Judges a line by those before it, weights aside, and keeps what it says.
+    #[tactic(auto, unfolding(crate::specs::Loading::draft_with))]
     fn keep(&mut self, number: u32, line: TableLine) -> Result<(), LoadCause>
         requires proper { IsProperTableLine line }
         ensures ok { OnOk result (cause_after self.old line ≡ None) }
@@ -272,9 +274,17 @@ impl Draft {
         if let Some(cause) = self.order_cause(&line) {
             return Err(cause);
         }
+        self.check();
         let entry = self.entry_of(line)?;
         self.put(number, entry)?;
         Ok(())
+    }
+
+    /// What holds of every draft. It does nothing; its contract says so.
+    fn check(&self)
+        ensures { IsSoundDraft self.now }
+    {
+        let _ = &self.order_open;
     }
 
     /// Why an order line is refused, if it is.
