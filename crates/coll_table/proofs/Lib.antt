@@ -5,3 +5,5 @@ pub mod BuiltTables
 pub mod SoundLines
 pub mod RuleLists
 pub mod EntryWeights
+pub mod EndedDrafts
+pub mod LineCauses

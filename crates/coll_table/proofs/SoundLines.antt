@@ -100,7 +100,7 @@ weights_are levels false line proper few =
     (length-kept levels line.id (given_weights line.weights) few, kept_are levels line.id (given_weights line.weights) (given_are line.weights proper.1))
 
 -- what is not false is true
-not_false : (b : Bool) → not b ≡ false → b ≡ true
+pub not_false : (b : Bool) → not b ≡ false → b ≡ true
 not_false true e = refl
 not_false false e = cc
 

@@ -281,7 +281,7 @@ impl Draft {
     }
 
     /// What holds of every draft. It does nothing; its contract says so.
-    fn check(&self)
+    pub(crate) fn check(&self)
         ensures { IsSoundDraft self.now }
     {
         let _ = &self.order_open;

@@ -4,4 +4,5 @@ use Rattle.coll_table.proofs.EntryWeights.{turned_more}
 use Rattle.coll_table.proofs.drafts.keep_each.Goals as goal
 
 pub loop-weight-preserved : goal.loop-weight-preserved
-loop-weight-preserved c = let h = c.weight-item.is in let k = c.loop-weight-test.true in let m = c.keep.ensures in ?
+loop-weight-preserved c =
+    turned_more (kept_weight c.args.id.now) c.args.weights.now c.loop-weight.weights c.loop-weight.weight-index c.weight-item.result c.keep.new.weight c.loop-weight.invariant c.loop-weight-test.true c.keep.ensures
