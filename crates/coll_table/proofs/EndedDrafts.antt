@@ -1,4 +1,4 @@
--- Where a category ends without a fault its table is well formed; and which causes a line's fault may have.
+-- Where a category ends without a fault its table is well formed.
 use Rattle.std.proofs.Common.{◌≡◌, ℕ, suc, ◌≤◌, Bool, true, false, not, IsTrue, List, [], ◌∷◌, length, Option, Some, None, sym, ap, subst, ◌∙◌, refl, arith}
 use Rattle.std.specs.Prelude.{All, is_none}
 use Rattle.std.specs.Option.{option_or, option_map}
@@ -11,6 +11,7 @@ use Rattle.coll_syntax.specs.declared.rules.Rule.{Rule}
 use Rattle.coll_table.proofs.SoundLines.{passed, not_false}
 use Rattle.coll_table.specs.Drafts.{DraftState, Numbered, table_of, refused_if, cause_after, weight_cause, ids_cause, at_line, entries_fault, weights_fault, fault_at_end, line_fault, is_end, given_rules}
 use Rattle.coll_table.specs.Entries.{ids_named}
+use Rattle.coll_table.specs.Loading.{draft_with}
 use Rattle.coll_table.specs.SoundDrafts.{IsSoundDraft}
 use Rattle.coll_table.specs.Table.{is_known, is_placed_in, joined_entries}
 use Rattle.coll_table.specs.WellFormed.{HasPlacedWeights, IsWellFormed}
@@ -79,3 +80,18 @@ well_formed_at_end d n e ends sound = by_line n.line e ends where
       let both = neither_found (option_map (at_line n.number) (cause_after d line.EndCategory)) (weights_fault d) e in
       ended_well d (unmapped (at_line n.number) (cause_after d line.EndCategory) both.0) both.1 sound
   by_line _ e ends = absurd (false≢true ends)
+
+-- a line that ends the category leaves what the lines say
+unchanged_at_end : (d : DraftState) (number : ℕ) (l : TableLine) → is_end l ≡ true → draft_with d number l ≡ d
+unfolding draft_with
+unchanged_at_end d number line.EndCategory e = refl
+unchanged_at_end d number _ e = absurd (false≢true e)
+
+-- so what they say after it is well formed, too
+pub well_formed_after : (before after : DraftState) (number : ℕ) (l : TableLine) → is_end l ≡ true → cause_after before l ≡ None → after ≡ draft_with before number l → weights_fault after ≡ None → IsSoundDraft after → IsWellFormed (table_of after)
+well_formed_after before after number l ends accepted grown placed sound =
+    let same : after ≡ before = grown ∙ unchanged_at_end before number l ends in
+    ended_well after (by_end l ends (subst (λ d. cause_after d l ≡ None) (sym same) accepted)) placed sound where
+      by_end : (l : TableLine) → is_end l ≡ true → cause_after after l ≡ None → cause_after after line.EndCategory ≡ None
+      by_end line.EndCategory ends e = e
+      by_end _ ends e = absurd (false≢true ends)

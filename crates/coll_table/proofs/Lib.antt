@@ -6,4 +6,3 @@ pub mod SoundLines
 pub mod RuleLists
 pub mod EntryWeights
 pub mod EndedDrafts
-pub mod LineCauses

@@ -10,8 +10,6 @@ use Rattle.coll_table.specs.Limits.{most_entries}
 use Rattle.coll_table.specs.declared.declarations.Declaration.{Declaration}
 use Rattle.coll_table.specs.declared.declarations.Declaration.TheVariants.{Symbol, Element}
 use Rattle.coll_table.specs.declared.entries.Entry.{Entry}
-use Rattle.coll_table.specs.declared.load_faults.LoadCause.{LoadCause}
-use Rattle.coll_table.specs.declared.load_faults.LoadCause.TheVariants.{Lex, Syntax, NoCategory, NoEnd, ReadFault, OutOfMemory}
 
 -- the table that is said holds together; there are rules where an order is open, and no entries where there are none; each
 -- entry has the number of its line
@@ -35,14 +33,3 @@ pub record MayBePut (d : DraftState) (entry : Entry) : Type 0 where
   pub known : IsKnown d.declared entry.id
   pub weighted : IsWeighted (levels_of d.rules) d.declared entry
   pub room : length (joined_entries d.sections) < most_entries
-
--- a cause that a line of a category may have by what it says: it could be read, lexed and parsed, the category had begun, and
--- there was memory
-abbrev pub IsLineCause : LoadCause → Type 0
-IsLineCause (Lex fault) = ⊥
-IsLineCause (Syntax fault) = ⊥
-IsLineCause NoCategory = ⊥
-IsLineCause NoEnd = ⊥
-IsLineCause ReadFault = ⊥
-IsLineCause OutOfMemory = ⊥
-IsLineCause _ = Unit {0}

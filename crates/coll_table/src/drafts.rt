@@ -10,7 +10,7 @@ ghost use Rattle.coll_lex.specs.Names.{IsName};
 ghost use Rattle.coll_syntax.specs.Proper.{IsProperTableLine, IsProperLine, IsNameIfGiven, AreRulesIfGiven};
 ghost use Rattle.coll_syntax.specs.declared.lines.TableLine.TheVariants.{OrderStart, OrderEnd, Section, EndCategory, Order};
 ghost use Rattle.coll_syntax.specs.declared.weights.Weight.TheVariants.{Own};
-ghost use Rattle.coll_table.specs.Drafts.{has_text, levels_of};
+ghost use Rattle.coll_table.specs.Drafts.{has_text, is_end, levels_of};
 ghost use Rattle.coll_table.specs.Entries.{kept_weight, kept_weights, names_only, given_weights};
 ghost use Rattle.coll_table.specs.Loading.{rules_after};
 ghost use Rattle.coll_table.specs.SoundDrafts.{IsSoundDraft, IsProperDeclaration, MayBePut};
@@ -49,7 +49,7 @@ impl Model for Draft {
 
 impl Draft {
     ghost use Rattle.coll_table.specs.Entries.{entry_of};
-    ghost use Rattle.coll_table.specs.Drafts.{Numbered, draft_of, line_fault, table_of, is_end, cause_after, weights_fault, declaration_cause, section_cause, section_cause_if, order_cause, rules_differ};
+    ghost use Rattle.coll_table.specs.Drafts.{Numbered, draft_of, line_fault, table_of, cause_after, weights_fault, declaration_cause, section_cause, section_cause_if, order_cause, rules_differ};
     ghost use Rattle.coll_table.specs.Loading.{draft_after, draft_with, with_declaration, with_section, with_section_if, with_entry};
 
     /// A draft before the first line.
@@ -73,9 +73,10 @@ impl Draft {
         ensures ok { OnOk result (line_fault self.old (record { number = number; line = line }) ≡ None) }
         ensures after { OnOk result (self.new ≡ draft_after self.old (record { number = number; line = line })) }
         ensures ended { IfOk result (λ ended. ended ≡ is_end line) }
+        ensures well_formed { IfOk result (λ ended. ended ≡ true → IsWellFormed (table_of self.new)) }
         ensures err { IfErr result (λ fault. fault.cause ≢ OutOfMemory → line_fault self.old (record { number = number; line = line }) ≡ Some fault) }
     {
-        let ends = matches!(&line, TableLine::EndCategory);
+        let ends = ends_category(&line);
         match self.keep(number, line) {
             Ok(()) => {}
             Err(cause) => return Err(LoadFault { line: number, cause }),
@@ -84,6 +85,7 @@ impl Draft {
             return Ok(false);
         }
         self.judge_weights()?;
+        self.check();
         Ok(true)
     }
 
@@ -281,7 +283,7 @@ impl Draft {
     }
 
     /// What holds of every draft. It does nothing; its contract says so.
-    pub(crate) fn check(&self)
+    fn check(&self)
         ensures { IsSoundDraft self.now }
     {
         let _ = &self.order_open;
@@ -343,6 +345,13 @@ impl Draft {
     {
         unreachable!();
     }
+}
+
+/// Whether a line ends the category.
+fn ends_category(line: &TableLine) -> bool
+    ensures { result ≡ is_end line.now }
+{
+    matches!(line, TableLine::EndCategory)
 }
 
 /// The name that a declaration declares.
