@@ -6,6 +6,7 @@
 //! `specs/Drafts.antt` first.
 
 ghost use Rattle.std.specs.Prelude.{◌≡◌, ◌≢◌, true, false, [], ◌++◌, ◌-◌, length, map, replicate, Some, None, IfOk, IfErr, OnOk};
+ghost use Rattle.std.specs.List.{flat_map};
 ghost use Rattle.coll_lex.specs.Names.{IsName};
 ghost use Rattle.coll_syntax.specs.Proper.{IsProperTableLine, IsProperLine, IsNameIfGiven, AreRulesIfGiven};
 ghost use Rattle.coll_syntax.specs.declared.lines.TableLine.TheVariants.{OrderStart, OrderEnd, Section, EndCategory, Order};
@@ -48,8 +49,8 @@ impl Model for Draft {
 }
 
 impl Draft {
-    ghost use Rattle.coll_table.specs.Entries.{entry_of};
-    ghost use Rattle.coll_table.specs.Drafts.{Numbered, draft_of, line_fault, table_of, cause_after, weights_fault, declaration_cause, section_cause, section_cause_if, order_cause, rules_differ};
+    ghost use Rattle.coll_table.specs.Entries.{entry_of, weight_ids};
+    ghost use Rattle.coll_table.specs.Drafts.{Numbered, draft_of, line_fault, table_of, cause_after, weights_fault, declaration_cause, section_cause, section_cause_if, order_cause, rules_differ, weight_cause, ids_cause};
     ghost use Rattle.coll_table.specs.Loading.{draft_after, draft_with, with_declaration, with_section, with_section_if, with_entry};
 
     /// A draft before the first line.
@@ -336,6 +337,54 @@ impl Draft {
         self.builder.place_last(entry)?;
         self.numbers.push_reserved(number);
         Ok(())
+    }
+
+    /// Why an identifier in a weight is refused, if it is: what is placed was declared, so a second look is taken only at
+    /// what isn't.
+    fn weight_cause(&self, id: &Id) -> Option<LoadCause>
+        ensures { result ≡ weight_cause self.now id.now }
+    {
+        if self.builder.is_placed(id) {
+            return None;
+        }
+        if self.builder.is_known(id) {
+            return Some(LoadCause::WeightNotPlaced);
+        }
+        Some(LoadCause::NotDeclared)
+    }
+
+    /// Why the first of these identifiers that is refused in a weight is.
+    fn ids_cause(&self, ids: &[Id]) -> Option<LoadCause>
+        ensures { result ≡ ids_cause self.now ids.now }
+    {
+        for id in ids {
+            if let Some(cause) = self.weight_cause(id) {
+                return Some(cause);
+            }
+        }
+        None
+    }
+
+    /// Why a weight is refused, if it is.
+    fn named_cause(&self, weight: &Weight) -> Option<LoadCause>
+        ensures { result ≡ ids_cause self.now (weight_ids weight.now) }
+    {
+        match weight {
+            Weight::Names(ids) => self.ids_cause(ids.get()),
+            _ => None,
+        }
+    }
+
+    /// Why the first of these weights that is refused is.
+    fn weights_cause(&self, weights: &[Weight]) -> Option<LoadCause>
+        ensures { result ≡ ids_cause self.now (flat_map weight_ids weights.now) }
+    {
+        for weight in weights {
+            if let Some(cause) = self.named_cause(weight) {
+                return Some(cause);
+            }
+        }
+        None
     }
 
     /// Judges the weights of all entries, where the category ends.
