@@ -1,3 +1,5 @@
 pub mod LookUps
+pub mod NameNodes
+pub mod NodeLookUps
 pub mod PlaceLookUps
 pub mod Sameness
