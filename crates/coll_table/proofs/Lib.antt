@@ -1,4 +1,5 @@
 pub mod LookUps
+pub mod CharNodes
 pub mod NameNodes
 pub mod NodeLookUps
 pub mod PlaceLookUps

@@ -1,5 +1,5 @@
 -- Nodes by name: a name is found by its bytes.
-use Rattle.std.proofs.Common.{◌≡◌, ℕ, Bool, true, ◌||◌, cond, is_some, List, Option, sym, ap, ◌∙◌}
+use Rattle.std.proofs.Common.{◌≡◌, ℕ, Bool, true, is_some, List, Option, sym, ap, ◌∙◌}
 use Rattle.std.specs.Prelude.{chars, string_bytes, encode_utf8_all}
 use Rattle.std.specs.Str.{bytes_eq}
 use Rattle.std.specs.Map.{lookup, set_value}

@@ -1,12 +1,12 @@
 -- Nodes in look-ups by hash: what is found, what one more does, and what a write to a key does.
-use Rattle.std.proofs.Common.{◌≡◌, ℕ, Bool, true, false, ◌||◌, cond, is_some, nat_eq, List, [], ◌∷◌, Option, Some, None, Decides, sym, ap, ◌∙◌, refl}
+use Rattle.std.proofs.Common.{◌≡◌, Bool, true, false, ◌||◌, cond, is_some, List, [], ◌∷◌, Option, Some, None, Decides, sym, ap, ◌∙◌, refl}
 use Rattle.std.specs.List.{AllZip}
 use Rattle.std.specs.Map.{lookup, set_value}
 use Rattle.std.proofs.lemmas.Bool.{false≢true}
 use Rattle.indexmap.specs.IndexMap.{insert_entry}
 use Rattle.coll_order.specs.declared.places.NodeId.{NodeId}
 use Rattle.coll_table.proofs.Sameness.{decided_symmetric}
-use Rattle.coll_table.specs.NodeLookUps.{Leading, node_at, is_key}
+use Rattle.coll_table.specs.NodeLookUps.{node_at, is_key}
 use Rattle.coll_table.specs.NodeMaps.{leads, AreKeys}
 
 -- a node that is found, if one is

@@ -1,5 +1,5 @@
 -- Look-ups of nodes: which node has a name, and which has an identifier.
-use Rattle.std.specs.Prelude.{◌≡◌, ◌||◌, nat_eq, ℕ, Bool, true, if◌then◌else◌, cond, List, [], ◌∷◌, Option, Some, None}
+use Rattle.std.specs.Prelude.{◌≡◌, ◌||◌, nat_eq, ℕ, Bool, true, if◌then◌else◌, cond, List, [], ◌∷◌, Option, None}
 use Rattle.std.specs.List.{list_any}
 use Rattle.coll_syntax.specs.Identifier.{same_name, same_id}
 use Rattle.coll_syntax.specs.declared.identifiers.Id.{Id}

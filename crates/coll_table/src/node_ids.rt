@@ -109,9 +109,10 @@ impl NodeIds {
     {
         match id {
             Id::Char(c) => {
-                if let Some(place) = self.characters.get_mut(c) {
-                    *place = node;
-                }
+                let Some(place) = self.characters.get_mut(c) else {
+                    unreachable!();
+                };
+                *place = node;
             }
             Id::Named(name) => self.names.set(name, node),
             Id::Undefined => self.undefined = node,

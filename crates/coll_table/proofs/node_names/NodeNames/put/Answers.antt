@@ -2,8 +2,7 @@
 use Rattle.std.proofs.Common.{sym, ap, ◌∙◌, chars}
 use Rattle.std.specs.Prelude.{encode_utf8_all}
 use Rattle.std.proofs.lemmas.Str.{encodes-chars}
-use Rattle.coll_table.specs.NodeMaps.{names_lead, IsText}
-use Rattle.coll_table.specs.NodeLookUps.{SetsName, AddsNameKey}
+use Rattle.coll_table.specs.NodeMaps.{IsText}
 use Rattle.coll_table.proofs.NameNodes.{inserted_name_leads, inserted_name_keys, inserted_name_good}
 use Rattle.coll_table.proofs.node_names.NodeNames.put.Goals as goal
 
