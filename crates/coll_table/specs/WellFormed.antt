@@ -1,5 +1,5 @@
 -- What is true of every table.
-use Rattle.std.specs.Prelude.{◌≡◌, ◌≤◌, ℕ, Bool, true, false, IsTrue, List, [], ◌∷◌, length, All, Some, None}
+use Rattle.std.specs.Prelude.{◌≡◌, ◌≤◌, ℕ, Bool, true, false, IsTrue, List, [], ◌∷◌, length, All, Option, Some, None}
 use Rattle.std.specs.List.{list_any}
 use Rattle.coll_lex.specs.Names.{IsName}
 use Rattle.coll_syntax.specs.Identifier.{same_name, same_id}
