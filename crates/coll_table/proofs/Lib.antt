@@ -4,3 +4,4 @@ pub mod NameNodes
 pub mod NodeLookUps
 pub mod PlaceLookUps
 pub mod Sameness
+pub mod NodeLemmas

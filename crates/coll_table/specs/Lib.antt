@@ -1,3 +1,4 @@
+pub mod Bodies
 pub mod Building
 pub mod Delta
 pub mod Drafts
