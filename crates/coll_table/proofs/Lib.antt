@@ -4,4 +4,5 @@ pub mod NameNodes
 pub mod NodeLookUps
 pub mod PlaceLookUps
 pub mod Sameness
+pub mod WalkLemmas
 pub mod NodeLemmas

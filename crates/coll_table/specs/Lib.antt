@@ -19,5 +19,7 @@ pub mod Refusals
 pub mod SoundDrafts
 pub mod Table
 pub mod TableLayout
+pub mod WalkItems
+pub mod WalkStates
 pub mod Walks
 pub mod WellFormed

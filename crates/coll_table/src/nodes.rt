@@ -3,7 +3,7 @@
 //! A `Nodes` has the rings, and the content of each node that is there, found by the node's tag. Contracts see the layout that
 //! they make (`specs/Bodies.antt`); what may stand in which ring is for `bodies` to know. The way to a content may change.
 
-ghost use Rattle.std.specs.Prelude.{◌≡◌, ◌∷◌, ◌++◌, [], Some, None, IsSome, false, true, length, IfOk, OnOk, OnErr};
+ghost use Rattle.std.specs.Prelude.{◌≡◌, ◌<◌, ◌∷◌, ◌++◌, [], Some, None, IsSome, false, true, length, IfOk, OnOk, OnErr};
 ghost use Rattle.coll_order.specs.Changes.{one_step_more};
 ghost use Rattle.coll_order.specs.Layout.{is_in, place_from};
 
@@ -34,7 +34,9 @@ impl Model for Nodes {
 
 impl Nodes {
     ghost use Rattle.coll_table.specs.Bodies.{empty_body, Makes, IsLooseNode, IsPlaceAmong, IsLaidOut, with_link, without_link};
-    ghost use Rattle.coll_table.specs.TableLayout.{content_of};
+    ghost use Rattle.coll_table.specs.TableLayout.{content_of, nodes_in};
+    ghost use Rattle.coll_table.specs.WalkStates.{ComesNext};
+    ghost use Rattle.coll_order.specs.Lists.{first_in};
     ghost use Rattle.coll_table.specs.declared.contents.Content.TheVariants.{Begun};
 
     /// No rings and no nodes. It takes no memory.
@@ -101,6 +103,23 @@ impl Nodes {
     {
         let tag = self.rings.tag(node);
         &self.contents[tag]
+    }
+
+    /// The first node of a ring, if it has one.
+    pub(crate) fn first(&self, ring: RingId) -> Option<NodeId>
+        requires { ring.index < length self.now.layout.rings }
+        ensures { result ≡ first_in (nodes_in self.now.layout ring) }
+    {
+        self.rings.first(ring)
+    }
+
+    /// The node directly after a linked one in its ring, if it isn't the last.
+    pub(crate) fn next(&self, node: NodeId) -> Option<NodeId>
+        requires { is_in self.now.layout.rings node ≡ true }
+        ensures { ComesNext self.now.layout.rings node result }
+    {
+        self.rings.check_layout();
+        self.rings.next(node)
     }
 
     /// The number of ring steps taken, modulo 2 to the power 64.
