@@ -82,7 +82,7 @@ well_formed_at_end d n e ends sound = by_line n.line e ends where
   by_line _ e ends = absurd (false≢true ends)
 
 -- a line that ends the category leaves what the lines say
-unchanged_at_end : (d : DraftState) (number : ℕ) (l : TableLine) → is_end l ≡ true → draft_with d number l ≡ d
+pub unchanged_at_end : (d : DraftState) (number : ℕ) (l : TableLine) → is_end l ≡ true → draft_with d number l ≡ d
 unfolding draft_with
 unchanged_at_end d number line.EndCategory e = refl
 unchanged_at_end d number _ e = absurd (false≢true e)

@@ -12,6 +12,7 @@ pub mod NameNodes
 pub mod NodeLemmas
 pub mod NodeLookUps
 pub mod PlaceLookUps
+pub mod ReadTables
 pub mod RuleLists
 pub mod Sameness
 pub mod SoundLines

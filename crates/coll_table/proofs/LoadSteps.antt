@@ -19,6 +19,7 @@ use Rattle.coll_table.specs.declared.load_faults.LoadFault.{LoadFault}
 use Rattle.coll_table.specs.declared.load_faults.LoadCause.{LoadCause}
 use Rattle.coll_table.specs.declared.load_faults.LoadCause.TheVariants.{Lex, Syntax, NoCategory, NoEnd}
 use Rattle.coll_table.proofs.DraftSteps.{draft_more}
+use Rattle.coll_table.proofs.EndedDrafts.{unchanged_at_end}
 use Rattle.coll_table.proofs.LineCounts.{outside_count, outside_room, outside_too_long}
 
 -- The definition of reading, one line on.
@@ -79,6 +80,7 @@ CountsOne old new = (old.count < most_lines) × (new.count ≡ old.count + 1)
 pub record LeadsOn (before : List Numbered) (s : LoaderState) (taken : List ℕ) (after : LoaderState) : Type 0 where
   pub next : List Numbered
   pub stands : StandsAfter next after
+  pub went_on : after.ended ≡ false → s.ended ≡ false
   pub counts : after.ended ≡ false → CountsOne s.lexer after.lexer
   pub decides : (ends : Bool) (lines : List (List ℕ)) → outcome_from ends before s (taken ∷ lines) ≡ outcome_from ends next after lines
 
@@ -108,18 +110,13 @@ counts_one old new a few room =
 
 -- One line more.
 
--- a line that ends the category says nothing
-end_adds : (d : DraftState) (number : ℕ) (l : TableLine) → is_end l ≡ true → draft_with d number l ≡ d
-unfolding draft_with
-end_adds d number line.EndCategory e = refl
-end_adds d number _ e = absurd (false≢true e)
-
 module _ (before : List Numbered) (s : LoaderState) (taken : List ℕ) (stands : StandsAfter before s) where
   -- behind the category
   judged_behind : s.ended ≡ true → Judged before s taken (Ok s)
   judged_behind e = record {
     next = before;
     stands = stands;
+    went_on = λ n. n;
     counts = λ n. absurd (false≢true (sym n ∙ e));
     decides = λ ends lines. from_ended ends before s (taken ∷ lines) e ∙ sym (from_ended ends before s lines e);
   }
@@ -132,6 +129,7 @@ module _ (before : List Numbered) (s : LoaderState) (taken : List ℕ) (stands :
         record {
           next = before;
           stands = record { said = stands.said; faultless = stands.faultless; none_before = λ n. absurd (false≢true (sym n)); closed = λ n. absurd (false≢true (sym n)); few = omega (arith, count.0) };
+          went_on = λ n. going;
           counts = λ n. counts_one s.lexer after count.0 stands.few (outside_room s.lexer after taken true e);
           decides = λ ends lines.
               from_before ends before s (taken ∷ lines) going none
@@ -144,6 +142,7 @@ module _ (before : List Numbered) (s : LoaderState) (taken : List ℕ) (stands :
         record {
           next = before;
           stands = record { said = stands.said; faultless = stands.faultless; none_before = λ n. stands.none_before none; closed = λ n. count.1; few = omega (arith, count.0) };
+          went_on = λ n. going;
           counts = λ n. counts_one s.lexer after count.0 stands.few (outside_room s.lexer after taken false e);
           decides = λ ends lines.
               from_before ends before s (taken ∷ lines) going none
@@ -161,6 +160,7 @@ module _ (before : List Numbered) (s : LoaderState) (taken : List ℕ) (stands :
           record {
             next = before;
             stands = record { said = stands.said; faultless = stands.faultless; none_before = stands.none_before; closed = λ n. absurd (false≢true (sym n ∙ within)); few = omega (arith, count) };
+            went_on = λ n. going;
             counts = λ n. counts_one s.lexer after count stands.few (fed-room s.lexer taken None after e);
             decides = λ ends lines.
                 from_within ends before s (taken ∷ lines) going within
@@ -201,11 +201,12 @@ module _ (before : List Numbered) (s : LoaderState) (taken : List ℕ) (stands :
             record {
               next = before ++ n ∷ [];
               stands = record { said = ap (λ d. draft_after d n) stands.said ∙ sym (draft_more before n); faultless = stands.faultless; none_before = λ none. absurd (false≢true (sym none ∙ within)); closed = λ none. absurd (false≢true (sym none ∙ within)); few = omega (arith, count) };
+              went_on = λ none. going;
               counts = λ none. counts_one s.lexer after count stands.few (fed-room s.lexer taken (Some given) after e);
               decides = λ ends lines. by_judgement n None same f g ends lines ∙ (accepted_by n ended _ is ∙ decides ended is ends lines);
             } where
           decides : (ended : Bool) → is_end n.line ≡ ended → (ends : Bool) (lines : List (List ℕ)) → (if ended then Decided (Ok (table_of (draft_of before))) else outcome_within (before ++ n ∷ []) (logical_lines [] ends after lines)) ≡ outcome_from ends (before ++ n ∷ []) (record s { lexer = after; draft = draft_after s.draft n; ended = ended }) lines
-          decides true is ends lines = ap (λ d. Decided (Ok (table_of d))) (sym stands.said ∙ sym (end_adds s.draft n.number n.line is))
+          decides true is ends lines = ap (λ d. Decided (Ok (table_of d))) (sym stands.said ∙ sym (unchanged_at_end s.draft n.number n.line is))
           decides false is ends lines = sym (from_within ends (before ++ n ∷ []) (record s { lexer = after; draft = draft_after s.draft n; ended = false }) lines refl within)
 
         judged_line : (n : Numbered) (fault : Option LoadFault) → n.number ≡ given.number → table_line given.tokens ≡ Ok n.line → line_fault s.draft n ≡ fault → Judged before s taken (taken_line (record s { lexer = after }) n fault)

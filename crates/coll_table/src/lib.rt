@@ -42,7 +42,7 @@ pub use declarations::Declaration;
 pub use entries::Entry;
 pub use limits::{MOST_DECLARATIONS, MOST_ENTRIES, MOST_SECTIONS, limits_are_stated};
 pub use load_faults::{LoadCause, LoadFault};
-pub use loaders::Loader;
+pub use loaders::{Loader, lines_are_read};
 pub use loading::{load, texts_are_well_formed};
 pub use plain::{PlainDeltaLine, PlainLine, PlainStatement, parse_plain_delta_line};
 pub use records::Record;

@@ -9,6 +9,7 @@ ghost use Rattle.std.specs.Prelude.{◌≡◌, ◌≢◌, false, Ok, Err, Some, 
 ghost use Rattle.coll_lex.specs.LogicalLines.{number_of, fed, outside};
 ghost use Rattle.coll_lex.specs.Names.{AreTokens};
 ghost use Rattle.coll_syntax.specs.TableLines.{table_line};
+ghost use Rattle.coll_table.specs.Loading.{LinesAreRead};
 ghost use Rattle.coll_table.specs.SoundLoaders.{IsLineCause};
 ghost use Rattle.coll_table.specs.TableLayout.{collation};
 ghost use Rattle.coll_table.specs.WellFormed.{IsWellFormed};
@@ -209,3 +210,10 @@ impl Loader {
         }
     }
 }
+
+/// The law of loaders: handing in the lines of a text one after another answers what the text is.
+///
+/// It does nothing; its contract is the law.
+pub fn lines_are_read()
+    ensures { LinesAreRead }
+{}
