@@ -5,6 +5,7 @@ pub mod EndedDrafts
 pub mod EntryWeights
 pub mod LineCauses
 pub mod LineCounts
+pub mod LinesRead
 pub mod LoadEnds
 pub mod LoadSteps
 pub mod LookUps

@@ -1,8 +1,6 @@
 -- The causes that a line of the category is refused for, after those before it, are causes of lines.
-use Rattle.std.proofs.Common.{◌≡◌, ◌≢◌, ◌&&◌, ℕ, Bool, true, false, not, List, [], ◌∷◌, length, Option, Some, None, IfSome, subst}
-use Rattle.std.specs.Prelude.{nat_le, nat_lt, is_some, is_none}
+use Rattle.std.proofs.Common.{◌≡◌, ◌≢◌, ℕ, Bool, true, false, List, [], ◌∷◌, Option, Some, None, IfSome, subst}
 use Rattle.std.specs.Option.{option_or, option_map}
-use Rattle.coll_syntax.specs.Identifier.{has_name}
 use Rattle.coll_syntax.specs.declared.identifiers.Id.{Id}
 use Rattle.coll_syntax.specs.declared.statements.OrderLine.{OrderLine}
 use Rattle.coll_syntax.specs.declared.lines.TableLine.{TableLine}

@@ -1,7 +1,7 @@
 -- What a loader answers where a text ends, or stops, is what the lines decide.
-use Rattle.std.proofs.Common.{◌≡◌, ℕ, ◌+◌, ◌<◌, Bool, true, false, if◌then◌else◌, List, [], ◌∷◌, length, Option, Some, None, Result, Ok, Err, sym, ap, subst, ◌∙◌, refl, arith}
+use Rattle.std.proofs.Common.{◌≡◌, ℕ, ◌<◌, Bool, true, false, if◌then◌else◌, List, [], length, Option, Some, None, Ok, Err, sym, ap, subst, ◌∙◌, refl}
 use Rattle.std.proofs.lemmas.Bool.{false≢true}
-use Rattle.coll_lex.specs.LogicalLines.{LogicalLine, OpenLine, number_of, fed, outside, first_of, line_left_open, logical_lines}
+use Rattle.coll_lex.specs.LogicalLines.{OpenLine, number_of, fed, outside, first_of, line_left_open}
 use Rattle.coll_lex.specs.Limits.{most_line_bytes}
 use Rattle.coll_lex.specs.declared.faults.LexFault.TheVariants as lex
 use Rattle.coll_lex.proofs.LineSteps.{logical_lines-nil}
@@ -9,9 +9,8 @@ use Rattle.coll_lex.proofs.LineEnds.{fed-too_long}
 use Rattle.coll_table.specs.Drafts.{Numbered, table_of, at_line}
 use Rattle.coll_table.specs.Loading.{LoaderState, by_outside, by_fed, by_where, unless_faulty, loaded_line, early_end, loaded}
 use Rattle.coll_table.specs.Loads.{IsUndecided}
-use Rattle.coll_table.specs.Reading.{Outcome, Decided, Undecided, outcome_within, answer_at_end}
-use Rattle.coll_table.specs.declared.load_faults.LoadFault.{LoadFault}
-use Rattle.coll_table.specs.declared.load_faults.LoadCause.TheVariants.{Lex, NoCategory, NoEnd}
+use Rattle.coll_table.specs.Reading.{Decided, Undecided, outcome_within, answer_at_end}
+use Rattle.coll_table.specs.declared.load_faults.LoadCause.TheVariants.{Lex, NoCategory}
 use Rattle.coll_table.proofs.LineCounts.{outside_too_long}
 use Rattle.coll_table.proofs.LoadSteps.{outcome_before-nil, outcome_within-nil, outcome_within-cons, outcome_from, StandsAfter, from_ended, from_within, from_before}
 

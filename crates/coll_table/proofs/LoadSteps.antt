@@ -1,26 +1,24 @@
 -- What the lines that are still to come decide, from where a loader stands: each line that is handed in leaves it as it is.
-use Rattle.std.proofs.Common.{◌≡◌, ◌≢◌, ℕ, ◌+◌, ◌<◌, ◌≤◌, Bool, true, false, if◌then◌else◌, List, [], ◌∷◌, ◌++◌, length, min, Option, Some, None, Result, Ok, Err, sym, ap, subst, ◌∙◌, refl, arith}
+use Rattle.std.proofs.Common.{◌≡◌, ◌≢◌, ℕ, ◌+◌, ◌<◌, ◌≤◌, Bool, true, false, if◌then◌else◌, List, [], ◌∷◌, ◌++◌, min, Option, Some, None, Result, Ok, Err, sym, ap, subst, ◌∙◌, refl, arith}
 use Rattle.std.proofs.lemmas.Bool.{false≢true}
-use Rattle.coll_lex.specs.LogicalLines.{LexerState, LogicalLine, number_of, fed, outside, first_line, logical_lines}
-use Rattle.coll_lex.specs.Limits.{most_lines, most_line_bytes}
+use Rattle.coll_lex.specs.LogicalLines.{LexerState, LogicalLine, number_of, fed, outside, logical_lines}
+use Rattle.coll_lex.specs.Limits.{most_lines}
 use Rattle.coll_lex.specs.declared.tokens.Line.{Line}
 use Rattle.coll_lex.specs.declared.faults.LexFault.{LexFault}
-use Rattle.coll_lex.specs.declared.faults.LexFault.TheVariants as lex
-use Rattle.coll_lex.proofs.LineSteps.{logical_lines-nil, logical_lines-none, logical_lines-whole, logical_lines-fault}
-use Rattle.coll_lex.proofs.LineEnds.{fed-count, fed-room, fed-too_long}
+use Rattle.coll_lex.proofs.LineSteps.{logical_lines-none, logical_lines-whole, logical_lines-fault}
+use Rattle.coll_lex.proofs.LineEnds.{fed-count, fed-room}
 use Rattle.coll_syntax.specs.TableLines.{table_line}
 use Rattle.coll_syntax.specs.declared.lines.TableLine.{TableLine}
 use Rattle.coll_syntax.specs.declared.lines.TableLine.TheVariants as line
 use Rattle.coll_syntax.specs.declared.syntax_faults.SyntaxFault.{SyntaxFault}
-use Rattle.coll_table.specs.Drafts.{Numbered, DraftState, draft_of, table_of, line_fault, at_line, is_end}
-use Rattle.coll_table.specs.Loading.{LoaderState, first_loader, draft_with, draft_after, by_outside, by_fed, by_read, taken_line, by_where, unless_faulty, loaded_line, early_end, loaded}
-use Rattle.coll_table.specs.Reading.{Outcome, Decided, Undecided, at_fault, accepted, line_judged, by_grammar, by_tokens, outcome_within, outcome_before, outcome_of, answer_at_end}
+use Rattle.coll_table.specs.Drafts.{Numbered, draft_of, table_of, line_fault, is_end}
+use Rattle.coll_table.specs.Loading.{LoaderState, first_loader, draft_after, by_outside, by_fed, by_read, taken_line, by_where, unless_faulty, loaded_line}
+use Rattle.coll_table.specs.Reading.{Outcome, Decided, Undecided, at_fault, accepted, line_judged, by_grammar, by_tokens, outcome_within, outcome_before}
 use Rattle.coll_table.specs.declared.load_faults.LoadFault.{LoadFault}
-use Rattle.coll_table.specs.declared.load_faults.LoadCause.{LoadCause}
-use Rattle.coll_table.specs.declared.load_faults.LoadCause.TheVariants.{Lex, Syntax, NoCategory, NoEnd}
+use Rattle.coll_table.specs.declared.load_faults.LoadCause.TheVariants.{Lex, NoCategory, NoEnd}
 use Rattle.coll_table.proofs.DraftSteps.{draft_more}
 use Rattle.coll_table.proofs.EndedDrafts.{unchanged_at_end}
-use Rattle.coll_table.proofs.LineCounts.{outside_count, outside_room, outside_too_long}
+use Rattle.coll_table.proofs.LineCounts.{outside_count, outside_room}
 
 -- The definition of reading, one line on.
 

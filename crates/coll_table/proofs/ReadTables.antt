@@ -1,10 +1,10 @@
 -- A table that a text is, is well formed: each line that is accepted keeps what a loader stores sound.
-use Rattle.std.proofs.Common.{rules, ◌≡◌, if◌then◌else◌, ℕ, suc, ◌+◌, ◌≤◌, Bool, true, false, not, List, [], ◌∷◌, length, Option, Some, None, Result, Ok, Err, sym, ap, subst, ◌∙◌, refl, arith}
+use Rattle.std.proofs.Common.{rules, ◌≡◌, if◌then◌else◌, ℕ, ◌≤◌, Bool, true, false, not, List, [], ◌∷◌, length, Option, Some, None, Result, Ok, Err, sym, subst, ◌∙◌, refl, arith}
 use Rattle.std.specs.Prelude.{All, IfOk}
 use Rattle.std.specs.Option.{option_or, option_map}
 use Rattle.std.proofs.lemmas.Bool.{false≢true}
 use Rattle.std.proofs.lemmas.List.Elements.{All-nil}
-use Rattle.coll_lex.specs.LogicalLines.{LexerState, number_of, fed, outside}
+use Rattle.coll_lex.specs.LogicalLines.{LexerState, fed, outside}
 use Rattle.coll_lex.specs.Names.{AreTokens}
 use Rattle.coll_lex.specs.PhysicalLines.{lines_of}
 use Rattle.coll_lex.specs.declared.faults.LexFault.{LexFault}
@@ -12,15 +12,15 @@ use Rattle.coll_lex.specs.declared.tokens.Line.{Line}
 use Rattle.coll_lex.specs.declared.tokens.Token.{Token}
 use Rattle.coll_lex.proofs.NameLemmas.{fed-tokens}
 use Rattle.coll_syntax.specs.Proper.{IsNameIfGiven, AreRulesIfGiven, IsProperTableLine}
-use Rattle.coll_syntax.specs.TableLines.{table_line, table_row}
+use Rattle.coll_syntax.specs.TableLines.{table_line}
 use Rattle.coll_syntax.specs.declared.lines.TableLine.{TableLine}
 use Rattle.coll_syntax.specs.declared.lines.TableLine.TheVariants as line
 use Rattle.coll_syntax.specs.declared.rules.Rule.{Rule}
 use Rattle.coll_syntax.specs.declared.syntax_faults.SyntaxFault.{SyntaxFault}
 use Rattle.coll_syntax.proofs.ProperLines.{table_row-proper}
-use Rattle.coll_table.specs.Drafts.{Numbered, DraftState, draft_of, table_of, given_rules, rules_given, rules_differ, refused_if, section_cause, section_cause_if, cause_after, at_line, fault_at_end, line_fault, is_end}
-use Rattle.coll_table.specs.Loading.{LoaderState, first_loader, rules_after, with_section_if, draft_with, draft_after, by_outside, by_fed, by_read, taken_line, by_where, unless_faulty, loaded_line, early_end, loaded, past_line, answer_to}
-use Rattle.coll_table.specs.Reading.{outcome_of, answer_at_end, reads, TextsAreWellFormed}
+use Rattle.coll_table.specs.Drafts.{Numbered, DraftState, draft_of, table_of, rules_given, rules_differ, section_cause, section_cause_if, cause_after, at_line, fault_at_end, line_fault}
+use Rattle.coll_table.specs.Loading.{LoaderState, first_loader, rules_after, with_section_if, draft_with, by_outside, by_fed, by_read, taken_line, by_where, unless_faulty, loaded_line, early_end, loaded, past_line, answer_to}
+use Rattle.coll_table.specs.Reading.{TextsAreWellFormed}
 use Rattle.coll_table.specs.SoundDrafts.{IsSoundDraft}
 use Rattle.coll_table.specs.Table.{Collation, entries_of}
 use Rattle.coll_table.specs.WellFormed.{IsBuilt, IsWellFormed, IsWeighted}
@@ -29,44 +29,8 @@ use Rattle.coll_table.specs.declared.load_faults.LoadCause.{LoadCause}
 use Rattle.coll_table.specs.declared.load_faults.LoadCause.TheVariants.{RulesDiffer, OutsideOrder}
 use Rattle.coll_table.specs.declared.load_faults.LoadFault.{LoadFault}
 use Rattle.coll_table.proofs.EndedDrafts.{unchanged_at_end, well_formed_at_end}
-use Rattle.coll_table.proofs.LoadEnds.{loaded_ended, ends_here}
-use Rattle.coll_table.proofs.LoadSteps.{outcome_from, StandsAfter, LeadsOn, Judged, stands_first, from_ended, judged}
 use Rattle.coll_table.proofs.SoundLines.{passed, sound_declared, sound_section, sound_entry, may_be_put}
-
--- Lines handed in one after another are what the definition of reading says of them.
-
--- whether the category has ended, and what is answered then
-reads_ended : (before : List Numbered) (s : LoaderState) (count : ℕ) (lines : List (List ℕ)) → s.ended ≡ true → answer_at_end count (outcome_from true before s lines) ≡ Ok (table_of s.draft)
-reads_ended before s count lines e = ap (answer_at_end count) (from_ended true before s lines e)
-
-module _ (count : ℕ) where
-  counted_end : (before : List Numbered) (s : LoaderState) (ended : Bool) → StandsAfter before s → s.ended ≡ ended → (s.ended ≡ false → count ≡ s.lexer.count + 0) → loaded s ≡ answer_at_end count (outcome_from true before s [])
-  counted_end before s true stands e counted = loaded_ended before s stands e ∙ sym (reads_ended before s count [] e)
-  counted_end before s false stands e counted =
-      let same : s.lexer.count ≡ count = omega (arith, counted e) in
-      sym (ends_here before s stands) ∙ ap (λ n. answer_at_end n (outcome_from true before s [])) same
-
-  -- a line, and what handing in those behind it answers
-  past_judged : (before : List Numbered) (s : LoaderState) (first : List ℕ) (lines : List (List ℕ)) (r : Result LoaderState LoadFault) → Judged before s first r → (s.ended ≡ false → count ≡ s.lexer.count + suc (length lines))
-      → ((next : List Numbered) (after : LoaderState) → StandsAfter next after → (after.ended ≡ false → count ≡ after.lexer.count + length lines) → answer_to after lines ≡ answer_at_end count (outcome_from true next after lines))
-      → past_line r (λ after. answer_to after lines) ≡ answer_at_end count (outcome_from true before s (first ∷ lines))
-  past_judged before s first lines (Err fault) h counted later = sym (ap (answer_at_end count) (h true lines))
-  past_judged before s first lines (Ok after) h counted later =
-      later h.next after h.stands (λ n. let one = h.counts n in omega (arith, one.1, counted (h.went_on n)))
-      ∙ sym (ap (answer_at_end count) (h.decides true lines))
-
-  -- what the lines ahead decide is what handing them in answers
-  reads_ahead : (lines : List (List ℕ)) (before : List Numbered) (s : LoaderState) → StandsAfter before s → (s.ended ≡ false → count ≡ s.lexer.count + length lines) → answer_to s lines ≡ answer_at_end count (outcome_from true before s lines)
-  unfolding answer_to
-  reads_ahead [] before s stands counted = counted_end before s s.ended stands refl counted
-  reads_ahead (first ∷ lines) before s stands counted =
-      past_judged before s first lines (loaded_line s first) (judged before s first stands) counted
-      (λ next after now one. reads_ahead lines next after now one)
-
--- handing in the lines of a text answers what the text is
-pub lines_read : (text : List ℕ) → answer_to first_loader (lines_of text) ≡ reads text
-unfolding reads
-lines_read text = reads_ahead (length (lines_of text)) (lines_of text) [] first_loader stands_first (λ n. omega arith)
+use Rattle.coll_table.proofs.LinesRead.{lines_read}
 
 -- Each accepted line keeps what the lines say together sound.
 

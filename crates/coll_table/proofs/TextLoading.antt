@@ -1,5 +1,5 @@
 -- A text that is read line by line: what is known of it after some lines, and what each end of the reading says of it.
-use Rattle.std.proofs.Common.{◌≡◌, ◌≢◌, ℕ, ◌+◌, ◌<◌, Bool, true, false, List, [], ◌∷◌, ◌++◌, length, Option, Some, None, Result, Ok, Err, ◌⊎◌, ⊎_elim, sym, ap, subst, ◌∙◌, refl, arith, append_assoc, append-nil, length-append}
+use Rattle.std.proofs.Common.{◌≡◌, ◌≢◌, ℕ, ◌+◌, Bool, true, false, List, [], ◌∷◌, ◌++◌, length, Option, Some, None, Result, Ok, Err, ◌⊎◌, ⊎_elim, sym, ap, subst, ◌∙◌, refl, arith, append_assoc, append-nil, length-append}
 use Rattle.std.proofs.lemmas.Bool.{false≢true}
 use Rattle.std.proofs.lemmas.Grind.{flat_map-append}
 use Rattle.std.specs.Io.KnownBytes.{prepend_known}
@@ -7,7 +7,6 @@ use Rattle.std.specs.Prelude.{IfOk, IfErr}
 use Rattle.coll_lex.specs.LineReading.{ReaderState, no_line, Advances, GivesLine, GivesEnd, EndsAgain, StopsNow, StopsAgain}
 use Rattle.coll_lex.specs.PhysicalLines.{line_feed, lines_of}
 use Rattle.coll_lex.specs.LogicalLines.{number_of}
-use Rattle.coll_lex.specs.Limits.{most_line_bytes}
 use Rattle.coll_lex.specs.declared.faults.LexFault.TheVariants as lex
 use Rattle.coll_lex.specs.declared.faults.ReadStop.{ReadStop}
 use Rattle.coll_lex.specs.declared.faults.ReadStop.TheVariants as stop
@@ -16,7 +15,7 @@ use Rattle.coll_table.specs.Table.{Collation}
 use Rattle.coll_table.specs.TableLayout.{TableValue, collation}
 use Rattle.coll_table.specs.Drafts.{Numbered, table_of, at_line}
 use Rattle.coll_table.specs.Loading.{LoaderState, first_loader, loaded_line, loaded}
-use Rattle.coll_table.specs.Loads.{with_feeds, stop_fault, IsUndecided, StopsWithin, FaultSays, Loads, counted_by, CountsFault}
+use Rattle.coll_table.specs.Loads.{with_feeds, stop_fault, IsUndecided, FaultSays, Loads, counted_by, CountsFault}
 use Rattle.coll_table.specs.Reading.{Outcome, Decided, outcome_of, answer_at_end, reads}
 use Rattle.coll_table.specs.SoundLoaders.{IsLineCause}
 use Rattle.coll_table.specs.declared.load_faults.LoadFault.{LoadFault}

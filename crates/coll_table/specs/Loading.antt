@@ -18,7 +18,6 @@ use Rattle.coll_table.specs.Entries.{entry_of}
 use Rattle.coll_table.specs.Drafts.{Numbered, DraftState, draft_of, table_of, line_fault, at_line, is_end, levels_of, rules_given}
 use Rattle.coll_table.specs.Reading.{reads}
 use Rattle.coll_table.specs.declared.load_faults.LoadFault.{LoadFault}
-use Rattle.coll_table.specs.declared.load_faults.LoadCause.{LoadCause}
 use Rattle.coll_table.specs.declared.load_faults.LoadCause.TheVariants.{Lex, Syntax, NoCategory, NoEnd}
 
 -- What one more accepted line makes of what the lines before it say.

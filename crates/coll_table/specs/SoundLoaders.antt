@@ -1,5 +1,5 @@
 -- What holds of every loader.
-use Rattle.std.specs.Prelude.{◌≡◌, true, Option, IfSome}
+use Rattle.std.specs.Prelude.{◌≡◌, true, IfSome}
 use Rattle.coll_lex.specs.declared.faults.LexFault.TheVariants as lex
 use Rattle.coll_syntax.specs.declared.syntax_faults.SyntaxFault.TheVariants as syntax
 use Rattle.coll_table.specs.WellFormed.{IsWellFormed}

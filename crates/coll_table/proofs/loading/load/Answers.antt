@@ -1,11 +1,10 @@
 -- One line more, or what ends the reading.
 use Rattle.std.proofs.Common.{◌≡◌, Ok, Err, refl, sym, ap, subst, ◌∙◌, arith}
 use Rattle.std.proofs.lemmas.Result.{err_from_is_err_and}
-use Rattle.coll_lex.specs.LineReading.{ReaderState, no_line}
-use Rattle.coll_lex.specs.LogicalLines.{number_of}
-use Rattle.coll_table.specs.Loading.{LoaderState, first_loader, loaded_line}
-use Rattle.coll_table.specs.Loads.{Loads, stop_fault, counted_by}
-use Rattle.coll_table.proofs.TextLoading.{OnWay, sets_out, gives_line, gives_none, goes_on, refused, stopped, counts, all_read, ended_reads, loads, counts_none, counts_end, counts_stop}
+use Rattle.coll_lex.specs.LineReading.{ReaderState}
+use Rattle.coll_table.specs.Loading.{LoaderState, loaded_line}
+use Rattle.coll_table.specs.Loads.{stop_fault, counted_by}
+use Rattle.coll_table.proofs.TextLoading.{sets_out, gives_line, gives_none, goes_on, refused, stopped, counts, all_read, ended_reads, loads, counts_none, counts_end, counts_stop}
 use Rattle.coll_table.proofs.loading.load.Goals as goal
 
 pub lines-init : goal.lines-init
@@ -60,7 +59,6 @@ pub returns-in-Err-clause-loaded : goal.returns-in-Err-clause-loaded
 returns-in-Err-clause-loaded g c =
     let left = g.R.Source.left in
     let failed = g.R.Source.failed in
-    let number : number_of c.lines.loader.lexer ≡ c.next_number.result = sym c.next_number.ensures in
     rw (c.stop_fault.ensures, c.next_number.ensures) (stopped (left c.args.input.now) c.lines.reader (left c.lines.input) c.lines.loader c.lines.invariant.way c.lines.invariant.going c.advance.new.self (left c.advance.new.input) (failed c.lines.input) (failed c.advance.new.input) c.in-Err.stop c.lines.invariant.goes_on c.in-Err.ensures)
 
 pub returns-in-Err-clause-errors : goal.returns-in-Err-clause-errors
