@@ -203,9 +203,9 @@ module _ (before : List Numbered) (s : LoaderState) (taken : List ℕ) (stands :
               counts = λ none. counts_one s.lexer after count stands.few (fed-room s.lexer taken (Some given) after e);
               decides = λ ends lines. by_judgement n None same f g ends lines ∙ (accepted_by n ended _ is ∙ decides ended is ends lines);
             } where
-          decides : (ended : Bool) → is_end n.line ≡ ended → (ends : Bool) (lines : List (List ℕ)) → (if ended then Decided (Ok (table_of (draft_of before))) else outcome_within (before ++ n ∷ []) (logical_lines [] ends after lines)) ≡ outcome_from ends (before ++ n ∷ []) (record s { lexer = after; draft = draft_after s.draft n; ended = ended }) lines
-          decides true is ends lines = ap (λ d. Decided (Ok (table_of d))) (sym stands.said ∙ sym (unchanged_at_end s.draft n.number n.line is))
-          decides false is ends lines = sym (from_within ends (before ++ n ∷ []) (record s { lexer = after; draft = draft_after s.draft n; ended = false }) lines refl within)
+              decides : (ended : Bool) → is_end n.line ≡ ended → (ends : Bool) (lines : List (List ℕ)) → (if ended then Decided (Ok (table_of (draft_of before))) else outcome_within (before ++ n ∷ []) (logical_lines [] ends after lines)) ≡ outcome_from ends (before ++ n ∷ []) (record s { lexer = after; draft = draft_after s.draft n; ended = ended }) lines
+              decides true is ends lines = ap (λ d. Decided (Ok (table_of d))) (sym stands.said ∙ sym (unchanged_at_end s.draft n.number n.line is))
+              decides false is ends lines = sym (from_within ends (before ++ n ∷ []) (record s { lexer = after; draft = draft_after s.draft n; ended = false }) lines refl within)
 
         judged_line : (n : Numbered) (fault : Option LoadFault) → n.number ≡ given.number → table_line given.tokens ≡ Ok n.line → line_fault s.draft n ≡ fault → Judged before s taken (taken_line (record s { lexer = after }) n fault)
         judged_line n (Some fault) same f g = λ ends lines. by_judgement n (Some fault) same f g ends lines

@@ -48,30 +48,31 @@ opened d None given e sound proper =
     let few = few_rules given proper in
     record {
       built = record {
-          few_levels = few.1;
-          names = sound.built.names;
-          texts = sound.built.texts;
-          distinct_names = sound.built.distinct_names;
-          distinct_texts = sound.built.distinct_texts;
-          first_unnamed = sound.built.first_unnamed;
-          distinct_sections = sound.built.distinct_sections;
-          distinct_entries = sound.built.distinct_entries;
-          known = sound.built.known;
-          weighted = subst (λ entries. All (IsWeighted (length (rules_given given)) d.declared) entries) (sym none) (All-nil (IsWeighted (length (rules_given given)) d.declared));
-          few_entries = sound.built.few_entries;
-          few_declarations = sound.built.few_declarations;
-          few_sections = sound.built.few_sections;
-        };
+        few_levels = few.1;
+        names = sound.built.names;
+        texts = sound.built.texts;
+        distinct_names = sound.built.distinct_names;
+        distinct_texts = sound.built.distinct_texts;
+        first_unnamed = sound.built.first_unnamed;
+        distinct_sections = sound.built.distinct_sections;
+        distinct_entries = sound.built.distinct_entries;
+        known = sound.built.known;
+        weighted = subst (λ entries. All (IsWeighted (length (rules_given given)) d.declared) entries) (sym none) (All-nil (IsWeighted (length (rules_given given)) d.declared));
+        few_entries = sound.built.few_entries;
+        few_declarations = sound.built.few_declarations;
+        few_sections = sound.built.few_sections;
+      };
       started = λ n. refl;
       none_before = λ n. cc;
       some_levels = λ some f. subst (λ (r : List Rule). 1 ≤ length r) (given_are some f) few.0;
       numbered = sound.numbered;
     } where
-  few_rules : (given : Option (List Rule)) → AreRulesIfGiven given → (1 ≤ length (rules_given given)) × (length (rules_given given) ≤ 4)
-  few_rules None proper = (omega arith, omega arith)
-  few_rules (Some rules) proper = proper
-  given_are : (some : List Rule) → Some (rules_given given) ≡ Some some → rules_given given ≡ some
-  given_are some f = cc
+      few_rules : (given : Option (List Rule)) → AreRulesIfGiven given → (1 ≤ length (rules_given given)) × (length (rules_given given) ≤ 4)
+      few_rules None proper = (omega arith, omega arith)
+      few_rules (Some rules) proper = proper
+
+      given_are : (some : List Rule) → Some (rules_given given) ≡ Some some → rules_given given ≡ some
+      given_are some f = cc
 
 -- a section begins, if one does
 begun : (d : DraftState) (name : Option (List ℕ)) → IsSoundDraft d → IsNameIfGiven name → section_cause_if d name ≡ None → IsSoundDraft (record d { sections = with_section_if d.sections name })

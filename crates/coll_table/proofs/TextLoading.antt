@@ -47,14 +47,14 @@ sets_out start = record {
   before = [];
   stands = stands_first;
   read = λ text e. record {
-      whole = [];
-      rest = text;
-      unread = (ap (prepend_known []) e, λ n. absurd (false≢true n));
-      lines = refl;
-      fed = λ n. refl;
-      count = λ n. refl;
-      decides = λ ends more. refl;
-    };
+    whole = [];
+    rest = text;
+    unread = (ap (prepend_known []) e, λ n. absurd (false≢true n));
+    lines = refl;
+    fed = λ n. refl;
+    count = λ n. refl;
+    decides = λ ends more. refl;
+  };
 }
 
 -- the reader gave a line
@@ -131,8 +131,8 @@ module _ (start : Option (List ℕ)) (reader : ReaderState) (left : Option (List
         let first = gives_first reader new left left_after failed failed_after at.rest at.unread gives in
         fault_says text left_after fault.line fault.cause own
         (λ memory.
-            let decides : (ends : Bool) (lines : List (List ℕ)) → outcome_from ends way.before s (new.line ∷ lines) ≡ Decided (Err fault) = subst (Judged way.before s new.line) (says memory) (judged way.before s new.line way.stands) in
-            reads_decided text (Err fault) (from_here text e (new.line ∷ lines_of first.rest) first.first ∙ decides true (lines_of first.rest)))
+        let decides : (ends : Bool) (lines : List (List ℕ)) → outcome_from ends way.before s (new.line ∷ lines) ≡ Decided (Err fault) = subst (Judged way.before s new.line) (says memory) (judged way.before s new.line way.stands) in
+        reads_decided text (Err fault) (from_here text e (new.line ∷ lines_of first.rest) first.first ∙ decides true (lines_of first.rest)))
 
     -- a line more that is longer than a line may be
     stopped_long : reader.stop ≡ None → StopsNow reader new left left_after failed failed_after stop.LineTooLong ⊎ StopsAgain reader new left left_after failed failed_after stop.LineTooLong → Loads start left_after (Err (stop_fault (number_of s.lexer) stop.LineTooLong))
