@@ -9,7 +9,7 @@
 //! - `tables` and `walks`: a table, read (`Walks`);
 //! - `building`: a table that grows (`Building`);
 //! - `drafts`: the lines of a category, each judged by those before it (`Drafts`);
-//! - `loaders` and `loading`: a text, read line by line (`Reading`, `Loading`, `Loads`), with its `load_faults` (`LoadFaults`);
+//! - `loaders` and `loading`: a text, read line by line (`Reading`, `Loading`, `SoundLoaders`, `Loads`), with its `load_faults` (`LoadFaults`);
 //! - `plain/`: what a line of a delta says (`PlainDeltaLines`, `PlainOrderLines`);
 //! - `names`, `places`, `deltas` and `refusals`: a statement, applied (`LookUps`, `Delta`, `Placement`, `Refusals`);
 //! - `records`: a statement, taken back (`Record`).

@@ -23,6 +23,9 @@ use std::alloc::{AllocError, Global};
 use std::marker::Model;
 
 /// A table text that is handed in line by line.
+///
+/// What is answered to the lines of a text, handed in one after another, and then to its end, is what `load` answers to the
+/// text (`lines_are_read`).
 #[derive(Drop)]
 pub struct Loader {
     lexer: Lexer,
@@ -68,7 +71,8 @@ impl Loader {
 
     /// Hands in the next physical line, without its line feed.
     ///
-    /// After a fault each later call answers the same fault. Behind the end of the category nothing is looked at.
+    /// The first fault is stored, want of memory as any other, and each later call answers it again. Behind the end of the
+    /// category nothing is looked at.
     #[tactic(auto, unfolding(crate::specs::Loading::loaded_line))]
     pub fn line(&mut self, line: &[u8]) -> Result<(), LoadFault>
         ensures ok { OnOk result (loaded_line self.old line.now ≡ Ok self.new) }
@@ -101,7 +105,7 @@ impl Loader {
         self.ended
     }
 
-    /// The table, where the category has ended; otherwise the fault of a text that ends here.
+    /// The table, where the category has ended; otherwise the fault that is stored, or that of a text that ends here.
     #[tactic(auto, unfolding(crate::specs::Loading::loaded))]
     pub fn finish(self) -> Result<Table, LoadFault>
         ensures ok { IfOk result (λ table. loaded self ≡ Ok (collation table)) }
@@ -118,7 +122,7 @@ impl Loader {
         Err(self.early_end())
     }
 
-    // The fault of a text that ends here, before its category does.
+    /// The fault of a text that ends here, before its category does.
     fn early_end(&self) -> LoadFault
         ensures { result ≡ early_end self.now self.now.lexer.line }
     {
@@ -138,7 +142,7 @@ impl Loader {
         }
     }
 
-    // Judges a line by where it stands: behind the category, in it, or before it.
+    /// Judges a line by where it stands: behind the category, in it, or before it.
     fn judge(&mut self, line: &[u8]) -> Result<(), LoadFault>
         ensures ok { OnOk result (by_where self.old line.now ≡ Ok self.new) }
         ensures err { IfErr result (λ fault. fault.cause ≢ OutOfMemory → by_where self.old line.now ≡ Err fault) }
@@ -153,7 +157,7 @@ impl Loader {
         self.skip_physical(line)
     }
 
-    // Takes a line before the category, which may begin with it.
+    /// Takes a line before the category, which may begin with it.
     fn skip_physical(&mut self, line: &[u8]) -> Result<(), LoadFault>
         ensures ok { OnOk result (by_outside self.old (outside self.old.lexer line.now) ≡ Ok self.new) }
         ensures err { IfErr result (λ fault. fault.cause ≢ OutOfMemory → by_outside self.old (outside self.old.lexer line.now) ≡ Err fault) }
@@ -172,7 +176,7 @@ impl Loader {
         }
     }
 
-    // Takes a line of the category.
+    /// Takes a line of the category.
     fn take_physical(&mut self, line: &[u8]) -> Result<(), LoadFault>
         requires { self.old.ended ≡ false }
         ensures ok { OnOk result (by_fed self.old (fed self.old.lexer line.now) ≡ Ok self.new) }
@@ -190,7 +194,7 @@ impl Loader {
         }
     }
 
-    // Takes a logical line of the category.
+    /// Takes a logical line of the category.
     fn take_logical(&mut self, line: &Line) -> Result<(), LoadFault>
         requires tokens { AreTokens line.now.tokens }
         requires going { self.old.ended ≡ false }
