@@ -3,6 +3,7 @@ pub mod CharNodes
 pub mod EndedDrafts
 pub mod EntryWeights
 pub mod LookUps
+pub mod MetEntries
 pub mod NameNodes
 pub mod NodeLemmas
 pub mod NodeLookUps
@@ -11,3 +12,4 @@ pub mod RuleLists
 pub mod Sameness
 pub mod SoundLines
 pub mod WalkLemmas
+pub mod WeightCauses

@@ -21,7 +21,7 @@ ghost use Rattle.coll_table.specs.TableLayout.{collation};
 ghost use Rattle.coll_table.specs.declared.load_faults.LoadCause.TheVariants.{OutOfMemory};
 
 use crate::building::Builder;
-use crate::{Declaration, Entry, LoadCause, LoadFault, MOST_DECLARATIONS, MOST_ENTRIES, MOST_SECTIONS, Table};
+use crate::{Declaration, Entry, LoadCause, LoadFault, MOST_DECLARATIONS, MOST_ENTRIES, MOST_SECTIONS, Table, Walk, WalkItem};
 use coll_lex::{ListBuf, TextBuf};
 use coll_syntax::{Id, OrderLine, Rule, Rules, TableLine, Weight};
 use std::alloc::{AllocError, Global};
@@ -50,7 +50,8 @@ impl Model for Draft {
 
 impl Draft {
     ghost use Rattle.coll_table.specs.Entries.{entry_of, weight_ids};
-    ghost use Rattle.coll_table.specs.Drafts.{Numbered, draft_of, line_fault, table_of, cause_after, weights_fault, declaration_cause, section_cause, section_cause_if, order_cause, rules_differ, weight_cause, ids_cause};
+    ghost use Rattle.coll_table.specs.Drafts.{Numbered, draft_of, line_fault, table_of, cause_after, weights_fault, entries_fault, declaration_cause, section_cause, section_cause_if, order_cause, rules_differ, weight_cause, ids_cause};
+    ghost use Rattle.coll_table.specs.Walks.{entries_met};
     ghost use Rattle.coll_table.specs.Loading.{draft_after, draft_with, with_declaration, with_section, with_section_if, with_entry};
 
     /// A draft before the first line.
@@ -392,7 +393,29 @@ impl Draft {
         ensures ok { OnOk result (weights_fault self.now ≡ None) }
         ensures err { IfErr result (λ fault. weights_fault self.now ≡ Some fault) }
     {
-        unreachable!();
+        self.judge_met(&self.numbers, self.builder.walk())
+    }
+
+    /// Judges the weights of the entries that a walk meets, each with the number of its line.
+    fn judge_met(&self, mut numbers: &[u32], walk: Walk<'_>) -> Result<(), LoadFault>
+        requires { length numbers.now ≡ length (entries_met walk) }
+        ensures ok { OnOk result (entries_fault self.now numbers.now (entries_met walk.entry) ≡ None) }
+        ensures err { IfErr result (λ fault. entries_fault self.now numbers.now (entries_met walk.entry) ≡ Some fault) }
+    {
+        for item in walk {
+            let entry = match item {
+                WalkItem::Section(_) => continue,
+                WalkItem::Entry(entry) => entry,
+            };
+            let Some((number, later)) = numbers.split_first() else {
+                unreachable!();
+            };
+            if let Some(cause) = self.weights_cause(entry.weights()) {
+                return Err(LoadFault { line: *number, cause });
+            }
+            numbers = later;
+        }
+        Ok(())
     }
 }
 
