@@ -9,7 +9,7 @@ use Rattle.coll_syntax.specs.declared.lines.TableLine.{TableLine}
 use Rattle.coll_syntax.specs.declared.lines.TableLine.TheVariants as line
 use Rattle.coll_syntax.specs.declared.rules.Rule.{Rule}
 use Rattle.coll_table.proofs.SoundLines.{passed, not_false}
-use Rattle.coll_table.specs.Drafts.{DraftState, table_of, refused_if, cause_after, weight_cause, ids_cause, at_line, entries_fault, weights_fault, is_end, given_rules}
+use Rattle.coll_table.specs.Drafts.{DraftState, Numbered, table_of, refused_if, cause_after, weight_cause, ids_cause, at_line, entries_fault, weights_fault, fault_at_end, line_fault, is_end, given_rules}
 use Rattle.coll_table.specs.Entries.{ids_named}
 use Rattle.coll_table.specs.Loading.{draft_with}
 use Rattle.coll_table.specs.SoundDrafts.{IsSoundDraft}
@@ -69,8 +69,18 @@ ended_well d accepted placed sound =
       weights_placed = placed_weights d d.numbers (joined_entries d.sections) sound.numbered placed;
     }
 
+-- where a line that ends the category is no fault, the table that the lines say is well formed
+pub well_formed_at_end : (d : DraftState) (n : Numbered) → line_fault d n ≡ None → is_end n.line ≡ true → IsSoundDraft d → IsWellFormed (table_of d)
+unfolding line_fault
+well_formed_at_end d n e ends sound = by_line n.line e ends where
+  by_line : (l : TableLine) → option_or (option_map (at_line n.number) (cause_after d l)) (fault_at_end d l) ≡ None → is_end l ≡ true → IsWellFormed (table_of d)
+  by_line line.EndCategory e ends =
+      let both = neither_found (option_map (at_line n.number) (cause_after d line.EndCategory)) (weights_fault d) e in
+      ended_well d (unmapped (at_line n.number) (cause_after d line.EndCategory) both.0) both.1 sound
+  by_line _ e ends = absurd (false≢true ends)
+
 -- a line that ends the category leaves what the lines say
-unchanged_at_end : (d : DraftState) (number : ℕ) (l : TableLine) → is_end l ≡ true → draft_with d number l ≡ d
+pub unchanged_at_end : (d : DraftState) (number : ℕ) (l : TableLine) → is_end l ≡ true → draft_with d number l ≡ d
 unfolding draft_with
 unchanged_at_end d number line.EndCategory e = refl
 unchanged_at_end d number _ e = absurd (false≢true e)
