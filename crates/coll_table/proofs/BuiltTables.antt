@@ -1,19 +1,19 @@
 -- A table stays whole where a declaration, a section or an entry is put behind all others.
-use Rattle.std.proofs.Common.{◌≡◌, ℕ, suc, ◌<◌, ◌≤◌, Bool, true, false, ◌||◌, IsTrue, List, [], ◌∷◌, ◌++◌, length, map, Option, Some, None, sym, ap, subst, ◌∙◌, refl, arith, length-append, append_assoc, append-nil}
+use Rattle.std.proofs.Common.{◌≡◌, ℕ, suc, ◌<◌, ◌≤◌, Bool, true, false, ◌||◌, List, [], ◌∷◌, ◌++◌, length, Some, sym, ap, subst, ◌∙◌, refl, arith, length-append, append_assoc, append-nil}
 use Rattle.std.specs.Prelude.{All}
-use Rattle.std.specs.List.{flat_map, list_any}
+use Rattle.std.specs.List.{list_any}
 use Rattle.std.proofs.lemmas.Bool.{false≢true}
 use Rattle.std.proofs.lemmas.List.{map-append}
 use Rattle.std.proofs.lemmas.Grind.{flat_map-append}
 use Rattle.std.proofs.lemmas.List.Elements.{All-nil, All-cons, All-head, All-tail, All-push, All-append, All-weaker}
 use Rattle.std.proofs.lemmas.List.Folds.{list_any-append}
 use Rattle.coll_lex.specs.Names.{IsName}
-use Rattle.coll_syntax.specs.Identifier.{same_name, same_id, has_name, has_id}
+use Rattle.coll_syntax.specs.Identifier.{same_name, same_id, has_name}
 use Rattle.coll_syntax.specs.Proper.{IsElementText}
 use Rattle.coll_syntax.specs.declared.identifiers.Id.{Id}
 use Rattle.coll_syntax.specs.declared.identifiers.Id.TheVariants.{Char, Named, Undefined}
-use Rattle.coll_table.proofs.Sameness.{same_name_decides, same_name_symmetric, same_id_symmetric, distinct_push, neither, nor}
-use Rattle.coll_table.specs.Table.{Collation, Section, name_of, text_of, names_of, texts_of, joined_entries, ids_of, named, section_names, is_placed_in, is_declared, is_known, declares_symbol, is_symbol}
+use Rattle.coll_table.proofs.Sameness.{same_name_decides, same_name_symmetric, same_id_symmetric, distinct_push, neither}
+use Rattle.coll_table.specs.Table.{Collation, Section, name_of, text_of, names_of, texts_of, joined_entries, ids_of, named, section_names, is_placed_in, is_declared, declares_symbol, is_symbol}
 use Rattle.coll_table.specs.Drafts.{has_text}
 use Rattle.coll_table.specs.Limits.{most_entries, most_declarations, most_sections}
 use Rattle.coll_table.specs.Loading.{with_last, with_section}

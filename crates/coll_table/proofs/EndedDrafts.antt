@@ -1,5 +1,5 @@
 -- Where a category ends without a fault its table is well formed.
-use Rattle.std.proofs.Common.{◌≡◌, ℕ, suc, ◌≤◌, Bool, true, false, not, IsTrue, List, [], ◌∷◌, length, Option, Some, None, sym, ap, subst, ◌∙◌, refl, arith}
+use Rattle.std.proofs.Common.{◌≡◌, ℕ, ◌≤◌, true, false, not, IsTrue, List, [], ◌∷◌, length, Option, Some, None, sym, subst, ◌∙◌, refl, arith}
 use Rattle.std.specs.Prelude.{All, is_none}
 use Rattle.std.specs.Option.{option_or, option_map}
 use Rattle.std.proofs.lemmas.Bool.{false≢true}
@@ -16,9 +16,7 @@ use Rattle.coll_table.specs.SoundDrafts.{IsSoundDraft}
 use Rattle.coll_table.specs.Table.{is_known, is_placed_in, joined_entries}
 use Rattle.coll_table.specs.WellFormed.{HasPlacedWeights, IsWellFormed}
 use Rattle.coll_table.specs.declared.entries.Entry.{Entry}
-use Rattle.coll_table.specs.declared.load_faults.LoadCause.{LoadCause}
 use Rattle.coll_table.specs.declared.load_faults.LoadCause.TheVariants.{NoRules, NotDeclared, WeightNotPlaced, OutsideOrder}
-use Rattle.coll_table.specs.declared.load_faults.LoadFault.{LoadFault}
 
 -- of two options of which the first found is none both are none
 neither_found : {X : Type 0} (a b : Option X) → option_or a b ≡ None → (a ≡ None) × (b ≡ None)

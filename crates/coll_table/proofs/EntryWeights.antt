@@ -1,5 +1,5 @@
 -- The weights that an entry keeps, made one after another.
-use Rattle.std.proofs.Common.{◌≡◌, ℕ, zero, suc, ◌+◌, ◌-◌, ◌<◌, ◌≤◌, List, [], ◌∷◌, ◌++◌, length, get_or, set, take, drop, map, replicate, sym, ap, subst, ◌∙◌, refl, arith, length-append, append_assoc, add-one}
+use Rattle.std.proofs.Common.{◌≡◌, ℕ, zero, suc, ◌+◌, ◌-◌, ◌<◌, List, [], ◌∷◌, ◌++◌, length, get_or, set, take, drop, map, replicate, ap, ◌∙◌, refl, arith, length-append, append_assoc, add-one}
 use Rattle.std.proofs.lemmas.List.{replicate-append-replicate, length-replicate}
 
 module _ {X : Type 0} where

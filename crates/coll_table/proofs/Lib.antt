@@ -9,6 +9,7 @@ pub mod LinesRead
 pub mod LoadEnds
 pub mod LoadSteps
 pub mod LookUps
+pub mod MetEntries
 pub mod NameNodes
 pub mod NodeLemmas
 pub mod NodeLookUps
@@ -20,3 +21,4 @@ pub mod SoundLines
 pub mod TextLoading
 pub mod TextSteps
 pub mod WalkLemmas
+pub mod WeightCauses

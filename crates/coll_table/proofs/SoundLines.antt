@@ -1,6 +1,6 @@
 -- A draft stays sound with each line that is accepted.
-use Rattle.std.proofs.Common.{◌≡◌, ℕ, ◌+◌, ◌<◌, ◌≤◌, ◌-◌, Bool, true, false, ◌&&◌, not, if◌then◌else◌, List, [], ◌∷◌, ◌++◌, length, map, replicate, Option, Some, None, sym, ap, subst, ◌∙◌, refl, arith, length-append}
-use Rattle.std.specs.Prelude.{All, IsSome, is_some, is_none, nat_le, nat_lt}
+use Rattle.std.proofs.Common.{◌≡◌, ℕ, ◌+◌, ◌≤◌, ◌-◌, Bool, true, false, ◌&&◌, not, if◌then◌else◌, List, [], ◌∷◌, ◌++◌, length, map, replicate, Option, Some, None, sym, ap, subst, ◌∙◌, refl, arith, length-append}
+use Rattle.std.specs.Prelude.{All, IsSome, is_some, nat_le, nat_lt}
 use Rattle.std.proofs.lemmas.Bool.{false≢true, leb-false, ltb-false}
 use Rattle.std.proofs.lemmas.List.{length-map, length-replicate}
 use Rattle.std.proofs.lemmas.List.Elements.{All-nil, All-append, All-map, All-replicate, All-weaker}
@@ -8,12 +8,11 @@ use Rattle.coll_lex.specs.Names.{IsName}
 use Rattle.coll_syntax.specs.Identifier.{has_name}
 use Rattle.coll_syntax.specs.Proper.{IsProperWeight, AreProperWeights, IsProperLine}
 use Rattle.coll_syntax.specs.declared.identifiers.Id.{Id}
-use Rattle.coll_syntax.specs.declared.rules.Rule.{Rule}
 use Rattle.coll_syntax.specs.declared.statements.OrderLine.{OrderLine}
 use Rattle.coll_syntax.specs.declared.weights.Weight.{Weight}
 use Rattle.coll_syntax.specs.declared.weights.Weight.TheVariants.{Own}
 use Rattle.coll_table.proofs.BuiltTables.{built_declared, built_section, built_entry, entries_with_section, entries_with_last}
-use Rattle.coll_table.specs.Drafts.{DraftState, table_of, refused_if, has_text, declaration_cause, section_cause, order_cause, given_rules, levels_of}
+use Rattle.coll_table.specs.Drafts.{DraftState, table_of, refused_if, has_text, declaration_cause, section_cause, order_cause, levels_of}
 use Rattle.coll_table.specs.Entries.{names_only, kept_weight, kept_weights, given_weights, weights_of, entry_of}
 use Rattle.coll_table.specs.Limits.{most_entries, most_declarations, most_sections}
 use Rattle.coll_table.specs.Loading.{with_section, with_declaration, with_entry}

@@ -1,5 +1,5 @@
 -- What holds of what the lines of a category say together, as long as each of them was accepted.
-use Rattle.std.specs.Prelude.{◌≡◌, ◌≤◌, ◌<◌, true, false, List, [], length, Option, Some, None, IsSome}
+use Rattle.std.specs.Prelude.{◌≡◌, ◌≤◌, ◌<◌, true, false, List, [], length, Some, None, IsSome}
 use Rattle.coll_lex.specs.Names.{IsName}
 use Rattle.coll_syntax.specs.Proper.{IsElementText}
 use Rattle.coll_syntax.specs.declared.rules.Rule.{Rule}

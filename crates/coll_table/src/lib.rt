@@ -8,7 +8,8 @@
 //! - `node_names`, `node_ids` and `bodies`: which node has a name or an identifier, and what holds of the whole (`NodeLookUps`, `SoundBodies`);
 //! - `tables` and `walks`: a table, read (`Walks`);
 //! - `building`: a table that grows (`Building`);
-//! - `drafts`: the lines of a category, each judged by those before it (`Drafts`);
+//! - `drafts`: the lines of a category, each judged by those before it (`Drafts`), and in `line_weights` the weights of an entry
+//!   (`Entries`);
 //! - `loaders` and `loading`: a text, read line by line (`Reading`, `Loading`, `SoundLoaders`, `Loads`), with its `load_faults` (`LoadFaults`);
 //! - `plain/`: what a line of a delta says (`PlainDeltaLines`, `PlainOrderLines`);
 //! - `names`, `places`, `deltas` and `refusals`: a statement, applied (`LookUps`, `Delta`, `Placement`, `Refusals`);
@@ -23,6 +24,7 @@ mod deltas;
 mod drafts;
 mod entries;
 mod limits;
+mod line_weights;
 mod load_faults;
 mod loaders;
 mod loading;

@@ -1,5 +1,5 @@
 -- Where a line that is accepted ends the category the table is well formed.
-use Rattle.std.proofs.Common.{◌≡◌, true, sym, ◌∙◌}
+use Rattle.std.proofs.Common.{◌≡◌, true}
 use Rattle.coll_table.specs.Drafts.{is_end}
 use Rattle.coll_table.proofs.EndedDrafts.{well_formed_after}
 use Rattle.coll_table.proofs.drafts.Draft.take.Goals as goal

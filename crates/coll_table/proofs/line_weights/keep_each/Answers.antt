@@ -1,7 +1,7 @@
 -- Each turn of the loop keeps one more weight.
 use Rattle.coll_table.specs.Entries.{kept_weight}
 use Rattle.coll_table.proofs.EntryWeights.{turned_more}
-use Rattle.coll_table.proofs.drafts.keep_each.Goals as goal
+use Rattle.coll_table.proofs.line_weights.keep_each.Goals as goal
 
 pub loop-weight-preserved : goal.loop-weight-preserved
 loop-weight-preserved c =
