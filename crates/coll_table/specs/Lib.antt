@@ -1,3 +1,4 @@
+pub mod Bodies
 pub mod Building
 pub mod Delta
 pub mod Drafts
@@ -8,6 +9,7 @@ pub mod Loading
 pub mod Loads
 pub mod LookUps
 pub mod NodeLookUps
+pub mod NodeMaps
 pub mod Placement
 pub mod PlainDeltaLines
 pub mod PlainOrderLines
@@ -15,7 +17,10 @@ pub mod Reading
 pub mod Record
 pub mod Refusals
 pub mod SoundDrafts
+pub mod SoundLoaders
 pub mod Table
 pub mod TableLayout
+pub mod WalkItems
+pub mod WalkStates
 pub mod Walks
 pub mod WellFormed

@@ -21,3 +21,12 @@ met_in section = met_name section.name ++ map MetEntry section.entries
 -- what one meets on a walk through sections
 abbrev pub met : List Section → List Met
 met sections = flat_map met_in sections
+
+-- the entry that one meets, if it is one
+abbrev pub entry_met : Met → List Entry
+entry_met (MetSection name) = []
+entry_met (MetEntry entry) = entry ∷ []
+
+-- the entries among what one meets
+abbrev pub entries_met : List Met → List Entry
+entries_met items = flat_map entry_met items

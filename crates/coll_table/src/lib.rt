@@ -4,11 +4,13 @@
 //! back. A way through the crate, each file with its definitions in `specs/`:
 //!
 //! - `declarations`, `entries` and `limits`: what a table is made of (`Table`, `Entries`, `WellFormed`, `Limits`);
-//! - `contents`, `node_names`, `node_ids` and `bodies`: rings of nodes, and what each node is (`TableLayout`, `NodeLookUps`, `Bodies`);
+//! - `contents` and `nodes`: rings of nodes, and what each node is (`TableLayout`, `Bodies`);
+//! - `node_names`, `node_ids` and `bodies`: which node has a name or an identifier, and what holds of the whole (`NodeLookUps`, `SoundBodies`);
 //! - `tables` and `walks`: a table, read (`Walks`);
 //! - `building`: a table that grows (`Building`);
-//! - `drafts`: the lines of a category, each judged by those before it (`Drafts`);
-//! - `loaders` and `loading`: a text, read line by line (`Reading`, `Loading`, `Loads`), with its `load_faults` (`LoadFaults`);
+//! - `drafts`: the lines of a category, each judged by those before it (`Drafts`), and in `line_weights` the weights of an entry
+//!   (`Entries`);
+//! - `loaders` and `loading`: a text, read line by line (`Reading`, `Loading`, `SoundLoaders`, `Loads`), with its `load_faults` (`LoadFaults`);
 //! - `plain/`: what a line of a delta says (`PlainDeltaLines`, `PlainOrderLines`);
 //! - `names`, `places`, `deltas` and `refusals`: a statement, applied (`LookUps`, `Delta`, `Placement`, `Refusals`);
 //! - `records`: a statement, taken back (`Record`).
@@ -22,12 +24,15 @@ mod deltas;
 mod drafts;
 mod entries;
 mod limits;
+mod line_weights;
 mod load_faults;
 mod loaders;
 mod loading;
+mod met_nodes;
 mod names;
 mod node_ids;
 mod node_names;
+mod nodes;
 mod places;
 mod plain;
 mod records;
@@ -39,7 +44,7 @@ pub use declarations::Declaration;
 pub use entries::Entry;
 pub use limits::{MOST_DECLARATIONS, MOST_ENTRIES, MOST_SECTIONS, limits_are_stated};
 pub use load_faults::{LoadCause, LoadFault};
-pub use loaders::Loader;
+pub use loaders::{Loader, lines_are_read};
 pub use loading::{load, texts_are_well_formed};
 pub use plain::{PlainDeltaLine, PlainLine, PlainStatement, parse_plain_delta_line};
 pub use records::Record;
