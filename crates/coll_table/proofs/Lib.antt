@@ -2,3 +2,7 @@ pub mod LookUps
 pub mod PlaceLookUps
 pub mod Sameness
 pub mod NodeLemmas
+pub mod NodeLists
+pub mod RingPlaces
+pub mod LayoutReads
+pub mod LayoutSteps

@@ -20,3 +20,4 @@ pub mod Table
 pub mod TableLayout
 pub mod Walks
 pub mod WellFormed
+pub mod SoundBodies
