@@ -1,4 +1,7 @@
 pub mod LookUps
+pub mod CharNodes
+pub mod NameNodes
+pub mod NodeLookUps
 pub mod PlaceLookUps
 pub mod Sameness
 pub mod NodeLemmas

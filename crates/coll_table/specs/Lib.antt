@@ -9,6 +9,7 @@ pub mod Loading
 pub mod Loads
 pub mod LookUps
 pub mod NodeLookUps
+pub mod NodeMaps
 pub mod Placement
 pub mod PlainDeltaLines
 pub mod PlainOrderLines
