@@ -6,3 +6,7 @@ pub mod PlaceLookUps
 pub mod Sameness
 pub mod WalkLemmas
 pub mod NodeLemmas
+pub mod NodeLists
+pub mod RingPlaces
+pub mod LayoutReads
+pub mod LayoutSteps

@@ -23,3 +23,4 @@ pub mod WalkItems
 pub mod WalkStates
 pub mod Walks
 pub mod WellFormed
+pub mod SoundBodies
