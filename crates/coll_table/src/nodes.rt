@@ -129,6 +129,15 @@ impl Nodes {
         self.rings.steps()
     }
 
+    /// A copy, in new memory, in which each node has its name.
+    pub(crate) fn try_copy(&self, alloc: Global) -> Result<Nodes, AllocError>
+        ensures { IfOk result (λ copy. copy ≡ self.now) }
+    {
+        let rings = self.rings.try_copy(alloc)?;
+        let contents = self.contents.clone()?;
+        Ok(Nodes { rings, contents })
+    }
+
     /// What holds of every layout: no node stands twice, and each that stands in a ring is there.
     ///
     /// It does nothing; its contract hands the fact to callers.
