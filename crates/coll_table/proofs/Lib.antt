@@ -5,6 +5,7 @@ pub mod NodeLookUps
 pub mod PlaceLookUps
 pub mod Sameness
 pub mod WalkLemmas
+pub mod WalkShapes
 pub mod NodeLemmas
 pub mod NodeLists
 pub mod RingPlaces
