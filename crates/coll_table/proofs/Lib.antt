@@ -9,3 +9,4 @@ pub mod NodeLists
 pub mod RingPlaces
 pub mod LayoutReads
 pub mod LayoutSteps
+pub mod BodyReads

@@ -3,9 +3,10 @@
 //! A `Nodes` has the rings, and the content of each node that is there, found by the node's tag. Contracts see the layout that
 //! they make (`specs/Bodies.antt`); what may stand in which ring is for `bodies` to know. The way to a content may change.
 
-ghost use Rattle.std.specs.Prelude.{◌≡◌, ◌∷◌, ◌++◌, [], Some, None, IsSome, false, true, length, IfOk, OnOk, OnErr};
+ghost use Rattle.std.specs.Prelude.{◌≡◌, ◌∷◌, ◌++◌, [], Some, None, IsSome, false, true, length, ◌<◌, IfOk, OnOk, OnErr};
 ghost use Rattle.coll_order.specs.Changes.{one_step_more};
-ghost use Rattle.coll_order.specs.Layout.{is_in, place_from};
+ghost use Rattle.coll_order.specs.Layout.{is_in, next_among, place_from};
+ghost use Rattle.coll_order.specs.Lists.{first_in};
 
 use crate::contents::Content;
 use coll_lex::TextBuf;
@@ -34,7 +35,7 @@ impl Model for Nodes {
 
 impl Nodes {
     ghost use Rattle.coll_table.specs.Bodies.{empty_body, Makes, IsLooseNode, IsPlaceAmong, IsLaidOut, with_link, without_link};
-    ghost use Rattle.coll_table.specs.TableLayout.{content_of};
+    ghost use Rattle.coll_table.specs.TableLayout.{content_of, nodes_in};
     ghost use Rattle.coll_table.specs.declared.contents.Content.TheVariants.{Begun};
 
     /// No rings and no nodes. It takes no memory.
@@ -71,6 +72,29 @@ impl Nodes {
         Ok(node)
     }
 
+    /// Makes a loose node that is a section, and a ring for its entries.
+    pub(crate) fn make_section(&mut self, name: Option<TextBuf>) -> Result<(NodeId, RingId), AllocError>
+        ensures made { IfOk result (λ made. Makes self.old.layout self.new.layout made.0 (Begun name made.1)) }
+        ensures apart { IfOk result (λ made. is_in self.old.layout.rings made.0 ≡ false) }
+        ensures ring { IfOk result (λ made. made.1.index ≡ length self.old.layout.rings) }
+        ensures rings { OnOk result (self.new.layout.rings ≡ self.old.layout.rings ++ [] ∷ []) }
+        ensures steps { self.new.steps ≡ self.old.steps }
+        ensures err { OnErr result (self.new ≡ self.old) }
+    {
+        self.contents.reserve(1)?;
+        let node = self.rings.new_node(self.contents.vacant_key())?;
+        match self.rings.new_ring() {
+            Ok(ring) => {
+                self.contents.insert_reserved(Content::Begun { name, ring });
+                Ok((node, ring))
+            }
+            Err(refusal) => {
+                self.rings.drop_node(node);
+                Err(refusal)
+            }
+        }
+    }
+
     /// Puts a loose node directly after a place.
     pub(crate) fn link(&mut self, node: NodeId, place: Place)
         requires loose { IsLooseNode self.old.layout node }
@@ -101,6 +125,22 @@ impl Nodes {
     {
         let tag = self.rings.tag(node);
         &self.contents[tag]
+    }
+
+    /// The first node of a ring, if it has one.
+    pub(crate) fn first(&self, ring: RingId) -> Option<NodeId>
+        requires { ring.index < length self.now.layout.rings }
+        ensures { result ≡ first_in (nodes_in self.now.layout ring) }
+    {
+        self.rings.first(ring)
+    }
+
+    /// The node directly after a linked one in its ring, if it isn't the last.
+    pub(crate) fn next(&self, node: NodeId) -> Option<NodeId>
+        requires { is_in self.now.layout.rings node ≡ true }
+        ensures { result ≡ next_among self.now.layout.rings node }
+    {
+        self.rings.next(node)
     }
 
     /// The number of ring steps taken, modulo 2 to the power 64.
