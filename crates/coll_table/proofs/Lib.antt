@@ -11,3 +11,4 @@ pub mod NodeLists
 pub mod RingPlaces
 pub mod LayoutReads
 pub mod LayoutSteps
+pub mod BodyReads

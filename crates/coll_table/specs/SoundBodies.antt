@@ -12,7 +12,7 @@ use Rattle.coll_syntax.specs.declared.identifiers.Id.{Id}
 use Rattle.coll_table.specs.Bodies.{Makes}
 use Rattle.coll_table.specs.NodeLookUps.{Leading, NodesById, node_named, node_with}
 use Rattle.coll_table.specs.Table.{name_of, text_of, named, ids_of, joined_entries}
-use Rattle.coll_table.specs.TableLayout.{TableLayout, content_of, if_any, declaration_in, entry_in, declared_at, sections_at}
+use Rattle.coll_table.specs.TableLayout.{TableLayout, content_of, if_any, declaration_in, entry_in, declared_at, sections_at, declarations_ring, sections_ring}
 use Rattle.coll_table.specs.declared.contents.Content.{Content}
 use Rattle.coll_table.specs.declared.contents.Content.TheVariants as content
 
@@ -94,8 +94,11 @@ pub record IsShaped (layout : TableLayout) : Type 0 where
   pub placed : (index : ℕ) (node : NodeId) → has_node (ring_at layout (suc (suc index))) node ≡ true → IsEntry (content_of layout node) × IsOwned layout (suc (suc index))
   pub own : (ring : RingId) (a b : NodeId) → has_key same_ring rings_in layout ring a ≡ true → has_key same_ring rings_in layout ring b ≡ true → a ≡ b
 
--- the layout is one of a table, the look-ups find what stands in it, and the counts are the lengths of its lists
-pub record IsSoundBody (layout : TableLayout) (names texts sections : List (Leading (List ℕ))) (placed : NodesById) (declared_len section_len entry_len : ℕ) : Type 0 where
+-- the rings are those of the declarations and the sections, the layout is one of a table, the look-ups find what stands in
+-- it, and the counts are the lengths of its lists
+pub record IsSoundBody (layout : TableLayout) (declarations_is sections_is : RingId) (names texts sections : List (Leading (List ℕ))) (placed : NodesById) (declared_len section_len entry_len : ℕ) : Type 0 where
+  pub declarations : declarations_is ≡ declarations_ring
+  pub begun : sections_is ≡ sections_ring
   pub shaped : IsShaped layout
   pub names_found : Finds same_name names_in layout (node_named names)
   pub texts_found : Finds same_name texts_in layout (node_named texts)
@@ -113,6 +116,10 @@ is_place_of place start nodes = same_place place start || list_any (λ node. sam
 pub record IsPlaceIn (layout : TableLayout) (index : ℕ) (place : Place) : Type 0 where
   pub ring : index < length layout.rings
   pub on : is_place_of place (head_of index) (ring_at layout index) ≡ true
+
+-- a place is in a section's ring
+abbrev pub IsEntryPlace : TableLayout → Place → Type 0
+IsEntryPlace layout place = (index : ℕ) × IsPlaceIn layout index place × IsOwned layout index
 
 -- a node that was not there is put directly after a place, and nothing else changes
 pub record Adds (old new : TableLayout) (node : NodeId) (content : Content) (place : Place) : Type 0 where

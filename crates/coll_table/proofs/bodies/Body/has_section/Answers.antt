@@ -1,0 +1,7 @@
+-- A name is found where it is declared.
+use Rattle.std.proofs.Common.{is_some, ap, sym, ◌∙◌}
+use Rattle.coll_table.proofs.BodyReads.{section_found}
+use Rattle.coll_table.proofs.bodies.Body.has_section.Goals as goal
+
+pub returns : goal.returns
+returns c = ?
