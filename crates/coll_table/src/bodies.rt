@@ -84,6 +84,29 @@ impl Body {
         })
     }
 
+    /// A copy, in new memory, in which each node has its name.
+    pub(crate) fn try_copy(&self, alloc: Global) -> Result<Body, AllocError>
+        ensures { IfOk result (λ copy. copy ≡ self.now) }
+    {
+        let nodes = self.nodes.try_copy(alloc)?;
+        let names = self.names.try_copy(alloc)?;
+        let texts = self.texts.try_copy(alloc)?;
+        let section_names = self.section_names.try_copy(alloc)?;
+        let placed = self.placed.try_copy(alloc)?;
+        Ok(Body {
+            nodes,
+            declarations: self.declarations,
+            sections: self.sections,
+            names,
+            texts,
+            section_names,
+            placed,
+            declared_len: self.declared_len,
+            section_len: self.section_len,
+            entry_len: self.entry_len,
+        })
+    }
+
     /// The nodes.
     pub(crate) fn nodes(&self) -> &Nodes
         ensures { result.now ≡ self.now }

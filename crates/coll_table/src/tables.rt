@@ -4,11 +4,12 @@
 //! through `collation`, which is the table that the layout stands for; every table is well formed (`specs/WellFormed.antt`).
 //! What is read here takes no memory. How a body holds its nodes may change without a clause here.
 
-ghost use Rattle.std.specs.Prelude.{◌≡◌, length, option_copied};
+ghost use Rattle.std.specs.Prelude.{◌≡◌, length, option_copied, IfOk};
 
 use crate::Entry;
 use crate::bodies::Body;
 use coll_syntax::{Id, Rule, Rules};
+use std::alloc::{AllocError, Global};
 use std::marker::Model;
 
 /// A table of a collation order.
@@ -62,6 +63,17 @@ impl Table {
         ensures { result ≡ self.now.steps }
     {
         self.body.nodes().steps()
+    }
+
+    /// A copy, in new memory, which has taken as many ring steps.
+    pub fn try_copy(&self, alloc: Global) -> Result<Table, AllocError>
+        ensures { IfOk result (λ copy. copy ≡ self.now) }
+    {
+        let body = self.body.try_copy(alloc)?;
+        Ok(Table {
+            rules: self.rules.copied(),
+            body,
+        })
     }
 
     /// What holds of every table: it is well formed.
