@@ -130,6 +130,10 @@ entry_found P (entry ∷ entries) id found h e =
     (λ on _. λ is. let same : entry ≡ found = cc in (subst P same (All-head P entry entries h), ap (λ (x : Entry). x.id) (sym same) ∙ sym ((same_id_decides id entry.id).0 on)))
     (λ off _. λ is. entry_found P entries id found (All-tail P entry entries h) is) refl e
 
+-- an entry that is found has the identifier
+pub found_id : (entries : List Entry) (id : Id) (found : Entry) → entry_at entries id ≡ Some found → found.id ≡ id
+found_id entries id found e = (entry_found (λ _. Unit {0}) entries id found (λ k d lt. tt) e).1
+
 -- what holds of each identifier holds of each entry's
 pub by_ids : (P : Id → Type 0) (entries : List Entry) → All P (ids_of entries) → All (λ (entry : Entry). P entry.id) entries
 by_ids P [] h = All-nil (λ (entry : Entry). P entry.id)
