@@ -12,7 +12,7 @@ use Rattle.coll_table.specs.WellFormed.{AreDistinct}
 use Rattle.coll_table.specs.declared.entries.Entry.{Entry}
 
 -- of three tests the first two may change places
-turned : (a b c : Bool) → (a || (b || c)) ≡ (b || (a || c))
+pub turned : (a b c : Bool) → (a || (b || c)) ≡ (b || (a || c))
 turned true true c = refl
 turned true false c = refl
 turned false b c = refl

@@ -10,6 +10,7 @@ pub mod NodeLemmas
 pub mod NodeLists
 pub mod NodeLookUps
 pub mod PlaceLookUps
+pub mod PlacingLemmas
 pub mod RingPlaces
 pub mod Sameness
 pub mod SectionLemmas

@@ -23,4 +23,5 @@ pub mod WalkItems
 pub mod WalkStates
 pub mod Walks
 pub mod WellFormed
+pub mod Rewriting
 pub mod SoundBodies
