@@ -5,8 +5,8 @@
 //! find just the nodes that stand in a ring, is said in `specs/SoundBodies.antt`: whoever links a node or takes one out sets the
 //! look-ups with it. A new kind of node is a new ring, and a look-up where it has a key.
 
-ghost use Rattle.std.specs.Prelude.{◌≡◌, ◌∷◌, ◌++◌, [], Some, None, false, length, IfOk, IfNone, OnOk, OnErr, option_copied};
-ghost use Rattle.coll_syntax.specs.Identifier.{has_name};
+ghost use Rattle.std.specs.Prelude.{◌≡◌, ◌∷◌, ◌++◌, [], Some, None, true, false, length, IfOk, IfNone, OnOk, OnErr, option_copied};
+ghost use Rattle.coll_syntax.specs.Identifier.{has_name, same_id};
 
 use crate::contents::Content;
 use crate::node_ids::NodeIds;
@@ -55,7 +55,8 @@ impl Body {
     ghost use Rattle.coll_order.specs.Changes.{one_step_more};
     ghost use Rattle.coll_table.specs.Bodies.{IsLaidOut};
     ghost use Rattle.coll_table.specs.Drafts.{has_text};
-    ghost use Rattle.coll_table.specs.Placement.{entry_at};
+    ghost use Rattle.coll_table.specs.Placement.{entry_at, placed_after, without};
+    ghost use Rattle.coll_table.specs.declared.entries.Entry.{Entry};
     ghost use Rattle.coll_table.specs.SoundBodies.{IsShaped, IsPlaceIn, IsEntryPlace, Adds, with_empty_ring};
     ghost use Rattle.std.specs.List.{list_any};
     ghost use Rattle.coll_table.specs.declared.declarations.Declaration.TheVariants.{Symbol, Element};
@@ -105,6 +106,11 @@ impl Body {
             section_len: self.section_len,
             entry_len: self.entry_len,
         })
+    }
+
+    /// Where it takes memory.
+    pub(crate) fn alloc(&self) -> Global {
+        self.names.alloc()
     }
 
     /// The nodes.
@@ -275,5 +281,27 @@ impl Body {
         self.nodes.link(node, place);
         self.entry_len = more;
         Ok(node)
+    }
+
+    /// Moves an entry directly after another.
+    pub(crate) fn move_after(&mut self, id: &Id, target: &Id)
+        requires here { is_placed_in (sections_at self.old.layout) id.now ≡ true }
+        requires placed { is_placed_in (sections_at self.old.layout) target.now ≡ true }
+        requires apart { same_id id.now target.now ≡ false }
+        ensures declared { declared_at self.new.layout ≡ declared_at self.old.layout }
+        ensures sections { (entry : Entry) → entry_at (joined_entries (sections_at self.old.layout)) id.now ≡ Some entry → sections_at self.new.layout ≡ placed_after (without (sections_at self.old.layout) id.now) target.now entry }
+    {
+        unreachable!();
+    }
+
+    /// Places a new entry directly after another.
+    pub(crate) fn place_new_after(&mut self, entry: Entry, target: &Id) -> Result<(), AllocError>
+        requires new { is_placed_in (sections_at self.old.layout) entry.id ≡ false }
+        requires placed { is_placed_in (sections_at self.old.layout) target.now ≡ true }
+        ensures declared { declared_at self.new.layout ≡ declared_at self.old.layout }
+        ensures ok { OnOk result (sections_at self.new.layout ≡ placed_after (sections_at self.old.layout) target.now entry) }
+        ensures err { OnErr result (self.new ≡ self.old) }
+    {
+        unreachable!();
     }
 }

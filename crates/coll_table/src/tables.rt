@@ -85,6 +85,11 @@ impl Table {
         let _ = &self.rules;
     }
 
+    /// Where it takes memory.
+    pub(crate) fn alloc(&self) -> Global {
+        self.body.alloc()
+    }
+
     /// Whether an identifier stands in the table.
     pub(crate) fn is_placed(&self, id: &Id) -> bool
         ensures { result ≡ is_placed (collation self.now) id.now }
