@@ -1,5 +1,5 @@
 -- What the look-ups of a body answer is what its lists have.
-use Rattle.std.proofs.Common.{◌≡◌, ℕ, Bool, true, false, ◌++◌, ◌&&◌, ◌||◌, cond, is_some, List, [], ◌∷◌, Option, Some, None, length, map, flat_map, option_and_then, sym, ap, subst, ◌∙◌, refl}
+use Rattle.std.proofs.Common.{◌≡◌, ℕ, Bool, true, false, ◌++◌, ◌&&◌, ◌||◌, cond, is_some, IsSome, List, [], ◌∷◌, Option, Some, None, length, map, flat_map, option_and_then, sym, ap, subst, ◌∙◌, refl}
 use Rattle.std.specs.List.{list_any}
 use Rattle.coll_order.specs.Layout.{is_in}
 use Rattle.coll_order.specs.Lists.{same_node, has_node}
@@ -10,7 +10,8 @@ use Rattle.std.proofs.lemmas.List.{append-nil}
 use Rattle.coll_syntax.specs.Identifier.{same_name, same_id, has_name, has_id}
 use Rattle.coll_syntax.specs.declared.identifiers.Id.{Id}
 use Rattle.coll_table.specs.Placement.{entry_at}
-use Rattle.coll_table.specs.SoundBodies.{read_at, ring_at, has_key, ids_in, names_in, texts_in, section_names_in, IsShaped, Finds}
+use Rattle.coll_table.specs.Bodies.{IsLaidOut}
+use Rattle.coll_table.specs.SoundBodies.{declares_a_symbol, entry_if, read_at, ring_at, has_key, ids_in, names_in, texts_in, section_names_in, IsShaped, Finds}
 use Rattle.coll_table.specs.Table.{is_declared, is_placed_in, texts_of, section_names, ids_of, joined_entries, declares_symbol}
 use Rattle.coll_table.specs.TableLayout.{TableLayout, content_of, if_any, declaration_in, entry_in, declared_at, sections_at}
 use Rattle.coll_table.specs.declared.contents.Content.{Content}
@@ -135,3 +136,41 @@ module _ (layout : TableLayout) (shaped : IsShaped layout) where
             let found : find id ≡ Some at.0 = sound.finds id at.0 (and_true (in_rings layout known.1.index at.0 at.1) (ids_of_node id (content_of layout at.0) ∙ has)) in
             sym (ap (λ nodes. entry_at (flat_map (read_at entry_in layout) (if_any nodes)) id) found ∙ (ap (λ es. entry_at es id) (append-nil (read_at entry_in layout at.0)) ∙ at.2))
       ] refl
+
+  -- a node that is found by a name and declares a symbol declares the symbol of the name
+  pub symbol_known : (find : List ℕ → Option NodeId) (name : List ℕ) (node : NodeId) (known : Content) → Finds same_name names_in layout find
+      → find name ≡ Some node → content_of layout node ≡ Some known → declares_a_symbol known ≡ list_any (declares_symbol name) (declared_at layout)
+  symbol_known find name node known sound found is =
+      let has : list_any (same_name name) (names_in known) ≡ true = sym (ap (list_any (same_name name)) (read_known names_in layout node known is)) ∙ (both_true _ _ (sound.leads name node found)).1 in
+      sym (symbol_found find name sound ∙ (ap (λ nodes. list_any (declares_symbol name) (flat_map (read_at declaration_in layout) (if_any nodes))) found
+      ∙ (ap (list_any (declares_symbol name)) (append-nil (read_at declaration_in layout node) ∙ read_known declaration_in layout node known is) ∙ by_kind known has))) where
+        by_kind : (known : Content) → list_any (same_name name) (names_in known) ≡ true → list_any (declares_symbol name) (declaration_in known) ≡ declares_a_symbol known
+        by_kind (content.Declared (Symbol declared)) has = has
+        by_kind (content.Declared (Element declared text)) has = refl
+        by_kind (content.Begun section ring) has = refl
+        by_kind (content.Placed entry) has = refl
+
+  -- a name that isn't found is that of no symbol
+  pub no_symbol : (find : List ℕ → Option NodeId) (name : List ℕ) → Finds same_name names_in layout find → find name ≡ None → false ≡ list_any (declares_symbol name) (declared_at layout)
+  no_symbol find name sound none = sym (symbol_found find name sound ∙ ap (λ nodes. list_any (declares_symbol name) (flat_map (read_at declaration_in layout) (if_any nodes))) none)
+
+  -- a node that is found by an identifier is its entry
+  pub entry_known : (find : Id → Option NodeId) (id : Id) (node : NodeId) (known : Content) → Finds same_id ids_in layout find
+      → find id ≡ Some node → content_of layout node ≡ Some known → entry_if known ≡ entry_at (joined_entries (sections_at layout)) id
+  entry_known find id node known sound found is =
+      let has : list_any (same_id id) (ids_in known) ≡ true = sym (ap (list_any (same_id id)) (read_known ids_in layout node known is)) ∙ (both_true _ _ (sound.leads id node found)).1 in
+      sym (entry_found find id sound ∙ (ap (λ nodes. entry_at (flat_map (read_at entry_in layout) (if_any nodes)) id) found
+      ∙ (ap (λ es. entry_at es id) (append-nil (read_at entry_in layout node) ∙ read_known entry_in layout node known is) ∙ by_kind known has))) where
+        by_kind : (known : Content) → list_any (same_id id) (ids_in known) ≡ true → entry_at (entry_in known) id ≡ entry_if known
+        by_kind (content.Declared declaration) has = refl
+        by_kind (content.Begun section ring) has = refl
+        by_kind (content.Placed entry) has = by_test (λ b. (b || false) ≡ true → cond b (Some entry) None ≡ Some entry) (same_id id entry.id) (λ on e. refl) (λ off e. not_both e refl) has
+
+  -- an identifier that isn't found has no entry
+  pub no_entry : (find : Id → Option NodeId) (id : Id) → Finds same_id ids_in layout find → find id ≡ None → None ≡ entry_at (joined_entries (sections_at layout)) id
+  no_entry find id sound none = sym (entry_found find id sound ∙ ap (λ nodes. entry_at (flat_map (read_at entry_in layout) (if_any nodes)) id) none)
+
+  -- a node that is found is there
+  pub found_made : {Key : Type 0} (same : Key → Key → Bool) (keys : Content → List Key) (find : Key → Option NodeId) (key : Key) (node : NodeId)
+      → Finds same keys layout find → find key ≡ Some node → IsLaidOut layout → IsSome (content_of layout node)
+  found_made same keys find key node sound found laid = laid.made node (both_true _ _ (sound.leads key node found)).0

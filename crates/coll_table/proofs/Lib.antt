@@ -10,3 +10,4 @@ pub mod RingPlaces
 pub mod LayoutReads
 pub mod LayoutSteps
 pub mod BodyReads
+pub mod LayoutLists

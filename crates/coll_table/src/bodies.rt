@@ -7,6 +7,7 @@
 
 ghost use Rattle.std.specs.Prelude.{◌≡◌, ◌∷◌, ◌++◌, [], Some, None, false, length, IfOk, IfNone, OnOk, OnErr, option_copied};
 ghost use Rattle.coll_syntax.specs.Identifier.{has_name};
+ghost use Rattle.coll_table.specs.SoundBodies.{declares_a_symbol, entry_if};
 
 use crate::contents::Content;
 use crate::node_ids::NodeIds;
@@ -49,6 +50,26 @@ impl Model for Body {
     ghost view = { λ b. b.nodes };
 
     ghost invariant = { λ b. IsSoundBody b.nodes.layout b.declarations b.sections b.names b.texts b.section_names b.placed b.declared_len b.section_len b.entry_len };
+}
+
+// Whether a node declares a collating symbol.
+fn is_symbol_node(node: &Content) -> bool
+    ensures { result ≡ declares_a_symbol node.now }
+{
+    match node {
+        Content::Declared(Declaration::Symbol(_)) => true,
+        _ => false,
+    }
+}
+
+// The entry that a node is.
+fn entry_of(node: &Content) -> Option<&Entry>
+    ensures { option_copied result ≡ entry_if node.now }
+{
+    match node {
+        Content::Placed(entry) => Some(entry),
+        _ => None,
+    }
 }
 
 impl Body {
@@ -169,7 +190,7 @@ impl Body {
     {
         self.nodes.check_layout();
         match self.names.find(name) {
-            Some(node) => matches!(self.nodes.content(node), Content::Declared(Declaration::Symbol(_))),
+            Some(node) => is_symbol_node(self.nodes.content(node)),
             None => false,
         }
     }
@@ -180,10 +201,7 @@ impl Body {
     {
         self.nodes.check_layout();
         match self.placed.find(id) {
-            Some(node) => match self.nodes.content(node) {
-                Content::Placed(entry) => Some(entry),
-                _ => None,
-            },
+            Some(node) => entry_of(self.nodes.content(node)),
             None => None,
         }
     }
