@@ -143,17 +143,10 @@ module _ (old new : TableLayout) (node : NodeId) (node_content : Content) (place
       let is = owner_at old shaped index owner owns in
       let own = section_at old shaped owner is.0 in
       let ring = is.1.1 in
-      let high : 2 ≤ ring.index = (section_ring_high owner is.0 is.1.0 ring is.1.2) in
+      let high : 2 ≤ ring.index = is.1.4 in
       let still : content_of new owner ≡ Some (content.Begun is.1.0 ring) = content_other old new node node_content place index adds at once owner (other_in 1 owner is.0) ∙ is.1.2 in
       ap (λ (xs : List Entry). length xs) (joined_read new) ∙ (ap (λ nodes. length (flat_map (joined_at new) nodes)) (ring_other old new node node_content place index adds at once 1 (λ e. let it = is.1.3 in absurd (omega (arith, it, high, e))))
       ∙ (longer (joined_at old) (joined_at new) owner (ring_at old 1) (distinct_ring old.rings 1 once) is.0
       (ap (λ (xs : List Entry). length xs) (joined_known new owner is.1.0 ring still) ∙ (ring_longer one ring is.1.3 ∙ ap (λ (xs : List Entry). suc (length xs)) (sym (joined_known old owner is.1.0 ring is.1.2))))
       (λ other there differ. joined_same other (section_same other there (other_ring owner owns other there differ)))
-      ∙ ap (λ (xs : List Entry). suc (length xs)) (sym (joined_read old)))) where
-        section_ring_high : (section : NodeId) → has_node (ring_at old 1) section ≡ true → (name : Option (List ℕ)) (ring : RingId) → content_of old section ≡ Some (content.Begun name ring) → 2 ≤ ring.index
-        section_ring_high section there name ring known =
-            by_cases ring.index (past_two section there 0 (omega arith) name ring known) (past_two section there 1 (omega arith) name ring known) where
-              by_cases : (k : ℕ) → (0 ≡ k → ⊥) → (1 ≡ k → ⊥) → 2 ≤ k
-              by_cases zero p q = absurd (p refl)
-              by_cases (suc zero) p q = absurd (q refl)
-              by_cases (suc (suc k)) p q = omega arith
+      ∙ ap (λ (xs : List Entry). suc (length xs)) (sym (joined_read old))))

@@ -11,3 +11,5 @@ pub mod LayoutReads
 pub mod LayoutSteps
 pub mod BodyReads
 pub mod LayoutLists
+pub mod EmptyRings
+pub mod BodySteps
