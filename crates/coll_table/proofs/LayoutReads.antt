@@ -12,7 +12,7 @@ use Rattle.coll_order.proofs.LayoutLemmas.{is_in_ring}
 use Rattle.coll_order.proofs.Sameness.{by_test, not_both, same_node_is}
 use Rattle.coll_syntax.specs.Identifier.{same_id, has_id}
 use Rattle.coll_syntax.specs.declared.identifiers.Id.{Id}
-use Rattle.coll_table.specs.SoundBodies.{read_at, ring_at, has_key, rings_in, same_ring, ids_in, names_in, texts_in, section_names_in, IsDeclaration, IsSection, IsEntry, IsShaped, Finds}
+use Rattle.coll_table.specs.SoundBodies.{read_at, ring_at, has_key, rings_in, same_ring, ids_in, names_in, texts_in, section_names_in, IsDeclaration, IsSection, IsEntry, IsOwned, IsShaped, Finds}
 use Rattle.coll_table.specs.Table.{Section, ids_of, names_of, texts_of, section_names, joined_entries, name_of, text_of, named}
 use Rattle.coll_table.specs.TableLayout.{TableLayout, content_of, contents_in, if_any, declaration_in, entry_in, section_in, entries_in, declared_at, sections_at, declarations_ring, sections_ring}
 use Rattle.coll_table.specs.declared.contents.Content.{Content}
@@ -166,15 +166,23 @@ module _ (layout : TableLayout) where
 
     -- a section has the ring of an entry's node
     pub owner_at : (index : ℕ) → (section : NodeId) → has_key same_ring rings_in layout (record { index = index }) section ≡ true
-        → (has_node (ring_at layout 1) section ≡ true) × ((name : Option (List ℕ)) × (ring : RingId) × (content_of layout section ≡ Some (content.Begun name ring)) × (ring.index ≡ index))
+        → (has_node (ring_at layout 1) section ≡ true) × ((name : Option (List ℕ)) × (ring : RingId) × (content_of layout section ≡ Some (content.Begun name ring)) × (ring.index ≡ index) × (2 ≤ ring.index) × (ring.index < length layout.rings))
     owner_at index section has =
         let there = begun_covers same_ring rings_in shaped (λ declaration. refl) (λ entry. refl) (record { index = index }) section has in
         let is = section_at section there in
         let one : list_any (same_ring (record { index = index })) (is.1 ∷ []) ≡ true = sym (ap (list_any (same_ring (record { index = index }))) (read_known rings_in layout section (content.Begun is.0 is.1) is.2)) ∙ (both_true _ _ has).1 in
-        (there, (is.0, is.1, is.2, sym ((Decides-eqb index is.1.index).0 (only _ one)))) where
+        (there, (is.0, is.1, is.2, sym ((Decides-eqb index is.1.index).0 (only _ one)), is.3, is.4)) where
           only : (b : Bool) → (b || false) ≡ true → b ≡ true
           only true e = refl
           only false e = e
+
+    -- a section's ring is none of the first two
+    pub owned_high : (index : ℕ) → IsOwned layout index → 2 ≤ index
+    owned_high index owned = let is = (owner_at index owned.0 owned.1).1 in subst (λ k. 2 ≤ k) is.3 is.4
+
+    -- it is one of the rings
+    pub owned_low : (index : ℕ) (section : NodeId) → has_key same_ring rings_in layout (record { index = index }) section ≡ true → index < length layout.rings
+    owned_low index section owns = let is = (owner_at index section owns).1 in subst (λ k. k < length layout.rings) is.3 is.5
 
     -- a node is an entry where one stands in a section
     pub placed_to : (p : Entry → Bool) (node : NodeId) → is_in layout.rings node ≡ true → list_any p (read_at entry_in layout node) ≡ true → list_any p (joined_entries (sections_at layout)) ≡ true

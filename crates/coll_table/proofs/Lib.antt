@@ -1,6 +1,9 @@
 pub mod BodyReads
+pub mod BodySteps
 pub mod CharNodes
+pub mod EmptyRings
 pub mod EntryLemmas
+pub mod LayoutLists
 pub mod LayoutReads
 pub mod LayoutSteps
 pub mod LookUps

@@ -93,3 +93,22 @@ module _ {X : Type 0} where
       (λ off e.
       let later = longer_put f g place (After first) node rest e one (λ other there. others other (or_second (same_node other first) _ there)) in
       ap (λ xs. length (xs ++ flat_map g (put_after place node (After first) rest))) here ∙ (length-append (f first) (flat_map g (put_after place node (After first) rest)) ∙ (let sum = length-append (f first) (flat_map f rest) in omega arith))) on
+
+  -- where a node is put in of which nothing is read, a list reads the same
+  pub same_put : (f g : NodeId → List X) (place start : Place) (node : NodeId) (nodes : List NodeId) → g node ≡ []
+      → ((other : NodeId) → has_node nodes other ≡ true → g other ≡ f other) → flat_map g (put_after place node start nodes) ≡ flat_map f nodes
+  same_put f g place start node [] none others = by_test (λ b. flat_map g (cond b (node ∷ []) []) ≡ []) (same_place place start) (λ here. ap (λ xs. xs ++ []) none) (λ off. refl)
+  same_put f g place start node (first ∷ rest) none others =
+      by_test (λ b. flat_map g (cond b (node ∷ first ∷ rest) (first ∷ put_after place node (After first) rest)) ≡ flat_map f (first ∷ rest)) (same_place place start)
+      (λ now. ap (λ xs. xs ++ flat_map g (first ∷ rest)) none ∙ same_read f g (first ∷ rest) others)
+      (λ off. ap (λ xs. xs ++ flat_map g (put_after place node (After first) rest)) (others first (or_first (same_node first first) _ (same_node_itself first)))
+      ∙ ap (λ xs. f first ++ xs) (same_put f g place (After first) node rest none (λ other there. others other (or_second (same_node other first) _ there))))
+
+  -- readings that are as long of each node of a list are as long
+  pub same_length : (f g : NodeId → List X) (nodes : List NodeId) → ((node : NodeId) → has_node nodes node ≡ true → length (g node) ≡ length (f node)) → length (flat_map g nodes) ≡ length (flat_map f nodes)
+  same_length f g [] same = refl
+  same_length f g (node ∷ nodes) same =
+      let here = same node (or_first (same_node node node) _ (same_node_itself node)) in
+      let later = same_length f g nodes (λ other there. same other (or_second (same_node other node) _ there)) in
+      let sum = length-append (f node) (flat_map f nodes) in
+      length-append (g node) (flat_map g nodes) ∙ omega (arith, here, later, sum)

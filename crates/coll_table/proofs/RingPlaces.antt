@@ -55,7 +55,7 @@ distinct_ring (nodes ∷ rings) zero once = once.0
 distinct_ring (nodes ∷ rings) (suc index) once = distinct_ring rings index once.2
 
 -- the head of a ring is after no node
-head_after : (index : ℕ) (nodes : List NodeId) → list_any (λ node. same_place (head_of index) (After node)) nodes ≡ false
+pub head_after : (index : ℕ) (nodes : List NodeId) → list_any (λ node. same_place (head_of index) (After node)) nodes ≡ false
 head_after index [] = refl
 head_after index (node ∷ nodes) = head_after index nodes
 

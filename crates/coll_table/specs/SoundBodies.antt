@@ -15,6 +15,8 @@ use Rattle.coll_table.specs.Table.{name_of, text_of, named, ids_of, joined_entri
 use Rattle.coll_table.specs.TableLayout.{TableLayout, content_of, if_any, declaration_in, entry_in, declared_at, sections_at, declarations_ring, sections_ring}
 use Rattle.coll_table.specs.declared.contents.Content.{Content}
 use Rattle.coll_table.specs.declared.contents.Content.TheVariants as content
+use Rattle.coll_table.specs.declared.declarations.Declaration.TheVariants.{Symbol, Element}
+use Rattle.coll_table.specs.declared.entries.Entry.{Entry}
 
 -- the name that a node declares
 abbrev pub names_in : Content → List (List ℕ)
@@ -39,6 +41,19 @@ rings_in (content.Placed entry) = []
 -- the identifier of the entry that a node is
 abbrev pub ids_in : Content → List Id
 ids_in node = ids_of (entry_in node)
+
+-- a node declares a collating symbol
+abbrev pub declares_a_symbol : Content → Bool
+declares_a_symbol (content.Declared (Symbol name)) = true
+declares_a_symbol (content.Declared (Element name text)) = false
+declares_a_symbol (content.Begun name ring) = false
+declares_a_symbol (content.Placed entry) = false
+
+-- the entry that a node is, if it is one
+abbrev pub entry_if : Content → Option Entry
+entry_if (content.Declared declaration) = None
+entry_if (content.Begun name ring) = None
+entry_if (content.Placed entry) = Some entry
 
 -- two names are those of one ring
 abbrev pub same_ring : RingId → RingId → Bool

@@ -7,6 +7,7 @@
 
 ghost use Rattle.std.specs.Prelude.{◌≡◌, ◌∷◌, ◌++◌, [], Some, None, true, false, length, IfOk, IfNone, OnOk, OnErr, option_copied};
 ghost use Rattle.coll_syntax.specs.Identifier.{has_name, same_id};
+ghost use Rattle.coll_table.specs.SoundBodies.{declares_a_symbol, entry_if};
 
 use crate::contents::Content;
 use crate::node_ids::NodeIds;
@@ -49,6 +50,26 @@ impl Model for Body {
     ghost view = { λ b. b.nodes };
 
     ghost invariant = { λ b. IsSoundBody b.nodes.layout b.declarations b.sections b.names b.texts b.section_names b.placed b.declared_len b.section_len b.entry_len };
+}
+
+// Whether a node declares a collating symbol.
+fn is_symbol_node(node: &Content) -> bool
+    ensures { result ≡ declares_a_symbol node.now }
+{
+    match node {
+        Content::Declared(Declaration::Symbol(_)) => true,
+        _ => false,
+    }
+}
+
+// The entry that a node is.
+fn entry_of(node: &Content) -> Option<&Entry>
+    ensures { option_copied result ≡ entry_if node.now }
+{
+    match node {
+        Content::Placed(entry) => Some(entry),
+        _ => None,
+    }
 }
 
 impl Body {
@@ -198,7 +219,7 @@ impl Body {
     {
         self.nodes.check_layout();
         match self.names.find(name) {
-            Some(node) => matches!(self.nodes.content(node), Content::Declared(Declaration::Symbol(_))),
+            Some(node) => is_symbol_node(self.nodes.content(node)),
             None => false,
         }
     }
@@ -209,10 +230,7 @@ impl Body {
     {
         self.nodes.check_layout();
         match self.placed.find(id) {
-            Some(node) => match self.nodes.content(node) {
-                Content::Placed(entry) => Some(entry),
-                _ => None,
-            },
+            Some(node) => entry_of(self.nodes.content(node)),
             None => None,
         }
     }
@@ -243,6 +261,7 @@ impl Body {
         requires name { is_declared (declared_at self.old.layout) name ≡ false }
         requires place { IsPlaceIn self.old.layout 0 place }
         ensures ok { IfOk result (λ node. Adds self.old.layout self.new.layout node (content.Declared (Symbol name)) place) }
+        ensures steps { OnOk result (self.new.steps ≡ one_step_more self.old.steps) }
         ensures err { OnErr result (self.new ≡ self.old) }
     {
         self.nodes.check_layout();
@@ -258,6 +277,72 @@ impl Body {
         self.nodes.link(node, place);
         self.declared_len = more;
         Ok(node)
+    }
+
+    /// Puts a declaration of a collating element directly after a place.
+    pub(crate) fn declare_element(&mut self, name: TextBuf, text: TextBuf, place: Place) -> Result<NodeId, AllocError>
+        requires name { is_declared (declared_at self.old.layout) name ≡ false }
+        requires text { has_name (texts_of (declared_at self.old.layout)) text ≡ false }
+        requires place { IsPlaceIn self.old.layout 0 place }
+        ensures ok { IfOk result (λ node. Adds self.old.layout self.new.layout node (content.Declared (Element name text)) place) }
+        ensures steps { OnOk result (self.new.steps ≡ one_step_more self.old.steps) }
+        ensures err { OnErr result (self.new ≡ self.old) }
+    {
+        self.nodes.check_layout();
+        let Some(more) = self.declared_len.checked_add(1) else {
+            return Err(AllocError);
+        };
+        self.names.reserve(&name)?;
+        self.texts.reserve(&text)?;
+        let node = self.nodes.make(Content::Declared(Declaration::Element { name, text }))?;
+        let Content::Declared(Declaration::Element { name, text }) = self.nodes.content(node) else {
+            unreachable!();
+        };
+        self.names.set(name, Some(node));
+        self.texts.set(text, Some(node));
+        self.nodes.link(node, place);
+        self.declared_len = more;
+        Ok(node)
+    }
+
+    /// Begins a section without a name directly after a place, and answers its node and its ring.
+    pub(crate) fn begin_unnamed(&mut self, place: Place) -> Result<(NodeId, RingId), AllocError>
+        requires place { IsPlaceIn self.old.layout 1 place }
+        ensures ok { IfOk result (λ begun. Adds (with_empty_ring self.old.layout) self.new.layout begun.0 (content.Begun None begun.1) place) }
+        ensures ring { IfOk result (λ begun. begun.1.index ≡ length self.old.layout.rings) }
+        ensures err { OnErr result (self.new ≡ self.old) }
+    {
+        self.nodes.check_layout();
+        let Some(more) = self.section_len.checked_add(1) else {
+            return Err(AllocError);
+        };
+        let (node, ring) = self.nodes.make_section(None)?;
+        self.nodes.link(node, place);
+        self.section_len = more;
+        Ok((node, ring))
+    }
+
+    /// Begins a section directly after a place, and answers its node and its ring.
+    pub(crate) fn begin(&mut self, name: TextBuf, place: Place) -> Result<(NodeId, RingId), AllocError>
+        requires name { has_name (section_names (sections_at self.old.layout)) name ≡ false }
+        requires place { IsPlaceIn self.old.layout 1 place }
+        ensures ok { IfOk result (λ begun. Adds (with_empty_ring self.old.layout) self.new.layout begun.0 (content.Begun (Some name) begun.1) place) }
+        ensures ring { IfOk result (λ begun. begun.1.index ≡ length self.old.layout.rings) }
+        ensures err { OnErr result (self.new ≡ self.old) }
+    {
+        self.nodes.check_layout();
+        let Some(more) = self.section_len.checked_add(1) else {
+            return Err(AllocError);
+        };
+        self.section_names.reserve(&name)?;
+        let (node, ring) = self.nodes.make_section(Some(name))?;
+        let Content::Begun { name: Some(name), ring: _ } = self.nodes.content(node) else {
+            unreachable!();
+        };
+        self.section_names.set(name, Some(node));
+        self.nodes.link(node, place);
+        self.section_len = more;
+        Ok((node, ring))
     }
 
     /// Puts an entry directly after a place.
