@@ -10,7 +10,8 @@ use Rattle.coll_order.specs.declared.places.RingId.{RingId}
 use Rattle.coll_order.specs.declared.places.Place.{Place}
 use Rattle.coll_order.specs.declared.places.Place.TheVariants.{Head, After}
 use Rattle.coll_table.specs.declared.contents.Content.{Content}
-use Rattle.coll_table.specs.TableLayout.{TableLayout, MadeNode, content_of}
+use Rattle.coll_syntax.specs.declared.rules.Rule.{Rule}
+use Rattle.coll_table.specs.TableLayout.{TableLayout, TableValue, MadeNode, content_of}
 
 -- the body of a table as contracts see it: its layout, and the number of ring steps taken
 pub record BodyValue : Type 0 where
@@ -71,3 +72,7 @@ with_link layout node place = record layout { rings = rings_with place node 0 la
 -- a layout with a node taken out of its ring
 abbrev pub without_link : TableLayout → NodeId → TableLayout
 without_link layout node = record layout { rings = rings_without node layout.rings }
+
+-- a table of these rules and this body
+abbrev pub value_of : List Rule → BodyValue → TableValue
+value_of rules body = record { rules = rules; layout = body.layout; steps = body.steps }

@@ -24,3 +24,5 @@ pub mod WalkItems
 pub mod WalkStates
 pub mod Walks
 pub mod WellFormed
+pub mod Rewriting
+pub mod SoundBodies

@@ -6,6 +6,7 @@
 ghost use Rattle.std.specs.Prelude.{◌≡◌, ◌<◌, ◌∷◌, ◌++◌, [], Some, None, IsSome, false, true, length, IfOk, OnOk, OnErr};
 ghost use Rattle.coll_order.specs.Changes.{one_step_more};
 ghost use Rattle.coll_order.specs.Layout.{is_in, place_from};
+ghost use Rattle.coll_order.specs.Lists.{first_in};
 
 use crate::contents::Content;
 use coll_lex::TextBuf;
@@ -36,7 +37,6 @@ impl Nodes {
     ghost use Rattle.coll_table.specs.Bodies.{empty_body, Makes, IsLooseNode, IsPlaceAmong, IsLaidOut, with_link, without_link};
     ghost use Rattle.coll_table.specs.TableLayout.{content_of, nodes_in};
     ghost use Rattle.coll_table.specs.WalkStates.{ComesNext};
-    ghost use Rattle.coll_order.specs.Lists.{first_in};
     ghost use Rattle.coll_table.specs.declared.contents.Content.TheVariants.{Begun};
 
     /// No rings and no nodes. It takes no memory.
@@ -71,6 +71,29 @@ impl Nodes {
         let node = self.rings.new_node(self.contents.vacant_key())?;
         self.contents.insert_reserved(content);
         Ok(node)
+    }
+
+    /// Makes a loose node that is a section, and a ring for its entries.
+    pub(crate) fn make_section(&mut self, name: Option<TextBuf>) -> Result<(NodeId, RingId), AllocError>
+        ensures made { IfOk result (λ made. Makes self.old.layout self.new.layout made.0 (Begun name made.1)) }
+        ensures apart { IfOk result (λ made. is_in self.old.layout.rings made.0 ≡ false) }
+        ensures ring { IfOk result (λ made. made.1.index ≡ length self.old.layout.rings) }
+        ensures rings { OnOk result (self.new.layout.rings ≡ self.old.layout.rings ++ [] ∷ []) }
+        ensures steps { self.new.steps ≡ self.old.steps }
+        ensures err { OnErr result (self.new ≡ self.old) }
+    {
+        self.contents.reserve(1)?;
+        let node = self.rings.new_node(self.contents.vacant_key())?;
+        match self.rings.new_ring() {
+            Ok(ring) => {
+                self.contents.insert_reserved(Content::Begun { name, ring });
+                Ok((node, ring))
+            }
+            Err(refusal) => {
+                self.rings.drop_node(node);
+                Err(refusal)
+            }
+        }
     }
 
     /// Puts a loose node directly after a place.
@@ -127,6 +150,15 @@ impl Nodes {
         ensures { result ≡ self.now.steps }
     {
         self.rings.steps()
+    }
+
+    /// A copy, in new memory, in which each node has its name.
+    pub(crate) fn try_copy(&self, alloc: Global) -> Result<Nodes, AllocError>
+        ensures { IfOk result (λ copy. copy ≡ self.now) }
+    {
+        let rings = self.rings.try_copy(alloc)?;
+        let contents = self.contents.clone()?;
+        Ok(Nodes { rings, contents })
     }
 
     /// What holds of every layout: no node stands twice, and each that stands in a ring is there.

@@ -10,9 +10,10 @@ ghost use Rattle.coll_table.specs.TableLayout.{sections_ring, declarations_ring,
 ghost use Rattle.coll_table.specs.Walks.{met};
 ghost use Rattle.coll_table.specs.WalkStates.{HasSections, HasDeclarations};
 
-use crate::Entry;
+use crate::bodies::Body;
 use crate::met_nodes::{declaration_of, entry_of, first_ring, section_of};
 use crate::nodes::Nodes;
+use crate::{Entry, Table};
 use coll_order::{NodeId, RingId};
 use std::marker::Model;
 
@@ -148,5 +149,45 @@ impl<'a> Iterator for Declared<'a> {
         let node = self.next?;
         self.next = self.nodes.next(node);
         Some(declaration_of(self.nodes, node))
+    }
+}
+
+impl Body {
+    ghost use Rattle.coll_table.specs.WellFormed.{FirstIsUnnamed};
+
+    /// A walk through the sections and entries, of which the first section alone has no name.
+    pub(crate) fn walk(&self) -> Walk<'_>
+        requires { FirstIsUnnamed (sections_at self.now.layout) }
+        ensures { result ≡ met (sections_at self.now.layout) }
+    {
+        self.check_layout();
+        Walk::new(self.nodes(), self.sections())
+    }
+
+    /// A walk through the declarations.
+    pub(crate) fn declared(&self) -> Declared<'_>
+        ensures { result ≡ declared_at self.now.layout }
+    {
+        self.check_layout();
+        Declared::new(self.nodes(), self.declarations())
+    }
+}
+
+impl Table {
+    ghost use Rattle.coll_table.specs.TableLayout.{collation};
+
+    /// A walk through the sections and entries, in order. It takes no memory.
+    pub fn walk(&self) -> Walk<'_>
+        ensures { result ≡ met (collation self.now).sections }
+    {
+        self.check();
+        self.body.walk()
+    }
+
+    /// The declarations, in order. It takes no memory.
+    pub fn declared(&self) -> Declared<'_>
+        ensures { result ≡ (collation self.now).declared }
+    {
+        self.body.declared()
     }
 }
