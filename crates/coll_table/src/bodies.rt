@@ -5,7 +5,7 @@
 //! find just the nodes that stand in a ring, is said in `specs/SoundBodies.antt`: whoever links a node or takes one out sets the
 //! look-ups with it. A new kind of node is a new ring, and a look-up where it has a key.
 
-ghost use Rattle.std.specs.Prelude.{◌≡◌, ◌∷◌, ◌++◌, [], Some, None, false, length, IfOk, IfNone, OnOk, OnErr, option_copied};
+ghost use Rattle.std.specs.Prelude.{◌≡◌, ◌∷◌, ◌++◌, [], Some, None, false, length, ◌+◌, IfOk, OnOk, OnErr, option_copied};
 ghost use Rattle.coll_syntax.specs.Identifier.{has_name};
 ghost use Rattle.coll_table.specs.SoundBodies.{declares_a_symbol, entry_if};
 
@@ -50,6 +50,16 @@ impl Model for Body {
     ghost view = { λ b. b.nodes };
 
     ghost invariant = { λ b. IsSoundBody b.nodes.layout b.declarations b.sections b.names b.texts b.section_names b.placed b.declared_len b.section_len b.entry_len };
+}
+
+// One more. A count that no number has is refused, as want of memory.
+fn one_more(count: usize) -> Result<usize, AllocError>
+    ensures { IfOk result (λ more. more ≡ count + 1) }
+{
+    if count == usize::MAX {
+        return Err(AllocError);
+    }
+    Ok(count + 1)
 }
 
 // Whether a node declares a collating symbol.
@@ -236,12 +246,13 @@ impl Body {
         ensures err { OnErr result (self.new ≡ self.old) }
     {
         self.nodes.check_layout();
-        let Some(more) = self.declared_len.checked_add(1) else {
-            return Err(AllocError);
-        };
+        let more = one_more(self.declared_len)?;
         self.names.reserve(&name)?;
         let node = self.nodes.make(Content::Declared(Declaration::Symbol(name)))?;
-        let Content::Declared(Declaration::Symbol(name)) = self.nodes.content(node) else {
+        let Content::Declared(declared) = self.nodes.content(node) else {
+            unreachable!();
+        };
+        let Declaration::Symbol(name) = declared else {
             unreachable!();
         };
         self.names.set(name, Some(node));
@@ -260,13 +271,14 @@ impl Body {
         ensures err { OnErr result (self.new ≡ self.old) }
     {
         self.nodes.check_layout();
-        let Some(more) = self.declared_len.checked_add(1) else {
-            return Err(AllocError);
-        };
+        let more = one_more(self.declared_len)?;
         self.names.reserve(&name)?;
         self.texts.reserve(&text)?;
         let node = self.nodes.make(Content::Declared(Declaration::Element { name, text }))?;
-        let Content::Declared(Declaration::Element { name, text }) = self.nodes.content(node) else {
+        let Content::Declared(declared) = self.nodes.content(node) else {
+            unreachable!();
+        };
+        let Declaration::Element { name, text } = declared else {
             unreachable!();
         };
         self.names.set(name, Some(node));
@@ -284,9 +296,7 @@ impl Body {
         ensures err { OnErr result (self.new ≡ self.old) }
     {
         self.nodes.check_layout();
-        let Some(more) = self.section_len.checked_add(1) else {
-            return Err(AllocError);
-        };
+        let more = one_more(self.section_len)?;
         let (node, ring) = self.nodes.make_section(None)?;
         self.nodes.link(node, place);
         self.section_len = more;
@@ -302,12 +312,13 @@ impl Body {
         ensures err { OnErr result (self.new ≡ self.old) }
     {
         self.nodes.check_layout();
-        let Some(more) = self.section_len.checked_add(1) else {
-            return Err(AllocError);
-        };
+        let more = one_more(self.section_len)?;
         self.section_names.reserve(&name)?;
         let (node, ring) = self.nodes.make_section(Some(name))?;
-        let Content::Begun { name: Some(name), ring: _ } = self.nodes.content(node) else {
+        let Content::Begun { name: begun, .. } = self.nodes.content(node) else {
+            unreachable!();
+        };
+        let Some(name) = begun else {
             unreachable!();
         };
         self.section_names.set(name, Some(node));
@@ -325,9 +336,7 @@ impl Body {
         ensures err { OnErr result (self.new ≡ self.old) }
     {
         self.nodes.check_layout();
-        let Some(more) = self.entry_len.checked_add(1) else {
-            return Err(AllocError);
-        };
+        let more = one_more(self.entry_len)?;
         self.placed.reserve(&entry.id)?;
         let node = self.nodes.make(Content::Placed(entry))?;
         let Content::Placed(entry) = self.nodes.content(node) else {
