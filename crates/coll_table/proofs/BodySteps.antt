@@ -10,11 +10,13 @@ use Rattle.coll_order.specs.declared.places.RingId.{RingId}
 use Rattle.coll_order.specs.declared.places.Place.{Place}
 use Rattle.coll_order.specs.declared.places.Place.TheVariants.{Head, After}
 use Rattle.coll_order.proofs.LayoutLemmas.{is_in_ring}
-use Rattle.coll_order.proofs.Sameness.{by_test, not_both}
+use Rattle.coll_order.proofs.RingLemmas.{is_in_push}
+use Rattle.coll_order.proofs.Sameness.{by_test, not_both, same_node_itself}
 use Rattle.coll_syntax.specs.Identifier.{same_name, same_id}
 use Rattle.coll_syntax.specs.declared.identifiers.Id.{Id}
+use Rattle.coll_syntax.specs.declared.identifiers.Id.TheVariants.{Char, Named, Undefined}
 use Rattle.coll_table.specs.Bodies.{Makes, IsLooseNode, IsPlaceAmong, with_link}
-use Rattle.coll_table.specs.NodeLookUps.{Leading, NodesById, node_named, node_with, LeadAlike, SetsId, LeadNamesAlike, SetsName}
+use Rattle.coll_table.specs.NodeLookUps.{Leading, NodesById, node_named, node_with, no_nodes, LeadAlike, SetsId, LeadNamesAlike, SetsName}
 use Rattle.coll_table.specs.SoundBodies.{read_at, ring_at, has_key, rings_in, same_ring, ids_in, names_in, texts_in, section_names_in, is_place_of, IsDeclaration, IsSection, IsShaped, IsOwned, IsPlaceIn, IsEntryPlace, IsSoundBody, Finds, Adds, with_empty_ring}
 use Rattle.coll_table.specs.Table.{Section, is_placed_in, joined_entries}
 use Rattle.coll_table.specs.TableLayout.{TableLayout, content_of, entry_in, declared_at, sections_at, entries_in}
@@ -155,3 +157,44 @@ module _ (old new : TableLayout) (node : NodeId) (place : Place) (declarations s
             let had : has_key same_ring rings_in old other_ring other ≡ true = sym (key_push old same_ring rings_in other_ring other) ∙ has in
             let inside = owned_low old sound.shaped other_ring.index other had in
             omega (arith, e, last, inside)
+
+-- a node that is made is what it was made
+pub made_is : (old mid : TableLayout) (node : NodeId) (known : Content) → Makes old mid node known → content_of mid node ≡ Some known
+made_is old mid node known makes = makes.contents node ∙ ap (λ b. cond b (Some known) (content_of old node)) (same_node_itself node)
+
+-- a section that is made with its ring and linked is added to the layout with the ring
+pub section_adds : (old mid new : TableLayout) (node : NodeId) (known : Content) (place : Place) → Makes old mid node known → is_in old.rings node ≡ false → mid.rings ≡ old.rings ++ [] ∷ [] → new ≡ with_link mid node place
+    → Adds (with_empty_ring old) new node known place
+section_adds old mid new node known place makes apart same linked =
+    adds_linked (with_empty_ring old) mid new node known place (record { fresh = makes.fresh; contents = makes.contents }) (is_in_push old.rings node ∙ apart) same linked
+
+-- nothing is declared, there is no section, and nothing is found
+pub nothing_sound : (declarations sections : RingId) → declarations.index ≡ 0 → sections.index ≡ 1
+    → IsSoundBody (record { rings = [] ∷ [] ∷ []; nodes = [] }) declarations sections [] [] [] no_nodes 0 0 0
+unfolding declared_at sections_at
+nothing_sound declarations sections first second = record {
+  declarations = ap (λ index. record { index = index }) first;
+  begun = ap (λ index. record { index = index }) second;
+  shaped = record {
+    two = omega arith;
+    declared = λ node. λ there. not_both there refl;
+    begun = λ node. λ there. not_both there refl;
+    placed = λ index node. λ there. not_both there (ap (λ nodes. has_node nodes node) (no_more index));
+    own = λ ring a b. λ p q. not_both p refl;
+  };
+  names_found = none_found same_name names_in (node_named []) (λ key. refl);
+  texts_found = none_found same_name texts_in (node_named []) (λ key. refl);
+  sections_found = none_found same_name section_names_in (node_named []) (λ key. refl);
+  ids_found = none_found same_id ids_in (node_with no_nodes) none_with;
+  declared_count = refl;
+  section_count = refl;
+  entry_count = refl;
+} where
+  no_more : (index : ℕ) → ring_at (record { rings = [] ∷ [] ∷ []; nodes = [] }) (suc (suc index)) ≡ []
+  no_more index = refl
+  none_with : (id : Id) → node_with no_nodes id ≡ None
+  none_with (Char c) = refl
+  none_with (Named name) = refl
+  none_with Undefined = refl
+  none_found : {Key : Type 0} (same : Key → Key → Bool) (keys : Content → List Key) (find : Key → Option NodeId) → ((key : Key) → find key ≡ None) → Finds same keys (record { rings = [] ∷ [] ∷ []; nodes = [] }) find
+  none_found same keys find none = record { leads = λ key node. λ e. let empty = none key in cc; finds = λ key node. λ has. not_both has refl }
