@@ -13,3 +13,4 @@ pub mod BodyReads
 pub mod LayoutLists
 pub mod EmptyRings
 pub mod BodySteps
+pub mod LayoutEnds
