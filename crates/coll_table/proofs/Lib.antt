@@ -14,3 +14,4 @@ pub mod LayoutLists
 pub mod EmptyRings
 pub mod BodySteps
 pub mod LayoutEnds
+pub mod BuilderSteps

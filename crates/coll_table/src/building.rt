@@ -56,6 +56,7 @@ impl Builder {
         ensures { IfOk result (λ builder. builder ≡ no_parts) }
     {
         let mut body = Body::new(alloc)?;
+        body.check_layout();
         let sections = body.sections();
         let (section, ring) = body.begin_unnamed(Place::Head(sections))?;
         let declarations = body.declarations();
