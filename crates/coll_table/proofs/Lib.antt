@@ -1,6 +1,7 @@
 pub mod BodyMoves
 pub mod BodyReads
 pub mod BodySteps
+pub mod BuilderSteps
 pub mod BuiltTables
 pub mod CharNodes
 pub mod DraftSteps
@@ -8,6 +9,7 @@ pub mod EmptyRings
 pub mod EndedDrafts
 pub mod EntryLemmas
 pub mod EntryWeights
+pub mod LayoutEnds
 pub mod LayoutLists
 pub mod LayoutReads
 pub mod LayoutSteps

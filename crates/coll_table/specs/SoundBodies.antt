@@ -154,3 +154,18 @@ end_of start (first ∷ rest) = end_of (After first) rest
 -- the place behind the last node of a ring
 abbrev pub end_in : TableLayout → ℕ → Place
 end_in layout index = end_of (head_of index) (ring_at layout index)
+
+-- the section that is the last, and its ring
+pub record IsLastSection (layout : TableLayout) (section : NodeId) (name : Option (List ℕ)) (ring : RingId) : Type 0 where
+  pub last : (front : List NodeId) × (ring_at layout 1 ≡ front ++ section ∷ [])
+  pub begun : content_of layout section ≡ Some (content.Begun name ring)
+
+-- the place behind the last entry of the last section
+abbrev pub IsLastEnd : TableLayout → Place → Type 0
+IsLastEnd layout place = (section : NodeId) × (name : Option (List ℕ)) × (ring : RingId) × IsLastSection layout section name ring × (place ≡ end_in layout ring.index)
+
+-- places behind the last declaration, the last section, and the last entry of that
+pub record IsSoundBuilder (layout : TableLayout) (declared_end sections_end entries_end : Place) : Type 0 where
+  pub declared : declared_end ≡ end_in layout 0
+  pub sections : sections_end ≡ end_in layout 1
+  pub entries : IsLastEnd layout entries_end
