@@ -4,6 +4,7 @@ pub mod BodySteps
 pub mod CharNodes
 pub mod EmptyRings
 pub mod EntryLemmas
+pub mod EntryMoves
 pub mod LayoutLists
 pub mod LayoutReads
 pub mod LayoutSteps

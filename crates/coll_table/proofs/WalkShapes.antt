@@ -16,7 +16,7 @@ use Rattle.coll_table.specs.declared.contents.Content.{Content}
 use Rattle.coll_table.specs.declared.contents.Content.TheVariants.{Declared, Begun, Placed}
 
 -- each node of a list, one after another
-members : {P : NodeId → Type 0} (node : NodeId) (nodes : List NodeId) → ((other : NodeId) → has_node (node ∷ nodes) other ≡ true → P other) → P node × ((other : NodeId) → has_node nodes other ≡ true → P other)
+pub members : {P : NodeId → Type 0} (node : NodeId) (nodes : List NodeId) → ((other : NodeId) → has_node (node ∷ nodes) other ≡ true → P other) → P node × ((other : NodeId) → has_node nodes other ≡ true → P other)
 members node nodes each = (each node (or_first _ _ (same_node_itself node)), λ other there. each other (or_second _ _ there))
 
 module _ (layout : TableLayout) where
