@@ -16,9 +16,12 @@ pub mod PlainOrderLines
 pub mod Reading
 pub mod Record
 pub mod Refusals
+pub mod Rewriting
+pub mod SoundBodies
 pub mod SoundDrafts
 pub mod Table
 pub mod TableLayout
+pub mod WalkItems
+pub mod WalkStates
 pub mod Walks
 pub mod WellFormed
-pub mod SoundBodies

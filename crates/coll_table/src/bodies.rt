@@ -9,6 +9,8 @@ ghost use Rattle.std.specs.Prelude.{◌≡◌, ◌∷◌, ◌++◌, [], Some, No
 ghost use Rattle.coll_syntax.specs.Identifier.{has_name};
 ghost use Rattle.coll_table.specs.SoundBodies.{declares_a_symbol, entry_if};
 
+mod moving;
+
 use crate::contents::Content;
 use crate::node_ids::NodeIds;
 use crate::node_names::NodeNames;
@@ -113,6 +115,34 @@ impl Body {
             section_len: 0,
             entry_len: 0,
         })
+    }
+
+    /// A copy, in new memory, in which each node has its name.
+    pub(crate) fn try_copy(&self, alloc: Global) -> Result<Body, AllocError>
+        ensures { IfOk result (λ copy. copy ≡ self.now) }
+    {
+        let nodes = self.nodes.try_copy(alloc)?;
+        let names = self.names.try_copy(alloc)?;
+        let texts = self.texts.try_copy(alloc)?;
+        let section_names = self.section_names.try_copy(alloc)?;
+        let placed = self.placed.try_copy(alloc)?;
+        Ok(Body {
+            nodes,
+            declarations: self.declarations,
+            sections: self.sections,
+            names,
+            texts,
+            section_names,
+            placed,
+            declared_len: self.declared_len,
+            section_len: self.section_len,
+            entry_len: self.entry_len,
+        })
+    }
+
+    /// Where it takes memory.
+    pub(crate) fn alloc(&self) -> Global {
+        self.names.alloc()
     }
 
     /// The nodes.

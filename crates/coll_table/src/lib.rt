@@ -26,6 +26,7 @@ mod limits;
 mod load_faults;
 mod loaders;
 mod loading;
+mod met_nodes;
 mod names;
 mod node_ids;
 mod node_names;

@@ -43,6 +43,11 @@ impl NodeNames {
         }
     }
 
+    /// Where it takes memory.
+    pub(crate) fn alloc(&self) -> Global {
+        self.alloc
+    }
+
     /// The node that a name leads to.
     pub(crate) fn find(&self, name: &TextBuf) -> Option<NodeId>
         ensures { result ≡ node_named self.now name.now }

@@ -5,7 +5,7 @@
 
 ghost use Rattle.std.specs.Prelude.{◌≡◌, ◌∷◌, ◌++◌, [], Some, None, IsSome, false, true, length, ◌<◌, IfOk, OnOk, OnErr};
 ghost use Rattle.coll_order.specs.Changes.{one_step_more, next_ring, with_node, with_ring};
-ghost use Rattle.coll_order.specs.Layout.{is_in, next_among, place_from, tag_of};
+ghost use Rattle.coll_order.specs.Layout.{is_in, place_from, tag_of};
 ghost use Rattle.coll_order.specs.Lists.{first_in};
 
 use crate::contents::Content;
@@ -54,6 +54,7 @@ fn new_node_and_ring(rings: &mut Rings, tag: usize) -> Result<(NodeId, RingId), 
 impl Nodes {
     ghost use Rattle.coll_table.specs.Bodies.{empty_body, Makes, IsLooseNode, IsPlaceAmong, IsLaidOut, with_link, without_link};
     ghost use Rattle.coll_table.specs.TableLayout.{content_of, nodes_in};
+    ghost use Rattle.coll_table.specs.WalkStates.{ComesNext};
     ghost use Rattle.coll_table.specs.declared.contents.Content.TheVariants.{Begun};
 
     /// No rings and no nodes. It takes no memory.
@@ -148,8 +149,9 @@ impl Nodes {
     /// The node directly after a linked one in its ring, if it isn't the last.
     pub(crate) fn next(&self, node: NodeId) -> Option<NodeId>
         requires { is_in self.now.layout.rings node ≡ true }
-        ensures { result ≡ next_among self.now.layout.rings node }
+        ensures { ComesNext self.now.layout.rings node result }
     {
+        self.rings.check_layout();
         self.rings.next(node)
     }
 
@@ -158,6 +160,15 @@ impl Nodes {
         ensures { result ≡ self.now.steps }
     {
         self.rings.steps()
+    }
+
+    /// A copy, in new memory, in which each node has its name.
+    pub(crate) fn try_copy(&self, alloc: Global) -> Result<Nodes, AllocError>
+        ensures { IfOk result (λ copy. copy ≡ self.now) }
+    {
+        let rings = self.rings.try_copy(alloc)?;
+        let contents = self.contents.clone()?;
+        Ok(Nodes { rings, contents })
     }
 
     /// What holds of every layout: no node stands twice, and each that stands in a ring is there.

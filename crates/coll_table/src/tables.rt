@@ -4,11 +4,12 @@
 //! through `collation`, which is the table that the layout stands for; every table is well formed (`specs/WellFormed.antt`).
 //! What is read here takes no memory. How a body holds its nodes may change without a clause here.
 
-ghost use Rattle.std.specs.Prelude.{◌≡◌, length, option_copied};
+ghost use Rattle.std.specs.Prelude.{◌≡◌, length, option_copied, IfOk};
 
 use crate::Entry;
 use crate::bodies::Body;
 use coll_syntax::{Id, Rule, Rules};
+use std::alloc::{AllocError, Global};
 use std::marker::Model;
 
 /// A table of a collation order.
@@ -37,6 +38,7 @@ impl Table {
     ghost use Rattle.coll_table.specs.WellFormed.{IsWellFormed};
 
     /// The rules of its levels, one to four.
+    #[tactic(auto, unfolding(crate::specs::TableLayout::collation))]
     pub fn rules(&self) -> &[Rule]
         ensures { result.now ≡ (collation self.now).rules }
     {
@@ -44,6 +46,7 @@ impl Table {
     }
 
     /// The number of entries, in all sections together.
+    #[tactic(auto, unfolding(crate::specs::TableLayout::collation))]
     pub fn len(&self) -> usize
         ensures { result ≡ length (entries_of (collation self.now)) }
     {
@@ -51,6 +54,7 @@ impl Table {
     }
 
     /// The entry of an identifier, if it has one.
+    #[tactic(auto, unfolding(crate::specs::TableLayout::collation))]
     pub fn entry(&self, id: &Id) -> Option<&Entry>
         ensures { option_copied result ≡ entry_at (entries_of (collation self.now)) id.now }
     {
@@ -64,6 +68,17 @@ impl Table {
         self.body.nodes().steps()
     }
 
+    /// A copy, in new memory, which has taken as many ring steps.
+    pub fn try_copy(&self, alloc: Global) -> Result<Table, AllocError>
+        ensures { IfOk result (λ copy. copy ≡ self.now) }
+    {
+        let body = self.body.try_copy(alloc)?;
+        Ok(Table {
+            rules: self.rules.copied(),
+            body,
+        })
+    }
+
     /// What holds of every table: it is well formed.
     ///
     /// It does nothing; its contract hands the fact to callers.
@@ -73,7 +88,13 @@ impl Table {
         let _ = &self.rules;
     }
 
+    /// Where it takes memory.
+    pub(crate) fn alloc(&self) -> Global {
+        self.body.alloc()
+    }
+
     /// Whether an identifier stands in the table.
+    #[tactic(auto, unfolding(crate::specs::TableLayout::collation))]
     pub(crate) fn is_placed(&self, id: &Id) -> bool
         ensures { result ≡ is_placed (collation self.now) id.now }
     {
@@ -81,6 +102,7 @@ impl Table {
     }
 
     /// Whether an identifier may be used: a name has to be declared.
+    #[tactic(auto, unfolding(crate::specs::TableLayout::collation))]
     pub(crate) fn is_known(&self, id: &Id) -> bool
         ensures { result ≡ is_known (collation self.now).declared id.now }
     {
@@ -88,6 +110,7 @@ impl Table {
     }
 
     /// Whether an identifier is a collating symbol.
+    #[tactic(auto, unfolding(crate::specs::TableLayout::collation))]
     pub(crate) fn is_symbol(&self, id: &Id) -> bool
         ensures { result ≡ is_symbol (collation self.now).declared id.now }
     {
