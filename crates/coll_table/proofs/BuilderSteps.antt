@@ -10,7 +10,7 @@ use Rattle.coll_order.specs.declared.places.Place.TheVariants.{Head, After}
 use Rattle.coll_table.specs.Bodies.{IsLaidOut}
 use Rattle.coll_table.specs.Building.{Parts, parts_at}
 use Rattle.coll_table.specs.Loading.{with_last}
-use Rattle.coll_table.specs.SoundBodies.{read_at, ring_at, IsShaped, IsPlaceIn, IsEntryPlace, IsLastSection, IsLastEnd, IsSoundBuilder, Adds, end_in, end_of, with_empty_ring}
+use Rattle.coll_table.specs.SoundBodies.{read_at, ring_at, IsShaped, IsPlaceIn, IsEntryPlace, IsLastSection, IsLastEnd, IsSoundBuilder, HaveNames, FirstAloneUnnamed, Adds, end_in, end_of, with_empty_ring}
 use Rattle.coll_table.specs.Table.{Section}
 use Rattle.coll_table.specs.TableLayout.{TableLayout, content_of, entry_in, entries_in, declared_at, sections_at}
 use Rattle.coll_table.specs.declared.contents.Content.{Content}
@@ -23,6 +23,28 @@ use Rattle.coll_table.proofs.LayoutLists.{ring_key, other_in, past_two, declared
 use Rattle.coll_table.proofs.LayoutReads.{entries_read, in_rings, section_at}
 use Rattle.coll_table.proofs.LayoutSteps.{content_itself, content_other, ring_other}
 use Rattle.coll_table.proofs.RingPlaces.{get_push}
+
+-- names stay where the last section has one entry more
+last_names : (sections : List Section) (entry : Entry) → HaveNames sections → HaveNames (with_last sections entry)
+last_names [] entry named = tt
+last_names (last ∷ []) entry named = named
+last_names (first ∷ second ∷ later) entry named = (named.0, last_names (second ∷ later) entry named.1)
+
+-- so does the first, which has none
+last_unnamed : (sections : List Section) (entry : Entry) → FirstAloneUnnamed sections → FirstAloneUnnamed (with_last sections entry)
+last_unnamed [] entry unnamed = unnamed
+last_unnamed (last ∷ []) entry unnamed = unnamed
+last_unnamed (first ∷ second ∷ later) entry unnamed = (unnamed.0, last_names (second ∷ later) entry unnamed.1)
+
+-- a section with a name behind others
+names_push : (sections : List Section) (name : List ℕ) → HaveNames sections → HaveNames (sections ++ record { name = Some name; entries = [] } ∷ [])
+names_push [] name named = ((name, refl), tt)
+names_push (first ∷ later) name named = (named.0, names_push later name named.1)
+
+-- behind the first, which has none
+pub unnamed_push : (sections : List Section) (name : List ℕ) → FirstAloneUnnamed sections → FirstAloneUnnamed (sections ++ record { name = Some name; entries = [] } ∷ [])
+unnamed_push [] name unnamed = absurd unnamed
+unnamed_push (first ∷ later) name unnamed = (unnamed.0, names_push later name unnamed.1)
 
 -- the last section's node is in the ring of the sections
 last_in : (layout : TableLayout) (section : NodeId) (name : Option (List ℕ)) (ring : RingId) → IsLastSection layout section name ring → has_node (ring_at layout 1) section ≡ true
@@ -74,6 +96,7 @@ module _ (old new : TableLayout) (node : NodeId) (declared_end sections_end entr
                 begun = content_other old new node (content.Declared declaration) declared_end 0 adds at once end.0 (other_in old new node (content.Declared declaration) declared_end 0 adds at once shaped 1 end.0 (last_in old end.0 end.1 end.2 end.3)) ∙ end.3.begun;
               },
               end.4 ∙ sym (end_other old new node (content.Declared declaration) declared_end 0 adds below once shaped sound.declared end.2.index (λ e. let low = high.0 in absurd (omega (arith, e, low)))));
+          unnamed = subst (λ sections. FirstAloneUnnamed sections) (sym (sections_same old new node (content.Declared declaration) declared_end 0 adds at once shaped refl)) sound.unnamed;
         }
 
     pub declared_parts : parts_at new ≡ record (parts_at old) { declared = declared_at old ++ declaration ∷ [] }
@@ -84,6 +107,14 @@ module _ (old new : TableLayout) (node : NodeId) (declared_end sections_end entr
         ∙ ap (λ (sections : List Section). record { declared = declared_at old ++ declaration ∷ []; sections = sections }) (sections_same old new node (content.Declared declaration) declared_end 0 adds at once shaped refl)
 
   module _ (entry : Entry) (adds : Adds old new node (content.Placed entry) entries_end) where
+    -- the last section has the entry
+    sections_placed : sections_at new ≡ with_last (sections_at old) entry
+    sections_placed =
+        let end = sound.entries in
+        let high = last_ring old end.0 end.1 end.2 shaped end.3 in
+        let low : 2 ≤ end.2.index = high.0 in
+        entries_last old new node (content.Placed entry) entries_end end.2.index adds high.1 once shaped end.4 end.3.last.0 end.0 end.1 end.2 entry end.3.last.1 end.3.begun refl refl (λ e. absurd (omega (arith, e, low)))
+
     -- an entry more
     pub placed_builder : IsSoundBuilder new declared_end sections_end (After node)
     placed_builder =
@@ -102,6 +133,7 @@ module _ (old new : TableLayout) (node : NodeId) (declared_end sections_end entr
                 begun = content_other old new node (content.Placed entry) entries_end index adds at once end.0 (other_in old new node (content.Placed entry) entries_end index adds at once shaped 1 end.0 (last_in old end.0 end.1 end.2 end.3)) ∙ end.3.begun;
               },
               sym (end_last old new node (content.Placed entry) entries_end index adds high.1 once shaped end.4));
+          unnamed = subst (λ sections. FirstAloneUnnamed sections) (sym (sections_placed)) (last_unnamed (sections_at old) entry sound.unnamed);
         }
 
     pub placed_parts : parts_at new ≡ record (parts_at old) { sections = with_last (sections_at old) entry }
@@ -112,8 +144,7 @@ module _ (old new : TableLayout) (node : NodeId) (declared_end sections_end entr
         let low : 2 ≤ index = high.0 in
         let at = end_place old index entries_end end.4 high.1 in
         ap (λ (declared : List Declaration). record { declared = declared; sections = sections_at new }) (declared_same old new node (content.Placed entry) entries_end index adds at once shaped (λ e. absurd (omega (arith, e, low))))
-        ∙ ap (λ (sections : List Section). record { declared = declared_at old; sections = sections })
-        (entries_last old new node (content.Placed entry) entries_end index adds high.1 once shaped end.4 end.3.last.0 end.0 end.1 end.2 entry end.3.last.1 end.3.begun refl refl (λ e. absurd (omega (arith, e, low))))
+        ∙ ap (λ (sections : List Section). record { declared = declared_at old; sections = sections }) sections_placed
 
 module _ (old new : TableLayout) (node : NodeId) (name : Option (List ℕ)) (ring : RingId) (declared_end sections_end : Place) (once_old : StandOnce old.rings) (shaped_old : IsShaped old)
     (adds : Adds (with_empty_ring old) new node (content.Begun name ring) sections_end) (last : ring.index ≡ length old.rings)
@@ -132,9 +163,17 @@ module _ (old new : TableLayout) (node : NodeId) (name : Option (List ℕ)) (rin
       ring_other (with_empty_ring old) new node (content.Begun name ring) sections_end 1 adds (end_place (with_empty_ring old) 1 sections_end (sections ∙ sym (ends 1)) below) (once_push old.rings once_old) ring.index (λ e. absurd (omega (arith, e, last, two)))
       ∙ (get_push old.rings ring.index ∙ (ap (λ k. ring_at old k) last ∙ get_past old.rings))
 
+  -- the sections have one more behind all others
+  sections_begun : sections_at new ≡ sections_at old ++ record { name = name; entries = [] } ∷ []
+  sections_begun =
+      let once = once_push old.rings once_old in
+      let shaped = shaped_push old shaped_old in
+      let none : entries_in new ring ≡ [] = entries_read new ring ∙ ap (flat_map (read_at entry_in new)) ring_empty in
+      sections_last (with_empty_ring old) new node (content.Begun name ring) sections_end 1 adds below once shaped (sections ∙ sym (ends 1)) refl name ring refl none ∙ ap (λ sections. sections ++ record { name = name; entries = [] } ∷ []) (sections_push old)
+
   -- a section more
-  pub begun_builder : IsSoundBuilder new declared_end (After node) (Head ring)
-  begun_builder =
+  pub begun_builder : FirstAloneUnnamed (sections_at old ++ record { name = name; entries = [] } ∷ []) → IsSoundBuilder new declared_end (After node) (Head ring)
+  begun_builder unnamed =
       let once = once_push old.rings once_old in
       let shaped = shaped_push old shaped_old in
       let at_end = sections ∙ sym (ends 1) in
@@ -148,6 +187,7 @@ module _ (old new : TableLayout) (node : NodeId) (name : Option (List ℕ)) (rin
               begun = content_itself (with_empty_ring old) new node (content.Begun name ring) sections_end 1 adds at once;
             },
             sym (ap (end_of (head_of ring.index)) ring_empty));
+        unnamed = subst (λ sections. FirstAloneUnnamed sections) (sym sections_begun) unnamed;
       }
 
   pub begun_parts : parts_at new ≡ record (parts_at old) { sections = sections_at old ++ record { name = name; entries = [] } ∷ [] }
@@ -156,11 +196,14 @@ module _ (old new : TableLayout) (node : NodeId) (name : Option (List ℕ)) (rin
       let shaped = shaped_push old shaped_old in
       let at_end = sections ∙ sym (ends 1) in
       let at = end_place (with_empty_ring old) 1 sections_end at_end below in
-      let none : entries_in new ring ≡ [] = entries_read new ring ∙ ap (flat_map (read_at entry_in new)) ring_empty in
       ap (λ (declared : List Declaration). record { declared = declared; sections = sections_at new })
       (declared_same (with_empty_ring old) new node (content.Begun name ring) sections_end 1 adds at once shaped (λ e. omega (arith, e)) ∙ declared_push old)
-      ∙ ap (λ (sections : List Section). record { declared = declared_at old; sections = sections })
-      (sections_last (with_empty_ring old) new node (content.Begun name ring) sections_end 1 adds below once shaped at_end refl name ring refl none ∙ ap (λ sections. sections ++ record { name = name; entries = [] } ∷ []) (sections_push old))
+      ∙ ap (λ (sections : List Section). record { declared = declared_at old; sections = sections }) sections_begun
+
+-- behind no sections, one without a name is the first
+pub nothing_unnamed : FirstAloneUnnamed (sections_at (record { rings = [] ∷ [] ∷ []; nodes = [] }) ++ record { name = None; entries = [] } ∷ [])
+unfolding sections_at
+nothing_unnamed = (refl, tt)
 
 -- of no nodes the parts are empty
 pub nothing_parts : parts_at (record { rings = [] ∷ [] ∷ []; nodes = [] }) ≡ record { declared = []; sections = [] }

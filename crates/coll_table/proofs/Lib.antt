@@ -8,6 +8,7 @@ pub mod DraftSteps
 pub mod EmptyRings
 pub mod EndedDrafts
 pub mod EntryLemmas
+pub mod EntryMoves
 pub mod EntryWeights
 pub mod LayoutEnds
 pub mod LayoutLists

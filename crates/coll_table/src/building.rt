@@ -198,7 +198,7 @@ impl Builder {
     pub(crate) fn walk(&self) -> Walk<'_>
         ensures { result ≡ met self.now.sections }
     {
-        unreachable!();
+        self.body.walk()
     }
 
     /// The table of these parts and these rules.
