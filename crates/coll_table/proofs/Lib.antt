@@ -6,6 +6,7 @@ pub mod EmptyRings
 pub mod EntryLemmas
 pub mod EntryMoves
 pub mod LayoutLists
+pub mod LayoutMoves
 pub mod LayoutReads
 pub mod LayoutSteps
 pub mod LookUps
