@@ -80,7 +80,7 @@ declared_stays old new ring same =
     ∙ sym (declared_read old)))
 
 -- a ring without a node
-get_without : (node : NodeId) (rings : List (List NodeId)) (index : ℕ) → get_or (rings_without node rings) index [] ≡ without node (get_or rings index [])
+pub get_without : (node : NodeId) (rings : List (List NodeId)) (index : ℕ) → get_or (rings_without node rings) index [] ≡ without node (get_or rings index [])
 get_without node [] index = refl
 get_without node (nodes ∷ rings) zero = refl
 get_without node (nodes ∷ rings) (suc index) = get_without node rings index
@@ -175,39 +175,39 @@ module _ (old new : TableLayout) (shaped : IsShaped old) (find : Id → Option N
           (λ other there. found_tells old shaped find target after sound found other (in_rings old ring.index other there))
       ∙ ap (λ es. entries_after es target entry) (sym (entries_read old ring)))))
 
+-- a layout with an entry's node moved directly after another's
+abbrev pub relinked : TableLayout → (node after : NodeId) → TableLayout
+relinked layout node after = with_link (without_link layout node) node (After after)
+
 -- an entry's node moved directly after another's
 module _ (old : TableLayout) (shaped : IsShaped old) (find : Id → Option NodeId) (sound : Finds same_id ids_in old find) (id target : Id) (node after : NodeId)
     (found : find id ≡ Some node) (found_target : find target ≡ Some after) where
-  -- the layout then
-  abbrev pub relinked : TableLayout
-  relinked = with_link (without_link old node) node (After after)
-
   -- a ring that has neither is as it was
-  moved_other_ring : (index : ℕ) → has_node (ring_at old index) node ≡ false → has_node (ring_at old index) after ≡ false → ring_at relinked index ≡ ring_at old index
+  pub moved_other_ring : (index : ℕ) → has_node (ring_at old index) node ≡ false → has_node (ring_at old index) after ≡ false → ring_at (relinked old node after) index ≡ ring_at old index
   moved_other_ring index absent absent_target =
       let stays : slice_index_or (rings_without node old.rings) index [] ≡ ring_at old index = get_without node old.rings index ∙ without_absent node (ring_at old index) absent in
       get_put_other (After after) node 0 index (rings_without node old.rings) (ap (λ nodes. has_node nodes after) stays ∙ absent_target) ∙ stays
 
   -- the same is declared
-  pub moved_declared : declared_at relinked ≡ declared_at old
-  moved_declared = declared_stays old relinked (moved_other_ring 0 (not_declared old shaped find id node sound found) (not_declared old shaped find target after sound found_target)) (λ other there. refl)
+  pub moved_declared : declared_at (relinked old node after) ≡ declared_at old
+  moved_declared = declared_stays old (relinked old node after) (moved_other_ring 0 (not_declared old shaped find id node sound found) (not_declared old shaped find target after sound found_target)) (λ other there. refl)
 
   -- a ring then
-  moved_ring : (index : ℕ) → index < length old.rings → ring_at relinked index ≡ put_after (After after) node (head_of (0 + index)) (without node (ring_at old index))
+  moved_ring : (index : ℕ) → index < length old.rings → ring_at (relinked old node after) index ≡ put_after (After after) node (head_of (0 + index)) (without node (ring_at old index))
   moved_ring index below =
       get_put (After after) node 0 index (rings_without node old.rings) (subst (λ n. index < n) (sym (length_rings_without node old.rings)) below)
       ∙ ap (put_after (After after) node (head_of (0 + index))) (get_without node old.rings index)
 
   -- and the entry stands directly after the target's
-  pub moved_sections : (entry : Entry) → entry_at (joined_entries (sections_at old)) id ≡ Some entry → sections_at relinked ≡ placed_after (sections_without (sections_at old) id) target entry
+  pub moved_sections : (entry : Entry) → entry_at (joined_entries (sections_at old)) id ≡ Some entry → sections_at (relinked old node after) ≡ placed_after (sections_without (sections_at old) id) target entry
   moved_sections entry at =
       let is = found_entry old shaped find id node sound found in
       let same : is.0 ≡ entry = some_entry (entry_known old shaped find id node (content.Placed is.0) sound found is.1 ∙ at) in
       let itself : read_at entry_in old node ≡ entry ∷ [] = read_known entry_in old node (content.Placed is.0) is.1 ∙ ap (λ e. e ∷ []) same in
-      sections_changed old relinked (λ es. entries_after (entries_without es id) target entry) shaped
+      sections_changed old (relinked old node after) (λ es. entries_after (entries_without es id) target entry) shaped
       (moved_other_ring 1 (not_begun old shaped find id node sound found) (not_begun old shaped find target after sound found_target)) (λ other there. refl) (λ ring below.
           let nodes = ring_at old ring.index in
-          entries_read relinked ring
+          entries_read (relinked old node after) ring
           ∙ (ap (flat_map (read_at entry_in old)) (moved_ring ring.index below)
           ∙ (put_read (read_at entry_in old) (read_at entry_in old) target after node entry itself (head_of (0 + ring.index)) (without node nodes) refl (λ other there. refl)
               (λ other there. found_tells old shaped find target after sound found_target other (in_rings old ring.index other (had_before nodes other there)))

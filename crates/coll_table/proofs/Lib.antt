@@ -1,5 +1,6 @@
 pub mod BodyMoves
 pub mod BodyReads
+pub mod BodyRelinks
 pub mod BodySteps
 pub mod CharNodes
 pub mod EmptyRings
