@@ -1,5 +1,6 @@
 pub mod BodyMoves
 pub mod BodyReads
+pub mod BodyRelinks
 pub mod BodySteps
 pub mod BuilderSteps
 pub mod BuiltTables
@@ -12,6 +13,7 @@ pub mod EntryMoves
 pub mod EntryWeights
 pub mod LayoutEnds
 pub mod LayoutLists
+pub mod LayoutMoves
 pub mod LayoutReads
 pub mod LayoutSteps
 pub mod LineCauses
