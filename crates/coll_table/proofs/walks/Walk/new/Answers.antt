@@ -1,6 +1,5 @@
 -- A walk begins in the first section.
 use Rattle.std.proofs.Common.{◌≡◌, Some, sym, ap, ◌∙◌}
-use Rattle.coll_table.proofs.EntryMoves.{put_read}
 use Rattle.coll_order.specs.Lists.{first_in}
 use Rattle.coll_table.specs.TableLayout.{nodes_in, sections_ring}
 use Rattle.coll_table.proofs.WalkLemmas.{on_first, met_first}
