@@ -2,10 +2,12 @@ pub mod BodyMoves
 pub mod BodyReads
 pub mod BodyRelinks
 pub mod BodySteps
+pub mod BuilderSteps
 pub mod CharNodes
 pub mod EmptyRings
 pub mod EntryLemmas
 pub mod EntryMoves
+pub mod LayoutEnds
 pub mod LayoutLists
 pub mod LayoutMoves
 pub mod LayoutReads
