@@ -18,9 +18,9 @@ use Rattle.coll_table.proofs.LayoutMoves.{relinked, found_linked, found_entry, n
 use Rattle.coll_table.proofs.RingPlaces.{get_put_other}
 use Rattle.coll_table.proofs.Sameness.{same_id_decides, same_id_itself}
 use Rattle.coll_table.proofs.SectionLemmas.{as_many, joined_moved}
-use Rattle.coll_table.specs.NodeLookUps.{Leading, NodesById, node_with}
+use Rattle.coll_table.specs.NodeLookUps.{Leading, NodesById, node_named, node_with}
 use Rattle.coll_table.specs.Placement.{entry_at, entries_after, entries_without, without as sections_without}
-use Rattle.coll_table.specs.SoundBodies.{read_at, ring_at, has_key, ids_in, rings_in, same_ring, IsDeclaration, IsSection, IsEntry, IsShaped, IsOwned, IsSoundBody, Finds}
+use Rattle.coll_table.specs.SoundBodies.{read_at, ring_at, has_key, ids_in, names_in, texts_in, section_names_in, rings_in, same_ring, IsDeclaration, IsSection, IsEntry, IsShaped, IsOwned, IsSoundBody, Finds}
 use Rattle.coll_table.specs.Table.{ids_of, joined_entries}
 use Rattle.coll_table.specs.TableLayout.{TableLayout, content_of, declared_at, sections_at}
 use Rattle.coll_table.specs.WellFormed.{AreDistinct}
@@ -134,3 +134,21 @@ module _ (old : TableLayout) (shaped : IsShaped old) (find : Id → Option NodeI
       ∙ (ap length (joined_moved (sections_at old) id target moved_entry.0 distinct)
       ∙ (length_after (entries_without entries id) target moved_entry.0 (others_without entries id target apart ∙ there)
       ∙ length_without entries id distinct here))
+
+-- the body is sound, with the look-ups that it had
+pub relinked_sound : (old : TableLayout) (declarations sections : RingId) (names texts section_names : List (Leading (List ℕ))) (placed : NodesById) (a b c : ℕ) (id target : Id) (node after : NodeId)
+    → IsSoundBody old declarations sections names texts section_names placed a b c → node_with placed id ≡ Some node → node_with placed target ≡ Some after → same_id id target ≡ false
+    → AreDistinct same_id (ids_of (joined_entries (sections_at old)))
+    → IsSoundBody (relinked old node after) declarations sections names texts section_names placed a b c
+relinked_sound old declarations sections names texts section_names placed a b c id target node after s found found_target apart distinct = record {
+  declarations = s.declarations;
+  begun = s.begun;
+  shaped = moved_shaped old s.shaped (node_with placed) s.ids_found id target node after found found_target apart;
+  names_found = moved_finds old s.shaped (node_with placed) s.ids_found id target node after found found_target apart same_name names_in (node_named names) s.names_found;
+  texts_found = moved_finds old s.shaped (node_with placed) s.ids_found id target node after found found_target apart same_name texts_in (node_named texts) s.texts_found;
+  sections_found = moved_finds old s.shaped (node_with placed) s.ids_found id target node after found found_target apart same_name section_names_in (node_named section_names) s.sections_found;
+  ids_found = moved_finds old s.shaped (node_with placed) s.ids_found id target node after found found_target apart same_id ids_in (node_with placed) s.ids_found;
+  declared_count = s.declared_count ∙ ap length (sym (moved_declared old s.shaped (node_with placed) s.ids_found id target node after found found_target));
+  section_count = s.section_count ∙ sym (moved_section_count old s.shaped (node_with placed) s.ids_found id target node after found found_target apart);
+  entry_count = s.entry_count ∙ sym (moved_entry_count old s.shaped (node_with placed) s.ids_found id target node after found found_target apart distinct);
+}

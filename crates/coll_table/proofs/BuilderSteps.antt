@@ -99,6 +99,7 @@ module _ (old new : TableLayout) (node : NodeId) (declared_end sections_end entr
           unnamed = subst (λ sections. FirstAloneUnnamed sections) (sym (sections_same old new node (content.Declared declaration) declared_end 0 adds at once shaped refl)) sound.unnamed;
         }
 
+    -- the parts have it as the last
     pub declared_parts : parts_at new ≡ record (parts_at old) { declared = declared_at old ++ declaration ∷ [] }
     declared_parts =
         let below : 0 < length old.rings = (let two = shaped.two in omega (arith, two)) in
@@ -136,6 +137,7 @@ module _ (old new : TableLayout) (node : NodeId) (declared_end sections_end entr
           unnamed = subst (λ sections. FirstAloneUnnamed sections) (sym (sections_placed)) (last_unnamed (sections_at old) entry sound.unnamed);
         }
 
+    -- the parts have it as the last
     pub placed_parts : parts_at new ≡ record (parts_at old) { sections = with_last (sections_at old) entry }
     placed_parts =
         let end = sound.entries in
@@ -149,10 +151,11 @@ module _ (old new : TableLayout) (node : NodeId) (declared_end sections_end entr
 module _ (old new : TableLayout) (node : NodeId) (name : Option (List ℕ)) (ring : RingId) (declared_end sections_end : Place) (once_old : StandOnce old.rings) (shaped_old : IsShaped old)
     (adds : Adds (with_empty_ring old) new node (content.Begun name ring) sections_end) (last : ring.index ≡ length old.rings)
     (declared : declared_end ≡ end_in old 0) (sections : sections_end ≡ end_in old 1) where
-  -- the layout with the ring is one of a table, and ends where the old one ends
+  -- there is a ring of the sections
   below : 1 < length (with_empty_ring old).rings
   below = let more = one_ring_more old in let two = shaped_old.two in omega (arith, more, two)
 
+  -- each ring ends where it ended
   ends : (index : ℕ) → end_in (with_empty_ring old) index ≡ end_in old index
   ends index = ap (end_of (head_of index)) (get_push old.rings index)
 
@@ -190,6 +193,7 @@ module _ (old new : TableLayout) (node : NodeId) (name : Option (List ℕ)) (rin
         unnamed = subst (λ sections. FirstAloneUnnamed sections) (sym sections_begun) unnamed;
       }
 
+  -- the parts have it as the last
   pub begun_parts : parts_at new ≡ record (parts_at old) { sections = sections_at old ++ record { name = name; entries = [] } ∷ [] }
   begun_parts =
       let once = once_push old.rings once_old in

@@ -53,12 +53,14 @@ in_front [] rest other there = not_both there refl
 in_front (first ∷ front) rest other there =
     by_test (λ b. (b || has_node front other) ≡ true → (b || has_node (front ++ rest) other) ≡ true) (same_node other first) (λ on e. refl) (λ off e. in_front front rest other e) there
 
+-- so is its last
 pub in_back : (front : List NodeId) (last : NodeId) → has_node (front ++ last ∷ []) last ≡ true
 in_back [] last = or_first (same_node last last) false (same_node_itself last)
 in_back (first ∷ front) last = or_second (same_node last first) _ (in_back front last)
 
 module _ (old new : TableLayout) (node : NodeId) (node_content : Content) (place : Place) (index : ℕ)
     (adds : Adds old new node node_content place) (below : index < length old.rings) (once : StandOnce old.rings) (shaped : IsShaped old) (last : place ≡ end_in old index) where
+  -- the place is one of the ring
   at : IsPlaceIn old index place
   at = end_place old index place last below
 

@@ -25,6 +25,7 @@ both : (a b : Bool) → T (a && b) → T a × T b
 both true b h = (tt, h)
 both false b h = absurd h
 
+-- tests that hold each hold together
 together : (a b : Bool) → T a → T b → T (a && b)
 together true b p q = q
 together false b p q = absurd p
@@ -101,6 +102,7 @@ content_at layout slots node tag made at = content_found layout slots node made 
 pub loose_node : (layout : Layout) (slots : List (Option Content)) (node : NodeId) → AreMade layout.tags slots → IsLooseNode (layout_with layout slots) node → IsLoose layout node
 loose_node layout slots node made loose = record { made = made_tagged layout slots node made loose.made; apart = loose.apart }
 
+-- and the other way round
 pub node_loose : (layout : Layout) (slots : List (Option Content)) (node : NodeId) → AreMade layout.tags slots → IsLoose layout node → IsLooseNode (layout_with layout slots) node
 node_loose layout slots node made loose = record { made = tagged_made layout slots node made loose.made; apart = loose.apart }
 
@@ -109,6 +111,7 @@ pub place_among : (layout : Layout) (place : Place) → IsPlaceAmong layout.ring
 place_among layout (Head ring) there = there
 place_among layout (After node) there = there
 
+-- and the other way round
 pub among_place : (layout : Layout) (place : Place) → IsPlace layout place → IsPlaceAmong layout.rings place
 among_place layout (Head ring) there = there
 among_place layout (After node) there = there

@@ -98,7 +98,8 @@ impl Body {
 
     /// Nothing declared, and no section.
     pub(crate) fn new(alloc: Global) -> Result<Body, AllocError>
-        ensures declared { IfOk result (λ body. body.layout ≡ record { rings = [] ∷ [] ∷ []; nodes = [] }) }
+        ensures layout { IfOk result (λ body. body.layout ≡ record { rings = [] ∷ [] ∷ []; nodes = [] }) }
+        ensures steps { IfOk result (λ body. body.steps ≡ 0) }
     {
         let mut nodes = Nodes::new(alloc);
         let declarations = nodes.new_ring()?;
@@ -323,6 +324,7 @@ impl Body {
         requires place { IsPlaceIn self.old.layout 1 place }
         ensures ok { IfOk result (λ begun. Adds (with_empty_ring self.old.layout) self.new.layout begun.0 (content.Begun None begun.1) place) }
         ensures ring { IfOk result (λ begun. begun.1.index ≡ length self.old.layout.rings) }
+        ensures steps { OnOk result (self.new.steps ≡ one_step_more self.old.steps) }
         ensures err { OnErr result (self.new ≡ self.old) }
     {
         self.nodes.check_layout();
@@ -339,6 +341,7 @@ impl Body {
         requires place { IsPlaceIn self.old.layout 1 place }
         ensures ok { IfOk result (λ begun. Adds (with_empty_ring self.old.layout) self.new.layout begun.0 (content.Begun (Some name) begun.1) place) }
         ensures ring { IfOk result (λ begun. begun.1.index ≡ length self.old.layout.rings) }
+        ensures steps { OnOk result (self.new.steps ≡ one_step_more self.old.steps) }
         ensures err { OnErr result (self.new ≡ self.old) }
     {
         self.nodes.check_layout();

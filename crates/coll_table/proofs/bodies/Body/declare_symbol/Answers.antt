@@ -1,13 +1,12 @@
 -- A body with a collating symbol more is sound.
-use Rattle.std.proofs.Common.{◌≡◌, ◌+◌, Some, refl, ap, sym, subst, ◌∙◌}
-use Rattle.coll_order.specs.declared.places.NodeId.{NodeId}
+use Rattle.std.proofs.Common.{◌≡◌, Some, refl, ap, sym, subst, ◌∙◌}
 use Rattle.coll_syntax.specs.Identifier.{same_name}
 use Rattle.coll_table.specs.Bodies.{IsPlaceAmong}
 use Rattle.coll_table.specs.NodeLookUps.{node_named}
-use Rattle.coll_table.specs.SoundBodies.{names_in, texts_in, section_names_in, with_empty_ring}
+use Rattle.coll_table.specs.SoundBodies.{names_in, texts_in}
 use Rattle.coll_table.specs.declared.contents.Content.TheVariants as content
-use Rattle.coll_table.specs.declared.declarations.Declaration.TheVariants.{Symbol, Element}
-use Rattle.coll_table.proofs.BodyReads.{name_found, text_found}
+use Rattle.coll_table.specs.declared.declarations.Declaration.TheVariants.{Symbol}
+use Rattle.coll_table.proofs.BodyReads.{name_found}
 use Rattle.coll_table.proofs.BodySteps.{place_among_rings, adds_linked, declared_sound, finds_one, made_is}
 use Rattle.coll_table.proofs.LayoutSteps.{finds_still}
 use Rattle.coll_table.proofs.Sameness.{same_name_decides}

@@ -1,6 +1,5 @@
 -- A body of nothing is sound.
-use Rattle.std.proofs.Common.{◌≡◌, [], ◌∷◌, length, ◌∙◌, ap, refl}
-use Rattle.coll_table.specs.TableLayout.{TableLayout}
+use Rattle.std.proofs.Common.{◌≡◌, [], ◌∷◌, ◌∙◌}
 use Rattle.coll_table.proofs.BodySteps.{nothing_sound}
 use Rattle.coll_table.proofs.bodies.Body.new.Goals as goal
 

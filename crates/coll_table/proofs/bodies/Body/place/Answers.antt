@@ -1,10 +1,6 @@
 -- A body with an entry more is sound.
-use Rattle.std.proofs.Common.{◌≡◌, ◌+◌, Some, ap, sym, subst, ◌∙◌}
-use Rattle.coll_order.specs.declared.places.NodeId.{NodeId}
+use Rattle.std.proofs.Common.{◌≡◌, Some, ap, sym, subst, ◌∙◌}
 use Rattle.coll_table.specs.Bodies.{IsPlaceAmong}
-use Rattle.coll_table.specs.SoundBodies.{Adds, IsEntryPlace}
-use Rattle.coll_table.specs.Table.{is_placed_in}
-use Rattle.coll_table.specs.TableLayout.{sections_at}
 use Rattle.coll_table.specs.declared.contents.Content.TheVariants as content
 use Rattle.coll_table.proofs.BodySteps.{place_among_rings, adds_linked, place_sound, made_is}
 use Rattle.coll_table.proofs.bodies.Body.place.Goals as goal
