@@ -1,5 +1,6 @@
 pub mod BodyMoves
 pub mod BodyReads
+pub mod BodyRelinks
 pub mod BodySteps
 pub mod BuilderSteps
 pub mod CharNodes
@@ -8,6 +9,7 @@ pub mod EntryLemmas
 pub mod EntryMoves
 pub mod LayoutEnds
 pub mod LayoutLists
+pub mod LayoutMoves
 pub mod LayoutReads
 pub mod LayoutSteps
 pub mod LookUps
