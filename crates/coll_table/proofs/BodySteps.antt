@@ -40,10 +40,6 @@ place_among_rings layout index (Head ring) at =
     subst (λ k. k < length layout.rings) (sym ((Decides-eqb ring.index index).0 here)) at.ring
 place_among_rings layout index (After node) at = is_in_ring layout.rings index node at.on
 
--- a node that is made is loose
-pub made_loose : (old mid : TableLayout) (node : NodeId) (known : Content) → content_of mid node ≡ Some known → is_in old.rings node ≡ false → mid.rings ≡ old.rings → IsLooseNode mid node
-made_loose old mid node known is apart same = record { made = ap is_some is; apart = ap (λ rings. is_in rings node) same ∙ apart }
-
 -- a node that is made and linked is added
 pub adds_linked : (old mid new : TableLayout) (node : NodeId) (known : Content) (place : Place) → Makes old mid node known → is_in old.rings node ≡ false → mid.rings ≡ old.rings → new ≡ with_link mid node place → Adds old new node known place
 adds_linked old mid new node known place makes apart same linked = subst (λ layout. Adds old layout node known place) (sym linked) (record {

@@ -35,28 +35,25 @@ last_more [] section entry = refl
 last_more (first ∷ []) section entry = refl
 last_more (first ∷ second ∷ later) section entry = ap (λ sections. first ∷ sections) (last_more (second ∷ later) section entry)
 
+-- the last of a list is in the list
+pub in_back : (front : List NodeId) (last : NodeId) → has_node (front ++ last ∷ []) last ≡ true
+in_back [] last = or_first (same_node last last) false (same_node_itself last)
+in_back (first ∷ front) last = or_second (same_node last first) _ (in_back front last)
+
 -- the last of a list stands nowhere before
 before_last : (front : List NodeId) (last : NodeId) → AreDistinct (front ++ last ∷ []) → (other : NodeId) → has_node front other ≡ true → same_node other last ≡ false
 before_last [] last distinct other there = not_both there refl
 before_last (first ∷ front) last distinct other there =
     by_test (λ b. same_node other first ≡ b → (b || has_node front other) ≡ true → same_node other last ≡ false) (same_node other first)
     (λ on t e. by_test (λ b. same_node other last ≡ b → b ≡ false) (same_node other last)
-    (λ same t. not_both (subst (λ n. has_node (front ++ last ∷ []) n ≡ true) (sym (same_node_is other last t) ∙ same_node_is other first on) (has_last front last)) distinct.0) (λ off t. refl) refl)
-    (λ off t e. before_last front last distinct.1 other e) refl there where
-      has_last : (front : List NodeId) (last : NodeId) → has_node (front ++ last ∷ []) last ≡ true
-      has_last [] last = or_first (same_node last last) false (same_node_itself last)
-      has_last (first ∷ front) last = or_second (same_node last first) _ (has_last front last)
+    (λ same t. not_both (subst (λ n. has_node (front ++ last ∷ []) n ≡ true) (sym (same_node_is other last t) ∙ same_node_is other first on) (in_back front last)) distinct.0) (λ off t. refl) refl)
+    (λ off t e. before_last front last distinct.1 other e) refl there
 
 -- what is in a front of a list is in the list
 in_front : (front rest : List NodeId) (other : NodeId) → has_node front other ≡ true → has_node (front ++ rest) other ≡ true
 in_front [] rest other there = not_both there refl
 in_front (first ∷ front) rest other there =
     by_test (λ b. (b || has_node front other) ≡ true → (b || has_node (front ++ rest) other) ≡ true) (same_node other first) (λ on e. refl) (λ off e. in_front front rest other e) there
-
--- so is its last
-pub in_back : (front : List NodeId) (last : NodeId) → has_node (front ++ last ∷ []) last ≡ true
-in_back [] last = or_first (same_node last last) false (same_node_itself last)
-in_back (first ∷ front) last = or_second (same_node last first) _ (in_back front last)
 
 module _ (old new : TableLayout) (node : NodeId) (node_content : Content) (place : Place) (index : ℕ)
     (adds : Adds old new node node_content place) (below : index < length old.rings) (once : StandOnce old.rings) (shaped : IsShaped old) (last : place ≡ end_in old index) where

@@ -106,24 +106,9 @@ loose_node layout slots node made loose = record { made = made_tagged layout slo
 pub node_loose : (layout : Layout) (slots : List (Option Content)) (node : NodeId) → AreMade layout.tags slots → IsLoose layout node → IsLooseNode (layout_with layout slots) node
 node_loose layout slots node made loose = record { made = tagged_made layout slots node made loose.made; apart = loose.apart }
 
--- a place is one by its rings
-pub place_among : (layout : Layout) (place : Place) → IsPlaceAmong layout.rings place → IsPlace layout place
-place_among layout (Head ring) there = there
-place_among layout (After node) there = there
-
--- and the other way round
-pub among_place : (layout : Layout) (place : Place) → IsPlace layout place → IsPlaceAmong layout.rings place
-among_place layout (Head ring) there = there
-among_place layout (After node) there = there
-
 -- what holds of rings holds of the layout
 pub laid_out : (layout : Layout) (slots : List (Option Content)) → AreMade layout.tags slots → IsSound layout → IsLaidOut (layout_with layout slots)
 laid_out layout slots made sound = record { once = sound.once; made = λ node linked. tagged_made layout slots node made (sound.made node linked) }
-
--- a node without a tag stands nowhere
-pub fresh_apart : (layout : Layout) (node : NodeId) → IsSound layout → tag_of layout node ≡ None → is_in layout.rings node ≡ false
-fresh_apart layout node sound fresh = by_test (λ b. is_in layout.rings node ≡ b → b ≡ false) (is_in layout.rings node)
-    (λ on e. some_not_none (tag_of layout node) (sound.made node e) fresh) (λ off e. refl) refl
 
 module _ (layout : Layout) (old new : List (Option Content)) (node : NodeId) (tag : ℕ) (content : Content) (made : AreMade layout.tags old)
     (fresh : tag_of layout node ≡ None) (free : slot_of old tag ≡ None) (filled : slot_of new tag ≡ Some content)
