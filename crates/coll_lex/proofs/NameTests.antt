@@ -2,14 +2,12 @@
 use Rattle.std.proofs.Common.{◌≡◌, ℕ, ◌==◌, ◌&&◌, Bool, true, false, if◌then◌else◌, List, [], ◌∷◌, length, chars, IsUtf8, Option, Some, None, option_map, Ok, Err, refl, ap, sym, ◌∙◌}
 use Rattle.std.specs.Prelude.{is_some}
 use Rattle.std.specs.Str.{all_scalars}
-use Rattle.std.proofs.lemmas.Str.{scalars-chars}
-use Rattle.std.proofs.Math.Bool.{and-true}
 use lib.Utf8.{scalar}
 use Rattle.coll_lex.specs.Tokens.{is_name, code_point_of, symbol_by, symbol_of}
 use Rattle.coll_lex.specs.Names.{gives_name, is_proper_name}
 use Rattle.coll_lex.specs.declared.tokens.Piece.TheVariants as piece
 use Rattle.coll_lex.specs.declared.faults.LexFault.TheVariants.{BadName, BadCodePoint}
-use Rattle.coll_lex.proofs.TextLemmas.{none_chars}
+use Rattle.coll_lex.proofs.TextLemmas.{none_chars, with_characters}
 use Rattle.coll_lex.proofs.SymbolLemmas.{symbol_of_nothing}
 
 no_character_is_a_name : (b : Bool) (n : ℕ) → false ≡ gives_name (if b then Ok (piece.Char n) else Err BadCodePoint)
@@ -28,10 +26,6 @@ by_name : (f : ℕ → ℕ) (o : Option ℕ) (cs : List ℕ) → false ≡ (leng
 by_name f (Some n) cs some e = cc
 by_name f None [] some e = cc
 by_name f None (c ∷ cs) some e = named_if (is_name (c ∷ cs)) (c ∷ cs)
-
--- a text is made of characters
-with_characters : (b : Bool) (text : List ℕ) → IsUtf8 text → b ≡ (b && all_scalars (chars text))
-with_characters b text u = rw (scalars-chars text u) (sym (and-true b))
 
 -- an empty text is no name
 pub nothing_is_no_name : (text : List ℕ) → IsUtf8 text → true ≡ (length text == 0) → false ≡ is_proper_name (chars text)
