@@ -8,7 +8,7 @@ use Rattle.coll_lex.specs.PhysicalLines.{without_return}
 use Rattle.coll_lex.specs.Marked.{is_joined}
 use Rattle.coll_lex.specs.Tokens.{Stop, AtFault, AtComment, AtEnd, InSymbol, InString}
 use Rattle.coll_lex.specs.Directives.{directive}
-use Rattle.coll_lex.specs.LogicalLines.{OpenLine, LexerState, first_state, lines_before, extended, dropped, whole, answer_at, reading_in, directive_where, fed_as, line_fault, fed_text, unless_fault, fed, outside_as, outside}
+use Rattle.coll_lex.specs.LogicalLines.{OpenLine, LexerState, first_state, lines_before, extended, dropped, whole, answer_at, reading_in, directive_where, fed_as, line_fault, fed_text, unless_fault, fed, outside_as, outside, state_by}
 use Rattle.coll_lex.specs.Lexer.{lines_in, line_in}
 use Rattle.coll_lex.specs.Names.{HoldsText, LexersHoldText}
 use Rattle.coll_lex.specs.declared.tokens.Chars.{Chars}
@@ -101,3 +101,8 @@ outside-text s after line begins e = subst LeavesText e (outside_leaves s line)
 
 pub lexers_text : LexersHoldText
 lexers_text = record { at_first = first-text; after_line = fed-text; after_outside = outside-text; after_fault = dropped-text }
+
+-- where the lexer stands after an answer that may be a fault
+pub state_by-text : (s : LexerState) (line : List ℕ) (r : Result (Option Line × LexerState) LexFault) → HoldsText s → fed s line ≡ r → HoldsText (state_by s r)
+state_by-text s line (Ok (answer, after)) h e = fed-text s after line answer h e
+state_by-text s line (Err fault) h e = dropped-text s
