@@ -53,6 +53,7 @@ joined_of_characters escape (line ∷ lines) h =
 
 -- symbols
 
+-- a name that was found is made of characters
 abbrev IfName : Option (List ℕ) → Type 0
 IfName None = Unit {0}
 IfName (Some name) = AreCharacters name
@@ -96,6 +97,7 @@ lines_spelled escape lines h = atoms_spelled zero (joined_marks escape (map char
 
 -- words
 
+-- a word that was read is made of characters
 abbrev pub IfWord : Result (List ℕ) LexFault → Type 0
 IfWord (Ok word) = AreCharacters word
 IfWord (Err fault) = Unit {0}

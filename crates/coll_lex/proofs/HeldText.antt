@@ -19,7 +19,7 @@ use Rattle.coll_lex.specs.declared.faults.LexFault.{LexFault}
 use Rattle.coll_lex.specs.declared.faults.LexFault.TheVariants.{NotUtf8}
 
 -- one more line of text
-pub extended_text : (s : LexerState) (line : List ℕ) → HoldsText s → IsUtf8 (without_return line) → All IsUtf8 (extended s line).lines
+extended_text : (s : LexerState) (line : List ℕ) → HoldsText s → IsUtf8 (without_return line) → All IsUtf8 (extended s line).lines
 extended_text s line h text = All-append IsUtf8 (lines_before s) (without_return line ∷ []) h (All-cons IsUtf8 (without_return line) [] text (All-nil IsUtf8))
 
 -- where no line is open
@@ -38,9 +38,20 @@ abbrev LeavesText : {A : Type 0} → Result (A × LexerState) LexFault → Type 
 LeavesText (Ok answer) = HoldsText answer.1
 LeavesText (Err fault) = Unit {0}
 
-unless_leaves : {A : Type 0} (fault : Option LexFault) (answer : Result (A × LexerState) LexFault) → LeavesText answer → LeavesText (unless_fault fault answer)
-unless_leaves None answer h = h
-unless_leaves (Some fault) answer h = tt
+-- what is true of each fault is true of an answer, where it is true of what is answered without one
+unless_by : {A : Type 0} (P : Result A LexFault → Type 0) (fault : Option LexFault) (answer : Result A LexFault) → ((fault : LexFault) → P (Err fault)) → P answer → P (unless_fault fault answer)
+unless_by P None answer refused h = h
+unless_by P (Some fault) answer refused h = refused fault
+
+-- the same of the answer to a line of the category, by the physical lines of its logical line
+pub fed_by : (P : Result (Option Line × LexerState) LexFault → Type 0) (s : LexerState) (line : List ℕ) → HoldsText s → ((fault : LexFault) → P (Err fault))
+    → ((d : Option (Result Chars LexFault)) → All IsUtf8 (extended s line).lines → P (fed_as (dropped s) (extended s line) (without_return line) d)) → P (fed s line)
+unfolding fed
+fed_by P s line h refused answered =
+    let text = without_return line in
+    let d = directive_where s.line (directive s.special text) in
+    unless_by P (line_fault s.count (extended s line).bytes) (fed_text (dropped s) (extended s line) text d) refused
+    (cond_both (is_utf8 text) (fed_as (dropped s) (extended s line) text d) (Err NotUtf8) P (λ e. answered d (extended_text s line h (IsUtf8-from_is_utf8 text e))) (λ _. refused NotUtf8))
 
 -- a line of the category
 
@@ -65,12 +76,7 @@ fed_as_leaves next o line None e h =
     answer_at_leaves next o (is_joined next.special.escape (chars line)) r.tokens r.stop e h
 
 fed_leaves : (s : LexerState) (line : List ℕ) → HoldsText s → LeavesText (fed s line)
-unfolding fed
-fed_leaves s line h =
-    let text = without_return line in
-    let d = directive_where s.line (directive s.special text) in
-    unless_leaves (line_fault s.count (extended s line).bytes) (fed_text (dropped s) (extended s line) text d)
-    (cond_both (is_utf8 text) (fed_as (dropped s) (extended s line) text d) (Err NotUtf8) LeavesText (λ e. fed_as_leaves (dropped s) (extended s line) text d refl (extended_text s line h (IsUtf8-from_is_utf8 text e))) (λ _. tt))
+fed_leaves s line h = fed_by LeavesText s line h (λ fault. tt) (λ d lines. fed_as_leaves (dropped s) (extended s line) (without_return line) d refl lines)
 
 -- a line before the category
 
@@ -83,7 +89,7 @@ outside_leaves : (s : LexerState) (line : List ℕ) → LeavesText (outside s li
 unfolding outside
 outside_leaves s line =
     let text = without_return line in
-    unless_leaves (line_fault s.count (length line)) (outside_as (dropped s) text (directive s.special text)) (outside_as_leaves (dropped s) text (directive s.special text) refl)
+    unless_by LeavesText (line_fault s.count (length line)) (outside_as (dropped s) text (directive s.special text)) (λ fault. tt) (outside_as_leaves (dropped s) text (directive s.special text) refl)
 
 -- the law
 

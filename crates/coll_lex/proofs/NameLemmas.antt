@@ -2,17 +2,14 @@
 use Rattle.std.proofs.Common.{◌≡◌, ℕ, zero, suc, ◌<◌, ◌==◌, Bool, true, false, List, [], ◌∷◌, length, map, chars, IsUtf8, All, Option, Some, None, Result, Ok, Err, IfSome, IfOk, refl, subst, arith}
 use Rattle.std.proofs.lemmas.Bool.{cond_both}
 use Rattle.std.proofs.lemmas.List.Elements.{All-nil, All-cons}
-use Rattle.std.proofs.lemmas.Str.{IsUtf8-from_is_utf8}
 use Rattle.std.specs.Char.{IsScalar}
-use Rattle.std.specs.Str.{is_utf8}
 use lib.Utf8.{scalar}
 use Rattle.coll_lex.specs.Kinds.{Kind, kind_of}
 use Rattle.coll_lex.specs.Kinds as kind
 use Rattle.coll_lex.specs.PhysicalLines.{without_return}
 use Rattle.coll_lex.specs.Marked.{Plain, Literal, is_joined, joined_marks}
 use Rattle.coll_lex.specs.Tokens.{Atom, Bracketed, Unclosed, Bare, atoms, Stop, AtFault, AtComment, AtEnd, InSymbol, InString, Reading, Quoted, Closed, Stops, is_constant, is_name, code_point_of, symbol_by, symbol_of, with_token, after_symbol, with_piece, with_symbol, quoted, after_string, word_run, after_word, after_plain, reading, stopped}
-use Rattle.coll_lex.specs.Directives.{directive}
-use Rattle.coll_lex.specs.LogicalLines.{OpenLine, LexerState, extended, dropped, whole, answer_at, answer_in, reading_in, directive_where, fed_as, line_fault, fed_text, unless_fault, fed}
+use Rattle.coll_lex.specs.LogicalLines.{OpenLine, LexerState, extended, dropped, whole, answer_at, answer_in, reading_in, fed_as, fed}
 use Rattle.coll_lex.specs.Names.{AreCharacters, IsPiece, IsToken, AreTokens, HoldsText}
 use Rattle.coll_lex.specs.declared.tokens.Chars.{Chars}
 use Rattle.coll_lex.specs.declared.tokens.Line.{Line}
@@ -21,9 +18,9 @@ use Rattle.coll_lex.specs.declared.tokens.Piece.TheVariants as piece
 use Rattle.coll_lex.specs.declared.tokens.Token.{Token}
 use Rattle.coll_lex.specs.declared.tokens.Token.TheVariants as token
 use Rattle.coll_lex.specs.declared.faults.LexFault.{LexFault}
-use Rattle.coll_lex.specs.declared.faults.LexFault.TheVariants.{BadName, BadCodePoint, CharacterConstant, NotUtf8}
+use Rattle.coll_lex.specs.declared.faults.LexFault.TheVariants.{BadName, BadCodePoint, CharacterConstant}
 use Rattle.coll_lex.proofs.CharacterLemmas.{AreSpelled, lines_spelled, IfWord, word_run_if, characters-cons}
-use Rattle.coll_lex.proofs.HeldText.{extended_text}
+use Rattle.coll_lex.proofs.HeldText.{fed_by}
 
 -- symbols
 
@@ -163,17 +160,8 @@ fed_as_tokens next o line (Some (Ok special)) h = tt
 fed_as_tokens next o line (Some (Err fault)) h = tt
 fed_as_tokens next o line None h = answer_in_tokens next o line h
 
-unless_tokens : (fault : Option LexFault) (answer : Result (Option Line × LexerState) LexFault) → GivesTokens answer → GivesTokens (unless_fault fault answer)
-unless_tokens None answer h = h
-unless_tokens (Some fault) answer h = tt
-
 fed_tokens : (s : LexerState) (line : List ℕ) → HoldsText s → GivesTokens (fed s line)
-unfolding fed
-fed_tokens s line h =
-    let text = without_return line in
-    let d = directive_where s.line (directive s.special text) in
-    unless_tokens (line_fault s.count (extended s line).bytes) (fed_text (dropped s) (extended s line) text d)
-    (cond_both (is_utf8 text) (fed_as (dropped s) (extended s line) text d) (Err NotUtf8) GivesTokens (λ e. fed_as_tokens (dropped s) (extended s line) text d (extended_text s line h (IsUtf8-from_is_utf8 text e))) (λ _. tt))
+fed_tokens s line h = fed_by GivesTokens s line h (λ fault. tt) (λ d lines. fed_as_tokens (dropped s) (extended s line) (without_return line) d lines)
 
 -- the tokens of a line that is given
 pub fed-tokens : (s after : LexerState) (line : List ℕ) (given : Line) → HoldsText s → fed s line ≡ Ok (Some given, after) → AreTokens given.tokens

@@ -16,7 +16,8 @@ use Rattle.coll_lex.specs.declared.faults.LexFault.{LexFault}
 abbrev pub AreCharacters : List ℕ → Type 0
 AreCharacters cs = IsTrue (all_scalars cs)
 
--- a name: characters that stand between the brackets of a symbol which spells no code point, allowed or not
+-- a name: characters that a symbol takes for a name; it takes none for one that spells a code point, be that a
+-- character's or not
 abbrev pub IsName : List ℕ → Type 0
 IsName name = (symbol_of name ≡ Ok (piece.Name name)) × AreCharacters name
 
@@ -35,7 +36,7 @@ abbrev pub IsPiece : Piece → Type 0
 IsPiece (piece.Char c) = IsScalar c
 IsPiece (piece.Name name) = IsName name
 
--- a word has a character and is made of characters, a symbol is a name or a character, and so is each piece of a string
+-- a word is made of characters and has one; a symbol is a name, or a character by its code point; a string has pieces
 abbrev pub IsToken : Token → Type 0
 IsToken (token.Word word) = (0 < length word) × AreCharacters word
 IsToken (token.Symbol name) = IsName name
@@ -49,16 +50,17 @@ pub record AreTokens (tokens : List Token) : Type 0 where
   pub some : 0 < length tokens
   pub each : All IsToken tokens
 
--- the open line of a lexer is text: each of its physical lines is UTF-8
+-- the logical line that is open, if one is, is text: each of its physical lines is UTF-8
 abbrev pub HoldsText : LexerState → Type 0
 HoldsText s = All IsUtf8 (lines_before s)
 
--- whatever line is handed in where a lexer's open line is text, the logical line that is given has tokens as they are made
+-- whatever line is handed in wherever a lexer stands, if its open line is text, the logical line that is given has tokens
+-- as they are made
 abbrev pub LinesHaveTokens : Type 0
 LinesHaveTokens = (s after : LexerState) (line : List ℕ) (given : Line) → HoldsText s → fed s line ≡ Ok (Some given, after) → AreTokens given.tokens
 
--- the open line of a lexer is always text: it is at the beginning of a text, it stays so after each line of the category,
--- and there is none after a line before the category, nor after a fault
+-- the open line of a lexer is always text: at the beginning of a text, after each line that is handed in, in the category
+-- if it was before, and after a fault
 pub record LexersHoldText : Type 0 where
   pub at_first : HoldsText first_state
   pub after_line : (s after : LexerState) (line : List ℕ) (answer : Option Line) → HoldsText s → fed s line ≡ Ok (answer, after) → HoldsText after

@@ -50,8 +50,8 @@ IsProperLine line = IsId line.id × AreProperWeights line.weights
 abbrev pub IsElementText : List ℕ → Type 0
 IsElementText text = (2 ≤ length text) × (length text ≤ 16) × AreCharacters text
 
--- a statement whose names are names, whose string and weights are within their limits, and whose block has at
--- most 4,096 lines
+-- a statement whose names are names and whose other characters are characters, whose string and weights are within their
+-- limits, and whose block has at most 4,096 lines
 abbrev pub IsProper : Statement → Type 0
 IsProper (statement.Symbol name) = IsName name
 IsProper (statement.Element name text) = IsName name × IsElementText text
