@@ -1,3 +1,4 @@
+pub mod BodyMoves
 pub mod BodyReads
 pub mod BodySteps
 pub mod BuiltTables

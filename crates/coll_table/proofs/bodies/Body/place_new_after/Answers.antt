@@ -1,0 +1,5 @@
+-- To be written.
+use Rattle.coll_table.proofs.bodies.Body.place_new_after.Goals as goal
+
+pub unreachable-requires : goal.unreachable-requires
+unreachable-requires c = ?
