@@ -55,6 +55,7 @@ opened d None given e sound proper =
         distinct_names = sound.built.distinct_names;
         distinct_texts = sound.built.distinct_texts;
         first_unnamed = sound.built.first_unnamed;
+        ids = sound.built.ids;
         distinct_sections = sound.built.distinct_sections;
         distinct_entries = sound.built.distinct_entries;
         known = sound.built.known;
