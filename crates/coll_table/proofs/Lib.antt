@@ -13,6 +13,7 @@ pub mod LayoutReads
 pub mod LayoutSteps
 pub mod LineCauses
 pub mod LineCounts
+pub mod LineMemory
 pub mod LinesRead
 pub mod LoadEnds
 pub mod LoadSteps
