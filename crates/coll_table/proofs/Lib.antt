@@ -18,6 +18,7 @@ pub mod LayoutReads
 pub mod LayoutSteps
 pub mod LineCauses
 pub mod LineCounts
+pub mod LineMemory
 pub mod LinesRead
 pub mod LoadEnds
 pub mod LoadSteps

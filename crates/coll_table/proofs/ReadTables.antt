@@ -5,11 +5,12 @@ use Rattle.std.specs.Option.{option_or, option_map}
 use Rattle.std.proofs.lemmas.Bool.{false≢true}
 use Rattle.std.proofs.lemmas.List.Elements.{All-nil}
 use Rattle.coll_lex.specs.LogicalLines.{LexerState, fed, outside}
-use Rattle.coll_lex.specs.Names.{AreTokens}
+use Rattle.coll_lex.specs.Names.{AreTokens, HoldsText}
 use Rattle.coll_lex.specs.PhysicalLines.{lines_of}
 use Rattle.coll_lex.specs.declared.faults.LexFault.{LexFault}
 use Rattle.coll_lex.specs.declared.tokens.Line.{Line}
 use Rattle.coll_lex.specs.declared.tokens.Token.{Token}
+use Rattle.coll_lex.proofs.HeldText.{first-text, fed-text, outside-text}
 use Rattle.coll_lex.proofs.NameLemmas.{fed-tokens}
 use Rattle.coll_syntax.specs.Proper.{IsNameIfGiven, AreRulesIfGiven, IsProperTableLine}
 use Rattle.coll_syntax.specs.TableLines.{table_line}
@@ -54,6 +55,7 @@ opened d None given e sound proper =
         distinct_names = sound.built.distinct_names;
         distinct_texts = sound.built.distinct_texts;
         first_unnamed = sound.built.first_unnamed;
+        ids = sound.built.ids;
         distinct_sections = sound.built.distinct_sections;
         distinct_entries = sound.built.distinct_entries;
         known = sound.built.known;
@@ -101,6 +103,7 @@ not_refused number (Some cause) later e = cc
 -- What a loader stores stays sound.
 
 record IsSoundState (s : LoaderState) : Type 0 where
+  text : HoldsText s.lexer
   draft : IsSoundDraft s.draft
   ended : s.ended ≡ true → IsWellFormed (table_of s.draft)
 
@@ -121,6 +124,7 @@ module _ (s : LoaderState) (sound : IsSoundState s) where
   taken_sound n None proper e =
       let after = sound_line s.draft n.number n.line sound.draft proper (not_refused n.number (cause_after s.draft n.line) (fault_at_end s.draft n.line) e) in
       record {
+        text = sound.text;
         draft = after;
         ended = λ ends. subst (λ d. IsWellFormed (table_of d)) (sym (unchanged_at_end s.draft n.number n.line ends)) (well_formed_at_end s.draft n e ends sound.draft);
       }
@@ -129,26 +133,26 @@ module _ (s : LoaderState) (sound : IsSoundState s) where
   read_sound number (Ok read) proper = taken_sound (record { number = number; line = read }) (line_fault s.draft (record { number = number; line = read })) proper refl
   read_sound number (Err fault) proper = tt
 
--- another place of the lexer changes nothing that is said
-elsewhere : (s : LoaderState) (after : LexerState) → IsSoundState s → IsSoundState (record s { lexer = after })
-elsewhere s after sound = record { draft = sound.draft; ended = sound.ended }
+-- another place of the lexer, with text in its open line, changes nothing that is said
+elsewhere : (s : LoaderState) (after : LexerState) → IsSoundState s → HoldsText after → IsSoundState (record s { lexer = after })
+elsewhere s after sound text = record { text = text; draft = sound.draft; ended = sound.ended }
 
 module _ (s : LoaderState) (physical : List ℕ) (sound : IsSoundState s) where
   fed_sound : (r : Result (Option Line × LexerState) LexFault) → fed s.lexer physical ≡ r → StaysSound (by_fed s r)
-  fed_sound (Ok (None, after)) e = elsewhere s after sound
+  fed_sound (Ok (None, after)) e = elsewhere s after sound (fed-text s.lexer after physical None sound.text e)
   fed_sound (Ok (Some given, after)) e =
-      read_sound (record s { lexer = after }) (elsewhere s after sound) given.number (table_line given.tokens)
-      (proper_tokens given.tokens (table_line given.tokens) (fed-tokens s.lexer after physical given e) refl)
+      read_sound (record s { lexer = after }) (elsewhere s after sound (fed-text s.lexer after physical (Some given) sound.text e)) given.number (table_line given.tokens)
+      (proper_tokens given.tokens (table_line given.tokens) (fed-tokens s.lexer after physical given sound.text e) refl)
   fed_sound (Err fault) e = tt
 
-  outside_sound : (r : Result (Bool × LexerState) LexFault) → StaysSound (by_outside s r)
-  outside_sound (Ok (begins, after)) = record { draft = sound.draft; ended = sound.ended }
-  outside_sound (Err fault) = tt
+  outside_sound : (r : Result (Bool × LexerState) LexFault) → outside s.lexer physical ≡ r → StaysSound (by_outside s r)
+  outside_sound (Ok (begins, after)) e = record { text = outside-text s.lexer after physical begins e; draft = sound.draft; ended = sound.ended }
+  outside_sound (Err fault) e = tt
 
   where_sound : (ended begun : Bool) → StaysSound (if ended then Ok s else (if begun then by_fed s (fed s.lexer physical) else by_outside s (outside s.lexer physical)))
   where_sound true begun = sound
   where_sound false true = fed_sound (fed s.lexer physical) refl
-  where_sound false false = outside_sound (outside s.lexer physical)
+  where_sound false false = outside_sound (outside s.lexer physical) refl
 
   unless_sound : (fault : Option LoadFault) → StaysSound (unless_faulty fault (by_where s physical))
   unless_sound (Some fault) = tt
@@ -180,4 +184,4 @@ first_sound = search rules
 
 -- whatever text is a table, that table is well formed
 pub texts_well_formed : TextsAreWellFormed
-texts_well_formed text table e = subst (λ (r : Result Collation LoadFault). IfOk r IsWellFormed) (lines_read text ∙ e) (answer_sound (lines_of text) first_loader (record { draft = first_sound; ended = λ n. absurd (false≢true n) }))
+texts_well_formed text table e = subst (λ (r : Result Collation LoadFault). IfOk r IsWellFormed) (lines_read text ∙ e) (answer_sound (lines_of text) first_loader (record { text = first-text; draft = first_sound; ended = λ n. absurd (false≢true n) }))

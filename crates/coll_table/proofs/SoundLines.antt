@@ -59,7 +59,7 @@ sound_section d name sound is accepted =
 -- with one more entry
 pub sound_entry : (d : DraftState) (number : ℕ) (entry : Entry) → IsSoundDraft d → MayBePut d entry → IsSoundDraft (with_entry d number entry)
 sound_entry d number entry sound may = record {
-  built = built_entry (table_of d) entry sound.built may.new may.known may.weighted may.room;
+  built = built_entry (table_of d) entry sound.built may.id may.new may.known may.weighted may.room;
   started = sound.started;
   none_before = λ none. absurd (false≢true (subst IsSome none may.rules));
   some_levels = sound.some_levels;
@@ -118,6 +118,7 @@ may_be_put d line sound proper accepted =
     let room = passed (nat_le most_entries (length (joined_entries d.sections))) Full None levels.1 in
     record {
       rules = sound.started (not_false d.order_open in_order.0);
+      id = proper.0;
       new = new.0;
       known = not_false (is_known d.declared line.id) known.0;
       weighted = weights_are (levels_of d.rules) (is_symbol d.declared line.id) line proper (ltb-false (levels_of d.rules) (length (given_weights line.weights)) levels.0);

@@ -190,9 +190,9 @@ ended_reads start reader left s way ended text e =
     ∙ sym (loaded_ended way.before s way.stands ended)
 
 -- what a loader answers at the end is the answer to the text
-pub loads : (start left_after : Option (List ℕ)) (s : LoaderState) (result : Result TableValue LoadFault) → ((text : List ℕ) → start ≡ Some text → reads text ≡ loaded s) → IfOk result (λ table. loaded s ≡ Ok (collation table)) → IfErr result (λ fault. fault.cause ≢ OutOfMemory → loaded s ≡ Err fault) → IfErr result (λ fault. IsLineCause fault.cause) → Loads start left_after result
+pub loads : (start left_after : Option (List ℕ)) (s : LoaderState) (result : Result TableValue LoadFault) → ((text : List ℕ) → start ≡ Some text → reads text ≡ loaded s) → IfOk result (λ table. loaded s ≡ Ok (collation table)) → IfErr result (λ fault. loaded s ≡ Err fault) → IfErr result (λ fault. IsLineCause fault.cause) → Loads start left_after result
 loads start left_after s (Ok table) all ok err own = λ text e. all text e ∙ ok
-loads start left_after s (Err fault) all ok err own = λ text e. fault_says text left_after fault.line fault.cause own (λ memory. all text e ∙ err memory)
+loads start left_after s (Err fault) all ok err own = λ text e. fault_says text left_after fault.line fault.cause own (λ memory. all text e ∙ err)
 
 counted_lines : (cause : LoadCause) (count : ℕ) → IsLineCause cause → counted_by cause count ≡ count
 counted_lines ReadFault count own = absurd own

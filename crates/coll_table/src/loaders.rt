@@ -5,12 +5,13 @@
 //! what it means to the second; here lines are passed on, and faults get the number of their line. A fault is stored where it
 //! is met, in `line` alone.
 
-ghost use Rattle.std.specs.Prelude.{◌≡◌, ◌≢◌, false, Ok, Err, Some, IfOk, IfErr, OnOk};
-ghost use Rattle.coll_lex.specs.LogicalLines.{number_of, fed, outside};
+ghost use Rattle.std.specs.Prelude.{◌≡◌, ◌≢◌, false, None, Ok, Err, Some, IsTrue, IfOk, IfErr, OnOk, OnErr};
+ghost use Rattle.coll_lex.specs.LogicalLines.{number_of, fed, outside, takes_memory};
 ghost use Rattle.coll_lex.specs.Names.{AreTokens};
 ghost use Rattle.coll_syntax.specs.TableLines.{table_line};
 ghost use Rattle.coll_table.specs.Loading.{LinesAreRead};
-ghost use Rattle.coll_table.specs.SoundLoaders.{IsLineCause};
+ghost use Rattle.coll_table.specs.SoundLoaders.{IsLineCause, MayTake};
+ghost use Rattle.coll_table.specs.declared.load_faults.LoadFault.{LoadFault};
 ghost use Rattle.coll_table.specs.TableLayout.{collation};
 ghost use Rattle.coll_table.specs.WellFormed.{IsWellFormed};
 ghost use Rattle.coll_table.specs.declared.load_faults.LoadCause.TheVariants.{OutOfMemory};
@@ -72,13 +73,17 @@ impl Loader {
     /// Hands in the next physical line, without its line feed.
     ///
     /// The first fault is stored, want of memory as any other, and each later call answers it again. Behind the end of the
-    /// category nothing is looked at.
+    /// category nothing is looked at. Memory is taken in the category alone, and there where the lexer takes it or a line has
+    /// tokens. A line that is refused doesn't end the category.
     #[tactic(auto, unfolding(crate::specs::Loading::loaded_line))]
     pub fn line(&mut self, line: &[u8]) -> Result<(), LoadFault>
         ensures ok { OnOk result (loaded_line self.old line.now ≡ Ok self.new) }
         ensures err { IfErr result (λ fault. fault.cause ≢ OutOfMemory → loaded_line self.old line.now ≡ Err fault) }
+        ensures again { IfErr result (λ fault. (first : LoadFault) → self.old.fault ≡ Some first → fault ≡ first) }
+        ensures memory { IfErr result (λ fault. fault.cause ≡ OutOfMemory → self.old.fault ≡ None → MayTake self.old line.now) }
         ensures cause { IfErr result (λ fault. IsLineCause fault.cause) }
         ensures stays { IfErr result (λ fault. self.new.fault ≡ Some fault) }
+        ensures ended { OnErr result (self.new.ended ≡ self.old.ended) }
     {
         if let Some(fault) = self.fault {
             return Err(fault);
@@ -105,11 +110,12 @@ impl Loader {
         self.ended
     }
 
-    /// The table, where the category has ended; otherwise the fault that is stored, or that of a text that ends here.
+    /// The table, where the category has ended; otherwise the fault that is stored, or that of a text that ends here. It takes
+    /// no memory.
     #[tactic(auto, unfolding(crate::specs::Loading::loaded))]
     pub fn finish(self) -> Result<Table, LoadFault>
         ensures ok { IfOk result (λ table. loaded self ≡ Ok (collation table)) }
-        ensures err { IfErr result (λ fault. fault.cause ≢ OutOfMemory → loaded self ≡ Err fault) }
+        ensures err { IfErr result (λ fault. loaded self ≡ Err fault) }
         ensures cause { IfErr result (λ fault. IsLineCause fault.cause) }
         ensures well_formed { IfOk result (λ table. IsWellFormed (collation table)) }
     {
@@ -124,7 +130,8 @@ impl Loader {
 
     /// The fault of a text that ends here, before its category does.
     fn early_end(&self) -> LoadFault
-        ensures { result ≡ early_end self.now self.now.lexer.line }
+        ensures fault { result ≡ early_end self.now self.now.lexer.line }
+        ensures cause { IsLineCause result.cause }
     {
         if let Some(number) = self.lexer.pending() {
             return LoadFault {
@@ -146,7 +153,9 @@ impl Loader {
     fn judge(&mut self, line: &[u8]) -> Result<(), LoadFault>
         ensures ok { OnOk result (by_where self.old line.now ≡ Ok self.new) }
         ensures err { IfErr result (λ fault. fault.cause ≢ OutOfMemory → by_where self.old line.now ≡ Err fault) }
+        ensures memory { IfErr result (λ fault. fault.cause ≡ OutOfMemory → MayTake self.old line.now) }
         ensures cause { IfErr result (λ fault. IsLineCause fault.cause) }
+        ensures ended { OnErr result (self.new.ended ≡ self.old.ended) }
     {
         if self.ended {
             return Ok(());
@@ -160,8 +169,10 @@ impl Loader {
     /// Takes a line before the category, which may begin with it.
     fn skip_physical(&mut self, line: &[u8]) -> Result<(), LoadFault>
         ensures ok { OnOk result (by_outside self.old (outside self.old.lexer line.now) ≡ Ok self.new) }
-        ensures err { IfErr result (λ fault. fault.cause ≢ OutOfMemory → by_outside self.old (outside self.old.lexer line.now) ≡ Err fault) }
+        ensures err { IfErr result (λ fault. by_outside self.old (outside self.old.lexer line.now) ≡ Err fault) }
+        ensures memory { IfErr result (λ fault. fault.cause ≢ OutOfMemory) }
         ensures cause { IfErr result (λ fault. IsLineCause fault.cause) }
+        ensures ended { OnErr result (self.new.ended ≡ self.old.ended) }
     {
         let number = self.lexer.next_number();
         match self.lexer.outside(line) {
@@ -181,7 +192,9 @@ impl Loader {
         requires { self.old.ended ≡ false }
         ensures ok { OnOk result (by_fed self.old (fed self.old.lexer line.now) ≡ Ok self.new) }
         ensures err { IfErr result (λ fault. fault.cause ≢ OutOfMemory → by_fed self.old (fed self.old.lexer line.now) ≡ Err fault) }
+        ensures memory { IfErr result (λ fault. fault.cause ≡ OutOfMemory → IsTrue (takes_memory self.old.lexer line.now)) }
         ensures cause { IfErr result (λ fault. IsLineCause fault.cause) }
+        ensures ended { OnErr result (self.new.ended ≡ self.old.ended) }
     {
         let number = self.lexer.next_number();
         match self.lexer.feed(line) {
@@ -201,6 +214,7 @@ impl Loader {
         ensures ok { OnOk result (by_read self.old line.now.number (table_line line.now.tokens) ≡ Ok self.new) }
         ensures err { IfErr result (λ fault. fault.cause ≢ OutOfMemory → by_read self.old line.now.number (table_line line.now.tokens) ≡ Err fault) }
         ensures cause { IfErr result (λ fault. IsLineCause fault.cause) }
+        ensures ended { OnErr result (self.new.ended ≡ self.old.ended) }
     {
         match parse_table_line(self.alloc, line) {
             Ok(read) => {

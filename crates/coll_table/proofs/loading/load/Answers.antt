@@ -17,6 +17,16 @@ lines-init g c =
       goes_on = ap (λ (r : ReaderState). r.stop) c.in_ok-reader.ensures;
     }
 
+pub returns-in_err-reader-clause-loaded : goal.returns-in_err-reader-clause-loaded
+returns-in_err-reader-clause-loaded g c =
+    let p = err_from_is_err_and c.from_residual-in_err-reader.result c.from_residual-in_err-reader.ensures.1 in
+    rw (p.1, p.2) (λ text e. tt)
+
+pub returns-in_err-reader-clause-errors : goal.returns-in_err-reader-clause-errors
+returns-in_err-reader-clause-errors g c =
+    let p = err_from_is_err_and c.from_residual-in_err-reader.result c.from_residual-in_err-reader.ensures.1 in
+    rw (p.1, p.2) refl
+
 pub returns-in_err-line-in-Ok-true-clause-loaded : goal.returns-in_err-line-in-Ok-true-clause-loaded
 returns-in_err-line-in-Ok-true-clause-loaded g c =
     let left = g.R.Source.left in
