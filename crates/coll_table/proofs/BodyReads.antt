@@ -24,7 +24,7 @@ use Rattle.coll_table.proofs.NodeLists.{any_map, any_from, any_to}
 use Rattle.coll_table.proofs.Sameness.{same_id_decides}
 
 -- equal answers are of one node
-some_same : {a b : NodeId} → Some a ≡ Some b → a ≡ b
+pub some_same : {a b : NodeId} → Some a ≡ Some b → a ≡ b
 some_same e = cc
 
 module _ (layout : TableLayout) (shaped : IsShaped layout) where

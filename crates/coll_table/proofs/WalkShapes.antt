@@ -7,13 +7,14 @@ use Rattle.coll_order.specs.declared.places.NodeId.{NodeId}
 use Rattle.coll_order.specs.declared.places.RingId.{RingId}
 use Rattle.coll_order.proofs.ListLemmas.{or_first, or_second}
 use Rattle.coll_order.proofs.Sameness.{same_node_itself}
+use Rattle.coll_table.proofs.LayoutReads.{section_is, entry_is, declaration_is}
 use Rattle.coll_table.specs.SoundBodies.{IsShaped, IsDeclaration, IsSection, IsEntry, HaveNames, FirstAloneUnnamed, ring_at}
 use Rattle.coll_table.specs.Table.{Section}
 use Rattle.coll_table.specs.TableLayout.{TableLayout, content_of, nodes_in, entries_in, section_in, if_any, sections_at}
 use Rattle.coll_table.specs.WellFormed.{IsNamed, IsUnnamed, FirstIsUnnamed}
 use Rattle.coll_table.specs.WalkStates.{AreDeclared, ArePlaced, AreNamed, AreSections, IsSectionNode, HasSections, HasDeclarations, contents_of}
 use Rattle.coll_table.specs.declared.contents.Content.{Content}
-use Rattle.coll_table.specs.declared.contents.Content.TheVariants.{Declared, Begun, Placed}
+use Rattle.coll_table.specs.declared.contents.Content.TheVariants.{Begun}
 
 -- each node of a list, one after another
 pub members : {P : NodeId → Type 0} (node : NodeId) (nodes : List NodeId) → ((other : NodeId) → has_node (node ∷ nodes) other ≡ true → P other) → P node × ((other : NodeId) → has_node nodes other ≡ true → P other)
@@ -34,23 +35,13 @@ module _ (layout : TableLayout) where
   are_declared [] each = tt
   are_declared (node ∷ nodes) each =
       let parts = members {P = λ n. IsDeclaration (content_of layout n)} node nodes each in
-      (by (content_of layout node) parts.0, are_declared nodes parts.1) where
-        by : (content : Option Content) → IsDeclaration content → (declaration : _) × (content ≡ Some (Declared declaration))
-        by None is = absurd is
-        by (Some (Declared declaration)) is = (declaration, refl)
-        by (Some (Begun name ring)) is = absurd is
-        by (Some (Placed entry)) is = absurd is
+      (declaration_is (content_of layout node) parts.0, are_declared nodes parts.1)
 
   are_placed : (nodes : List NodeId) → ((node : NodeId) → has_node nodes node ≡ true → IsEntry (content_of layout node)) → ArePlaced layout nodes
   are_placed [] each = tt
   are_placed (node ∷ nodes) each =
       let parts = members {P = λ n. IsEntry (content_of layout n)} node nodes each in
-      (by (content_of layout node) parts.0, are_placed nodes parts.1) where
-        by : (content : Option Content) → IsEntry content → (entry : _) × (content ≡ Some (Placed entry))
-        by None is = absurd is
-        by (Some (Declared declaration)) is = absurd is
-        by (Some (Begun name ring)) is = absurd is
-        by (Some (Placed entry)) is = (entry, refl)
+      (entry_is (content_of layout node) parts.0, are_placed nodes parts.1)
 
   module _ (shaped : IsShaped layout) where
     -- a section's ring has entries
@@ -62,13 +53,7 @@ module _ (layout : TableLayout) where
     -- a node that is a section, and the section that it is
     section_node : (node : NodeId) → IsSection (length layout.rings) (content_of layout node)
         → (name : Option (List ℕ)) × (ring : RingId) × (content_of layout node ≡ Some (Begun name ring)) × (ring.index < length layout.rings) × ArePlaced layout (nodes_in layout ring)
-    section_node node is = by (content_of layout node) is refl where
-      by : (content : Option Content) → IsSection (length layout.rings) content → content_of layout node ≡ content
-          → (name : Option (List ℕ)) × (ring : RingId) × (content_of layout node ≡ Some (Begun name ring)) × (ring.index < length layout.rings) × ArePlaced layout (nodes_in layout ring)
-      by None is at = absurd is
-      by (Some (Declared declaration)) is at = absurd is
-      by (Some (Begun name ring)) is at = (name, ring, at, is.1, entries_placed ring.index is.0)
-      by (Some (Placed entry)) is at = absurd is
+    section_node node is = let it = section_is (length layout.rings) (content_of layout node) is in (it.0, it.1, it.2, it.4, entries_placed it.1.index it.3)
 
     are_named : (nodes : List NodeId) → ((node : NodeId) → has_node nodes node ≡ true → IsSection (length layout.rings) (content_of layout node))
         → HaveNames (flat_map (section_in layout) (contents_of layout nodes)) → AreNamed layout nodes
