@@ -35,28 +35,25 @@ last_more [] section entry = refl
 last_more (first ∷ []) section entry = refl
 last_more (first ∷ second ∷ later) section entry = ap (λ sections. first ∷ sections) (last_more (second ∷ later) section entry)
 
+-- the last of a list is in the list
+pub in_back : (front : List NodeId) (last : NodeId) → has_node (front ++ last ∷ []) last ≡ true
+in_back [] last = or_first (same_node last last) false (same_node_itself last)
+in_back (first ∷ front) last = or_second (same_node last first) _ (in_back front last)
+
 -- the last of a list stands nowhere before
 before_last : (front : List NodeId) (last : NodeId) → AreDistinct (front ++ last ∷ []) → (other : NodeId) → has_node front other ≡ true → same_node other last ≡ false
 before_last [] last distinct other there = not_both there refl
 before_last (first ∷ front) last distinct other there =
     by_test (λ b. same_node other first ≡ b → (b || has_node front other) ≡ true → same_node other last ≡ false) (same_node other first)
     (λ on t e. by_test (λ b. same_node other last ≡ b → b ≡ false) (same_node other last)
-    (λ same t. not_both (subst (λ n. has_node (front ++ last ∷ []) n ≡ true) (sym (same_node_is other last t) ∙ same_node_is other first on) (has_last front last)) distinct.0) (λ off t. refl) refl)
-    (λ off t e. before_last front last distinct.1 other e) refl there where
-      has_last : (front : List NodeId) (last : NodeId) → has_node (front ++ last ∷ []) last ≡ true
-      has_last [] last = or_first (same_node last last) false (same_node_itself last)
-      has_last (first ∷ front) last = or_second (same_node last first) _ (has_last front last)
+    (λ same t. not_both (subst (λ n. has_node (front ++ last ∷ []) n ≡ true) (sym (same_node_is other last t) ∙ same_node_is other first on) (in_back front last)) distinct.0) (λ off t. refl) refl)
+    (λ off t e. before_last front last distinct.1 other e) refl there
 
 -- what is in a front of a list is in the list
 in_front : (front rest : List NodeId) (other : NodeId) → has_node front other ≡ true → has_node (front ++ rest) other ≡ true
 in_front [] rest other there = not_both there refl
 in_front (first ∷ front) rest other there =
     by_test (λ b. (b || has_node front other) ≡ true → (b || has_node (front ++ rest) other) ≡ true) (same_node other first) (λ on e. refl) (λ off e. in_front front rest other e) there
-
--- so is its last
-pub in_back : (front : List NodeId) (last : NodeId) → has_node (front ++ last ∷ []) last ≡ true
-in_back [] last = or_first (same_node last last) false (same_node_itself last)
-in_back (first ∷ front) last = or_second (same_node last first) _ (in_back front last)
 
 module _ (old new : TableLayout) (node : NodeId) (node_content : Content) (place : Place) (index : ℕ)
     (adds : Adds old new node node_content place) (below : index < length old.rings) (once : StandOnce old.rings) (shaped : IsShaped old) (last : place ≡ end_in old index) where
@@ -106,19 +103,19 @@ module _ (old new : TableLayout) (node : NodeId) (node_content : Content) (place
       let owns = subst (λ k. has_key same_ring rings_in old (record { index = k }) section ≡ true) (sym is) (ring_key old section name ring (in_rings old 1 section in_ring) known) in
       let distinct : AreDistinct (front ++ section ∷ []) = subst AreDistinct lists (distinct_ring old.rings 1 once) in
       let same_front : flat_map (read_at (section_in new) new) front ≡ flat_map (read_at (section_in old) old) front =
-          same_read (read_at (section_in old) old) (read_at (section_in new) new) front (λ other there.
-          let here : has_node (ring_at old 1) other ≡ true = ap (λ nodes. has_node nodes other) lists ∙ in_front front (section ∷ []) other there in
-          section_same old new node node_content place index adds at once shaped other here
-          (other_ring old new node node_content place index adds at once shaped section owns other here (before_last front section distinct other there))) in
+      same_read (read_at (section_in old) old) (read_at (section_in new) new) front (λ other there.
+      let here : has_node (ring_at old 1) other ≡ true = ap (λ nodes. has_node nodes other) lists ∙ in_front front (section ∷ []) other there in
+      section_same old new node node_content place index adds at once shaped other here
+      (other_ring old new node node_content place index adds at once shaped section owns other here (before_last front section distinct other there))) in
       let entries_now : entries_in new ring ≡ entries_in old ring ++ entry ∷ [] =
-          entries_read new ring ∙ (subst (λ k. flat_map (read_at entry_in new) (ring_at new k) ≡ flat_map (read_at entry_in old) (ring_at old k) ++ entry_in node_content) is (reads_last entry_in)
-          ∙ (ap (λ xs. xs ++ entry_in node_content) (sym (entries_read old ring)) ∙ ap (λ c. entries_in old ring ++ entry_in c) placed)) in
+      entries_read new ring ∙ (subst (λ k. flat_map (read_at entry_in new) (ring_at new k) ≡ flat_map (read_at entry_in old) (ring_at old k) ++ entry_in node_content) is (reads_last entry_in)
+      ∙ (ap (λ xs. xs ++ entry_in node_content) (sym (entries_read old ring)) ∙ ap (λ c. entries_in old ring ++ entry_in c) placed)) in
       let still : content_of new section ≡ Some (content.Begun name ring) = content_other old new node node_content place index adds at once section (other_in old new node node_content place index adds at once shaped 1 section in_ring) ∙ known in
       let now : read_at (section_in new) new section ≡ record { name = name; entries = entries_in old ring ++ entry ∷ [] } ∷ [] =
-          read_known (section_in new) new section (content.Begun name ring) still ∙ ap (λ (entries : List Entry). record { name = name; entries = entries } ∷ []) entries_now in
+      read_known (section_in new) new section (content.Begun name ring) still ∙ ap (λ (entries : List Entry). record { name = name; entries = entries } ∷ []) entries_now in
       let was : sections_at old ≡ flat_map (read_at (section_in old) old) front ++ record { name = name; entries = entries_in old ring } ∷ [] =
-          sections_read old ∙ (ap (flat_map (read_at (section_in old) old)) lists ∙ (flat_map-append (read_at (section_in old) old) front (section ∷ [])
-          ∙ ap (λ xs. flat_map (read_at (section_in old) old) front ++ xs) (append-nil (read_at (section_in old) old section) ∙ read_known (section_in old) old section (content.Begun name ring) known))) in
+      sections_read old ∙ (ap (flat_map (read_at (section_in old) old)) lists ∙ (flat_map-append (read_at (section_in old) old) front (section ∷ [])
+      ∙ ap (λ xs. flat_map (read_at (section_in old) old) front ++ xs) (append-nil (read_at (section_in old) old section) ∙ read_known (section_in old) old section (content.Begun name ring) known))) in
       sections_read new ∙ (ap (flat_map (read_at (section_in new) new)) (ring_other old new node node_content place index adds at once 1 differ ∙ lists)
       ∙ (flat_map-append (read_at (section_in new) new) front (section ∷ []) ∙ (ap (λ xs. xs ++ flat_map (read_at (section_in new) new) (section ∷ [])) same_front
       ∙ (ap (λ xs. flat_map (read_at (section_in old) old) front ++ xs) (append-nil (read_at (section_in new) new section) ∙ now)

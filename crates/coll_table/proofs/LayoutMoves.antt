@@ -12,7 +12,7 @@ use Rattle.coll_order.proofs.RingLemmas.{is_in_put, length_rings_with, length_ri
 use Rattle.coll_order.proofs.Sameness.{by_test, not_both, same_node_is, same_node_itself}
 use Rattle.coll_syntax.specs.Identifier.{same_id, has_id}
 use Rattle.coll_syntax.specs.declared.identifiers.Id.{Id}
-use Rattle.coll_table.proofs.BodyReads.{some_same, entry_known}
+use Rattle.coll_table.proofs.BodyReads.{entry_known, some_same}
 use Rattle.coll_table.proofs.EntryMoves.{Tells, take_read, put_read}
 use Rattle.coll_table.proofs.LayoutReads.{declaration_is, read_known, both_true, and_true, in_rings, declared_read, sections_read, entries_read, section_at}
 use Rattle.coll_table.proofs.NodeLists.{map_read, same_read}
@@ -132,6 +132,12 @@ module _ (layout : TableLayout) (shaped : IsShaped layout) (find : Id → Option
 -- a place after a node is in no ring that hasn't the node
 place_out : (nodes : List NodeId) (index : ℕ) (after : NodeId) → has_node nodes after ≡ false → is_place_of (After after) (head_of index) nodes ≡ false
 place_out nodes index after absent = absent
+
+-- a ring behind the last has no nodes
+past_all : (rings : List (List NodeId)) (index : ℕ) → length rings ≤ index → get_or rings index [] ≡ []
+past_all [] index far = refl
+past_all (nodes ∷ rings) zero far = absurd (omega arith)
+past_all (nodes ∷ rings) (suc index) far = past_all rings index (omega arith)
 
 -- an entry's node put in directly after another's
 module _ (old new : TableLayout) (shaped : IsShaped old) (find : Id → Option NodeId) (sound : Finds same_id ids_in old find) (target : Id) (after node : NodeId) (entry : Entry)

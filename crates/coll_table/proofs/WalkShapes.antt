@@ -7,14 +7,14 @@ use Rattle.coll_order.specs.declared.places.NodeId.{NodeId}
 use Rattle.coll_order.specs.declared.places.RingId.{RingId}
 use Rattle.coll_order.proofs.ListLemmas.{or_first, or_second}
 use Rattle.coll_order.proofs.Sameness.{same_node_itself}
-use Rattle.coll_table.proofs.LayoutReads.{section_is, entry_is, declaration_is}
 use Rattle.coll_table.specs.SoundBodies.{IsShaped, IsDeclaration, IsSection, IsEntry, HaveNames, FirstAloneUnnamed, ring_at}
 use Rattle.coll_table.specs.Table.{Section}
 use Rattle.coll_table.specs.TableLayout.{TableLayout, content_of, nodes_in, entries_in, section_in, if_any, sections_at}
 use Rattle.coll_table.specs.WellFormed.{IsNamed, IsUnnamed, FirstIsUnnamed}
 use Rattle.coll_table.specs.WalkStates.{AreDeclared, ArePlaced, AreNamed, AreSections, IsSectionNode, HasSections, HasDeclarations, contents_of}
 use Rattle.coll_table.specs.declared.contents.Content.{Content}
-use Rattle.coll_table.specs.declared.contents.Content.TheVariants.{Begun}
+use Rattle.coll_table.specs.declared.contents.Content.TheVariants.{Declared, Begun, Placed}
+use Rattle.coll_table.proofs.LayoutReads.{declaration_is, entry_is, section_is}
 
 -- each node of a list, one after another
 pub members : {P : NodeId → Type 0} (node : NodeId) (nodes : List NodeId) → ((other : NodeId) → has_node (node ∷ nodes) other ≡ true → P other) → P node × ((other : NodeId) → has_node nodes other ≡ true → P other)
@@ -53,7 +53,7 @@ module _ (layout : TableLayout) where
     -- a node that is a section, and the section that it is
     section_node : (node : NodeId) → IsSection (length layout.rings) (content_of layout node)
         → (name : Option (List ℕ)) × (ring : RingId) × (content_of layout node ≡ Some (Begun name ring)) × (ring.index < length layout.rings) × ArePlaced layout (nodes_in layout ring)
-    section_node node is = let it = section_is (length layout.rings) (content_of layout node) is in (it.0, it.1, it.2, it.4, entries_placed it.1.index it.3)
+    section_node node is = let known = section_is (length layout.rings) (content_of layout node) is in (known.0, known.1, known.2, known.4, entries_placed known.1.index known.3)
 
     are_named : (nodes : List NodeId) → ((node : NodeId) → has_node nodes node ≡ true → IsSection (length layout.rings) (content_of layout node))
         → HaveNames (flat_map (section_in layout) (contents_of layout nodes)) → AreNamed layout nodes

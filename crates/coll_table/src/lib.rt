@@ -5,14 +5,14 @@
 //!
 //! - `declarations`, `entries` and `limits`: what a table is made of (`Table`, `Entries`, `WellFormed`, `Limits`);
 //! - `contents` and `nodes`: rings of nodes, and what each node is (`TableLayout`, `Bodies`);
-//! - `node_names`, `node_ids` and `bodies`: which node has a name or an identifier, and what holds of the whole (`NodeLookUps`, `SoundBodies`);
+//! - `node_names` and `node_ids`: which node has a name, and which an identifier (`NodeLookUps`);
+//! - `bodies`, and `bodies/moving`: the whole, with its look-ups, and what is put in and moved (`SoundBodies`);
 //! - `tables`, `walks` and `met_nodes`: a table, read (`Walks`, `WalkStates`, `WalkItems`);
 //! - `building`: a table that grows (`Building`);
 //! - `drafts`: the lines of a category, each judged by those before it (`Drafts`);
 //! - `loaders` and `loading`: a text, read line by line (`Reading`, `Loading`, `Loads`), with its `load_faults` (`LoadFaults`);
 //! - `plain/`: what a line of a delta says (`PlainDeltaLines`, `PlainOrderLines`);
-//! - `names`, `places`, `deltas`, `bodies/moving` and `refusals`: a statement, applied (`LookUps`, `Delta`, `Placement`,
-//!   `Rewriting`, `Refusals`);
+//! - `names`, `places`, `deltas` and `refusals`: a statement, applied (`LookUps`, `Delta`, `Placement`, `Refusals`);
 //! - `records`: a statement, taken back (`Record`).
 #![tactic(auto)]
 
