@@ -7,7 +7,7 @@
 //! - `contents` and `nodes`: rings of nodes, and what each node is (`TableLayout`, `Bodies`);
 //! - `node_names` and `node_ids`: which node has a name, and which an identifier (`NodeLookUps`);
 //! - `bodies`, and `bodies/moving`: the whole, with its look-ups, and what is put in and moved (`SoundBodies`);
-//! - `tables` and `walks`: a table, read (`Walks`);
+//! - `tables`, `walks` and `met_nodes`: a table, read (`Walks`, `WalkStates`, `WalkItems`);
 //! - `building`: a table that grows (`Building`);
 //! - `drafts`: the lines of a category, each judged by those before it (`Drafts`), and in `line_weights` the weights of an entry
 //!   (`Entries`);
