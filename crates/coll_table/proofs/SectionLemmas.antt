@@ -29,7 +29,7 @@ after_left (first ∷ xs) ys target entry e =
     (λ _. λ p. rw p (ap (λ es. first ∷ es) (after_left xs ys target entry (ap (λ b. b || has_id (ids_of xs) target) (sym p) ∙ e)))) refl
 
 -- a target that isn't in the first of two lists
-after_right : (xs ys : List Entry) (target : Id) (entry : Entry) → has_id (ids_of xs) target ≡ false → entries_after (xs ++ ys) target entry ≡ xs ++ entries_after ys target entry
+pub after_right : (xs ys : List Entry) (target : Id) (entry : Entry) → has_id (ids_of xs) target ≡ false → entries_after (xs ++ ys) target entry ≡ xs ++ entries_after ys target entry
 after_right [] ys target entry e = refl
 after_right (first ∷ xs) ys target entry e =
     let h = neither _ _ e in

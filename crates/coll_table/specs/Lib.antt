@@ -16,6 +16,8 @@ pub mod PlainOrderLines
 pub mod Reading
 pub mod Record
 pub mod Refusals
+pub mod Rewriting
+pub mod SoundBodies
 pub mod SoundDrafts
 pub mod SoundLoaders
 pub mod Table
@@ -24,5 +26,3 @@ pub mod WalkItems
 pub mod WalkStates
 pub mod Walks
 pub mod WellFormed
-pub mod Rewriting
-pub mod SoundBodies

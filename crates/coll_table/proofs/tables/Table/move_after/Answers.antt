@@ -17,6 +17,10 @@ pub move_after-requires-clause-placed : goal.move_after-requires-clause-placed
 unfolding collation
 move_after-requires-clause-placed c = subst (λ (t : TableValue). is_placed (collation t) c.args.after.now ≡ true) (sym c.self.view_is) c.requires.placed
 
+pub move_after-requires-clause-distinct : goal.move_after-requires-clause-distinct
+unfolding collation
+move_after-requires-clause-distinct c = c.self.invariant.built.distinct_entries
+
 moves : (c : goal.After-move_after) → collation (value_of c.self.inside.rules c.move_after.new.self) ≡ moved (collation (value_of c.self.inside.rules c.self.inside.body)) c.args.after.now c.args.id.now
 unfolding collation
 moves c =
