@@ -1,3 +1,4 @@
 pub mod LookUps
 pub mod PlaceLookUps
+pub mod PrintedTokens
 pub mod Sameness

@@ -1,4 +1,5 @@
 pub mod Building
+pub mod CanonicalText
 pub mod Delta
 pub mod Drafts
 pub mod Entries

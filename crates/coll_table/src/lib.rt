@@ -30,6 +30,7 @@ mod node_ids;
 mod node_names;
 mod places;
 mod plain;
+mod printing;
 mod records;
 mod refusals;
 mod tables;

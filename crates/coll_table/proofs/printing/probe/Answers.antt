@@ -1,0 +1,6 @@
+use Rattle.std.proofs.Common.{refl}
+use Rattle.coll_table.proofs.PrintedTokens.{tokens_joined}
+use Rattle.coll_table.proofs.printing.probe.Goals as goal
+
+pub returns : goal.returns
+returns c n = refl
