@@ -16,6 +16,7 @@ pub mod Reading
 pub mod Record
 pub mod Refusals
 pub mod SoundDrafts
+pub mod SoundLoaders
 pub mod Table
 pub mod TableLayout
 pub mod Walks

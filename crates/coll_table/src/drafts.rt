@@ -5,7 +5,7 @@
 //! of line, as `cause_after` does. After a refusal the draft is given up. What may stand where is changed in
 //! `specs/Drafts.antt` first.
 
-ghost use Rattle.std.specs.Prelude.{◌≡◌, ◌≢◌, [], Some, None, IfOk, IfErr, OnOk};
+ghost use Rattle.std.specs.Prelude.{◌≡◌, ◌≢◌, true, [], Some, None, IfOk, IfErr, OnOk};
 ghost use Rattle.coll_syntax.specs.Proper.{IsProperTableLine};
 ghost use Rattle.coll_table.specs.WellFormed.{IsWellFormed};
 ghost use Rattle.coll_table.specs.TableLayout.{collation};
@@ -54,6 +54,7 @@ impl Draft {
         ensures ok { OnOk result (line_fault self.old (record { number = number; line = line }) ≡ None) }
         ensures after { OnOk result (self.new ≡ draft_after self.old (record { number = number; line = line })) }
         ensures ended { IfOk result (λ ended. ended ≡ is_end line) }
+        ensures well_formed { IfOk result (λ ended. ended ≡ true → IsWellFormed (table_of self.new)) }
         ensures err { IfErr result (λ fault. fault.cause ≢ OutOfMemory → line_fault self.old (record { number = number; line = line }) ≡ Some fault) }
     {
         unreachable!();

@@ -2,15 +2,22 @@
 //!
 //! A `Loader` stores what the next line is judged by (`LoaderState` of `specs/Loading.antt`), and each call is the definition
 //! applied to what is stored and the line handed in. It joins a lexer and a draft: what a line is belongs to the first, and
-//! what it means to the second.
+//! what it means to the second; here lines are passed on, and faults get the number of their line. A fault is stored where it
+//! is met, in `line` alone.
 
-ghost use Rattle.std.specs.Prelude.{◌≡◌, ◌≢◌, Ok, Err, Some, IfOk, IfErr, OnOk};
+ghost use Rattle.std.specs.Prelude.{◌≡◌, ◌≢◌, false, Ok, Err, Some, IfOk, IfErr, OnOk};
+ghost use Rattle.coll_lex.specs.LogicalLines.{number_of, fed, outside};
+ghost use Rattle.coll_lex.specs.Names.{AreTokens};
+ghost use Rattle.coll_syntax.specs.TableLines.{table_line};
+ghost use Rattle.coll_table.specs.SoundLoaders.{IsLineCause};
 ghost use Rattle.coll_table.specs.TableLayout.{collation};
+ghost use Rattle.coll_table.specs.WellFormed.{IsWellFormed};
 ghost use Rattle.coll_table.specs.declared.load_faults.LoadCause.TheVariants.{OutOfMemory};
 
 use crate::drafts::Draft;
-use crate::{LoadFault, Table};
-use coll_lex::Lexer;
+use crate::{LoadCause, LoadFault, Table};
+use coll_lex::{LexFault, Lexer, Line};
+use coll_syntax::parse_table_line;
 use std::alloc::{AllocError, Global};
 use std::marker::Model;
 
@@ -18,42 +25,72 @@ use std::marker::Model;
 #[derive(Drop)]
 pub struct Loader {
     lexer: Lexer,
-    // The number of physical lines handed to the lexer.
-    count: u32,
+    // Whether the category has begun.
     begun: bool,
+    // Whether the category has ended.
     ended: bool,
     draft: Draft,
+    // The first fault, which each later call answers.
     fault: Option<LoadFault>,
     alloc: Global,
 }
 
 impl Model for Loader {
     ghost use Rattle.coll_table.specs.Loading.{LoaderState};
+    ghost use Rattle.coll_table.specs.SoundLoaders.{IsSoundLoader};
 
     ghost Value = { LoaderState };
 
     ghost view = { λ l. record { lexer = l.lexer; begun = l.begun; ended = l.ended; draft = l.draft; fault = l.fault } };
+
+    ghost invariant = { λ l. IsSoundLoader (record { lexer = l.lexer; begun = l.begun; ended = l.ended; draft = l.draft; fault = l.fault }) };
 }
 
 impl Loader {
-    ghost use Rattle.coll_table.specs.Loading.{first_loader, loaded_line, loaded};
+    ghost use Rattle.coll_table.specs.Loading.{LoaderState, first_loader, loaded_line, loaded, by_where, by_outside, by_fed, by_read, early_end};
 
     /// A loader before the first line.
     pub fn new(alloc: Global) -> Result<Loader, AllocError>
         ensures { IfOk result (λ loader. loader ≡ first_loader) }
     {
-        unreachable!();
+        let lexer = Lexer::new(alloc)?;
+        let draft = Draft::new(alloc)?;
+        Ok(Loader {
+            lexer,
+            begun: false,
+            ended: false,
+            draft,
+            fault: None,
+            alloc,
+        })
     }
 
     /// Hands in the next physical line, without its line feed.
     ///
     /// After a fault each later call answers the same fault. Behind the end of the category nothing is looked at.
+    #[tactic(auto, unfolding(crate::specs::Loading::loaded_line))]
     pub fn line(&mut self, line: &[u8]) -> Result<(), LoadFault>
         ensures ok { OnOk result (loaded_line self.old line.now ≡ Ok self.new) }
         ensures err { IfErr result (λ fault. fault.cause ≢ OutOfMemory → loaded_line self.old line.now ≡ Err fault) }
+        ensures cause { IfErr result (λ fault. IsLineCause fault.cause) }
         ensures stays { IfErr result (λ fault. self.new.fault ≡ Some fault) }
     {
-        unreachable!();
+        if let Some(fault) = self.fault {
+            return Err(fault);
+        }
+        let answer = self.judge(line);
+        if let Err(fault) = answer {
+            self.fault = Some(fault);
+        }
+        answer
+    }
+
+    /// The number that a fault of the next line carries: that of the logical line that is left open, or else one more
+    /// than the lines handed in.
+    pub fn next_number(&self) -> u32
+        ensures { result ≡ number_of self.now.lexer }
+    {
+        self.lexer.next_number()
     }
 
     /// Whether the category has ended.
@@ -64,10 +101,111 @@ impl Loader {
     }
 
     /// The table, where the category has ended; otherwise the fault of a text that ends here.
+    #[tactic(auto, unfolding(crate::specs::Loading::loaded))]
     pub fn finish(self) -> Result<Table, LoadFault>
         ensures ok { IfOk result (λ table. loaded self ≡ Ok (collation table)) }
         ensures err { IfErr result (λ fault. fault.cause ≢ OutOfMemory → loaded self ≡ Err fault) }
+        ensures cause { IfErr result (λ fault. IsLineCause fault.cause) }
+        ensures well_formed { IfOk result (λ table. IsWellFormed (collation table)) }
     {
-        unreachable!();
+        if let Some(fault) = self.fault {
+            return Err(fault);
+        }
+        if self.ended {
+            return Ok(self.draft.into_table());
+        }
+        Err(self.early_end())
+    }
+
+    // The fault of a text that ends here, before its category does.
+    fn early_end(&self) -> LoadFault
+        ensures { result ≡ early_end self.now self.now.lexer.line }
+    {
+        if let Some(number) = self.lexer.pending() {
+            return LoadFault {
+                line: number,
+                cause: LoadCause::Lex(LexFault::DanglingEscape),
+            };
+        }
+        LoadFault {
+            line: self.lexer.next_number() - 1,
+            cause: if self.begun {
+                LoadCause::NoEnd
+            } else {
+                LoadCause::NoCategory
+            },
+        }
+    }
+
+    // Judges a line by where it stands: behind the category, in it, or before it.
+    fn judge(&mut self, line: &[u8]) -> Result<(), LoadFault>
+        ensures ok { OnOk result (by_where self.old line.now ≡ Ok self.new) }
+        ensures err { IfErr result (λ fault. fault.cause ≢ OutOfMemory → by_where self.old line.now ≡ Err fault) }
+        ensures cause { IfErr result (λ fault. IsLineCause fault.cause) }
+    {
+        if self.ended {
+            return Ok(());
+        }
+        if self.begun {
+            return self.take_physical(line);
+        }
+        self.skip_physical(line)
+    }
+
+    // Takes a line before the category, which may begin with it.
+    fn skip_physical(&mut self, line: &[u8]) -> Result<(), LoadFault>
+        ensures ok { OnOk result (by_outside self.old (outside self.old.lexer line.now) ≡ Ok self.new) }
+        ensures err { IfErr result (λ fault. fault.cause ≢ OutOfMemory → by_outside self.old (outside self.old.lexer line.now) ≡ Err fault) }
+        ensures cause { IfErr result (λ fault. IsLineCause fault.cause) }
+    {
+        let number = self.lexer.next_number();
+        match self.lexer.outside(line) {
+            Ok(begins) => {
+                self.begun = begins;
+                Ok(())
+            }
+            Err(fault) => Err(LoadFault {
+                line: number,
+                cause: LoadCause::from(fault),
+            }),
+        }
+    }
+
+    // Takes a line of the category.
+    fn take_physical(&mut self, line: &[u8]) -> Result<(), LoadFault>
+        requires { self.old.ended ≡ false }
+        ensures ok { OnOk result (by_fed self.old (fed self.old.lexer line.now) ≡ Ok self.new) }
+        ensures err { IfErr result (λ fault. fault.cause ≢ OutOfMemory → by_fed self.old (fed self.old.lexer line.now) ≡ Err fault) }
+        ensures cause { IfErr result (λ fault. IsLineCause fault.cause) }
+    {
+        let number = self.lexer.next_number();
+        match self.lexer.feed(line) {
+            Ok(Some(whole)) => self.take_logical(&whole),
+            Ok(None) => Ok(()),
+            Err(fault) => Err(LoadFault {
+                line: number,
+                cause: LoadCause::from(fault),
+            }),
+        }
+    }
+
+    // Takes a logical line of the category.
+    fn take_logical(&mut self, line: &Line) -> Result<(), LoadFault>
+        requires tokens { AreTokens line.now.tokens }
+        requires going { self.old.ended ≡ false }
+        ensures ok { OnOk result (by_read self.old line.now.number (table_line line.now.tokens) ≡ Ok self.new) }
+        ensures err { IfErr result (λ fault. fault.cause ≢ OutOfMemory → by_read self.old line.now.number (table_line line.now.tokens) ≡ Err fault) }
+        ensures cause { IfErr result (λ fault. IsLineCause fault.cause) }
+    {
+        match parse_table_line(self.alloc, line) {
+            Ok(read) => {
+                self.ended = self.draft.take(line.number, read)?;
+                Ok(())
+            }
+            Err(fault) => Err(LoadFault {
+                line: line.number,
+                cause: LoadCause::from(fault),
+            }),
+        }
     }
 }
