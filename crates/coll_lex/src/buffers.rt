@@ -113,6 +113,13 @@ impl<X> ListBuf<X> {
         self.items.as_mut_slice()
     }
 
+    /// Hands the list over. It takes no memory.
+    pub fn into_items(self) -> Vec<X>
+        ensures { result.items ≡ self }
+    {
+        self.items
+    }
+
     /// A list of no members. It takes no memory.
     pub(crate) fn empty(alloc: Global) -> ListBuf<X>
         ensures { result ≡ [] }

@@ -6,3 +6,7 @@ pub mod LookUps
 pub mod PlaceLookUps
 pub mod PrintedTokens
 pub mod Sameness
+pub mod BuiltTables
+pub mod SoundLines
+pub mod RuleLists
+pub mod EntryWeights

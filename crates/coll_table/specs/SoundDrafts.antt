@@ -1,9 +1,15 @@
 -- What holds of what the lines of a category say together, as long as each of them was accepted.
-use Rattle.std.specs.Prelude.{◌≡◌, ◌≤◌, true, List, [], length, Option, Some, None, IsSome}
+use Rattle.std.specs.Prelude.{◌≡◌, ◌≤◌, ◌<◌, true, false, List, [], length, Option, Some, None, IsSome}
+use Rattle.coll_lex.specs.Names.{IsName}
+use Rattle.coll_syntax.specs.Proper.{IsElementText}
 use Rattle.coll_syntax.specs.declared.rules.Rule.{Rule}
-use Rattle.coll_table.specs.Table.{joined_entries}
-use Rattle.coll_table.specs.WellFormed.{IsBuilt}
-use Rattle.coll_table.specs.Drafts.{DraftState, table_of}
+use Rattle.coll_table.specs.Table.{joined_entries, is_placed_in}
+use Rattle.coll_table.specs.WellFormed.{IsBuilt, IsKnown, IsWeighted}
+use Rattle.coll_table.specs.Drafts.{DraftState, table_of, levels_of}
+use Rattle.coll_table.specs.Limits.{most_entries}
+use Rattle.coll_table.specs.declared.declarations.Declaration.{Declaration}
+use Rattle.coll_table.specs.declared.declarations.Declaration.TheVariants.{Symbol, Element}
+use Rattle.coll_table.specs.declared.entries.Entry.{Entry}
 
 -- the table that is said holds together; there are rules where an order is open, and no entries where there are none; each
 -- entry has the number of its line
@@ -13,3 +19,17 @@ pub record IsSoundDraft (d : DraftState) : Type 0 where
   pub none_before : d.rules ≡ None → joined_entries d.sections ≡ []
   pub some_levels : (rules : List Rule) → d.rules ≡ Some rules → 1 ≤ length rules
   pub numbered : length d.numbers ≡ length (joined_entries d.sections)
+
+-- a declaration whose name is a name, and whose string may be that of an element
+abbrev pub IsProperDeclaration : Declaration → Type 0
+IsProperDeclaration (Symbol name) = IsName name
+IsProperDeclaration (Element name text) = IsName name × IsElementText text
+
+-- an entry that may be put behind all others: there are rules, it is placed nowhere and may be used, it has the weights that
+-- it is to have, and there is room
+pub record MayBePut (d : DraftState) (entry : Entry) : Type 0 where
+  pub rules : IsSome d.rules
+  pub new : is_placed_in d.sections entry.id ≡ false
+  pub known : IsKnown d.declared entry.id
+  pub weighted : IsWeighted (levels_of d.rules) d.declared entry
+  pub room : length (joined_entries d.sections) < most_entries
