@@ -4,6 +4,7 @@ pub mod LineCounts
 pub mod LoadSteps
 pub mod LookUps
 pub mod PlaceLookUps
+pub mod PrintedDrafts
 pub mod PrintedTokens
 pub mod Sameness
 pub mod BuiltTables

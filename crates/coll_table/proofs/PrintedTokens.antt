@@ -36,12 +36,12 @@ use Rattle.coll_table.specs.CanonicalText.{direction_word, is_own}
 -- Operands with semicolons between them.
 
 -- operands with a semicolon before each
-pub tokens_behind : List (List Token) → List Token
+unfoldable pub tokens_behind : List (List Token) → List Token
 tokens_behind [] = []
 tokens_behind (op ∷ ops) = token.Semicolon ∷ (op ++ tokens_behind ops)
 
 -- operands with a semicolon between them
-pub tokens_joined : List (List Token) → List Token
+unfoldable pub tokens_joined : List (List Token) → List Token
 tokens_joined [] = []
 tokens_joined (op ∷ ops) = op ++ tokens_behind ops
 
@@ -69,43 +69,43 @@ read_each read tokens says P each (x ∷ xs) h = rw (each x (All-head P x xs h),
 -- Identifiers and weights.
 
 -- the token of an identifier
-pub id_token : Id → Token
+unfoldable pub id_token : Id → Token
 id_token (Char c) = token.Char c
 id_token (Named name) = token.Symbol name
 id_token Undefined = token.Word (codes "UNDEFINED")
 
 -- the piece of an identifier in a string, where UNDEFINED can't stand
-pub id_piece : Id → Piece
+unfoldable pub id_piece : Id → Piece
 id_piece (Char c) = piece.Char c
 id_piece (Named name) = piece.Name name
 id_piece Undefined = piece.Name []
 
 -- the tokens of an entry's own weight
-pub own_tokens : Id → List Token
+unfoldable pub own_tokens : Id → List Token
 own_tokens (Char c) = token.Char c ∷ []
 own_tokens (Named name) = token.Symbol name ∷ []
 own_tokens Undefined = []
 
 -- the tokens of a weight that is a list
-pub names_tokens : List Id → List Token
+unfoldable pub names_tokens : List Id → List Token
 names_tokens [] = token.Text [] ∷ []
 names_tokens (only ∷ []) = id_token only ∷ []
 names_tokens (first ∷ second ∷ later) = token.Text (map id_piece (first ∷ second ∷ later)) ∷ []
 
 -- the tokens of a weight
-pub weight_tokens : Id → Weight → List Token
+unfoldable pub weight_tokens : Id → Weight → List Token
 weight_tokens owner Ignore = token.Word (codes "IGNORE") ∷ []
 weight_tokens owner Own = own_tokens owner
 weight_tokens owner (Names ids) = names_tokens ids
 
 -- what an entry's own weight is read as
-pub own_read : Id → Weight
+unfoldable pub own_read : Id → Weight
 own_read (Char c) = Names (Char c ∷ [])
 own_read (Named name) = Names (Named name ∷ [])
 own_read Undefined = Own
 
 -- what a weight is read as
-pub weight_read : Id → Weight → Weight
+unfoldable pub weight_read : Id → Weight → Weight
 weight_read owner Ignore = Ignore
 weight_read owner Own = own_read owner
 weight_read owner (Names ids) = Names ids
@@ -206,11 +206,11 @@ weights_behind_id id given (t ∷ ts) some e = rw e refl
 -- The lines.
 
 -- the order line of an entry, as it is read
-pub order_read : Id → List Weight → OrderLine
+unfoldable pub order_read : Id → List Weight → OrderLine
 order_read id ws = record { id = id; weights = if list_all is_own ws then None else Some (map (weight_read id) ws) }
 
 -- the tokens of the line of an entry
-pub order_tokens : Id → List Weight → List Token
+unfoldable pub order_tokens : Id → List Weight → List Token
 order_tokens id ws = id_token id ∷ (if list_all is_own ws then [] else tokens_joined (map (weight_tokens id) ws))
 
 -- the line of an entry is read
@@ -228,12 +228,12 @@ order_is_read id ws h =
       both false (w ∷ ws) e h = ap (read_as line.Order) (weights_behind_id id (map (weight_read id) (w ∷ ws)) (tokens_joined (map (weight_tokens id) (w ∷ ws))) (some_weights id (w ∷ ws) e) (weights_are_read id w ws h))
 
 -- that positions count, where they do
-position_tokens : Bool → List Token
+unfoldable pub position_tokens : Bool → List Token
 position_tokens true = token.Comma ∷ token.Word (codes "position") ∷ []
 position_tokens false = []
 
 -- the tokens of a rule
-pub rule_tokens : Rule → List Token
+unfoldable pub rule_tokens : Rule → List Token
 rule_tokens rule = token.Word (direction_word rule.backward) ∷ position_tokens rule.position
 
 -- a rule is read, and no semicolon is in it
@@ -273,7 +273,7 @@ rules_are_read r rs short =
       map_same (r ∷ rs) = ap (λ l. r ∷ l) (map_same rs)
 
 -- the tokens of the line of the rules
-pub rules_tokens : List Rule → List Token
+unfoldable pub rules_tokens : List Rule → List Token
 rules_tokens rs = token.Word (codes "order_start") ∷ tokens_joined (map rule_tokens rs)
 
 -- operands of an `order_start` that begin with a word are rules
@@ -288,12 +288,12 @@ rules_line_is_read [] some short = absurd (omega (arith, some))
 rules_line_is_read (r ∷ rs) some short = opened_by_rules r rs ∙ ap (read_as (λ given. line.OrderStart None (Some given))) (rules_are_read r rs short)
 
 -- the tokens of the line of a declaration
-pub declaration_tokens : Declaration → List Token
+unfoldable pub declaration_tokens : Declaration → List Token
 declaration_tokens (declaration.Symbol name) = token.Word (codes "collating-symbol") ∷ token.Symbol name ∷ []
 declaration_tokens (declaration.Element name text) = token.Word (codes "collating-element") ∷ token.Symbol name ∷ token.Word (codes "from") ∷ token.Text (map piece.Char text) ∷ []
 
 -- a declaration as a line of a table
-pub declaration_read : Declaration → TableLine
+unfoldable pub declaration_read : Declaration → TableLine
 declaration_read (declaration.Symbol name) = line.Symbol name
 declaration_read (declaration.Element name text) = line.Element name text
 
@@ -314,7 +314,7 @@ declaration_is_read (declaration.Element name text) h =
     ap (λ t. read_as (λ (read : List ℕ × List ℕ). line.Element read.0 read.1) (read_as (λ text. (name, text)) (and_then t (λ read. ended read [])))) (element_is_read text (All-head IsElementText text [] h))
 
 -- the lines of one word or two, and the one that begins a section
-pub section_tokens : List ℕ → List Token
+unfoldable pub section_tokens : List ℕ → List Token
 section_tokens name = token.Word (codes "section") ∷ token.Symbol name ∷ []
 
 pub section_is_read : (name : List ℕ) → table_line (section_tokens name) ≡ Ok (line.Section name)
