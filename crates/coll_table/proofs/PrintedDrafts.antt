@@ -1,12 +1,12 @@
 -- The lines of a table, accepted one after another, say the table.
-use Rattle.std.proofs.Common.{◌≡◌, ℕ, zero, suc, ◌+◌, ◌-◌, ◌<◌, ◌≤◌, ◌||◌, Bool, true, false, not, if◌then◌else◌, IsTrue, List, [], ◌∷◌, ◌++◌, length, map, replicate, Option, Some, None, sym, ap, subst, ◌∙◌, refl, arith, length-append, append_assoc, append-nil}
+use Rattle.std.proofs.Common.{◌≡◌, ℕ, zero, suc, ◌+◌, ◌-◌, ◌<◌, ◌≤◌, ◌||◌, Bool, true, false, not, if◌then◌else◌, IsTrue, List, [], ◌∷◌, ◌++◌, length, map, replicate, Decides, Option, Some, None, sym, ap, subst, ◌∙◌, refl, arith, length-append, append_assoc, append-nil}
 use Rattle.std.specs.Prelude.{◌&&◌, All, nat_le, nat_lt, is_some}
 use Rattle.std.specs.List.{flat_map, list_any, list_all}
 use Rattle.std.specs.Option.{option_or, option_map}
 use Rattle.std.proofs.lemmas.Bool.{false≢true, lt-leb, le-ltb}
 use Rattle.std.proofs.lemmas.List.{map-append, length-map}
 use Rattle.std.proofs.lemmas.Grind.{flat_map-append}
-use Rattle.std.proofs.lemmas.List.Elements.{All-head, All-tail}
+use Rattle.std.proofs.lemmas.List.Elements.{All-nil, All-cons, All-head, All-tail}
 use Rattle.coll_lex.specs.Names.{IsName}
 use Rattle.coll_syntax.specs.Identifier.{same_name, same_id, has_name, has_id}
 use Rattle.coll_syntax.specs.declared.identifiers.Id.{Id}
@@ -249,3 +249,193 @@ module _ (rules : List Rule) (declared : List Declaration) (sections : List Sect
       let room : nat_le most_entries (length (joined_entries sections)) ≡ false =
       let few = can.few_entries in lt-leb most_entries (length (joined_entries sections)) (omega (arith, length-append (joined_entries sections) (e ∷ flat_map entry_met ms))) in
       passes _ _ _ known (passes _ _ _ new (passes _ _ _ (symbol_passes (length rules) (is_symbol declared e.id) e weighted) (passes _ _ _ (count_passes (length rules) (is_symbol declared e.id) e weighted) (passes _ _ _ room refl))))
+
+-- all that is met, accepted one after another
+meets_lead : (rules : List Rule) (declared : List Declaration) (sections : List Section) (numbers : List ℕ) (ms : List Met) (number : ℕ) (rest : List TableLine) (Last : DraftState → Type 0)
+    → CanFollow (length rules) declared sections ms
+    → ((numbers : List ℕ) (number : ℕ) → Leads (open_draft rules declared (sections_past sections ms) numbers) number rest Last)
+    → Leads (open_draft rules declared sections numbers) number (map met_read ms ++ rest) Last
+unfolding Leads open_draft draft_with sections_past met_read entry_met
+meets_lead rules declared sections numbers [] number rest Last can goes_on = goes_on numbers number
+meets_lead rules declared sections numbers (MetSection name ∷ ms) number rest Last can goes_on =
+    (faultless (open_draft rules declared sections numbers) number (line.Section name) refl (section_passes rules declared sections numbers name ms can),
+    refl,
+    meets_lead rules declared (with_section sections name) numbers ms (suc number) rest Last (section_on (length rules) declared sections name ms can) goes_on)
+meets_lead rules declared sections numbers (MetEntry e ∷ ms) number rest Last can goes_on =
+    let order = order_read e.id e.weights in
+    let same : e ≡ entry_of (length rules) declared order = sym (entry_as_it_was (length rules) declared e (weighted_first can)) in
+    (faultless (open_draft rules declared sections numbers) number (line.Order order) refl (entry_passes rules declared sections numbers e ms can),
+    refl,
+    subst (λ (entry : Entry). Leads (open_draft rules declared (with_last sections entry) (numbers ++ number ∷ [])) (suc number) (map met_read ms ++ rest) Last) same
+    (meets_lead rules declared (with_last sections e) (numbers ++ number ∷ []) ms (suc number) rest Last (entry_on (length rules) declared sections e ms can) goes_on)) where
+      weighted_first : CanFollow (length rules) declared sections (MetEntry e ∷ ms) → IsWeighted (length rules) declared e
+      weighted_first can = All-head (IsWeighted (length rules) declared) e (flat_map entry_met ms) can.weighted
+
+-- What is met on a walk makes the sections.
+
+-- the last section with all its entries
+past_entries : (front : List Section) (name : Option (List ℕ)) (done later : List Entry) (ms : List Met) → sections_past (front ++ record { name = name; entries = done } ∷ []) (map MetEntry later ++ ms) ≡ sections_past (front ++ record { name = name; entries = done ++ later } ∷ []) ms
+unfolding sections_past
+past_entries front name done [] ms = ap (λ es. sections_past (front ++ record { name = name; entries = es } ∷ []) ms) (sym (append-nil done))
+past_entries front name done (e ∷ later) ms =
+    ap (λ ss. sections_past ss (map MetEntry later ++ ms)) (last_longer front)
+    ∙ past_entries front name (done ++ e ∷ []) later ms
+    ∙ ap (λ es. sections_past (front ++ record { name = name; entries = es } ∷ []) ms) (append_assoc done (e ∷ []) later) where
+      last_longer : (front : List Section) → with_last (front ++ record { name = name; entries = done } ∷ []) e ≡ front ++ record { name = name; entries = done ++ e ∷ [] } ∷ []
+      last_longer [] = refl
+      last_longer (first ∷ []) = refl
+      last_longer (first ∷ second ∷ later) = ap (λ ss. first ∷ ss) (last_longer (second ∷ later))
+
+-- sections with names, behind others
+past_sections : (front : List Section) (name : Option (List ℕ)) (done : List Entry) (others : List Section) → All IsNamed others → sections_past (front ++ record { name = name; entries = done } ∷ []) (met others) ≡ front ++ record { name = name; entries = done } ∷ others
+unfolding sections_past
+past_sections front name done [] h = refl
+past_sections front name done (next ∷ others) h =
+    by_name next.name next.entries (All-head IsNamed next others h)
+    (λ begun entries. past_sections (front ++ record { name = name; entries = done } ∷ []) begun entries others (All-tail IsNamed next others h)) where
+      by_name : (begun : Option (List ℕ)) (entries : List Entry) → IsNamed (record { name = begun; entries = entries })
+          → ((begun : Option (List ℕ)) (entries : List Entry) → sections_past ((front ++ record { name = name; entries = done } ∷ []) ++ record { name = begun; entries = entries } ∷ []) (met others) ≡ (front ++ record { name = name; entries = done } ∷ []) ++ record { name = begun; entries = entries } ∷ others)
+          → sections_past (front ++ record { name = name; entries = done } ∷ []) ((met_name begun ++ map MetEntry entries) ++ met others) ≡ front ++ record { name = name; entries = done } ∷ record { name = begun; entries = entries } ∷ others
+      by_name None entries is more = let e = is.1 in cc
+      by_name (Some begun) entries is more =
+          past_entries (front ++ record { name = name; entries = done } ∷ []) (Some begun) [] entries (met others)
+          ∙ more (Some begun) entries
+          ∙ append_assoc front (record { name = name; entries = done } ∷ []) (record { name = Some begun; entries = entries } ∷ others)
+
+-- the sections of a table
+past_all : (sections : List Section) → FirstIsUnnamed sections → sections_past (record { name = None; entries = [] } ∷ []) (met sections) ≡ sections
+unfolding sections_past
+past_all [] h = absurd h
+past_all (first ∷ others) h = by_name first.name first.entries h.0 where
+  by_name : (name : Option (List ℕ)) (entries : List Entry) → name ≡ None → sections_past (record { name = None; entries = [] } ∷ []) ((met_name name ++ map MetEntry entries) ++ met others) ≡ record { name = name; entries = entries } ∷ others
+  by_name None entries e = past_entries [] None [] entries (met others) ∙ past_sections [] None entries others h.1
+  by_name (Some name) entries e = cc
+
+-- the entries and the names that are met
+entries_met : (sections : List Section) → flat_map entry_met (met sections) ≡ joined_entries sections
+unfolding entry_met
+entries_met [] = refl
+entries_met (first ∷ others) =
+    flat_map-append entry_met (met_in first) (met others) ∙ ap (λ es. es ++ flat_map entry_met (met others)) (in_section first.name first.entries) ∙ ap (λ es. first.entries ++ es) (entries_met others) where
+      only_entries : (entries : List Entry) → flat_map entry_met (map MetEntry entries) ≡ entries
+      only_entries [] = refl
+      only_entries (e ∷ es) = ap (λ l. e ∷ l) (only_entries es)
+      in_section : (name : Option (List ℕ)) (entries : List Entry) → flat_map entry_met (met_name name ++ map MetEntry entries) ≡ entries
+      in_section None entries = only_entries entries
+      in_section (Some name) entries = only_entries entries
+
+names_met : (sections : List Section) → flat_map name_met (met sections) ≡ section_names sections
+unfolding name_met
+names_met [] = refl
+names_met (first ∷ others) =
+    flat_map-append name_met (met_in first) (met others) ∙ ap (λ ns. ns ++ flat_map name_met (met others)) (in_section first.name first.entries) ∙ ap (λ ns. named first.name ++ ns) (names_met others) where
+      only_entries : (entries : List Entry) → flat_map name_met (map MetEntry entries) ≡ []
+      only_entries [] = refl
+      only_entries (e ∷ es) = only_entries es
+      in_section : (name : Option (List ℕ)) (entries : List Entry) → flat_map name_met (met_name name ++ map MetEntry entries) ≡ named name
+      in_section None entries = only_entries entries
+      in_section (Some name) entries = ap (λ l. name ∷ l) (only_entries entries)
+
+-- the names of the sections are names, one fewer than the sections
+names_of_named : (others : List Section) → All IsNamed others → All IsName (section_names others) × (length (section_names others) ≡ length others)
+names_of_named [] h = (All-nil IsName, refl)
+names_of_named (next ∷ others) h = by_name next.name (All-head IsNamed next others h) (names_of_named others (All-tail IsNamed next others h)) where
+  by_name : (begun : Option (List ℕ)) → (name : List ℕ) × (begun ≡ Some name) × IsName name → All IsName (section_names others) × (length (section_names others) ≡ length others) → All IsName (named begun ++ section_names others) × (length (named begun ++ section_names others) ≡ length (next ∷ others))
+  by_name None is more = let e = is.1 in cc
+  by_name (Some begun) is more =
+      let same : is.0 ≡ begun = let e = is.1 in cc in
+      (All-cons IsName begun (section_names others) (subst IsName same is.2) more.0, ap suc more.1)
+
+names_of_first : (sections : List Section) → FirstIsUnnamed sections → All IsName (section_names sections) × (suc (length (section_names sections)) ≡ length sections)
+names_of_first [] h = absurd h
+names_of_first (first ∷ others) h =
+    let more = names_of_named others h.1 in
+    subst (λ n. All IsName (named n ++ section_names others) × (suc (length (named n ++ section_names others)) ≡ length (first ∷ others))) (sym h.0) (more.0, ap suc more.1)
+
+-- The end of the category.
+
+-- one of these, where each has this property, has it
+pub has_property : {X : Type 0} (same : X → X → Bool) → ((a b : X) → Decides (same a b) (a ≡ b)) → (P : X → Type 0) (xs : List X) (x : X) → list_any (same x) xs ≡ true → All P xs → P x
+has_property same decides P [] x found h = absurd (false≢true found)
+has_property {X = X} same decides P (first ∷ xs) x found h = by_answer (same x first) refl (λ found. has_property same decides P xs x found (All-tail P first xs h)) where
+  by_answer : (answer : Bool) → same x first ≡ answer → (list_any (same x) xs ≡ true → P x) → P x
+  by_answer true e later = subst P (sym ((decides x first).0 e)) (All-head P first xs h)
+  by_answer false e later = later (ap (λ b. b || list_any (same x) xs) (sym e) ∙ found)
+
+-- what is said at the end: no weight is refused, the order is closed, and the table is this one
+pub record EndsAs (table : Collation) (d : DraftState) : Type 0 where
+  pub passes : (number : ℕ) → line_fault d (record { number = number; line = line.EndCategory }) ≡ None
+  pub says : table_of d ≡ table
+
+-- what is said behind the last line of the order
+closed_draft : Collation → List ℕ → DraftState
+closed_draft table numbers = record { order_open = false; rules = Some table.rules; declared = table.declared; sections = table.sections; numbers = numbers }
+
+module _ (table : Collation) (w : IsWellFormed table) (numbers : List ℕ) where
+  -- an identifier that is placed may stand in a weight
+  placed_passes : (id : Id) → is_placed table id ≡ true → weight_cause (closed_draft table numbers) id ≡ None
+  unfolding closed_draft
+  placed_passes id placed =
+      let known : IsKnown table.declared id = has_property same_id same_id_decides (IsKnown table.declared) (ids_of (joined_entries table.sections)) id placed w.built.known in
+      passes _ _ _ (ap not known) (passes _ _ _ (ap not placed) refl)
+
+  ids_pass : (ids : List Id) → All (λ id. IsTrue (is_placed table id)) ids → ids_cause (closed_draft table numbers) ids ≡ None
+  ids_pass [] h = refl
+  ids_pass (id ∷ ids) h =
+      rw (placed_passes id (All-head (λ id. IsTrue (is_placed table id)) id ids h)) (ids_pass ids (All-tail (λ id. IsTrue (is_placed table id)) id ids h))
+
+  entries_pass : (places : List ℕ) (entries : List Entry) → All (HasPlacedWeights table) entries → entries_fault (closed_draft table numbers) places entries ≡ None
+  entries_pass [] entries h = refl
+  entries_pass (place ∷ places) [] h = refl
+  entries_pass (place ∷ places) (e ∷ entries) h =
+      rw (ids_pass (ids_named e) (All-head (HasPlacedWeights table) e entries h)) (entries_pass places entries (All-tail (HasPlacedWeights table) e entries h))
+
+  ends_as : EndsAs table (closed_draft table numbers)
+  unfolding line_fault closed_draft
+  ends_as = record { passes = λ number. entries_pass numbers (joined_entries table.sections) w.weights_placed; says = refl }
+
+-- The whole table.
+
+-- the lines of a table but for the last, as they are read
+pub said : Collation → List TableLine
+said table = map declaration_read table.declared ++ (line.OrderStart None (Some table.rules) ∷ (map met_read (met table.sections) ++ line.OrderEnd ∷ []))
+
+module _ (table : Collation) (w : IsWellFormed table) where
+  -- what is met may stand behind a first section that is empty
+  can_follow : CanFollow (length table.rules) table.declared (record { name = None; entries = [] } ∷ []) (met table.sections)
+  can_follow =
+      let entries = sym (entries_met table.sections) in
+      let names = sym (names_met table.sections) in
+      let named = names_of_first table.sections w.built.first_unnamed in
+      record {
+        first_unnamed = (refl, All-nil IsNamed);
+        are_names = subst (All IsName) names named.0;
+        distinct_names = subst (AreDistinct same_name) names w.built.distinct_sections;
+        distinct_ids = subst (λ es. AreDistinct same_id (ids_of es)) entries w.built.distinct_entries;
+        known = subst (λ es. All (IsKnown table.declared) (ids_of es)) entries w.built.known;
+        weighted = subst (All (IsWeighted (length table.rules) table.declared)) entries w.built.weighted;
+        few_entries = subst (λ (es : List Entry). length es ≤ most_entries) entries w.built.few_entries;
+        few_sections = subst (λ (ns : List (List ℕ)). 1 + length ns ≤ most_sections) names (let few = w.built.few_sections in let count = named.1 in omega arith);
+      }
+
+  -- behind all that is met the order is closed
+  order_leads : (numbers : List ℕ) (number : ℕ) → Leads (open_draft table.rules table.declared (sections_past (record { name = None; entries = [] } ∷ []) (met table.sections)) numbers) number (line.OrderEnd ∷ []) (EndsAs table)
+  unfolding Leads open_draft draft_with closed_draft
+  order_leads numbers number =
+      subst (λ sections. Leads (open_draft table.rules table.declared sections numbers) number (line.OrderEnd ∷ []) (EndsAs table)) (sym (past_all table.sections w.built.first_unnamed))
+      (faultless (open_draft table.rules table.declared table.sections numbers) number line.OrderEnd refl refl, refl, ends_as table w numbers)
+
+  -- behind the declarations the order begins
+  rules_lead : (number : ℕ) → Leads (declared_draft table.declared) number (line.OrderStart None (Some table.rules) ∷ (map met_read (met table.sections) ++ line.OrderEnd ∷ [])) (EndsAs table)
+  unfolding Leads declared_draft draft_with open_draft
+  rules_lead number =
+      (faultless (declared_draft table.declared) number (line.OrderStart None (Some table.rules)) refl refl,
+      refl,
+      meets_lead table.rules table.declared (record { name = None; entries = [] } ∷ []) [] (met table.sections) (suc number) (line.OrderEnd ∷ []) (EndsAs table) can_follow order_leads)
+
+  -- the lines of a table, accepted one after another, say it
+  pub said_leads : (number : ℕ) → Leads (draft_of []) number (said table) (EndsAs table)
+  unfolding said declared_draft draft_of
+  said_leads number =
+      declarations_lead [] table.declared number (line.OrderStart None (Some table.rules) ∷ (map met_read (met table.sections) ++ line.OrderEnd ∷ [])) (EndsAs table)
+      w.built.distinct_names w.built.distinct_texts w.built.few_declarations rules_lead
