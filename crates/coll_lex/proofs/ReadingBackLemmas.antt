@@ -115,7 +115,7 @@ is_hex_digit-hex_digit : (d : ℕ) → d < 16 → is_hex_digit (hex_digit d) ≡
 is_hex_digit-hex_digit d small = rw (digit_value-hex_digit d small) (lt-ltb d 16 small)
 
 -- and no character that a name escapes
-is_escaped-hex_digit : (d : ℕ) → d < 16 → is_escaped (hex_digit d) ≡ false
+pub is_escaped-hex_digit : (d : ℕ) → d < 16 → is_escaped (hex_digit d) ≡ false
 is_escaped-hex_digit d small =
     ⊎_elim
     (λ low. rw (lt-ltb d 10 low, ne_eqb (48 + d) 62 (λ same. omega arith), ne_eqb (48 + d) 47 (λ same. omega arith)) refl)
@@ -123,7 +123,7 @@ is_escaped-hex_digit d small =
     (cases_lt d 10)
 
 -- how many digits there are
-length-hex_digits : (count n : ℕ) → length (hex_digits count n) ≡ count
+pub length-hex_digits : (count n : ℕ) → length (hex_digits count n) ≡ count
 length-hex_digits zero n = ap length (hex_digits-zero n)
 length-hex_digits (suc count) n = ap length (hex_digits-suc count n) ∙ length_push (hex_digits count (n / 16)) (hex_digit (n % 16)) ∙ (omega (arith, length-hex_digits count (n / 16)))
 
@@ -159,7 +159,7 @@ symbol_of-spelled_code c is =
     (cases_lt c 65536)
 
 -- a spelled character is a spelled symbol
-spelled_code-symbol : (c : ℕ) (rest : List ℕ) → spelled_code c rest ≡ spelled_symbol (85 ∷ hex_digits (digit_count c) c) rest
+pub spelled_code-symbol : (c : ℕ) (rest : List ℕ) → spelled_code c rest ≡ spelled_symbol (85 ∷ hex_digits (digit_count c) c) rest
 unfolding spelled_code spelled_symbol
 spelled_code-symbol c rest =
     let digits = hex_digits (digit_count c) c in
