@@ -5,6 +5,7 @@ pub mod LoadSteps
 pub mod LookUps
 pub mod PlaceLookUps
 pub mod PrintedDrafts
+pub mod PrintedLines
 pub mod PrintedSpellings
 pub mod PrintedTokens
 pub mod Sameness

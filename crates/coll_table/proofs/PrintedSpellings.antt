@@ -72,6 +72,18 @@ spells_both f g ts us m n h k ends = record {
   reads = λ rest e. h.reads (g rest) (ends rest e) ∙ ap (with_tokens ts) (k.reads rest e) ∙ sym (with_tokens-append ts us (reading_of 37 (marks 47 false rest)));
 }
 
+-- a separator is read as these tokens, whatever follows it
+pub record Separates (separator : List ℕ → List ℕ) (tokens : List Token) (most : ℕ) : Type 0 where
+  pub keeps : Keeps separator most
+  pub reads : (rest : List ℕ) → reading_of 37 (marks 47 false (separator rest)) ≡ with_tokens tokens (reading_of 37 (marks 47 false rest))
+
+-- a spelling behind a separator
+pub spells_apart : (f g : List ℕ → List ℕ) (ts us : List Token) (m n : ℕ) → Separates f ts m → Spells g us n → Spells (λ rest. f (g rest)) (ts ++ us) (m + n)
+spells_apart f g ts us m n h k = record {
+  keeps = keeps_both f g m n h.keeps k.keeps;
+  reads = λ rest e. h.reads (g rest) ∙ ap (with_tokens ts) (k.reads rest e) ∙ sym (with_tokens-append ts us (reading_of 37 (marks 47 false rest)));
+}
+
 -- a bound may be wider
 pub keeps_wider : (f : List ℕ → List ℕ) (m n : ℕ) → m ≤ n → Keeps f m → Keeps f n
 keeps_wider f m n wide h = record { stays = h.stays; clean = h.clean; short = λ rest. let a = h.short rest in omega arith }
@@ -209,17 +221,17 @@ spells_word c cs h = record {
 -- Blanks and separators.
 
 -- a blank is skipped
-pub spells_space : Spells (λ rest. 32 ∷ rest) [] 1
+pub separates_space : Separates (λ rest. 32 ∷ rest) [] 1
 unfolding with_tokens marks atoms reading is_clean
-spells_space = record { keeps = keeps_char 32 refl refl (omega arith); reads = λ rest e. refl }
+separates_space = record { keeps = keeps_char 32 refl refl (omega arith); reads = λ rest. refl }
 
-pub spells_semicolon : Spells (λ rest. 59 ∷ rest) (token.Semicolon ∷ []) 1
+pub separates_semicolon : Separates (λ rest. 59 ∷ rest) (token.Semicolon ∷ []) 1
 unfolding with_tokens marks atoms reading is_clean
-spells_semicolon = record { keeps = keeps_char 59 refl refl (omega arith); reads = λ rest e. refl }
+separates_semicolon = record { keeps = keeps_char 59 refl refl (omega arith); reads = λ rest. refl }
 
-pub spells_comma : Spells (λ rest. 44 ∷ rest) (token.Comma ∷ []) 1
+pub separates_comma : Separates (λ rest. 44 ∷ rest) (token.Comma ∷ []) 1
 unfolding with_tokens marks atoms reading is_clean
-spells_comma = record { keeps = keeps_char 44 refl refl (omega arith); reads = λ rest e. refl }
+separates_comma = record { keeps = keeps_char 44 refl refl (omega arith); reads = λ rest. refl }
 
 -- each ends a word, and so does the line's end
 pub end_ends : EndsWord []
@@ -329,7 +341,7 @@ clean_chars (c ∷ cs) e s =
     clean-cons c cs (clean_char c a.0 b.0) (clean_chars cs a.1 b.1)
 
 -- a name of characters
-spells_name : (name : List ℕ) → IsName name → scalars name ≡ true → Spells (spelled_symbol name) (token.Symbol name ∷ []) 258
+pub spells_name : (name : List ℕ) → IsName name → scalars name ≡ true → Spells (spelled_symbol name) (token.Symbol name ∷ []) 258
 spells_name name is s =
     let parts = and_parts _ _ (name_parts name is) in
     spells_symbol name (piece.Name name) is (clean_chars name parts.1 s) (leb-true (length name) 64 parts.0)
@@ -365,13 +377,13 @@ spells_char c is =
     (spells_symbol name (piece.Char c) (symbol_of-spelled_code c is) (clean-cons 85 (hex_digits (digit_count c) c) capital_clean (digits_clean (digit_count c) c)) (short_code c))
 
 -- the characters of an identifier are characters, and its name is one
-pub IsSpelled : Id → Type 0
+unfoldable pub IsSpelled : Id → Type 0
 IsSpelled (Char c) = scalar c ≡ true
 IsSpelled (Named name) = IsName name × (scalars name ≡ true)
 IsSpelled Undefined = Unit {0}
 
 -- so are those of an identifier in a weight, which is no UNDEFINED
-pub IsSpelledWeight : Id → Type 0
+unfoldable pub IsSpelledWeight : Id → Type 0
 IsSpelledWeight (Char c) = scalar c ≡ true
 IsSpelledWeight (Named name) = IsName name × (scalars name ≡ true)
 IsSpelledWeight Undefined = ⊥

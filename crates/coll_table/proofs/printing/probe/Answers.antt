@@ -1,5 +1,5 @@
 use Rattle.std.proofs.Common.{refl}
-use Rattle.coll_table.proofs.PrintedSpellings.{with_tokens}
+use Rattle.coll_table.proofs.PrintedLines.{spells_joined}
 use Rattle.coll_table.proofs.printing.probe.Goals as goal
 
 pub returns : goal.returns
