@@ -7,6 +7,7 @@ pub mod PlaceLookUps
 pub mod PrintedDrafts
 pub mod PrintedLines
 pub mod PrintedSpellings
+pub mod PrintedTexts
 pub mod PrintedTokens
 pub mod Sameness
 pub mod BuiltTables

@@ -1,5 +1,5 @@
 -- Each canonical line is read as its tokens.
-use Rattle.std.proofs.Common.{◌≡◌, ℕ, zero, suc, ◌+◌, ◌*◌, ◌<◌, ◌≤◌, Bool, true, false, if◌then◌else◌, List, [], ◌∷◌, ◌++◌, All, length, map, codes, None, sym, ap, subst, ◌∙◌, refl, arith}
+use Rattle.std.proofs.Common.{◌≡◌, ℕ, zero, suc, ◌+◌, ◌*◌, ◌<◌, ◌≤◌, Bool, true, false, if◌then◌else◌, List, [], ◌∷◌, ◌++◌, All, length, map, codes, Some, None, Ok, sym, ap, subst, ◌∙◌, refl, arith}
 use Rattle.std.specs.Prelude.{encode_utf8_all}
 use Rattle.std.specs.List.{list_all}
 use lib.Utf8.{scalar, scalars, encode}
@@ -16,7 +16,10 @@ use Rattle.coll_lex.specs.declared.tokens.Chars.{Chars}
 use Rattle.coll_lex.specs.declared.tokens.Token.{Token}
 use Rattle.coll_lex.specs.declared.tokens.Token.TheVariants as token
 use Rattle.coll_lex.specs.declared.tokens.Piece.TheVariants as piece
-use Rattle.coll_syntax.specs.Proper.{IsElementText}
+use Rattle.coll_syntax.specs.Proper.{IsElementText, IsProperWeight}
+use Rattle.coll_syntax.specs.TableLines.{table_line}
+use Rattle.coll_syntax.specs.declared.lines.TableLine.{TableLine}
+use Rattle.coll_syntax.specs.declared.lines.TableLine.TheVariants as line
 use Rattle.coll_syntax.specs.declared.identifiers.Id.{Id}
 use Rattle.coll_syntax.specs.declared.identifiers.Id.TheVariants.{Char, Named, Undefined}
 use Rattle.coll_syntax.specs.declared.rules.Rule.{Rule}
@@ -29,7 +32,7 @@ use Rattle.coll_table.specs.Entries.{weight_ids}
 use Rattle.coll_table.specs.Table.{name_of, text_of}
 use Rattle.coll_table.specs.Walks.{Met, MetSection, MetEntry}
 use Rattle.coll_table.specs.CanonicalText.{spelled_behind, spelled_joined, spelled_id, spelled_string, spelled_own, spelled_names, spelled_weight, direction_word, spelled_position, spelled_rule, declaration_line, rules_line, is_own, weights_behind, entry_line, met_line}
-use Rattle.coll_table.proofs.PrintedTokens.{tokens_behind, tokens_joined, id_token, id_piece, own_tokens, names_tokens, weight_tokens, order_tokens, position_tokens, rule_tokens, rules_tokens, declaration_tokens, section_tokens}
+use Rattle.coll_table.proofs.PrintedTokens.{tokens_behind, tokens_joined, id_token, id_piece, own_tokens, names_tokens, weight_tokens, order_tokens, position_tokens, rule_tokens, rules_tokens, declaration_tokens, section_tokens, order_read, declaration_read, declaration_is_read, rules_line_is_read, order_is_read, section_is_read, order_end_is_read, category_end_is_read}
 use Rattle.coll_table.proofs.PrintedSpellings.{with_tokens, EndsWord, is_clean, is_letter, Keeps, Spells, spells_both, spells_wider, spells_nothing, spells_word, spells_apart, separates_space, separates_semicolon, separates_comma, end_ends, space_ends, semicolon_ends, comma_ends, IsSpelled, IsSpelledWeight, spells_id, spells_name, spells_string}
 
 -- Lists of spellings.
@@ -184,11 +187,6 @@ unfolding id_piece
 text_pieces [] = refl
 text_pieces (c ∷ cs) = ap (λ l. piece.Char c ∷ l) (text_pieces cs)
 
--- the tokens behind the word that begins the line
-declaration_operands : Declaration → List Token
-declaration_operands (declaration.Symbol name) = token.Symbol name ∷ []
-declaration_operands (declaration.Element name text) = token.Symbol name ∷ token.Word (codes "from") ∷ token.Text (map piece.Char text) ∷ []
-
 -- a name and a string of characters
 pub record IsSpelledDeclaration (d : Declaration) : Type 0 where
   pub is : IsName (name_of d)
@@ -241,3 +239,42 @@ entry_is_line id ws false e h hs few =
     (spells_apart (λ rest. 32 ∷ rest) (spelled_joined (spelled_weight id) ws) [] (tokens_joined (map (weight_tokens id) ws)) 1 (8259 * length ws) separates_space (spells_joined (spelled_weight id) (weight_tokens id) IsSpelledList (spells_weight id h) ws hs))
     (λ rest e. space_ends (spelled_joined (spelled_weight id) ws rest)))
     (omega arith) (entry_chooses id (32 ∷ spelled_joined (spelled_weight id) ws []))
+
+-- What a line says.
+
+-- a line that is read, and that says this to the grammar
+abbrev pub Says : List ℕ → TableLine → Type 0
+Says line read = (t : Token) × (ts : List Token) × IsLine line t ts × (table_line (t ∷ ts) ≡ Ok read)
+
+-- the line of a declaration
+pub declaration_says : (d : Declaration) → IsSpelledDeclaration d → Says (declaration_line d) (declaration_read d)
+unfolding declaration_tokens declaration_read
+declaration_says (declaration.Symbol name) h =
+    (token.Word (codes "collating-symbol"), token.Symbol name ∷ [], symbol_is_line name h.is h.name, declaration_is_read (declaration.Symbol name) h.few)
+declaration_says (declaration.Element name text) h =
+    (token.Word (codes "collating-element"), token.Symbol name ∷ token.Word (codes "from") ∷ token.Text (map piece.Char text) ∷ [],
+    element_is_line name text h.is h.name (All-head (λ text. scalars text ≡ true) text [] h.texts) (All-head IsElementText text [] h.few), declaration_is_read (declaration.Element name text) h.few)
+
+-- the line of the rules
+pub rules_say : (rules : List Rule) → 1 ≤ length rules → length rules ≤ 4 → Says (rules_line rules) (line.OrderStart None (Some rules))
+unfolding rules_tokens
+rules_say rules some few = (token.Word (codes "order_start"), tokens_joined (map rule_tokens rules), rules_is_line rules few, rules_line_is_read rules some few)
+
+-- the line of an entry
+pub entry_says : (e : Entry) → IsSpelledEntry e → All IsProperWeight e.weights → Says (entry_line e) (line.Order (order_read e.id e.weights))
+unfolding order_tokens
+entry_says e h proper =
+    let own = list_all is_own e.weights in
+    (id_token e.id, (if own then [] else tokens_joined (map (weight_tokens e.id) e.weights)), entry_is_line e.id e.weights own refl h.id h.weights h.few, order_is_read e.id e.weights proper)
+
+-- the line that begins a section
+pub section_says : (name : List ℕ) → IsName name → scalars name ≡ true → Says (met_line (MetSection name)) (line.Section name)
+unfolding section_tokens
+section_says name is s = (token.Word (codes "section"), token.Symbol name ∷ [], section_is_line name is s, section_is_read name)
+
+-- the lines behind the last entry
+pub order_end_says : Says (codes "order_end") line.OrderEnd
+order_end_says = (token.Word (codes "order_end"), [], order_end_is_line, order_end_is_read)
+
+pub category_end_says : Says (codes "END LC_COLLATE") line.EndCategory
+category_end_says = (token.Word (codes "END"), token.Word (codes "LC_COLLATE") ∷ [], category_end_is_line, category_end_is_read)
