@@ -6,6 +6,7 @@ pub mod LookUps
 pub mod PlaceLookUps
 pub mod PrintedDrafts
 pub mod PrintedLines
+pub mod PrintedReading
 pub mod PrintedSpellings
 pub mod PrintedTexts
 pub mod PrintedTokens

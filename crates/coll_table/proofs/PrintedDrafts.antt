@@ -36,7 +36,7 @@ use Rattle.coll_table.proofs.PrintedTokens.{own_read, weight_read, order_read, d
 -- Lines that are accepted.
 
 -- these lines are accepted one after another, numbered from here on, and what is said then is so
-pub Leads : DraftState → ℕ → List TableLine → (DraftState → Type 0) → Type 0
+unfoldable pub Leads : DraftState → ℕ → List TableLine → (DraftState → Type 0) → Type 0
 Leads d number [] Last = Last d
 Leads d number (l ∷ ls) Last = (line_fault d (record { number = number; line = l }) ≡ None) × (is_end l ≡ false) × Leads (draft_with d number l) (suc number) ls Last
 

@@ -50,7 +50,7 @@ line_bytes [] h = All-nil (λ b. 32 ≤ b)
 line_bytes (c ∷ cs) h = let a = and_parts _ _ h in All-append (λ b. 32 ≤ b) (encode c) (encode_utf8_all cs) (char_bytes c a.0) (line_bytes cs a.1)
 
 -- so no line feed is among them
-in_line : (cs : List ℕ) → list_all is_clean cs ≡ true → IsInLine (encode_utf8_all cs)
+pub in_line : (cs : List ℕ) → list_all is_clean cs ≡ true → IsInLine (encode_utf8_all cs)
 in_line cs h = All-weaker (λ b. 32 ≤ b) (λ b. b ≢ line_feed) (λ b high same. omega arith) (encode_utf8_all cs) (line_bytes cs h)
 
 -- and no carriage return at their end
@@ -74,7 +74,7 @@ are_utf8 cs h =
 -- One line, handed to a lexer.
 
 -- a lexer with `%` and `/` and no open line, that was handed so many lines
-pub lexer_at : ℕ → LexerState
+unfoldable pub lexer_at : ℕ → LexerState
 lexer_at count = record { special = record { comment = 37; escape = 47 }; count = count; line = None }
 
 -- a line that passes the tests before it is read
