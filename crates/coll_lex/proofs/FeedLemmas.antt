@@ -4,6 +4,7 @@ use Rattle.std.specs.Option.{ForSome}
 use Rattle.std.specs.Str.{is_utf8}
 use Rattle.std.specs.declared.alloc.Global.{Global}
 use Rattle.std.proofs.lemmas.List.{append-nil}
+use Rattle.std.proofs.lemmas.List.Elements.{All-nil, All-cons, All-append}
 use Rattle.std.proofs.lemmas.Bool.Decides.{nat_tests}
 use Rattle.std.proofs.lemmas.Str.{is_utf8-from_IsUtf8, IsUtf8-from_is_utf8}
 use Rattle.coll_lex.specs.PhysicalLines.{without_return}
@@ -230,19 +231,20 @@ unfolding joined_marks reading_left
 sound_new special o alloc number e f =
     let none : lines_in o.lines.items ≡ [] = ap (λ (l : OpenLine). l.lines) e in
     let bytes : o.bytes ≡ 0 = ap (λ (l : OpenLine). l.bytes) e in
-    record { reads = λ ms. rw (none, f) refl; unescaped = rw f refl; short = omega arith }
+    record { reads = λ ms. rw (none, f) refl; text = rw none (All-nil IsUtf8); unescaped = rw f refl; short = omega arith }
 
 after_unescaped : (comment : ℕ) (s : Scan) (ms : List Mark) → reading_left comment s ms ≡ reading_left comment (record s { escaped = false }) ms
 unfolding reading_left
 after_unescaped comment s ms = refl
 
 pub sound_more : (special : Chars) (old new : Open) (line : List ℕ) (bytes : ℕ) (scan : Scan) → IsSoundOpen special old → TakesLine special old.scan (chars line) scan
-    → line_in new ≡ added (line_in old) line bytes → new.scan ≡ record scan { escaped = false } → old.bytes + bytes ≤ most_line_bytes → IsSoundOpen special new
-sound_more special old new line bytes scan h t e f short =
+    → IsUtf8 line → line_in new ≡ added (line_in old) line bytes → new.scan ≡ record scan { escaped = false } → old.bytes + bytes ≤ most_line_bytes → IsSoundOpen special new
+sound_more special old new line bytes scan h t text e f short =
     let lines : lines_in new.lines.items ≡ lines_in old.lines.items ++ line ∷ [] = ap (λ (l : OpenLine). l.lines) e in
     let sum : new.bytes ≡ old.bytes + bytes = ap (λ (l : OpenLine). l.bytes) e in
     record {
       reads = λ ms. rw (lines, f) (marks_more special old line ms h ∙ (t.reads ms ∙ after_unescaped special.comment scan ms));
+      text = rw lines (All-append IsUtf8 (lines_in old.lines.items) (line ∷ []) h.text (All-cons IsUtf8 line [] text (All-nil IsUtf8)));
       unescaped = rw f refl;
       short = omega arith;
     }

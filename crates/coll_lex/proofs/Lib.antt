@@ -14,5 +14,7 @@ pub mod SymbolLemmas
 pub mod LineEnds
 pub mod FeedLemmas
 pub mod LineFaults
+pub mod CharacterLemmas
+pub mod HeldText
 pub mod NameLemmas
 pub mod NameTests

@@ -1,16 +1,16 @@
--- The tokens of a logical line: names are names, no word is empty, and there is a token.
-use Rattle.std.proofs.Common.{◌≡◌, ℕ, zero, suc, ◌<◌, ◌==◌, Bool, true, false, if◌then◌else◌, List, [], ◌∷◌, length, map, chars, All, Option, Some, None, Result, Ok, Err, IfSome, IfOk, refl, subst, arith}
+-- The tokens of a logical line: they are made of characters, names are names, no word is empty, and there is a token.
+use Rattle.std.proofs.Common.{◌≡◌, ℕ, zero, suc, ◌<◌, ◌==◌, Bool, true, false, List, [], ◌∷◌, length, map, chars, IsUtf8, All, Option, Some, None, Result, Ok, Err, IfSome, IfOk, refl, subst, arith}
+use Rattle.std.proofs.lemmas.Bool.{cond_both}
 use Rattle.std.proofs.lemmas.List.Elements.{All-nil, All-cons}
-use Rattle.std.specs.Str.{is_utf8}
+use Rattle.std.specs.Char.{IsScalar}
 use lib.Utf8.{scalar}
 use Rattle.coll_lex.specs.Kinds.{Kind, kind_of}
 use Rattle.coll_lex.specs.Kinds as kind
 use Rattle.coll_lex.specs.PhysicalLines.{without_return}
 use Rattle.coll_lex.specs.Marked.{Plain, Literal, is_joined, joined_marks}
 use Rattle.coll_lex.specs.Tokens.{Atom, Bracketed, Unclosed, Bare, atoms, Stop, AtFault, AtComment, AtEnd, InSymbol, InString, Reading, Quoted, Closed, Stops, is_constant, is_name, code_point_of, symbol_by, symbol_of, with_token, after_symbol, with_piece, with_symbol, quoted, after_string, word_run, after_word, after_plain, reading, stopped}
-use Rattle.coll_lex.specs.Directives.{directive}
-use Rattle.coll_lex.specs.LogicalLines.{OpenLine, LexerState, extended, dropped, whole, answer_at, answer_in, reading_in, directive_where, fed_as, line_fault, fed_text, unless_fault, fed}
-use Rattle.coll_lex.specs.Names.{IsPiece, IsToken, AreTokens}
+use Rattle.coll_lex.specs.LogicalLines.{OpenLine, LexerState, extended, dropped, whole, answer_at, answer_in, reading_in, fed_as, fed}
+use Rattle.coll_lex.specs.Names.{AreCharacters, IsPiece, IsToken, AreTokens, HoldsText}
 use Rattle.coll_lex.specs.declared.tokens.Chars.{Chars}
 use Rattle.coll_lex.specs.declared.tokens.Line.{Line}
 use Rattle.coll_lex.specs.declared.tokens.Piece.{Piece}
@@ -18,24 +18,22 @@ use Rattle.coll_lex.specs.declared.tokens.Piece.TheVariants as piece
 use Rattle.coll_lex.specs.declared.tokens.Token.{Token}
 use Rattle.coll_lex.specs.declared.tokens.Token.TheVariants as token
 use Rattle.coll_lex.specs.declared.faults.LexFault.{LexFault}
-use Rattle.coll_lex.specs.declared.faults.LexFault.TheVariants.{BadName, BadCodePoint, CharacterConstant, NotUtf8}
+use Rattle.coll_lex.specs.declared.faults.LexFault.TheVariants.{BadName, BadCodePoint, CharacterConstant}
+use Rattle.coll_lex.proofs.CharacterLemmas.{AreSpelled, lines_spelled, IfWord, word_run_if, characters-cons}
+use Rattle.coll_lex.proofs.HeldText.{fed_by}
 
 -- symbols
 
--- what a symbol's characters stand for, if it is a name, is these characters
+-- what a symbol's characters stand for is a character, or, if it is a name, these characters
 abbrev IsItself : List ℕ → Result Piece LexFault → Type 0
-IsItself cs (Ok (piece.Char c)) = Unit {0}
+IsItself cs (Ok (piece.Char c)) = IsScalar c
 IsItself cs (Ok (piece.Name name)) = name ≡ cs
 IsItself cs (Err fault) = Unit {0}
 
-either : {A : Type 0} (P : A → Type 0) (b : Bool) (x y : A) → P x → P y → P (if b then x else y)
-either P true x y p q = p
-either P false x y p q = q
-
 symbol_by_itself : (code : Option ℕ) (cs : List ℕ) → IsItself cs (symbol_by code cs)
 symbol_by_itself None [] = tt
-symbol_by_itself None (c ∷ cs) = either (IsItself (c ∷ cs)) (is_name (c ∷ cs)) (Ok (piece.Name (c ∷ cs))) (Err BadName) refl tt
-symbol_by_itself (Some n) cs = either (IsItself cs) (scalar n) (Ok (piece.Char n)) (Err BadCodePoint) tt tt
+symbol_by_itself None (c ∷ cs) = cond_both (is_name (c ∷ cs)) (Ok (piece.Name (c ∷ cs))) (Err BadName) (IsItself (c ∷ cs)) (λ _. refl) (λ _. tt)
+symbol_by_itself (Some n) cs = cond_both (scalar n) (Ok (piece.Char n)) (Err BadCodePoint) (IsItself cs) (λ e. e) (λ _. tt)
 
 symbol_itself : (cs : List ℕ) → IsItself cs (symbol_of cs)
 unfolding symbol_of
@@ -46,13 +44,13 @@ abbrev MakesPiece : Result Piece LexFault → Type 0
 MakesPiece (Ok p) = IsPiece p
 MakesPiece (Err fault) = Unit {0}
 
-itself_makes_piece : (cs : List ℕ) (r : Result Piece LexFault) → symbol_of cs ≡ r → IsItself cs r → MakesPiece r
-itself_makes_piece cs (Ok (piece.Char c)) e same = tt
-itself_makes_piece cs (Ok (piece.Name name)) e same = rw same (rw same at e)
-itself_makes_piece cs (Err fault) e same = tt
+itself_makes_piece : (cs : List ℕ) (r : Result Piece LexFault) → AreCharacters cs → symbol_of cs ≡ r → IsItself cs r → MakesPiece r
+itself_makes_piece cs (Ok (piece.Char c)) h e is = is
+itself_makes_piece cs (Ok (piece.Name name)) h e same = rw same (rw same at e, h)
+itself_makes_piece cs (Err fault) h e same = tt
 
-symbol_makes_piece : (cs : List ℕ) → MakesPiece (symbol_of cs)
-symbol_makes_piece cs = itself_makes_piece cs (symbol_of cs) refl (symbol_itself cs)
+symbol_makes_piece : (cs : List ℕ) → AreCharacters cs → MakesPiece (symbol_of cs)
+symbol_makes_piece cs h = itself_makes_piece cs (symbol_of cs) h refl (symbol_itself cs)
 
 -- strings
 
@@ -69,13 +67,13 @@ with_symbol_pieces : (r : Result Piece LexFault) (q : Quoted) → MakesPiece r �
 with_symbol_pieces (Ok p) q h k = with_piece_pieces p q h k
 with_symbol_pieces (Err fault) q h k = tt
 
-quoted_pieces : (xs : List Atom) → HasPieces (quoted xs)
+quoted_pieces : (xs : List Atom) → AreSpelled xs → HasPieces (quoted xs)
 unfolding quoted
-quoted_pieces [] = tt
-quoted_pieces (Bracketed name ∷ xs) = with_symbol_pieces (symbol_of name) (quoted xs) (symbol_makes_piece name) (quoted_pieces xs)
-quoted_pieces (Unclosed ∷ xs) = tt
-quoted_pieces (Bare (Plain c) ∷ xs) = either HasPieces (c == 34) (Closed []) (with_piece (piece.Char c) (quoted xs)) (All-nil IsPiece) (with_piece_pieces (piece.Char c) (quoted xs) tt (quoted_pieces xs))
-quoted_pieces (Bare (Literal c) ∷ xs) = either HasPieces (is_constant c) (Stops (AtFault CharacterConstant)) (with_piece (piece.Char c) (quoted xs)) tt (with_piece_pieces (piece.Char c) (quoted xs) tt (quoted_pieces xs))
+quoted_pieces [] h = tt
+quoted_pieces (Bracketed name ∷ xs) h = with_symbol_pieces (symbol_of name) (quoted xs) (symbol_makes_piece name h.0) (quoted_pieces xs h.1)
+quoted_pieces (Unclosed ∷ xs) h = tt
+quoted_pieces (Bare (Plain c) ∷ xs) h = cond_both (c == 34) (Closed []) (with_piece (piece.Char c) (quoted xs)) HasPieces (λ _. All-nil IsPiece) (λ _. with_piece_pieces (piece.Char c) (quoted xs) h.0 (quoted_pieces xs h.1))
+quoted_pieces (Bare (Literal c) ∷ xs) h = cond_both (is_constant c) (Stops (AtFault CharacterConstant)) (with_piece (piece.Char c) (quoted xs)) HasPieces (λ _. tt) (λ _. with_piece_pieces (piece.Char c) (quoted xs) h.0 (quoted_pieces xs h.1))
 
 -- readings
 
@@ -87,7 +85,7 @@ with_token_tokens : (t : Token) (rest : Reading) → IsToken t → HasTokens res
 with_token_tokens t rest h k = All-cons IsToken t rest.tokens h k
 
 after_symbol_tokens : (r : Result Piece LexFault) (rest : Reading) → MakesPiece r → HasTokens rest → HasTokens (after_symbol r rest)
-after_symbol_tokens (Ok (piece.Char c)) rest h k = with_token_tokens (token.Char c) rest tt k
+after_symbol_tokens (Ok (piece.Char c)) rest h k = with_token_tokens (token.Char c) rest h k
 after_symbol_tokens (Ok (piece.Name name)) rest h k = with_token_tokens (token.Symbol name) rest h k
 after_symbol_tokens (Err fault) rest h k = All-nil IsToken
 
@@ -98,35 +96,37 @@ after_string_tokens (Stops stop) rest h k = All-nil IsToken
 word_begun : (c : ℕ) (word : List ℕ) → 0 < length (c ∷ word)
 word_begun c word = omega arith
 
-after_word_tokens : (c : ℕ) (r : Result (List ℕ) LexFault) (rest : ℕ → Reading) → ((skip : ℕ) → HasTokens (rest skip)) → HasTokens (after_word c r rest)
-after_word_tokens c (Ok word) rest k = with_token_tokens (token.Word (c ∷ word)) (rest (length word)) (word_begun c word) (k (length word))
-after_word_tokens c (Err fault) rest k = All-nil IsToken
+after_word_tokens : (c : ℕ) (r : Result (List ℕ) LexFault) (rest : ℕ → Reading) → IsScalar c → IfWord r → ((skip : ℕ) → HasTokens (rest skip)) → HasTokens (after_word c r rest)
+after_word_tokens c (Ok word) rest h w k = with_token_tokens (token.Word (c ∷ word)) (rest (length word)) (word_begun c word, characters-cons c word h w) (k (length word))
+after_word_tokens c (Err fault) rest h w k = All-nil IsToken
 
-after_plain_tokens : (k : Kind) (c : ℕ) (string : Quoted) (word : Result (List ℕ) LexFault) (rest : ℕ → Reading) → HasPieces string → ((skip : ℕ) → HasTokens (rest skip))
+after_plain_tokens : (k : Kind) (c : ℕ) (string : Quoted) (word : Result (List ℕ) LexFault) (rest : ℕ → Reading) → IsScalar c → HasPieces string → IfWord word → ((skip : ℕ) → HasTokens (rest skip))
     → HasTokens (after_plain k c string word rest)
-after_plain_tokens kind.Blank c string word rest h k = k zero
-after_plain_tokens kind.Semicolon c string word rest h k = with_token_tokens token.Semicolon (rest zero) tt (k zero)
-after_plain_tokens kind.Comma c string word rest h k = with_token_tokens token.Comma (rest zero) tt (k zero)
-after_plain_tokens kind.CommentCharacter c string word rest h k = All-nil IsToken
-after_plain_tokens kind.QuotationMark c string word rest h k = after_string_tokens string rest h k
-after_plain_tokens kind.Letter c string word rest h k = after_word_tokens c word rest k
+after_plain_tokens kind.Blank c string word rest h p w k = k zero
+after_plain_tokens kind.Semicolon c string word rest h p w k = with_token_tokens token.Semicolon (rest zero) tt (k zero)
+after_plain_tokens kind.Comma c string word rest h p w k = with_token_tokens token.Comma (rest zero) tt (k zero)
+after_plain_tokens kind.CommentCharacter c string word rest h p w k = All-nil IsToken
+after_plain_tokens kind.QuotationMark c string word rest h p w k = after_string_tokens string rest p k
+after_plain_tokens kind.Letter c string word rest h p w k = after_word_tokens c word rest h w k
 
-reading_tokens : (comment skip : ℕ) (xs : List Atom) → HasTokens (reading comment skip xs)
+reading_tokens : (comment skip : ℕ) (xs : List Atom) → AreSpelled xs → HasTokens (reading comment skip xs)
 unfolding reading
-reading_tokens comment zero [] = All-nil IsToken
-reading_tokens comment (suc skip) [] = All-nil IsToken
-reading_tokens comment (suc skip) (a ∷ xs) = reading_tokens comment skip xs
-reading_tokens comment zero (Bracketed name ∷ xs) = after_symbol_tokens (symbol_of name) (reading comment zero xs) (symbol_makes_piece name) (reading_tokens comment zero xs)
-reading_tokens comment zero (Unclosed ∷ xs) = All-nil IsToken
-reading_tokens comment zero (Bare (Plain c) ∷ xs) =
-    after_plain_tokens (kind_of comment c) c (quoted xs) (word_run comment xs) (λ skip. reading comment skip xs) (quoted_pieces xs) (λ skip. reading_tokens comment skip xs)
-reading_tokens comment zero (Bare (Literal c) ∷ xs) =
-    either HasTokens (is_constant c) (stopped (AtFault CharacterConstant)) (after_word c (word_run comment xs) (λ skip. reading comment skip xs)) (All-nil IsToken)
-    (after_word_tokens c (word_run comment xs) (λ skip. reading comment skip xs) (λ skip. reading_tokens comment skip xs))
+reading_tokens comment zero [] h = All-nil IsToken
+reading_tokens comment (suc skip) [] h = All-nil IsToken
+reading_tokens comment (suc skip) (Bracketed name ∷ xs) h = reading_tokens comment skip xs h.1
+reading_tokens comment (suc skip) (Unclosed ∷ xs) h = reading_tokens comment skip xs h
+reading_tokens comment (suc skip) (Bare m ∷ xs) h = reading_tokens comment skip xs h.1
+reading_tokens comment zero (Bracketed name ∷ xs) h = after_symbol_tokens (symbol_of name) (reading comment zero xs) (symbol_makes_piece name h.0) (reading_tokens comment zero xs h.1)
+reading_tokens comment zero (Unclosed ∷ xs) h = All-nil IsToken
+reading_tokens comment zero (Bare (Plain c) ∷ xs) h =
+    after_plain_tokens (kind_of comment c) c (quoted xs) (word_run comment xs) (λ skip. reading comment skip xs) h.0 (quoted_pieces xs h.1) (word_run_if comment xs h.1) (λ skip. reading_tokens comment skip xs h.1)
+reading_tokens comment zero (Bare (Literal c) ∷ xs) h =
+    cond_both (is_constant c) (stopped (AtFault CharacterConstant)) (after_word c (word_run comment xs) (λ skip. reading comment skip xs)) HasTokens (λ _. All-nil IsToken)
+    (λ _. after_word_tokens c (word_run comment xs) (λ skip. reading comment skip xs) h.0 (word_run_if comment xs h.1) (λ skip. reading_tokens comment skip xs h.1))
 
-reading_in_tokens : (special : Chars) (lines : List (List ℕ)) → HasTokens (reading_in special lines)
+reading_in_tokens : (special : Chars) (lines : List (List ℕ)) → All IsUtf8 lines → HasTokens (reading_in special lines)
 unfolding reading_in
-reading_in_tokens special lines = reading_tokens special.comment zero (atoms zero (joined_marks special.escape (map chars lines)))
+reading_in_tokens special lines h = reading_tokens special.comment zero (atoms zero (joined_marks special.escape (map chars lines))) (lines_spelled special.escape lines h)
 
 -- answers
 
@@ -150,37 +150,28 @@ answer_at_tokens next o false tokens InSymbol h = tt
 answer_at_tokens next o true tokens InString h = tt
 answer_at_tokens next o false tokens InString h = tt
 
-answer_in_tokens : (next : LexerState) (o : OpenLine) (line : List ℕ) → GivesTokens (answer_in next o line)
-answer_in_tokens next o line =
+answer_in_tokens : (next : LexerState) (o : OpenLine) (line : List ℕ) → All IsUtf8 o.lines → GivesTokens (answer_in next o line)
+answer_in_tokens next o line h =
     let r = reading_in next.special o.lines in
-    answer_at_tokens next o (is_joined next.special.escape (chars line)) r.tokens r.stop (reading_in_tokens next.special o.lines)
+    answer_at_tokens next o (is_joined next.special.escape (chars line)) r.tokens r.stop (reading_in_tokens next.special o.lines h)
 
-fed_as_tokens : (next : LexerState) (o : OpenLine) (line : List ℕ) (d : Option (Result Chars LexFault)) → GivesTokens (fed_as next o line d)
-fed_as_tokens next o line (Some (Ok special)) = tt
-fed_as_tokens next o line (Some (Err fault)) = tt
-fed_as_tokens next o line None = answer_in_tokens next o line
+fed_as_tokens : (next : LexerState) (o : OpenLine) (line : List ℕ) (d : Option (Result Chars LexFault)) → All IsUtf8 o.lines → GivesTokens (fed_as next o line d)
+fed_as_tokens next o line (Some (Ok special)) h = tt
+fed_as_tokens next o line (Some (Err fault)) h = tt
+fed_as_tokens next o line None h = answer_in_tokens next o line h
 
-unless_tokens : (fault : Option LexFault) (answer : Result (Option Line × LexerState) LexFault) → GivesTokens answer → GivesTokens (unless_fault fault answer)
-unless_tokens None answer h = h
-unless_tokens (Some fault) answer h = tt
-
-fed_tokens : (s : LexerState) (line : List ℕ) → GivesTokens (fed s line)
-unfolding fed
-fed_tokens s line =
-    let text = without_return line in
-    let d = directive_where s.line (directive s.special text) in
-    unless_tokens (line_fault s.count (extended s line).bytes) (fed_text (dropped s) (extended s line) text d)
-    (either GivesTokens (is_utf8 text) (fed_as (dropped s) (extended s line) text d) (Err NotUtf8) (fed_as_tokens (dropped s) (extended s line) text d) tt)
+fed_tokens : (s : LexerState) (line : List ℕ) → HoldsText s → GivesTokens (fed s line)
+fed_tokens s line h = fed_by GivesTokens s line h (λ fault. tt) (λ d lines. fed_as_tokens (dropped s) (extended s line) (without_return line) d lines)
 
 -- the tokens of a line that is given
-pub fed-tokens : (s after : LexerState) (line : List ℕ) (given : Line) → fed s line ≡ Ok (Some given, after) → AreTokens given.tokens
-fed-tokens s after line given e = subst GivesTokens e (fed_tokens s line)
+pub fed-tokens : (s after : LexerState) (line : List ℕ) (given : Line) → HoldsText s → fed s line ≡ Ok (Some given, after) → AreTokens given.tokens
+fed-tokens s after line given h e = subst GivesTokens e (fed_tokens s line h)
 
-pub given_tokens : (s after : LexerState) (line : List ℕ) (answer : Option Line) → fed s line ≡ Ok (answer, after) → IfSome answer (λ given. AreTokens given.tokens)
-given_tokens s after line None e = tt
-given_tokens s after line (Some given) e = fed-tokens s after line given e
+pub given_tokens : (s after : LexerState) (line : List ℕ) (answer : Option Line) → HoldsText s → fed s line ≡ Ok (answer, after) → IfSome answer (λ given. AreTokens given.tokens)
+given_tokens s after line None h e = tt
+given_tokens s after line (Some given) h e = fed-tokens s after line given h e
 
 -- the same of an answer that may be a fault
-pub answered_tokens : (s after : LexerState) (line : List ℕ) (r : Result (Option Line) LexFault) → IfOk r (λ answer. fed s line ≡ Ok (answer, after)) → IfOk r (λ answer. IfSome answer (λ given. AreTokens given.tokens))
-answered_tokens s after line (Ok answer) e = given_tokens s after line answer e
-answered_tokens s after line (Err fault) e = tt
+pub answered_tokens : (s after : LexerState) (line : List ℕ) (r : Result (Option Line) LexFault) → HoldsText s → IfOk r (λ answer. fed s line ≡ Ok (answer, after)) → IfOk r (λ answer. IfSome answer (λ given. AreTokens given.tokens))
+answered_tokens s after line (Ok answer) h e = given_tokens s after line answer h e
+answered_tokens s after line (Err fault) h e = tt

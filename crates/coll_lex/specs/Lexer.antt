@@ -1,5 +1,5 @@
 -- How a lexer's fields show where it stands, and what its open line keeps.
-use Rattle.std.specs.Prelude.{◌≡◌, ℕ, ◌+◌, ◌≤◌, false, List, [], ◌∷◌, ◌++◌, map, chars, Vec}
+use Rattle.std.specs.Prelude.{◌≡◌, ℕ, ◌+◌, ◌≤◌, false, List, [], ◌∷◌, ◌++◌, map, chars, All, IsUtf8, Vec}
 use Rattle.std.specs.Option.{option_map, ForSome}
 use Rattle.std.specs.declared.alloc.Global.{Global}
 use Rattle.coll_lex.specs.Marked.{Mark, joined_marks}
@@ -27,9 +27,10 @@ added o line bytes = record { number = o.number; lines = o.lines ++ line ∷ [];
 abbrev pub state_of : Inside → LexerState
 state_of l = record { special = l.special; count = l.count; line = option_map line_in l.open }
 
--- the scan of an open line has read its physical lines, and stands at the beginning of the next one
+-- the physical lines of an open line are text; its scan has read them, and stands at the beginning of the next one
 pub record IsSoundOpen (special : Chars) (o : Open) : Type 0 where
   pub reads : (ms : List Mark) → reading_of special.comment (joined_marks special.escape (map chars (lines_in o.lines.items)) ++ ms) ≡ reading_left special.comment o.scan ms
+  pub text : All IsUtf8 (lines_in o.lines.items)
   pub unescaped : o.scan.escaped ≡ false
   pub short : o.bytes ≤ most_line_bytes
 

@@ -26,7 +26,7 @@ pub use devices::{Counted, Sink, Source};
 pub use faults::{LexFault, ReadStop, WriteStop};
 pub use limits::{MOST_LINE_BYTES, MOST_LINES, MOST_NAME_CHARS, limits_are_stated};
 pub use line_reading::LineReader;
-pub use logical_lines::{Lexer, lines_have_tokens};
+pub use logical_lines::{Lexer, lexers_hold_text, lines_have_tokens};
 pub use names::is_name;
 pub use physical_lines::without_return;
 pub use spelling::{spellings_are_read_back, write_bytes, write_char, write_symbol};

@@ -6,7 +6,7 @@
 
 ghost use Rattle.std.specs.Prelude.{◌≡◌, IsUtf8, IfOk, IfErr};
 ghost use Rattle.coll_lex.specs.LogicalLines.{line_of};
-ghost use Rattle.coll_lex.specs.Names.{LinesHaveTokens};
+ghost use Rattle.coll_lex.specs.Names.{LinesHaveTokens, LexersHoldText};
 
 use crate::category::begins_category;
 use crate::directives::directive;
@@ -84,12 +84,19 @@ fn line_of(number: u32, tokens: ListBuf<Token>) -> Option<Line>
     Some(Line { number, tokens })
 }
 
-/// The law of tokens: a logical line that is given, wherever the lexer stands, has a token; no word is empty, and
-/// each symbol and each name in a string is a name.
+/// The law of tokens: a logical line that is given, wherever the lexer stands with text in its open line, has a token;
+/// no word is empty, each symbol and each name in a string is a name, and all of them are made of characters.
 ///
 /// It does nothing; its contract is the law.
 pub fn lines_have_tokens()
     ensures { LinesHaveTokens }
+{}
+
+/// The law of open lines: what a lexer keeps of a logical line is text, at the beginning of a text and from there on.
+///
+/// It does nothing; its contract is the law.
+pub fn lexers_hold_text()
+    ensures { LexersHoldText }
 {}
 
 /// Cuts physical lines into logical lines, and these into tokens.

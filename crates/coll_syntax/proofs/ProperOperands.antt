@@ -4,7 +4,10 @@ use Rattle.std.specs.Prelude.{Result, Option, All, IfOk, codes}
 use Rattle.std.specs.List.{slice_split, onto_first}
 use Rattle.std.proofs.lemmas.List.Elements.{All-nil, All-cons, All-head, All-tail}
 use Rattle.std.proofs.lemmas.List.{length-map}
-use Rattle.coll_lex.specs.Names.{IsName, IsPiece, IsToken}
+use Rattle.std.specs.Char.{IsScalar}
+use Rattle.std.specs.Option.{option_map}
+use Rattle.coll_lex.specs.Names.{AreCharacters, IsName, IsPiece, IsToken}
+use Rattle.coll_lex.proofs.CharacterLemmas.{characters-cons, characters-parts}
 use Rattle.coll_lex.specs.declared.tokens.Token.{Token}
 use Rattle.coll_lex.specs.declared.tokens.Token.TheVariants as token
 use Rattle.coll_lex.specs.declared.tokens.Piece.{Piece}
@@ -65,23 +68,23 @@ if_wanted : (P : Id → Type 0) (o : Option Id) → OnSomeId P o → IfOk (wante
 if_wanted P None h = tt
 if_wanted P (Some id) h = h
 
-word-char : (P : Id → Type 0) (w : List ℕ) → ((c : ℕ) → P (Char c)) → OnSomeId P (char_or_name (token.Word w))
-word-char P [] h = tt
-word-char P (c ∷ []) h = h c
-word-char P (c ∷ d ∷ w) h = tt
+word-char : (P : Id → Type 0) (w : List ℕ) → AreCharacters w → ((c : ℕ) → IsScalar c → P (Char c)) → OnSomeId P (char_or_name (token.Word w))
+word-char P [] k h = tt
+word-char P (c ∷ []) k h = h c (characters-parts c [] k).0
+word-char P (c ∷ d ∷ w) k h = tt
 
 pub char_or_name-proper : (t : Token) → IsToken t → OnSomeId IsWeightId (char_or_name t)
-char_or_name-proper (token.Word w) h = word-char IsWeightId w (λ c. tt)
+char_or_name-proper (token.Word w) h = word-char IsWeightId w h.1 (λ c is. is)
 char_or_name-proper (token.Symbol name) h = h
-char_or_name-proper (token.Char c) h = tt
+char_or_name-proper (token.Char c) h = h
 char_or_name-proper (token.Text ps) h = tt
 char_or_name-proper token.Semicolon h = tt
 char_or_name-proper token.Comma h = tt
 
 char_or_name-id : (t : Token) → IsToken t → OnSomeId IsId (char_or_name t)
-char_or_name-id (token.Word w) h = word-char IsId w (λ c. tt)
+char_or_name-id (token.Word w) h = word-char IsId w h.1 (λ c is. is)
 char_or_name-id (token.Symbol name) h = h
-char_or_name-id (token.Char c) h = tt
+char_or_name-id (token.Char c) h = h
 char_or_name-id (token.Text ps) h = tt
 char_or_name-id token.Semicolon h = tt
 char_or_name-id token.Comma h = tt
@@ -108,21 +111,28 @@ if_short : (b : Bool) (cs : List ℕ) → (b ≡ true → IsElementText cs) → 
 if_short true cs h = h refl
 if_short false cs h = tt
 
-if_text : (pieces : List Piece) → IfOk (element_text pieces) IsElementText
-if_text [] = tt
-if_text (p ∷ pieces) = if_then (λ _. Unit {0}) IsElementText (wanted (characters_of (p ∷ pieces))) short_text (always (wanted (characters_of (p ∷ pieces)))) (λ cs _. if_short (nat_le 2 (length cs) && nat_le (length cs) 16) cs (text_from_test cs))
+if_characters : (pieces : List Piece) → All IsPiece pieces → IfOk (wanted (characters_of pieces)) AreCharacters
+if_characters [] a = refl
+if_characters (piece.Char c ∷ pieces) a = more (characters_of pieces) (All-head IsPiece (piece.Char c) pieces a) (if_characters pieces (All-tail IsPiece (piece.Char c) pieces a))
   where
-    always : (r : Result (List ℕ) SyntaxFault) → IfOk r (λ _. Unit {0})
-    always (Ok cs) = tt
-    always (Err f) = tt
+    more : (o : Option (List ℕ)) → IsScalar c → IfOk (wanted o) AreCharacters → IfOk (wanted (option_map (λ cs. c ∷ cs) o)) AreCharacters
+    more None h k = tt
+    more (Some cs) h k = characters-cons c cs h k
+if_characters (piece.Name name ∷ pieces) a = tt
 
-text_in-proper : (t : Token) → IfOk (text_in t) IsElementText
-text_in-proper (token.Word w) = tt
-text_in-proper (token.Symbol name) = tt
-text_in-proper (token.Char c) = tt
-text_in-proper (token.Text ps) = if_text ps
-text_in-proper token.Semicolon = tt
-text_in-proper token.Comma = tt
+if_text : (pieces : List Piece) → All IsPiece pieces → IfOk (element_text pieces) IsElementText
+if_text [] a = tt
+if_text (p ∷ pieces) a =
+    if_then AreCharacters IsElementText (wanted (characters_of (p ∷ pieces))) short_text (if_characters (p ∷ pieces) a)
+    (λ cs h. if_short (nat_le 2 (length cs) && nat_le (length cs) 16) cs (text_from_test cs h))
+
+text_in-proper : (t : Token) → IsToken t → IfOk (text_in t) IsElementText
+text_in-proper (token.Word w) h = tt
+text_in-proper (token.Symbol name) h = tt
+text_in-proper (token.Char c) h = tt
+text_in-proper (token.Text ps) h = if_text ps h
+text_in-proper token.Semicolon h = tt
+text_in-proper token.Comma h = tt
 
 any_word : (spelling : List ℕ) (t : Token) → IfOk (word_in spelling t) (λ _. Unit {0})
 any_word spelling t = by_test (is_word t spelling)
@@ -135,7 +145,7 @@ pub element-proper : (ts : List Token) → All IsToken ts → IfOk (element ts) 
 element-proper ts a =
     if_operand IsName (λ read. IsName read.0 × IsElementText read.1) name_in ts _ a name_in-name
     (λ name rest q b. if_as IsElementText (λ read. IsName read.0 × IsElementText read.1) (λ text. (name, text)) (from_text rest)
-    (if_operand (λ _. Unit {0}) IsElementText (word_in (codes "from")) rest _ b (λ t _. any_word (codes "from") t) (λ _ more _ d. if_only IsElementText text_in more d (λ t _. text_in-proper t)))
+    (if_operand (λ _. Unit {0}) IsElementText (word_in (codes "from")) rest _ b (λ t _. any_word (codes "from") t) (λ _ more _ d. if_only IsElementText text_in more d text_in-proper))
     (λ text p. (q, p)))
 
 -- lists of operands
@@ -168,7 +178,7 @@ piece_ids-proper [] a = All-nil IsWeightId
 piece_ids-proper (p ∷ pieces) a = All-cons IsWeightId (piece_id p) (map piece_id pieces) (one p (All-head IsPiece p pieces a)) (piece_ids-proper pieces (All-tail IsPiece p pieces a))
   where
     one : (p : Piece) → IsPiece p → IsWeightId (piece_id p)
-    one (piece.Char c) h = tt
+    one (piece.Char c) h = h
     one (piece.Name name) h = h
 
 if_few : (b : Bool) (ids : List Id) → (b ≡ true → IsProperWeight (Names ids)) → IfOk (if b then Ok (Names ids) else Err WeightTooLong) IsProperWeight
@@ -192,7 +202,7 @@ if_ignore false o h = if_as IsWeightId IsProperWeight one_id (wanted o) (if_want
 weight-proper : (t : Token) → IsToken t → IfOk (weight t) IsProperWeight
 weight-proper (token.Word w) h = if_ignore (is_word (token.Word w) (codes "IGNORE")) (char_or_name (token.Word w)) (char_or_name-proper (token.Word w) h)
 weight-proper (token.Symbol name) h = if_ignore false (Some (Named name)) h
-weight-proper (token.Char c) h = if_ignore false (Some (Char c)) tt
+weight-proper (token.Char c) h = if_ignore false (Some (Char c)) h
 weight-proper (token.Text ps) h = string_weight-proper ps h
 weight-proper token.Semicolon h = tt
 weight-proper token.Comma h = tt

@@ -3,12 +3,14 @@ use Rattle.std.proofs.Common.{◌≡◌, ℕ, ◌≤◌, ◌==◌, ◌&&◌, not
 use Rattle.std.specs.Prelude.{Option, All}
 use Rattle.std.specs.Bool.{Decides}
 use Rattle.std.specs.List.{list_all}
+use Rattle.std.specs.Str.{all_scalars}
+use Rattle.std.proofs.lemmas.Bool.{and_from}
 use Rattle.std.proofs.lemmas.Bool.Decides.{Decides-and, Decides-like, Decides-by_and, nat_tests}
 use Rattle.std.proofs.lemmas.List.{length-map}
 use Rattle.coll_syntax.specs.Weights.{piece_id}
 use lib.Utf8.{scalar}
 use Rattle.coll_lex.specs.Tokens.{is_name, code_point_of, symbol_by, symbol_of}
-use Rattle.coll_lex.specs.Names.{IsName, gives_name, is_proper_name}
+use Rattle.coll_lex.specs.Names.{AreCharacters, IsName, gives_name, is_proper_name}
 use Rattle.coll_lex.specs.declared.tokens.Piece.{Piece}
 use Rattle.coll_lex.specs.declared.tokens.Piece.TheVariants as piece
 use Rattle.coll_lex.specs.declared.faults.LexFault.TheVariants.{BadName, BadCodePoint}
@@ -36,12 +38,19 @@ names_itself (Some n) cs e = absurd (no_character (scalar n) n e)
 names_itself None [] e = cc
 names_itself None (c ∷ cs) e = named_if (is_name (c ∷ cs)) (c ∷ cs) e
 
-name_from_test : (name : List ℕ) → is_proper_name name ≡ true → IsName name
+name_from_symbol : (name : List ℕ) → gives_name (symbol_of name) ≡ true → symbol_of name ≡ Ok (piece.Name name)
 unfolding symbol_of
-name_from_test name e = names_itself (code_point_of name) name e
+name_from_symbol name e = names_itself (code_point_of name) name e
+
+Decides-symbol : (name : List ℕ) → Decides (gives_name (symbol_of name)) (symbol_of name ≡ Ok (piece.Name name))
+Decides-symbol name = (name_from_symbol name, λ h. ap gives_name h)
+
+-- a test tells that it is true
+Decides-itself : (b : Bool) → Decides b (b ≡ true)
+Decides-itself b = (λ e. e, λ e. e)
 
 Decides-name : (name : List ℕ) → Decides (is_proper_name name) (IsName name)
-Decides-name name = (name_from_test name, λ h. ap gives_name h)
+Decides-name name = Decides-and (gives_name (symbol_of name)) (all_scalars name) (Decides-symbol name) (Decides-itself (all_scalars name))
 
 Decides-always : Decides true (Unit {0})
 Decides-always = (λ _. tt, λ _. refl)
@@ -50,12 +59,12 @@ Decides-never : Decides false ⊥
 Decides-never = (λ e. cc, λ h. absurd h)
 
 Decides-id : (id : Id) → Decides (is_proper_id id) (IsId id)
-Decides-id (Char c) = Decides-always
+Decides-id (Char c) = Decides-itself (scalar c)
 Decides-id (Named name) = Decides-name name
 Decides-id Undefined = Decides-always
 
 Decides-weight_id : (id : Id) → Decides (is_weight_id id) (IsWeightId id)
-Decides-weight_id (Char c) = Decides-always
+Decides-weight_id (Char c) = Decides-itself (scalar c)
 Decides-weight_id (Named name) = Decides-name name
 Decides-weight_id Undefined = Decides-never
 
@@ -86,11 +95,11 @@ Decides-line : (line : OrderLine) → Decides (is_proper_line line) (IsProperLin
 Decides-line line = Decides-and (is_proper_id line.id) (are_proper_weights line.weights) (Decides-id line.id) (Decides-weights line.weights)
 
 Decides-text : (text : List ℕ) → Decides (is_element_text text) (IsElementText text)
-Decides-text text = Decides-and (nat_le 2 (length text)) (nat_le (length text) 16) (Decides-leb 2 (length text)) (Decides-leb (length text) 16)
+Decides-text text = Decides-three (nat_le 2 (length text)) (nat_le (length text) 16) (all_scalars text) (Decides-leb 2 (length text)) (Decides-leb (length text) 16) (Decides-itself (all_scalars text))
 
--- the test of a text tells whether it may be that of a collating element
-pub text_from_test : (text : List ℕ) → is_element_text text ≡ true → IsElementText text
-text_from_test text e = (Decides-text text).0 e
+-- characters whose number passes the test may be those of a collating element
+pub text_from_test : (text : List ℕ) → AreCharacters text → (nat_le 2 (length text) && nat_le (length text) 16) ≡ true → IsElementText text
+text_from_test text h e = (Decides-text text).0 (and_from (nat_le 2 (length text) && nat_le (length text) 16) (all_scalars text) e h)
 
 -- a short string spells few identifiers
 pub count_from_test : (p : Piece) (pieces : List Piece) → nat_le (length (p ∷ pieces)) 32 ≡ true → length (map piece_id (p ∷ pieces)) ≤ 32

@@ -1,7 +1,10 @@
--- What is proper: within the limits of the language, as all is that the grammar gives.
+-- What is proper: made of characters and within the limits of the language, as all is that the grammar gives.
 use Rattle.std.specs.Prelude.{ℕ, ◌≤◌, ◌==◌, ◌&&◌, not, Bool, true, false, nat_le, List, length, All, Option, Some, None}
+use Rattle.std.specs.Char.{IsScalar}
 use Rattle.std.specs.List.{list_all}
-use Rattle.coll_lex.specs.Names.{IsName, is_proper_name}
+use Rattle.std.specs.Str.{all_scalars}
+use lib.Utf8.{scalar}
+use Rattle.coll_lex.specs.Names.{AreCharacters, IsName, is_proper_name}
 use Rattle.coll_syntax.specs.declared.identifiers.Id.{Id}
 use Rattle.coll_syntax.specs.declared.identifiers.Id.TheVariants.{Char, Named, Undefined}
 use Rattle.coll_syntax.specs.declared.weights.Weight.{Weight}
@@ -15,16 +18,16 @@ use Rattle.coll_syntax.specs.declared.lines.TableLine.TheVariants as table
 use Rattle.coll_syntax.specs.declared.lines.DeltaLine.{DeltaLine}
 use Rattle.coll_syntax.specs.declared.lines.DeltaLine.TheVariants as delta
 
--- a name that an identifier has is a name: 1 to 64 characters, none blank or control, and not `U` with four to eight
--- hexadecimal digits
+-- a character, that is a Unicode scalar value; a name: 1 to 64 characters, none blank or control, and not `U` with four to
+-- eight hexadecimal digits; or UNDEFINED
 abbrev pub IsId : Id → Type 0
-IsId (Char c) = Unit {0}
+IsId (Char c) = IsScalar c
 IsId (Named name) = IsName name
 IsId Undefined = Unit {0}
 
 -- a character or a name; UNDEFINED is no weight
 abbrev pub IsWeightId : Id → Type 0
-IsWeightId (Char c) = Unit {0}
+IsWeightId (Char c) = IsScalar c
 IsWeightId (Named name) = IsName name
 IsWeightId Undefined = ⊥
 
@@ -43,12 +46,12 @@ AreProperWeights (Some weights) = (1 ≤ length weights) × All IsProperWeight w
 abbrev pub IsProperLine : OrderLine → Type 0
 IsProperLine line = IsId line.id × AreProperWeights line.weights
 
--- the characters of a collating element are 2 to 16
+-- a collating element stands for 2 to 16 characters
 abbrev pub IsElementText : List ℕ → Type 0
-IsElementText text = (2 ≤ length text) × (length text ≤ 16)
+IsElementText text = (2 ≤ length text) × (length text ≤ 16) × AreCharacters text
 
--- a statement whose names are names, whose string and weights are within their limits, and whose block has at
--- most 4,096 lines
+-- a statement whose names are names and whose other characters are characters, whose string and weights are within their
+-- limits, and whose block has at most 4,096 lines
 abbrev pub IsProper : Statement → Type 0
 IsProper (statement.Symbol name) = IsName name
 IsProper (statement.Element name text) = IsName name × IsElementText text
@@ -94,13 +97,13 @@ IsProperDeltaLine (delta.Order line) = IsProperLine line
 
 -- whether this is an identifier
 abbrev pub is_proper_id : Id → Bool
-is_proper_id (Char c) = true
+is_proper_id (Char c) = scalar c
 is_proper_id (Named name) = is_proper_name name
 is_proper_id Undefined = true
 
 -- whether this is a character or a name
 abbrev pub is_weight_id : Id → Bool
-is_weight_id (Char c) = true
+is_weight_id (Char c) = scalar c
 is_weight_id (Named name) = is_proper_name name
 is_weight_id Undefined = false
 
@@ -121,7 +124,7 @@ is_proper_line line = is_proper_id line.id && are_proper_weights line.weights
 
 -- whether a text may be that of a collating element
 abbrev pub is_element_text : List ℕ → Bool
-is_element_text text = nat_le 2 (length text) && nat_le (length text) 16
+is_element_text text = nat_le 2 (length text) && nat_le (length text) 16 && all_scalars text
 
 -- whether a statement is proper
 unfoldable pub is_proper : Statement → Bool

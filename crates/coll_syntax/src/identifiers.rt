@@ -4,6 +4,7 @@
 //! is said there too.
 
 ghost use Rattle.std.specs.Prelude.{◌≡◌, IfOk};
+ghost use lib.Utf8.{scalar};
 
 use crate::operands::copied_name;
 use coll_lex::{TextBuf, is_name};
@@ -50,13 +51,14 @@ impl Id {
         }
     }
 
-    /// Whether a name in it is a name.
+    /// Whether it is an identifier: a name in it is a name.
     pub(crate) fn is_proper(&self) -> bool
         ensures { result ≡ is_proper_id self.now }
     {
         match self {
-            Id::Char(_) | Id::Undefined => true,
+            Id::Char(c) => is_character(*c),
             Id::Named(name) => is_name(name.get()),
+            Id::Undefined => true,
         }
     }
 
@@ -65,9 +67,16 @@ impl Id {
         ensures { result ≡ is_weight_id self.now }
     {
         match self {
-            Id::Char(_) => true,
+            Id::Char(c) => is_character(*c),
             Id::Named(name) => is_name(name.get()),
             Id::Undefined => false,
         }
     }
+}
+
+/// Whether this is a character, that is a Unicode scalar value. Each `char` is one, so nothing is left to test.
+fn is_character(_c: char) -> bool
+    ensures { result ≡ scalar _c }
+{
+    true
 }

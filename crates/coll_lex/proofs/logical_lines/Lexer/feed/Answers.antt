@@ -2,6 +2,7 @@ use Rattle.std.proofs.Common.{◌≡◌, refl, ap, ◌∙◌}
 use Rattle.std.proofs.lemmas.Result.{err_from_is_err_and}
 use Rattle.coll_lex.specs.LogicalLines.{LexerState}
 use Rattle.coll_lex.proofs.FeedLemmas.{fed_faulty, fed_next_no_text, fed_first_no_text, fed_next, fed_first, taken_as, sound_new}
+use Rattle.coll_lex.proofs.HeldText.{open_text, none_text}
 use Rattle.coll_lex.proofs.NameLemmas.{answered_tokens}
 use Rattle.coll_lex.proofs.logical_lines.Lexer.feed.Goals as goal
 
@@ -86,8 +87,8 @@ returns-in_ok-text-in-None-clause-memory c =
 
 pub returns-in_ok-text-in-Some-clause-tokens : goal.returns-in_ok-text-in-Some-clause-tokens
 returns-in_ok-text-in-Some-clause-tokens c =
-    answered_tokens c.args.self.now _ c.args.line.now c.feed_text.result (returns-in_ok-text-in-Some-clause-ok c)
+    answered_tokens c.args.self.now _ c.args.line.now c.feed_text.result (open_text c.args.self.now c.in-Some.open c.in-Some.ensures.line c.in-Some.ensures.sound.text) (returns-in_ok-text-in-Some-clause-ok c)
 
 pub returns-in_ok-text-in-None-clause-tokens : goal.returns-in_ok-text-in-None-clause-tokens
 returns-in_ok-text-in-None-clause-tokens c =
-    answered_tokens c.args.self.now _ c.args.line.now c.feed_first.result (returns-in_ok-text-in-None-clause-ok c)
+    answered_tokens c.args.self.now _ c.args.line.now c.feed_first.result (none_text c.args.self.now c.in-None.ensures.line) (returns-in_ok-text-in-None-clause-ok c)

@@ -29,7 +29,7 @@ invariant_of-self c =
     let line = rw c.as_bytes.ensures.value at c.in_ok-keep.ensures.line in
     record {
       counted = c.self.invariant.counted;
-      opened = some_open c.keep.new.self _ (sound_more c.self.inside.special c.args.logical c.keep.new.self c.args.line.now c.args.bytes c.take_line.new.self sound c.in_ok-take_line.ensures.ok line c.in_ok-keep.ensures.scan c.requires.short);
+      opened = some_open c.keep.new.self _ (sound_more c.self.inside.special c.args.logical c.keep.new.self c.args.line.now c.args.bytes c.take_line.new.self sound c.in_ok-take_line.ensures.ok c.utf8.line line c.in_ok-keep.ensures.scan c.requires.short);
     }
 
 pub returns-clause-ok : goal.returns-clause-ok
