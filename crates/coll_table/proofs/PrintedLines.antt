@@ -16,7 +16,7 @@ use Rattle.coll_lex.specs.declared.tokens.Chars.{Chars}
 use Rattle.coll_lex.specs.declared.tokens.Token.{Token}
 use Rattle.coll_lex.specs.declared.tokens.Token.TheVariants as token
 use Rattle.coll_lex.specs.declared.tokens.Piece.TheVariants as piece
-use Rattle.coll_syntax.specs.Proper.{IsElementText, IsProperWeight}
+use Rattle.coll_syntax.specs.Proper.{IsId, IsWeightId, IsElementText, IsProperWeight}
 use Rattle.coll_syntax.specs.TableLines.{table_line}
 use Rattle.coll_syntax.specs.declared.lines.TableLine.{TableLine}
 use Rattle.coll_syntax.specs.declared.lines.TableLine.TheVariants as line
@@ -33,7 +33,7 @@ use Rattle.coll_table.specs.Table.{name_of, text_of}
 use Rattle.coll_table.specs.Walks.{Met, MetSection, MetEntry}
 use Rattle.coll_table.specs.CanonicalText.{spelled_behind, spelled_joined, spelled_id, spelled_string, spelled_own, spelled_names, spelled_weight, direction_word, spelled_position, spelled_rule, declaration_line, rules_line, is_own, weights_behind, entry_line, met_line}
 use Rattle.coll_table.proofs.PrintedTokens.{tokens_behind, tokens_joined, id_token, id_piece, own_tokens, names_tokens, weight_tokens, order_tokens, position_tokens, rule_tokens, rules_tokens, declaration_tokens, section_tokens, order_read, declaration_read, declaration_is_read, rules_line_is_read, order_is_read, section_is_read, order_end_is_read, category_end_is_read}
-use Rattle.coll_table.proofs.PrintedSpellings.{with_tokens, EndsWord, is_clean, is_letter, Keeps, Spells, spells_both, spells_wider, spells_nothing, spells_word, spells_apart, separates_space, separates_semicolon, separates_comma, end_ends, space_ends, semicolon_ends, comma_ends, IsSpelled, IsSpelledWeight, spells_id, spells_name, spells_string}
+use Rattle.coll_table.proofs.PrintedSpellings.{with_tokens, EndsWord, is_clean, is_letter, Keeps, Spells, spells_both, spells_wider, spells_nothing, spells_word, spells_apart, separates_space, separates_semicolon, separates_comma, end_ends, space_ends, semicolon_ends, comma_ends, spells_id, spells_name, spells_string}
 
 -- Lists of spellings.
 
@@ -83,34 +83,29 @@ spells_rule r h =
 
 -- Weights.
 
--- a weight's identifiers are spelled, and they are at most 32
-pub record IsSpelledList (w : Weight) : Type 0 where
-  pub spelled : All IsSpelledWeight (weight_ids w)
-  pub few : length (weight_ids w) ≤ 32
+-- what may stand in a weight is an identifier
+weight_id_is : (id : Id) → IsWeightId id → IsId id
+weight_id_is (Char c) h = h
+weight_id_is (Named name) h = h
+weight_id_is Undefined h = absurd h
 
-weight_id_spelled : (id : Id) → IsSpelledWeight id → IsSpelled id
-unfolding IsSpelled IsSpelledWeight
-weight_id_spelled (Char c) h = h
-weight_id_spelled (Named name) h = h
-weight_id_spelled Undefined h = absurd h
-
-spells_own : (owner : Id) → IsSpelled owner → Spells (spelled_own owner) (own_tokens owner) 258
+spells_own : (owner : Id) → IsId owner → Spells (spelled_own owner) (own_tokens owner) 258
 unfolding own_tokens id_token
 spells_own (Char c) h = spells_id (Char c) h
 spells_own (Named name) h = spells_id (Named name) h
 spells_own Undefined h = spells_wider (λ rest. rest) [] 0 258 (omega arith) spells_nothing
 
-spells_names : (ids : List Id) → length ids ≤ 32 → All IsSpelledWeight ids → Spells (spelled_names ids) (names_tokens ids) 8258
+spells_names : (ids : List Id) → length ids ≤ 32 → All IsWeightId ids → Spells (spelled_names ids) (names_tokens ids) 8258
 unfolding names_tokens
 spells_names [] few h = spells_string [] few h
-spells_names (only ∷ []) few h = spells_wider (spelled_id only) (id_token only ∷ []) 258 8258 (omega arith) (spells_id only (weight_id_spelled only (All-head IsSpelledWeight only [] h)))
+spells_names (only ∷ []) few h = spells_wider (spelled_id only) (id_token only ∷ []) 258 8258 (omega arith) (spells_id only (weight_id_is only (All-head IsWeightId only [] h)))
 spells_names (first ∷ second ∷ later) few h = spells_string (first ∷ second ∷ later) few h
 
-spells_weight : (owner : Id) → IsSpelled owner → (w : Weight) → IsSpelledList w → Spells (spelled_weight owner w) (weight_tokens owner w) 8258
+spells_weight : (owner : Id) → IsId owner → (w : Weight) → IsProperWeight w → Spells (spelled_weight owner w) (weight_tokens owner w) 8258
 unfolding weight_tokens is_letter is_clean
 spells_weight owner o Ignore h = spells_wider (λ rest. codes "IGNORE" ++ rest) (token.Word (codes "IGNORE") ∷ []) 6 8258 (omega arith) (spells_word 73 (codes "GNORE") refl)
 spells_weight owner o Own h = spells_wider (spelled_own owner) (own_tokens owner) 258 8258 (omega arith) (spells_own owner o)
-spells_weight owner o (Names ids) h = spells_names ids h.few h.spelled
+spells_weight owner o (Names ids) h = spells_names ids h.1 h.2
 
 -- Lines.
 
@@ -149,11 +144,11 @@ spells_begun c cs g ts most word h =
 
 -- The line that begins a section, and the lines of words alone.
 
-section_is_line : (name : List ℕ) → IsName name → scalars name ≡ true → IsLine (met_line (MetSection name)) (token.Word (codes "section")) (token.Symbol name ∷ [])
+section_is_line : (name : List ℕ) → IsName name → IsLine (met_line (MetSection name)) (token.Word (codes "section")) (token.Symbol name ∷ [])
 unfolding is_letter is_clean directive operand_of past_blanks encode
-section_is_line name is s =
+section_is_line name is =
     line_from (λ rest. codes "section" ++ 32 ∷ spelled_symbol name rest) (token.Word (codes "section")) (token.Symbol name ∷ []) (7 + (1 + 258))
-    (spells_begun 115 (codes "ection") (spelled_symbol name) (token.Symbol name ∷ []) 258 refl (spells_name name is s)) (omega arith) (λ special. refl)
+    (spells_begun 115 (codes "ection") (spelled_symbol name) (token.Symbol name ∷ []) 258 refl (spells_name name is)) (omega arith) (λ special. refl)
 
 pub order_end_is_line : IsLine (codes "order_end") (token.Word (codes "order_end")) []
 unfolding is_letter is_clean directive operand_of past_blanks encode
@@ -177,10 +172,9 @@ rules_is_line rules few =
 -- The line of a declaration.
 
 -- the characters of a string are spelled, and its pieces are they
-text_spelled : (text : List ℕ) → scalars text ≡ true → All IsSpelledWeight (map Char text)
-unfolding IsSpelledWeight
-text_spelled [] h = All-nil IsSpelledWeight
-text_spelled (c ∷ cs) h = let a = and_parts _ _ h in All-cons IsSpelledWeight (Char c) (map Char cs) a.0 (text_spelled cs a.1)
+text_spelled : (text : List ℕ) → scalars text ≡ true → All IsWeightId (map Char text)
+text_spelled [] h = All-nil IsWeightId
+text_spelled (c ∷ cs) h = let a = and_parts _ _ h in All-cons IsWeightId (Char c) (map Char cs) a.0 (text_spelled cs a.1)
 
 text_pieces : (text : List ℕ) → map id_piece (map Char text) ≡ map piece.Char text
 unfolding id_piece
@@ -189,38 +183,36 @@ text_pieces (c ∷ cs) = ap (λ l. piece.Char c ∷ l) (text_pieces cs)
 
 -- a name and a string of characters
 pub record IsSpelledDeclaration (d : Declaration) : Type 0 where
-  pub is : IsName (name_of d)
-  pub name : scalars (name_of d) ≡ true
-  pub texts : All (λ text. scalars text ≡ true) (text_of d)
-  pub few : All IsElementText (text_of d)
+  pub name : IsName (name_of d)
+  pub texts : All IsElementText (text_of d)
 
-from_spells : (text : List ℕ) → scalars text ≡ true → IsElementText text → Spells (λ rest. 32 ∷ (codes "from" ++ 32 ∷ spelled_string (map Char text) rest)) (token.Word (codes "from") ∷ token.Text (map piece.Char text) ∷ []) (1 + (4 + (1 + 8258)))
+from_spells : (text : List ℕ) → IsElementText text → Spells (λ rest. 32 ∷ (codes "from" ++ 32 ∷ spelled_string (map Char text) rest)) (token.Word (codes "from") ∷ token.Text (map piece.Char text) ∷ []) (1 + (4 + (1 + 8258)))
 unfolding is_letter is_clean
-from_spells text h few =
-    let string = subst (λ ps. Spells (spelled_string (map Char text)) (token.Text ps ∷ []) 8258) (text_pieces text) (spells_string (map Char text) (let short = few.1 in omega (arith, length-map text Char)) (text_spelled text h)) in
+from_spells text few =
+    let string = subst (λ ps. Spells (spelled_string (map Char text)) (token.Text ps ∷ []) 8258) (text_pieces text) (spells_string (map Char text) (let short = few.1 in omega (arith, length-map text Char)) (text_spelled text few.2)) in
     spells_apart (λ rest. 32 ∷ rest) (λ rest. codes "from" ++ 32 ∷ spelled_string (map Char text) rest) [] (token.Word (codes "from") ∷ token.Text (map piece.Char text) ∷ []) 1 (4 + (1 + 8258)) separates_space
     (spells_begun 102 (codes "rom") (spelled_string (map Char text)) (token.Text (map piece.Char text) ∷ []) 8258 refl string)
 
-symbol_is_line : (name : List ℕ) → IsName name → scalars name ≡ true → IsLine (declaration_line (declaration.Symbol name)) (token.Word (codes "collating-symbol")) (token.Symbol name ∷ [])
+symbol_is_line : (name : List ℕ) → IsName name → IsLine (declaration_line (declaration.Symbol name)) (token.Word (codes "collating-symbol")) (token.Symbol name ∷ [])
 unfolding is_letter is_clean directive operand_of past_blanks encode
-symbol_is_line name is s =
+symbol_is_line name is =
     line_from (λ rest. codes "collating-symbol" ++ 32 ∷ spelled_symbol name rest) (token.Word (codes "collating-symbol")) (token.Symbol name ∷ []) (16 + (1 + 258))
-    (spells_begun 99 (codes "ollating-symbol") (spelled_symbol name) (token.Symbol name ∷ []) 258 refl (spells_name name is s)) (omega arith) (λ special. refl)
+    (spells_begun 99 (codes "ollating-symbol") (spelled_symbol name) (token.Symbol name ∷ []) 258 refl (spells_name name is)) (omega arith) (λ special. refl)
 
-element_is_line : (name text : List ℕ) → IsName name → scalars name ≡ true → scalars text ≡ true → IsElementText text → IsLine (declaration_line (declaration.Element name text)) (token.Word (codes "collating-element")) (token.Symbol name ∷ token.Word (codes "from") ∷ token.Text (map piece.Char text) ∷ [])
+element_is_line : (name text : List ℕ) → IsName name → IsElementText text → IsLine (declaration_line (declaration.Element name text)) (token.Word (codes "collating-element")) (token.Symbol name ∷ token.Word (codes "from") ∷ token.Text (map piece.Char text) ∷ [])
 unfolding is_letter is_clean directive operand_of past_blanks encode
-element_is_line name text is s h few =
+element_is_line name text is few =
     line_from (λ rest. codes "collating-element" ++ 32 ∷ spelled_symbol name (32 ∷ (codes "from" ++ 32 ∷ spelled_string (map Char text) rest))) (token.Word (codes "collating-element")) (token.Symbol name ∷ token.Word (codes "from") ∷ token.Text (map piece.Char text) ∷ []) (17 + (1 + (258 + (1 + (4 + (1 + 8258))))))
     (spells_begun 99 (codes "ollating-element") (λ rest. spelled_symbol name (32 ∷ (codes "from" ++ 32 ∷ spelled_string (map Char text) rest))) (token.Symbol name ∷ token.Word (codes "from") ∷ token.Text (map piece.Char text) ∷ []) (258 + (1 + (4 + (1 + 8258)))) refl
-    (spells_both (spelled_symbol name) (λ rest. 32 ∷ (codes "from" ++ 32 ∷ spelled_string (map Char text) rest)) (token.Symbol name ∷ []) (token.Word (codes "from") ∷ token.Text (map piece.Char text) ∷ []) 258 (1 + (4 + (1 + 8258))) (spells_name name is s) (from_spells text h few) (λ rest e. space_ends (codes "from" ++ 32 ∷ spelled_string (map Char text) rest))))
+    (spells_both (spelled_symbol name) (λ rest. 32 ∷ (codes "from" ++ 32 ∷ spelled_string (map Char text) rest)) (token.Symbol name ∷ []) (token.Word (codes "from") ∷ token.Text (map piece.Char text) ∷ []) 258 (1 + (4 + (1 + 8258))) (spells_name name is) (from_spells text few) (λ rest e. space_ends (codes "from" ++ 32 ∷ spelled_string (map Char text) rest))))
     (omega arith) (λ special. refl)
 
 -- The line of an entry.
 
 -- an entry whose identifier and weights are spelled
 pub record IsSpelledEntry (e : Entry) : Type 0 where
-  pub id : IsSpelled e.id
-  pub weights : All IsSpelledList e.weights
+  pub id : IsId e.id
+  pub weights : All IsProperWeight e.weights
   pub few : length e.weights ≤ 4
 
 -- it begins as no directive does
@@ -230,13 +222,13 @@ entry_chooses (Char c) rest special = refl
 entry_chooses (Named name) rest special = refl
 entry_chooses Undefined rest special = refl
 
-entry_is_line : (id : Id) (ws : List Weight) (own : Bool) → list_all is_own ws ≡ own → IsSpelled id → All IsSpelledList ws → length ws ≤ 4
+entry_is_line : (id : Id) (ws : List Weight) (own : Bool) → list_all is_own ws ≡ own → IsId id → All IsProperWeight ws → length ws ≤ 4
     → IsLine (spelled_id id (if own then [] else 32 ∷ spelled_joined (spelled_weight id) ws [])) (id_token id) (if own then [] else tokens_joined (map (weight_tokens id) ws))
 entry_is_line id ws true e h hs few = line_from (spelled_id id) (id_token id) [] 258 (spells_id id h) (omega arith) (entry_chooses id [])
 entry_is_line id ws false e h hs few =
     line_from (λ rest. spelled_id id (32 ∷ spelled_joined (spelled_weight id) ws rest)) (id_token id) (tokens_joined (map (weight_tokens id) ws)) (258 + (1 + 8259 * length ws))
     (spells_both (spelled_id id) (λ rest. 32 ∷ spelled_joined (spelled_weight id) ws rest) (id_token id ∷ []) (tokens_joined (map (weight_tokens id) ws)) 258 (1 + 8259 * length ws) (spells_id id h)
-    (spells_apart (λ rest. 32 ∷ rest) (spelled_joined (spelled_weight id) ws) [] (tokens_joined (map (weight_tokens id) ws)) 1 (8259 * length ws) separates_space (spells_joined (spelled_weight id) (weight_tokens id) IsSpelledList (spells_weight id h) ws hs))
+    (spells_apart (λ rest. 32 ∷ rest) (spelled_joined (spelled_weight id) ws) [] (tokens_joined (map (weight_tokens id) ws)) 1 (8259 * length ws) separates_space (spells_joined (spelled_weight id) (weight_tokens id) IsProperWeight (spells_weight id h) ws hs))
     (λ rest e. space_ends (spelled_joined (spelled_weight id) ws rest)))
     (omega arith) (entry_chooses id (32 ∷ spelled_joined (spelled_weight id) ws []))
 
@@ -250,10 +242,10 @@ Says line read = (t : Token) × (ts : List Token) × IsLine line t ts × (table_
 pub declaration_says : (d : Declaration) → IsSpelledDeclaration d → Says (declaration_line d) (declaration_read d)
 unfolding declaration_tokens declaration_read
 declaration_says (declaration.Symbol name) h =
-    (token.Word (codes "collating-symbol"), token.Symbol name ∷ [], symbol_is_line name h.is h.name, declaration_is_read (declaration.Symbol name) h.few)
+    (token.Word (codes "collating-symbol"), token.Symbol name ∷ [], symbol_is_line name h.name, declaration_is_read (declaration.Symbol name) h.texts)
 declaration_says (declaration.Element name text) h =
     (token.Word (codes "collating-element"), token.Symbol name ∷ token.Word (codes "from") ∷ token.Text (map piece.Char text) ∷ [],
-    element_is_line name text h.is h.name (All-head (λ text. scalars text ≡ true) text [] h.texts) (All-head IsElementText text [] h.few), declaration_is_read (declaration.Element name text) h.few)
+    element_is_line name text h.name (All-head IsElementText text [] h.texts), declaration_is_read (declaration.Element name text) h.texts)
 
 -- the line of the rules
 pub rules_say : (rules : List Rule) → 1 ≤ length rules → length rules ≤ 4 → Says (rules_line rules) (line.OrderStart None (Some rules))
@@ -261,16 +253,16 @@ unfolding rules_tokens
 rules_say rules some few = (token.Word (codes "order_start"), tokens_joined (map rule_tokens rules), rules_is_line rules few, rules_line_is_read rules some few)
 
 -- the line of an entry
-pub entry_says : (e : Entry) → IsSpelledEntry e → All IsProperWeight e.weights → Says (entry_line e) (line.Order (order_read e.id e.weights))
+pub entry_says : (e : Entry) → IsSpelledEntry e → Says (entry_line e) (line.Order (order_read e.id e.weights))
 unfolding order_tokens
-entry_says e h proper =
+entry_says e h =
     let own = list_all is_own e.weights in
-    (id_token e.id, (if own then [] else tokens_joined (map (weight_tokens e.id) e.weights)), entry_is_line e.id e.weights own refl h.id h.weights h.few, order_is_read e.id e.weights proper)
+    (id_token e.id, (if own then [] else tokens_joined (map (weight_tokens e.id) e.weights)), entry_is_line e.id e.weights own refl h.id h.weights h.few, order_is_read e.id e.weights h.weights)
 
 -- the line that begins a section
-pub section_says : (name : List ℕ) → IsName name → scalars name ≡ true → Says (met_line (MetSection name)) (line.Section name)
+pub section_says : (name : List ℕ) → IsName name → Says (met_line (MetSection name)) (line.Section name)
 unfolding section_tokens
-section_says name is s = (token.Word (codes "section"), token.Symbol name ∷ [], section_is_line name is s, section_is_read name)
+section_says name is = (token.Word (codes "section"), token.Symbol name ∷ [], section_is_line name is, section_is_read name)
 
 -- the lines behind the last entry
 pub order_end_says : Says (codes "order_end") line.OrderEnd

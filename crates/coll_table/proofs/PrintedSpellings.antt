@@ -9,6 +9,7 @@ use Rattle.std.proofs.lemmas.List.Sums.{list_all-from_AllPass}
 use Rattle.coll_lex.specs.Names.{IsName}
 use Rattle.coll_lex.specs.Blanks.{is_blank}
 use Rattle.coll_lex.specs.declared.faults.LexFault.TheVariants.{BadName, BadCodePoint}
+use Rattle.coll_syntax.specs.Proper.{IsId, IsWeightId}
 use Rattle.coll_syntax.specs.declared.identifiers.Id.{Id}
 use Rattle.coll_syntax.specs.declared.identifiers.Id.TheVariants.{Char, Named, Undefined}
 use Rattle.coll_table.specs.CanonicalText.{spelled_all, spelled_id, spelled_string}
@@ -308,7 +309,7 @@ spells_symbol name p is h short = record { keeps = keeps_symbol name h short; re
 -- Identifiers.
 
 -- what a name is made of
-name_parts : (name : List ℕ) → IsName name → is_name name ≡ true
+name_parts : (name : List ℕ) → symbol_of name ≡ Ok (piece.Name name) → is_name name ≡ true
 unfolding symbol_of
 name_parts name is = by_code (code_point_of name) name name is where
   by_test : (test : Bool) (cs name : List ℕ) → (if test then Ok (piece.Name cs) else Err BadName) ≡ Ok (piece.Name name) → test ≡ true
@@ -340,11 +341,11 @@ clean_chars (c ∷ cs) e s =
     let b = and_parts _ _ s in
     clean-cons c cs (clean_char c a.0 b.0) (clean_chars cs a.1 b.1)
 
--- a name of characters
-pub spells_name : (name : List ℕ) → IsName name → scalars name ≡ true → Spells (spelled_symbol name) (token.Symbol name ∷ []) 258
-spells_name name is s =
-    let parts = and_parts _ _ (name_parts name is) in
-    spells_symbol name (piece.Name name) is (clean_chars name parts.1 s) (leb-true (length name) 64 parts.0)
+-- a name
+pub spells_name : (name : List ℕ) → IsName name → Spells (spelled_symbol name) (token.Symbol name ∷ []) 258
+spells_name name is =
+    let parts = and_parts _ _ (name_parts name is.0) in
+    spells_symbol name (piece.Name name) is.0 (clean_chars name parts.1 is.1) (leb-true (length name) 64 parts.0)
 
 -- the name of a code point
 capital_clean : is_clean 85 ≡ true
@@ -376,29 +377,16 @@ spells_char c is =
     subst (λ f. Spells f (token.Char c ∷ []) 258) (fun_ext (λ rest. sym (spelled_code-symbol c rest)))
     (spells_symbol name (piece.Char c) (symbol_of-spelled_code c is) (clean-cons 85 (hex_digits (digit_count c) c) capital_clean (digits_clean (digit_count c) c)) (short_code c))
 
--- the characters of an identifier are characters, and its name is one
-unfoldable pub IsSpelled : Id → Type 0
-IsSpelled (Char c) = scalar c ≡ true
-IsSpelled (Named name) = IsName name × (scalars name ≡ true)
-IsSpelled Undefined = Unit {0}
-
--- so are those of an identifier in a weight, which is no UNDEFINED
-unfoldable pub IsSpelledWeight : Id → Type 0
-IsSpelledWeight (Char c) = scalar c ≡ true
-IsSpelledWeight (Named name) = IsName name × (scalars name ≡ true)
-IsSpelledWeight Undefined = ⊥
-
 -- an identifier is read as its token
-pub spells_id : (id : Id) → IsSpelled id → Spells (spelled_id id) (id_token id ∷ []) 258
-unfolding IsSpelled id_token is_letter is_clean
+pub spells_id : (id : Id) → IsId id → Spells (spelled_id id) (id_token id ∷ []) 258
+unfolding id_token is_letter is_clean
 spells_id (Char c) h = spells_char c h
-spells_id (Named name) h = spells_name name h.0 h.1
+spells_id (Named name) h = spells_name name h
 spells_id Undefined h = spells_wider (λ rest. codes "UNDEFINED" ++ rest) (token.Word (codes "UNDEFINED") ∷ []) 9 258 (omega arith) (spells_word 85 (codes "NDEFINED") refl)
 
-keeps_weight_id : (id : Id) → IsSpelledWeight id → Keeps (spelled_id id) 258
-unfolding IsSpelledWeight
+keeps_weight_id : (id : Id) → IsWeightId id → Keeps (spelled_id id) 258
 keeps_weight_id (Char c) h = let s = spells_char c h in s.keeps
-keeps_weight_id (Named name) h = let s = spells_name name h.0 h.1 in s.keeps
+keeps_weight_id (Named name) h = let s = spells_name name h in s.keeps
 keeps_weight_id Undefined h = absurd h
 
 -- Strings.
@@ -409,35 +397,35 @@ id_atom (Char c) = Bracketed (85 ∷ hex_digits (digit_count c) c)
 id_atom (Named name) = Bracketed name
 id_atom Undefined = Unclosed
 
-atoms-id : (id : Id) (rest : List ℕ) → IsSpelledWeight id → atoms zero (marks 47 false (spelled_id id rest)) ≡ id_atom id ∷ atoms zero (marks 47 false rest)
-unfolding IsSpelledWeight id_atom
+atoms-id : (id : Id) (rest : List ℕ) → IsWeightId id → atoms zero (marks 47 false (spelled_id id rest)) ≡ id_atom id ∷ atoms zero (marks 47 false rest)
+unfolding id_atom
 atoms-id (Char c) rest h = ap (λ cs. atoms zero (marks 47 false cs)) (spelled_code-symbol c rest) ∙ atoms-spelled_symbol (85 ∷ hex_digits (digit_count c) c) rest
 atoms-id (Named name) rest h = atoms-spelled_symbol name rest
 atoms-id Undefined rest h = absurd h
 
-atoms-ids : (ids : List Id) (rest : List ℕ) → All IsSpelledWeight ids → atoms zero (marks 47 false (spelled_all spelled_id ids rest)) ≡ map id_atom ids ++ atoms zero (marks 47 false rest)
+atoms-ids : (ids : List Id) (rest : List ℕ) → All IsWeightId ids → atoms zero (marks 47 false (spelled_all spelled_id ids rest)) ≡ map id_atom ids ++ atoms zero (marks 47 false rest)
 atoms-ids [] rest h = refl
 atoms-ids (id ∷ ids) rest h =
-    atoms-id id (spelled_all spelled_id ids rest) (All-head IsSpelledWeight id ids h) ∙ ap (λ xs. id_atom id ∷ xs) (atoms-ids ids rest (All-tail IsSpelledWeight id ids h))
+    atoms-id id (spelled_all spelled_id ids rest) (All-head IsWeightId id ids h) ∙ ap (λ xs. id_atom id ∷ xs) (atoms-ids ids rest (All-tail IsWeightId id ids h))
 
-quoted-id : (id : Id) (xs : List Atom) → IsSpelledWeight id → quoted (id_atom id ∷ xs) ≡ with_piece (id_piece id) (quoted xs)
-unfolding quoted IsSpelledWeight id_atom id_piece
+quoted-id : (id : Id) (xs : List Atom) → IsWeightId id → quoted (id_atom id ∷ xs) ≡ with_piece (id_piece id) (quoted xs)
+unfolding quoted id_atom id_piece
 quoted-id (Char c) xs h = ap (λ r. with_symbol r (quoted xs)) (symbol_of-spelled_code c h)
 quoted-id (Named name) xs h = ap (λ r. with_symbol r (quoted xs)) h.0
 quoted-id Undefined xs h = absurd h
 
-quoted-ids : (ids : List Id) (xs : List Atom) → All IsSpelledWeight ids → quoted (map id_atom ids ++ Bare (Plain 34) ∷ xs) ≡ Closed (map id_piece ids)
+quoted-ids : (ids : List Id) (xs : List Atom) → All IsWeightId ids → quoted (map id_atom ids ++ Bare (Plain 34) ∷ xs) ≡ Closed (map id_piece ids)
 unfolding quoted
 quoted-ids [] xs h = refl
 quoted-ids (id ∷ ids) xs h =
-    quoted-id id (map id_atom ids ++ Bare (Plain 34) ∷ xs) (All-head IsSpelledWeight id ids h) ∙ ap (with_piece (id_piece id)) (quoted-ids ids xs (All-tail IsSpelledWeight id ids h))
+    quoted-id id (map id_atom ids ++ Bare (Plain 34) ∷ xs) (All-head IsWeightId id ids h) ∙ ap (with_piece (id_piece id)) (quoted-ids ids xs (All-tail IsWeightId id ids h))
 
 past-ids : (ids : List Id) (xs : List Atom) → reading 37 (suc (length (map id_piece ids))) (map id_atom ids ++ Bare (Plain 34) ∷ xs) ≡ reading 37 zero xs
 unfolding reading
 past-ids [] xs = refl
 past-ids (id ∷ ids) xs = past-ids ids xs
 
-reading-string : (ids : List Id) (xs : List Atom) → All IsSpelledWeight ids → reading 37 zero (Bare (Plain 34) ∷ (map id_atom ids ++ Bare (Plain 34) ∷ xs)) ≡ with_token (token.Text (map id_piece ids)) (reading 37 zero xs)
+reading-string : (ids : List Id) (xs : List Atom) → All IsWeightId ids → reading 37 zero (Bare (Plain 34) ∷ (map id_atom ids ++ Bare (Plain 34) ∷ xs)) ≡ with_token (token.Text (map id_piece ids)) (reading 37 zero xs)
 unfolding reading
 reading-string ids xs h = rw (quoted-ids ids xs h) (ap (with_token (token.Text (map id_piece ids))) (past-ids ids xs))
 
@@ -450,14 +438,14 @@ keeps_mark : Keeps (λ rest. 34 ∷ rest) 1
 unfolding is_clean
 keeps_mark = keeps_char 34 refl refl (omega arith)
 
-keeps_ids : (ids : List Id) → All IsSpelledWeight ids → Keeps (spelled_all spelled_id ids) (258 * length ids)
+keeps_ids : (ids : List Id) → All IsWeightId ids → Keeps (spelled_all spelled_id ids) (258 * length ids)
 keeps_ids [] h = keeps_nothing
 keeps_ids (id ∷ ids) h =
     keeps_wider (λ rest. spelled_id id (spelled_all spelled_id ids rest)) (258 + 258 * length ids) (258 * length (id ∷ ids)) (omega arith)
-    (keeps_both (spelled_id id) (spelled_all spelled_id ids) 258 (258 * length ids) (keeps_weight_id id (All-head IsSpelledWeight id ids h)) (keeps_ids ids (All-tail IsSpelledWeight id ids h)))
+    (keeps_both (spelled_id id) (spelled_all spelled_id ids) 258 (258 * length ids) (keeps_weight_id id (All-head IsWeightId id ids h)) (keeps_ids ids (All-tail IsWeightId id ids h)))
 
 -- a string is read as its pieces
-pub spells_string : (ids : List Id) → length ids ≤ 32 → All IsSpelledWeight ids → Spells (spelled_string ids) (token.Text (map id_piece ids) ∷ []) 8258
+pub spells_string : (ids : List Id) → length ids ≤ 32 → All IsWeightId ids → Spells (spelled_string ids) (token.Text (map id_piece ids) ∷ []) 8258
 unfolding with_tokens
 spells_string ids few h = record {
   keeps =
