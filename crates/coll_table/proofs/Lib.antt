@@ -8,6 +8,7 @@ pub mod PrintedDrafts
 pub mod PrintedLines
 pub mod PrintedReading
 pub mod PrintedSpellings
+pub mod PrintedTables
 pub mod PrintedTexts
 pub mod PrintedTokens
 pub mod Sameness

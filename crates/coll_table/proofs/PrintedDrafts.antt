@@ -158,11 +158,11 @@ count_passes levels symbol e h =
 -- The sections.
 
 -- the entry that is met, and the name
-entry_met : Met → List Entry
+unfoldable pub entry_met : Met → List Entry
 entry_met (MetSection name) = []
 entry_met (MetEntry entry) = entry ∷ []
 
-name_met : Met → List (List ℕ)
+unfoldable pub name_met : Met → List (List ℕ)
 name_met (MetSection name) = name ∷ []
 name_met (MetEntry entry) = []
 
@@ -312,7 +312,7 @@ past_all (first ∷ others) h = by_name first.name first.entries h.0 where
   by_name (Some name) entries e = cc
 
 -- the entries and the names that are met
-entries_met : (sections : List Section) → flat_map entry_met (met sections) ≡ joined_entries sections
+pub entries_met : (sections : List Section) → flat_map entry_met (met sections) ≡ joined_entries sections
 unfolding entry_met
 entries_met [] = refl
 entries_met (first ∷ others) =
@@ -324,7 +324,7 @@ entries_met (first ∷ others) =
       in_section None entries = only_entries entries
       in_section (Some name) entries = only_entries entries
 
-names_met : (sections : List Section) → flat_map name_met (met sections) ≡ section_names sections
+pub names_met : (sections : List Section) → flat_map name_met (met sections) ≡ section_names sections
 unfolding name_met
 names_met [] = refl
 names_met (first ∷ others) =
@@ -346,7 +346,7 @@ names_of_named (next ∷ others) h = by_name next.name (All-head IsNamed next ot
       let same : is.0 ≡ begun = let e = is.1 in cc in
       (All-cons IsName begun (section_names others) (subst IsName same is.2) more.0, ap suc more.1)
 
-names_of_first : (sections : List Section) → FirstIsUnnamed sections → All IsName (section_names sections) × (suc (length (section_names sections)) ≡ length sections)
+pub names_of_first : (sections : List Section) → FirstIsUnnamed sections → All IsName (section_names sections) × (suc (length (section_names sections)) ≡ length sections)
 names_of_first [] h = absurd h
 names_of_first (first ∷ others) h =
     let more = names_of_named others h.1 in
@@ -397,7 +397,7 @@ module _ (table : Collation) (w : IsWellFormed table) (numbers : List ℕ) where
 -- The whole table.
 
 -- the lines of a table but for the last, as they are read
-pub said : Collation → List TableLine
+unfoldable pub said : Collation → List TableLine
 said table = map declaration_read table.declared ++ (line.OrderStart None (Some table.rules) ∷ (map met_read (met table.sections) ++ line.OrderEnd ∷ []))
 
 module _ (table : Collation) (w : IsWellFormed table) where

@@ -57,7 +57,7 @@ one_decides before count line read more says room =
     ∙ ap (λ r. by_grammar (suc count) before r (λ (n : Numbered). outcome_within (before ++ n ∷ []) (logical_lines [] true (lexer_at (suc count)) more))) says.3
 
 -- each of these lines says what is read of it
-pub SayAll : List (List ℕ) → List TableLine → Type 0
+unfoldable pub SayAll : List (List ℕ) → List TableLine → Type 0
 SayAll [] [] = Unit {0}
 SayAll [] (read ∷ reads) = ⊥
 SayAll (line ∷ lines) [] = ⊥
@@ -113,7 +113,7 @@ lines_of_feeds (line ∷ lines) h =
     ∙ ap (λ ls. line ∷ ls) (lines_of_feeds lines (All-tail IsInLine line lines h))
 
 -- a line that says something has no line feed in it
-says_in_line : (line : List ℕ) (read : TableLine) → Says line read → IsInLine (encode_utf8_all line)
+pub says_in_line : (line : List ℕ) (read : TableLine) → Says line read → IsInLine (encode_utf8_all line)
 says_in_line line read says = let l = says.2 in in_line line l.clean
 
 -- lines that say something have no line feed in them

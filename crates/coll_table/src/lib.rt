@@ -9,6 +9,7 @@
 //! - `building`: a table that grows (`Building`);
 //! - `drafts`: the lines of a category, each judged by those before it (`Drafts`);
 //! - `loaders` and `loading`: a text, read line by line (`Reading`, `Loading`, `Loads`), with its `load_faults` (`LoadFaults`);
+//! - `printing`: the canonical text of a table, and that it is read back (`CanonicalText`);
 //! - `plain/`: what a line of a delta says (`PlainDeltaLines`, `PlainOrderLines`);
 //! - `names`, `places`, `deltas` and `refusals`: a statement, applied (`LookUps`, `Delta`, `Placement`, `Refusals`);
 //! - `records`: a statement, taken back (`Record`).
@@ -43,6 +44,7 @@ pub use load_faults::{LoadCause, LoadFault};
 pub use loaders::Loader;
 pub use loading::{load, texts_are_well_formed};
 pub use plain::{PlainDeltaLine, PlainLine, PlainStatement, parse_plain_delta_line};
+pub use printing::printed_tables_are_read_back;
 pub use records::Record;
 pub use refusals::Refusal;
 pub use tables::Table;
