@@ -7,6 +7,7 @@
 
 ghost use Rattle.std.specs.Prelude.{◌≡◌, ◌==◌, [], ◌∷◌, ◌++◌, length, chars, string_bytes, encode_utf8_all, IfOk, OnOk, OnErr};
 ghost use Rattle.std.specs.Borrow.{sem};
+ghost use Rattle.std.specs.List.{AllZip};
 ghost use Rattle.coll_lex.specs.Buffers.{LendsMembers};
 
 use std::alloc::{AllocError, Global};
@@ -134,6 +135,15 @@ impl<X> ListBuf<X> {
         ensures { result ≡ (length self.now == 0) }
     {
         self.items.is_empty()
+    }
+}
+
+impl<X: Clone> Clone for ListBuf<X> {
+    ghost is_clone = { λ list copy. AllZip X.is_clone list copy };
+
+    fn clone(&self) -> Result<ListBuf<X>, AllocError> {
+        let items = self.items.clone()?;
+        Ok(ListBuf { items })
     }
 }
 

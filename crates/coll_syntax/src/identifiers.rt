@@ -21,6 +21,21 @@ pub enum Id {
     Undefined,
 }
 
+impl Clone for Id {
+    ghost is_clone = { λ id copy. copy ≡ id };
+
+    fn clone(&self) -> Result<Id, AllocError> {
+        match self {
+            Id::Char(c) => Ok(Id::Char(*c)),
+            Id::Named(name) => {
+                let name = name.try_copy()?;
+                Ok(Id::Named(name))
+            }
+            Id::Undefined => Ok(Id::Undefined),
+        }
+    }
+}
+
 impl Id {
     ghost use Rattle.coll_syntax.specs.Identifier.{same_id};
     ghost use Rattle.coll_syntax.specs.Proper.{is_proper_id, is_weight_id};

@@ -26,6 +26,21 @@ pub enum Weight {
     Names(ListBuf<Id>),
 }
 
+impl Clone for Weight {
+    ghost is_clone = { λ weight copy. copy ≡ weight };
+
+    fn clone(&self) -> Result<Weight, AllocError> {
+        match self {
+            Weight::Ignore => Ok(Weight::Ignore),
+            Weight::Own => Ok(Weight::Own),
+            Weight::Names(ids) => {
+                let ids = ids.clone()?;
+                Ok(Weight::Names(ids))
+            }
+        }
+    }
+}
+
 impl Weight {
     ghost use Rattle.coll_syntax.specs.Proper.{is_proper_weight};
 

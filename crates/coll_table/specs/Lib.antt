@@ -1,3 +1,4 @@
+pub mod Bodies
 pub mod Building
 pub mod CanonicalText
 pub mod Delta
@@ -9,6 +10,7 @@ pub mod Loading
 pub mod Loads
 pub mod LookUps
 pub mod NodeLookUps
+pub mod NodeMaps
 pub mod Placement
 pub mod PlainDeltaLines
 pub mod PlainOrderLines
@@ -19,5 +21,9 @@ pub mod SoundDrafts
 pub mod SoundLoaders
 pub mod Table
 pub mod TableLayout
+pub mod WalkItems
+pub mod WalkStates
 pub mod Walks
 pub mod WellFormed
+pub mod Rewriting
+pub mod SoundBodies

@@ -1,6 +1,392 @@
 //! The body of a table: what it declares, its sections and their entries, as nodes in rings.
-use std::alloc::Global;
+//!
+//! A `Body` has the nodes, look-ups by hash, and counts. Contracts see its layout (`specs/Bodies.antt`), from which
+//! `declared_at` and `sections_at` of `specs/TableLayout.antt` read the table. What stands in which ring, and that the look-ups
+//! find just the nodes that stand in a ring, is said in `specs/SoundBodies.antt`: whoever links a node or takes one out sets the
+//! look-ups with it. A new kind of node is a new ring, and a look-up where it has a key.
+
+ghost use Rattle.std.specs.Prelude.{◌≡◌, ◌∷◌, ◌++◌, [], Some, None, true, false, length, IfOk, IfNone, OnOk, OnErr, option_copied};
+ghost use Rattle.coll_syntax.specs.Identifier.{has_name, same_id};
+ghost use Rattle.coll_table.specs.SoundBodies.{declares_a_symbol, entry_if};
+
+use crate::contents::Content;
+use crate::node_ids::NodeIds;
+use crate::node_names::NodeNames;
+use crate::nodes::Nodes;
+use crate::{Declaration, Entry};
+use coll_lex::TextBuf;
+use coll_order::{NodeId, Place, RingId};
+use coll_syntax::Id;
+use std::alloc::{AllocError, Global};
+use std::marker::Model;
+
+/// The body of a table.
 #[derive(Debug, Drop)]
 pub(crate) struct Body {
-    alloc: Global,
+    nodes: Nodes,
+    /// The ring of the declarations.
+    declarations: RingId,
+    /// The ring of the sections.
+    sections: RingId,
+    /// The declarations by their names.
+    names: NodeNames,
+    /// The collating elements by their strings.
+    texts: NodeNames,
+    /// The sections by their names.
+    section_names: NodeNames,
+    /// The entries by their identifiers.
+    placed: NodeIds,
+    declared_len: usize,
+    section_len: usize,
+    entry_len: usize,
+}
+
+impl Model for Body {
+    ghost use Rattle.coll_table.specs.Bodies.{BodyValue};
+    ghost use Rattle.coll_table.specs.SoundBodies.{IsSoundBody};
+
+    ghost Value = { BodyValue };
+
+    ghost view = { λ b. b.nodes };
+
+    ghost invariant = { λ b. IsSoundBody b.nodes.layout b.declarations b.sections b.names b.texts b.section_names b.placed b.declared_len b.section_len b.entry_len };
+}
+
+// Whether a node declares a collating symbol.
+fn is_symbol_node(node: &Content) -> bool
+    ensures { result ≡ declares_a_symbol node.now }
+{
+    match node {
+        Content::Declared(Declaration::Symbol(_)) => true,
+        _ => false,
+    }
+}
+
+// The entry that a node is.
+fn entry_of(node: &Content) -> Option<&Entry>
+    ensures { option_copied result ≡ entry_if node.now }
+{
+    match node {
+        Content::Placed(entry) => Some(entry),
+        _ => None,
+    }
+}
+
+impl Body {
+    ghost use Rattle.coll_order.specs.Changes.{one_step_more};
+    ghost use Rattle.coll_table.specs.Bodies.{IsLaidOut};
+    ghost use Rattle.coll_table.specs.Drafts.{has_text};
+    ghost use Rattle.coll_table.specs.Placement.{entry_at, placed_after, without};
+    ghost use Rattle.coll_table.specs.declared.entries.Entry.{Entry};
+    ghost use Rattle.coll_table.specs.SoundBodies.{IsShaped, IsPlaceIn, IsEntryPlace, Adds, with_empty_ring};
+    ghost use Rattle.std.specs.List.{list_any};
+    ghost use Rattle.coll_table.specs.declared.declarations.Declaration.TheVariants.{Symbol, Element};
+    ghost use Rattle.coll_table.specs.Table.{declares_symbol, name_of, text_of, texts_of, is_declared, is_known, is_symbol, is_placed_in, section_names, joined_entries};
+    ghost use Rattle.coll_table.specs.TableLayout.{declared_at, sections_at, declarations_ring, sections_ring};
+    ghost use Rattle.coll_table.specs.declared.contents.Content.TheVariants as content;
+
+    /// Nothing declared, and no section.
+    pub(crate) fn new(alloc: Global) -> Result<Body, AllocError>
+        ensures declared { IfOk result (λ body. body.layout ≡ record { rings = [] ∷ [] ∷ []; nodes = [] }) }
+    {
+        let mut nodes = Nodes::new(alloc);
+        let declarations = nodes.new_ring()?;
+        let sections = nodes.new_ring()?;
+        Ok(Body {
+            nodes,
+            declarations,
+            sections,
+            names: NodeNames::new(alloc),
+            texts: NodeNames::new(alloc),
+            section_names: NodeNames::new(alloc),
+            placed: NodeIds::new(alloc),
+            declared_len: 0,
+            section_len: 0,
+            entry_len: 0,
+        })
+    }
+
+    /// A copy, in new memory, in which each node has its name.
+    pub(crate) fn try_copy(&self, alloc: Global) -> Result<Body, AllocError>
+        ensures { IfOk result (λ copy. copy ≡ self.now) }
+    {
+        let nodes = self.nodes.try_copy(alloc)?;
+        let names = self.names.try_copy(alloc)?;
+        let texts = self.texts.try_copy(alloc)?;
+        let section_names = self.section_names.try_copy(alloc)?;
+        let placed = self.placed.try_copy(alloc)?;
+        Ok(Body {
+            nodes,
+            declarations: self.declarations,
+            sections: self.sections,
+            names,
+            texts,
+            section_names,
+            placed,
+            declared_len: self.declared_len,
+            section_len: self.section_len,
+            entry_len: self.entry_len,
+        })
+    }
+
+    /// Where it takes memory.
+    pub(crate) fn alloc(&self) -> Global {
+        self.names.alloc()
+    }
+
+    /// The nodes.
+    pub(crate) fn nodes(&self) -> &Nodes
+        ensures { result.now ≡ self.now }
+    {
+        &self.nodes
+    }
+
+    /// The ring of the declarations.
+    pub(crate) fn declarations(&self) -> RingId
+        ensures { result ≡ declarations_ring }
+    {
+        self.declarations
+    }
+
+    /// The ring of the sections.
+    pub(crate) fn sections(&self) -> RingId
+        ensures { result ≡ sections_ring }
+    {
+        self.sections
+    }
+
+    /// What holds of the layout of every body.
+    ///
+    /// It does nothing but hand the facts to callers.
+    pub(crate) fn check_layout(&self)
+        ensures laid { IsLaidOut self.now.layout }
+        ensures shaped { IsShaped self.now.layout }
+    {
+        self.nodes.check_layout();
+    }
+
+    /// Whether a name is declared.
+    pub(crate) fn declares(&self, name: &TextBuf) -> bool
+        ensures { result ≡ is_declared (declared_at self.now.layout) name.now }
+    {
+        self.names.find(name).is_some()
+    }
+
+    /// Whether a collating element has this string.
+    pub(crate) fn has_text(&self, text: &TextBuf) -> bool
+        ensures { result ≡ has_name (texts_of (declared_at self.now.layout)) text.now }
+    {
+        self.texts.find(text).is_some()
+    }
+
+    /// Whether a section has this name.
+    pub(crate) fn has_section(&self, name: &TextBuf) -> bool
+        ensures { result ≡ has_name (section_names (sections_at self.now.layout)) name.now }
+    {
+        self.section_names.find(name).is_some()
+    }
+
+    /// Whether an identifier stands in a section.
+    pub(crate) fn is_placed(&self, id: &Id) -> bool
+        ensures { result ≡ is_placed_in (sections_at self.now.layout) id.now }
+    {
+        self.placed.find(id).is_some()
+    }
+
+    /// Whether an identifier may be used: a name has to be declared.
+    pub(crate) fn is_known(&self, id: &Id) -> bool
+        ensures { result ≡ is_known (declared_at self.now.layout) id.now }
+    {
+        match id {
+            Id::Named(name) => self.declares(name),
+            _ => true,
+        }
+    }
+
+    /// Whether an identifier is a collating symbol.
+    pub(crate) fn is_symbol(&self, id: &Id) -> bool
+        ensures { result ≡ is_symbol (declared_at self.now.layout) id.now }
+    {
+        match id {
+            Id::Named(name) => self.is_symbol_name(name),
+            _ => false,
+        }
+    }
+
+    // Whether a name is declared as a collating symbol.
+    fn is_symbol_name(&self, name: &TextBuf) -> bool
+        ensures { result ≡ list_any (declares_symbol name.now) (declared_at self.now.layout) }
+    {
+        self.nodes.check_layout();
+        match self.names.find(name) {
+            Some(node) => is_symbol_node(self.nodes.content(node)),
+            None => false,
+        }
+    }
+
+    /// The entry of an identifier, if it has one.
+    pub(crate) fn entry(&self, id: &Id) -> Option<&Entry>
+        ensures { option_copied result ≡ entry_at (joined_entries (sections_at self.now.layout)) id.now }
+    {
+        self.nodes.check_layout();
+        match self.placed.find(id) {
+            Some(node) => entry_of(self.nodes.content(node)),
+            None => None,
+        }
+    }
+
+    /// The number of declarations.
+    pub(crate) fn declared_len(&self) -> usize
+        ensures { result ≡ length (declared_at self.now.layout) }
+    {
+        self.declared_len
+    }
+
+    /// The number of sections.
+    pub(crate) fn section_len(&self) -> usize
+        ensures { result ≡ length (sections_at self.now.layout) }
+    {
+        self.section_len
+    }
+
+    /// The number of entries, in all sections together.
+    pub(crate) fn entry_len(&self) -> usize
+        ensures { result ≡ length (joined_entries (sections_at self.now.layout)) }
+    {
+        self.entry_len
+    }
+
+    /// Puts a declaration of a collating symbol directly after a place.
+    pub(crate) fn declare_symbol(&mut self, name: TextBuf, place: Place) -> Result<NodeId, AllocError>
+        requires name { is_declared (declared_at self.old.layout) name ≡ false }
+        requires place { IsPlaceIn self.old.layout 0 place }
+        ensures ok { IfOk result (λ node. Adds self.old.layout self.new.layout node (content.Declared (Symbol name)) place) }
+        ensures steps { OnOk result (self.new.steps ≡ one_step_more self.old.steps) }
+        ensures err { OnErr result (self.new ≡ self.old) }
+    {
+        self.nodes.check_layout();
+        let Some(more) = self.declared_len.checked_add(1) else {
+            return Err(AllocError);
+        };
+        self.names.reserve(&name)?;
+        let node = self.nodes.make(Content::Declared(Declaration::Symbol(name)))?;
+        let Content::Declared(Declaration::Symbol(name)) = self.nodes.content(node) else {
+            unreachable!();
+        };
+        self.names.set(name, Some(node));
+        self.nodes.link(node, place);
+        self.declared_len = more;
+        Ok(node)
+    }
+
+    /// Puts a declaration of a collating element directly after a place.
+    pub(crate) fn declare_element(&mut self, name: TextBuf, text: TextBuf, place: Place) -> Result<NodeId, AllocError>
+        requires name { is_declared (declared_at self.old.layout) name ≡ false }
+        requires text { has_name (texts_of (declared_at self.old.layout)) text ≡ false }
+        requires place { IsPlaceIn self.old.layout 0 place }
+        ensures ok { IfOk result (λ node. Adds self.old.layout self.new.layout node (content.Declared (Element name text)) place) }
+        ensures steps { OnOk result (self.new.steps ≡ one_step_more self.old.steps) }
+        ensures err { OnErr result (self.new ≡ self.old) }
+    {
+        self.nodes.check_layout();
+        let Some(more) = self.declared_len.checked_add(1) else {
+            return Err(AllocError);
+        };
+        self.names.reserve(&name)?;
+        self.texts.reserve(&text)?;
+        let node = self.nodes.make(Content::Declared(Declaration::Element { name, text }))?;
+        let Content::Declared(Declaration::Element { name, text }) = self.nodes.content(node) else {
+            unreachable!();
+        };
+        self.names.set(name, Some(node));
+        self.texts.set(text, Some(node));
+        self.nodes.link(node, place);
+        self.declared_len = more;
+        Ok(node)
+    }
+
+    /// Begins a section without a name directly after a place, and answers its node and its ring.
+    pub(crate) fn begin_unnamed(&mut self, place: Place) -> Result<(NodeId, RingId), AllocError>
+        requires place { IsPlaceIn self.old.layout 1 place }
+        ensures ok { IfOk result (λ begun. Adds (with_empty_ring self.old.layout) self.new.layout begun.0 (content.Begun None begun.1) place) }
+        ensures ring { IfOk result (λ begun. begun.1.index ≡ length self.old.layout.rings) }
+        ensures err { OnErr result (self.new ≡ self.old) }
+    {
+        self.nodes.check_layout();
+        let Some(more) = self.section_len.checked_add(1) else {
+            return Err(AllocError);
+        };
+        let (node, ring) = self.nodes.make_section(None)?;
+        self.nodes.link(node, place);
+        self.section_len = more;
+        Ok((node, ring))
+    }
+
+    /// Begins a section directly after a place, and answers its node and its ring.
+    pub(crate) fn begin(&mut self, name: TextBuf, place: Place) -> Result<(NodeId, RingId), AllocError>
+        requires name { has_name (section_names (sections_at self.old.layout)) name ≡ false }
+        requires place { IsPlaceIn self.old.layout 1 place }
+        ensures ok { IfOk result (λ begun. Adds (with_empty_ring self.old.layout) self.new.layout begun.0 (content.Begun (Some name) begun.1) place) }
+        ensures ring { IfOk result (λ begun. begun.1.index ≡ length self.old.layout.rings) }
+        ensures err { OnErr result (self.new ≡ self.old) }
+    {
+        self.nodes.check_layout();
+        let Some(more) = self.section_len.checked_add(1) else {
+            return Err(AllocError);
+        };
+        self.section_names.reserve(&name)?;
+        let (node, ring) = self.nodes.make_section(Some(name))?;
+        let Content::Begun { name: Some(name), ring: _ } = self.nodes.content(node) else {
+            unreachable!();
+        };
+        self.section_names.set(name, Some(node));
+        self.nodes.link(node, place);
+        self.section_len = more;
+        Ok((node, ring))
+    }
+
+    /// Puts an entry directly after a place.
+    pub(crate) fn place(&mut self, entry: Entry, place: Place) -> Result<NodeId, AllocError>
+        requires id { is_placed_in (sections_at self.old.layout) entry.id ≡ false }
+        requires place { IsEntryPlace self.old.layout place }
+        ensures ok { IfOk result (λ node. Adds self.old.layout self.new.layout node (content.Placed entry) place) }
+        ensures steps { OnOk result (self.new.steps ≡ one_step_more self.old.steps) }
+        ensures err { OnErr result (self.new ≡ self.old) }
+    {
+        self.nodes.check_layout();
+        let Some(more) = self.entry_len.checked_add(1) else {
+            return Err(AllocError);
+        };
+        self.placed.reserve(&entry.id)?;
+        let node = self.nodes.make(Content::Placed(entry))?;
+        let Content::Placed(entry) = self.nodes.content(node) else {
+            unreachable!();
+        };
+        self.placed.set(&entry.id, Some(node));
+        self.nodes.link(node, place);
+        self.entry_len = more;
+        Ok(node)
+    }
+
+    /// Moves an entry directly after another.
+    pub(crate) fn move_after(&mut self, id: &Id, target: &Id)
+        requires here { is_placed_in (sections_at self.old.layout) id.now ≡ true }
+        requires placed { is_placed_in (sections_at self.old.layout) target.now ≡ true }
+        requires apart { same_id id.now target.now ≡ false }
+        ensures declared { declared_at self.new.layout ≡ declared_at self.old.layout }
+        ensures sections { (entry : Entry) → entry_at (joined_entries (sections_at self.old.layout)) id.now ≡ Some entry → sections_at self.new.layout ≡ placed_after (without (sections_at self.old.layout) id.now) target.now entry }
+    {
+        unreachable!();
+    }
+
+    /// Places a new entry directly after another.
+    pub(crate) fn place_new_after(&mut self, entry: Entry, target: &Id) -> Result<(), AllocError>
+        requires new { is_placed_in (sections_at self.old.layout) entry.id ≡ false }
+        requires placed { is_placed_in (sections_at self.old.layout) target.now ≡ true }
+        ensures declared { declared_at self.new.layout ≡ declared_at self.old.layout }
+        ensures ok { OnOk result (sections_at self.new.layout ≡ placed_after (sections_at self.old.layout) target.now entry) }
+        ensures err { OnErr result (self.new ≡ self.old) }
+    {
+        unreachable!();
+    }
 }

@@ -3,9 +3,12 @@
 //! A `Content` is plain data, which `specs/TableLayout.antt` reads a table from. A new kind of node is a new variant, and a
 //! ring that holds it.
 
+ghost use Rattle.std.specs.Prelude.{◌≡◌, IfOk};
+
 use crate::{Declaration, Entry};
 use coll_lex::TextBuf;
 use coll_order::RingId;
+use std::alloc::AllocError;
 
 /// What a node of a table is.
 #[derive(Debug, Drop)]
@@ -21,4 +24,38 @@ pub(crate) enum Content {
     },
     /// An entry, in the ring of its section.
     Placed(Entry),
+}
+
+impl Clone for Content {
+    ghost is_clone = { λ content copy. copy ≡ content };
+
+    fn clone(&self) -> Result<Content, AllocError> {
+        match self {
+            Content::Declared(declaration) => {
+                let declaration = declaration.clone()?;
+                Ok(Content::Declared(declaration))
+            }
+            Content::Begun { name, ring } => {
+                let name = copied_if_any(name)?;
+                Ok(Content::Begun { name, ring: *ring })
+            }
+            Content::Placed(entry) => {
+                let entry = entry.clone()?;
+                Ok(Content::Placed(entry))
+            }
+        }
+    }
+}
+
+// A copy of a name, if there is one.
+fn copied_if_any(name: &Option<TextBuf>) -> Result<Option<TextBuf>, AllocError>
+    ensures { IfOk result (λ copy. copy ≡ name.now) }
+{
+    match name {
+        None => Ok(None),
+        Some(name) => {
+            let copy = name.try_copy()?;
+            Ok(Some(copy))
+        }
+    }
 }

@@ -7,12 +7,23 @@ ghost use Rattle.std.specs.Prelude.{◌≡◌, length, map};
 
 use coll_lex::ListBuf;
 use coll_syntax::{Id, Weight};
+use std::alloc::AllocError;
 
 /// A place of a table's order (POSIX.1-2017, 7.3.2.4).
 #[derive(Debug, Drop)]
 pub struct Entry {
     pub(crate) id: Id,
     pub(crate) weights: ListBuf<Weight>,
+}
+
+impl Clone for Entry {
+    ghost is_clone = { λ entry copy. copy ≡ entry };
+
+    fn clone(&self) -> Result<Entry, AllocError> {
+        let id = self.id.clone()?;
+        let weights = self.weights.clone()?;
+        Ok(Entry { id, weights })
+    }
 }
 
 impl Entry {

@@ -4,7 +4,8 @@
 //! back. A way through the crate, each file with its definitions in `specs/`:
 //!
 //! - `declarations`, `entries` and `limits`: what a table is made of (`Table`, `Entries`, `WellFormed`, `Limits`);
-//! - `contents`, `node_names`, `node_ids` and `bodies`: rings of nodes, and what each node is (`TableLayout`, `NodeLookUps`, `Bodies`);
+//! - `contents` and `nodes`: rings of nodes, and what each node is (`TableLayout`, `Bodies`);
+//! - `node_names`, `node_ids` and `bodies`: which node has a name or an identifier, and what holds of the whole (`NodeLookUps`, `SoundBodies`);
 //! - `tables` and `walks`: a table, read (`Walks`);
 //! - `building`: a table that grows (`Building`);
 //! - `drafts`: the lines of a category, each judged by those before it (`Drafts`);
@@ -26,9 +27,11 @@ mod limits;
 mod load_faults;
 mod loaders;
 mod loading;
+mod met_nodes;
 mod names;
 mod node_ids;
 mod node_names;
+mod nodes;
 mod places;
 mod plain;
 mod printing;

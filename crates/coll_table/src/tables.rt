@@ -1,10 +1,14 @@
 //! Tables.
+//!
+//! A `Table` has its rules and a body of nodes in rings. Contracts see a `TableValue` of `specs/TableLayout.antt`, and read it
+//! through `collation`, which is the table that the layout stands for; every table is well formed (`specs/WellFormed.antt`).
+//! What is read here takes no memory. How a body holds its nodes may change without a clause here.
 
-ghost use Rattle.std.specs.Prelude.{◌≡◌, IfOk, length};
+ghost use Rattle.std.specs.Prelude.{◌≡◌, length, option_copied, IfOk};
 
 use crate::Entry;
 use crate::bodies::Body;
-use coll_syntax::{Id, Rules};
+use coll_syntax::{Id, Rule, Rules};
 use std::alloc::{AllocError, Global};
 use std::marker::Model;
 
@@ -16,10 +20,94 @@ pub struct Table {
 }
 
 impl Model for Table {
-    ghost use Rattle.coll_table.specs.TableLayout.{TableValue};
-    ghost use Rattle.std.specs.Prelude.{[]};
+    ghost use Rattle.coll_table.specs.Bodies.{value_of};
+    ghost use Rattle.coll_table.specs.TableLayout.{TableValue, collation};
+    ghost use Rattle.coll_table.specs.WellFormed.{IsWellFormed};
 
     ghost Value = { TableValue };
 
-    ghost view = { λ t. record { rules = t.rules; layout = record { rings = []; nodes = [] }; steps = 0 } };
+    ghost view = { λ t. value_of t.rules t.body };
+
+    ghost invariant = { λ t. IsWellFormed (collation (value_of t.rules t.body)) };
+}
+
+impl Table {
+    ghost use Rattle.coll_table.specs.Placement.{entry_at};
+    ghost use Rattle.coll_table.specs.Table.{entries_of, is_known, is_placed, is_symbol};
+    ghost use Rattle.coll_table.specs.TableLayout.{collation};
+    ghost use Rattle.coll_table.specs.WellFormed.{IsWellFormed};
+
+    /// The rules of its levels, one to four.
+    pub fn rules(&self) -> &[Rule]
+        ensures { result.now ≡ (collation self.now).rules }
+    {
+        self.rules.get()
+    }
+
+    /// The number of entries, in all sections together.
+    pub fn len(&self) -> usize
+        ensures { result ≡ length (entries_of (collation self.now)) }
+    {
+        self.body.entry_len()
+    }
+
+    /// The entry of an identifier, if it has one.
+    pub fn entry(&self, id: &Id) -> Option<&Entry>
+        ensures { option_copied result ≡ entry_at (entries_of (collation self.now)) id.now }
+    {
+        self.body.entry(id)
+    }
+
+    /// The number of ring steps that its changes have taken, modulo 2 to the power 64.
+    pub fn steps(&self) -> u64
+        ensures { result ≡ self.now.steps }
+    {
+        self.body.nodes().steps()
+    }
+
+    /// A copy, in new memory, which has taken as many ring steps.
+    pub fn try_copy(&self, alloc: Global) -> Result<Table, AllocError>
+        ensures { IfOk result (λ copy. copy ≡ self.now) }
+    {
+        let body = self.body.try_copy(alloc)?;
+        Ok(Table {
+            rules: self.rules.copied(),
+            body,
+        })
+    }
+
+    /// What holds of every table: it is well formed.
+    ///
+    /// It does nothing; its contract hands the fact to callers.
+    pub fn check(&self)
+        ensures { IsWellFormed (collation self.now) }
+    {
+        let _ = &self.rules;
+    }
+
+    /// Where it takes memory.
+    pub(crate) fn alloc(&self) -> Global {
+        self.body.alloc()
+    }
+
+    /// Whether an identifier stands in the table.
+    pub(crate) fn is_placed(&self, id: &Id) -> bool
+        ensures { result ≡ is_placed (collation self.now) id.now }
+    {
+        self.body.is_placed(id)
+    }
+
+    /// Whether an identifier may be used: a name has to be declared.
+    pub(crate) fn is_known(&self, id: &Id) -> bool
+        ensures { result ≡ is_known (collation self.now).declared id.now }
+    {
+        self.body.is_known(id)
+    }
+
+    /// Whether an identifier is a collating symbol.
+    pub(crate) fn is_symbol(&self, id: &Id) -> bool
+        ensures { result ≡ is_symbol (collation self.now).declared id.now }
+    {
+        self.body.is_symbol(id)
+    }
 }

@@ -1,0 +1,10 @@
+-- A string is found where an element has it.
+use Rattle.std.proofs.Common.{is_some, ap, sym, ◌∙◌}
+use Rattle.coll_table.specs.NodeLookUps.{node_named}
+use Rattle.coll_table.proofs.BodyReads.{text_found}
+use Rattle.coll_table.proofs.bodies.Body.has_text.Goals as goal
+
+pub returns : goal.returns
+returns c = rw (← c.self.view_is)
+    (c.is_some.ensures ∙ (ap (λ found. is_some found) c.find.ensures
+    ∙ sym (text_found c.self.inside.nodes.layout c.self.invariant.shaped (node_named c.self.inside.texts) c.args.text.now c.self.invariant.texts_found)))

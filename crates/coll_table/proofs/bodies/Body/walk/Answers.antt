@@ -1,0 +1,8 @@
+-- A body's sections are what a walk meets.
+use Rattle.std.proofs.Common.{subst, sym}
+use Rattle.coll_table.specs.WalkStates.{HasSections}
+use Rattle.coll_table.proofs.WalkShapes.{has_sections}
+use Rattle.coll_table.proofs.bodies.Body.walk.Goals as goal
+
+pub new-requires-clause-sections : goal.new-requires-clause-sections
+new-requires-clause-sections c = rw c.nodes.ensures (has_sections c.args.self.now.layout c.check_layout.ensures.shaped c.requires)

@@ -1,0 +1,172 @@
+//! Nodes in rings, and what each node is.
+//!
+//! A `Nodes` has the rings, and the content of each node that is there, found by the node's tag. Contracts see the layout that
+//! they make (`specs/Bodies.antt`); what may stand in which ring is for `bodies` to know. The way to a content may change.
+
+ghost use Rattle.std.specs.Prelude.{◌≡◌, ◌<◌, ◌∷◌, ◌++◌, [], Some, None, IsSome, false, true, length, IfOk, OnOk, OnErr};
+ghost use Rattle.coll_order.specs.Changes.{one_step_more};
+ghost use Rattle.coll_order.specs.Layout.{is_in, place_from};
+ghost use Rattle.coll_order.specs.Lists.{first_in};
+
+use crate::contents::Content;
+use coll_lex::TextBuf;
+use coll_order::{NodeId, Place, RingId, Rings};
+use slab::Slab;
+use std::alloc::{AllocError, Global};
+use std::marker::Model;
+
+/// Nodes in rings, each with a content.
+#[derive(Debug, Drop)]
+pub(crate) struct Nodes {
+    rings: Rings,
+    /// What each node is, by its tag.
+    contents: Slab<Content>,
+}
+
+impl Model for Nodes {
+    ghost use Rattle.coll_table.specs.Bodies.{BodyValue, layout_with, AreMade};
+
+    ghost Value = { BodyValue };
+
+    ghost view = { λ n. record { layout = layout_with n.rings.layout n.contents.slots; steps = n.rings.steps } };
+
+    ghost invariant = { λ n. AreMade n.rings.layout.tags n.contents.slots };
+}
+
+impl Nodes {
+    ghost use Rattle.coll_table.specs.Bodies.{empty_body, Makes, IsLooseNode, IsPlaceAmong, IsLaidOut, with_link, without_link};
+    ghost use Rattle.coll_table.specs.TableLayout.{content_of, nodes_in};
+    ghost use Rattle.coll_table.specs.WalkStates.{ComesNext};
+    ghost use Rattle.coll_table.specs.declared.contents.Content.TheVariants.{Begun};
+
+    /// No rings and no nodes. It takes no memory.
+    pub(crate) fn new(alloc: Global) -> Nodes
+        ensures { result ≡ empty_body }
+    {
+        Nodes {
+            rings: Rings::new(alloc),
+            contents: Slab::new(alloc),
+        }
+    }
+
+    /// Makes a ring of no nodes.
+    pub(crate) fn new_ring(&mut self) -> Result<RingId, AllocError>
+        ensures ring { IfOk result (λ ring. ring.index ≡ length self.old.layout.rings) }
+        ensures ok { OnOk result (self.new ≡ record self.old { layout = record self.old.layout { rings = self.old.layout.rings ++ [] ∷ [] } }) }
+        ensures err { OnErr result (self.new ≡ self.old) }
+    {
+        let ring = self.rings.new_ring()?;
+        Ok(ring)
+    }
+
+    /// Makes a loose node.
+    pub(crate) fn make(&mut self, content: Content) -> Result<NodeId, AllocError>
+        ensures made { IfOk result (λ node. Makes self.old.layout self.new.layout node content) }
+        ensures apart { IfOk result (λ node. is_in self.old.layout.rings node ≡ false) }
+        ensures rings { self.new.layout.rings ≡ self.old.layout.rings }
+        ensures steps { self.new.steps ≡ self.old.steps }
+        ensures err { OnErr result (self.new ≡ self.old) }
+    {
+        self.contents.reserve(1)?;
+        let node = self.rings.new_node(self.contents.vacant_key())?;
+        self.contents.insert_reserved(content);
+        Ok(node)
+    }
+
+    /// Makes a loose node that is a section, and a ring for its entries.
+    pub(crate) fn make_section(&mut self, name: Option<TextBuf>) -> Result<(NodeId, RingId), AllocError>
+        ensures made { IfOk result (λ made. Makes self.old.layout self.new.layout made.0 (Begun name made.1)) }
+        ensures apart { IfOk result (λ made. is_in self.old.layout.rings made.0 ≡ false) }
+        ensures ring { IfOk result (λ made. made.1.index ≡ length self.old.layout.rings) }
+        ensures rings { OnOk result (self.new.layout.rings ≡ self.old.layout.rings ++ [] ∷ []) }
+        ensures steps { self.new.steps ≡ self.old.steps }
+        ensures err { OnErr result (self.new ≡ self.old) }
+    {
+        self.contents.reserve(1)?;
+        let node = self.rings.new_node(self.contents.vacant_key())?;
+        match self.rings.new_ring() {
+            Ok(ring) => {
+                self.contents.insert_reserved(Content::Begun { name, ring });
+                Ok((node, ring))
+            }
+            Err(refusal) => {
+                self.rings.drop_node(node);
+                Err(refusal)
+            }
+        }
+    }
+
+    /// Puts a loose node directly after a place.
+    pub(crate) fn link(&mut self, node: NodeId, place: Place)
+        requires loose { IsLooseNode self.old.layout node }
+        requires place { IsPlaceAmong self.old.layout.rings place }
+        ensures layout { self.new.layout ≡ with_link self.old.layout node place }
+        ensures linked { is_in self.new.layout.rings node ≡ true }
+        ensures steps { self.new.steps ≡ one_step_more self.old.steps }
+    {
+        self.rings.link(node, place);
+    }
+
+    /// Takes a linked node out of its ring, and answers what stood directly before it.
+    pub(crate) fn unlink(&mut self, node: NodeId) -> Place
+        requires linked { is_in self.old.layout.rings node ≡ true }
+        ensures place { place_from 0 self.old.layout.rings node ≡ Some result }
+        ensures layout { self.new.layout ≡ without_link self.old.layout node }
+        ensures loose { IsLooseNode self.new.layout node }
+        ensures back { IsPlaceAmong self.new.layout.rings result }
+        ensures steps { self.new.steps ≡ one_step_more self.old.steps }
+    {
+        self.rings.unlink(node)
+    }
+
+    /// What a node is.
+    pub(crate) fn content(&self, node: NodeId) -> &Content
+        requires { IsSome (content_of self.now.layout node) }
+        ensures { content_of self.now.layout node ≡ Some result.now }
+    {
+        let tag = self.rings.tag(node);
+        &self.contents[tag]
+    }
+
+    /// The first node of a ring, if it has one.
+    pub(crate) fn first(&self, ring: RingId) -> Option<NodeId>
+        requires { ring.index < length self.now.layout.rings }
+        ensures { result ≡ first_in (nodes_in self.now.layout ring) }
+    {
+        self.rings.first(ring)
+    }
+
+    /// The node directly after a linked one in its ring, if it isn't the last.
+    pub(crate) fn next(&self, node: NodeId) -> Option<NodeId>
+        requires { is_in self.now.layout.rings node ≡ true }
+        ensures { ComesNext self.now.layout.rings node result }
+    {
+        self.rings.check_layout();
+        self.rings.next(node)
+    }
+
+    /// The number of ring steps taken, modulo 2 to the power 64.
+    pub(crate) fn steps(&self) -> u64
+        ensures { result ≡ self.now.steps }
+    {
+        self.rings.steps()
+    }
+
+    /// A copy, in new memory, in which each node has its name.
+    pub(crate) fn try_copy(&self, alloc: Global) -> Result<Nodes, AllocError>
+        ensures { IfOk result (λ copy. copy ≡ self.now) }
+    {
+        let rings = self.rings.try_copy(alloc)?;
+        let contents = self.contents.clone()?;
+        Ok(Nodes { rings, contents })
+    }
+
+    /// What holds of every layout: no node stands twice, and each that stands in a ring is there.
+    ///
+    /// It does nothing; its contract hands the fact to callers.
+    pub(crate) fn check_layout(&self)
+        ensures { IsLaidOut self.now.layout }
+    {
+        self.rings.check_layout();
+    }
+}
