@@ -22,6 +22,7 @@ pub mod PlaceLookUps
 pub mod PlacingLemmas
 pub mod PrintedDrafts
 pub mod PrintedLines
+pub mod PrintedParts
 pub mod PrintedReading
 pub mod PrintedSpellings
 pub mod PrintedTables

@@ -1,6 +1,7 @@
 -- The lines of a canonical text decide the table that they say.
 use Rattle.std.proofs.Common.{◌≡◌, ℕ, zero, suc, ◌+◌, ◌<◌, ◌≤◌, Bool, true, false, List, [], ◌∷◌, ◌++◌, length, map, codes, Option, Some, None, Result, Ok, Err, sym, ap, subst, ◌∙◌, refl, arith, add-one, append_assoc}
 use Rattle.std.specs.Prelude.{All, encode_utf8_all}
+use Rattle.std.specs.List.{flat_map}
 use Rattle.std.proofs.lemmas.List.Elements.{All-nil, All-cons, All-head, All-tail}
 use lib.Utf8.{encode}
 use Rattle.coll_lex.specs.Blanks.{past_blanks}
@@ -18,8 +19,7 @@ use Rattle.coll_table.specs.Table.{Collation}
 use Rattle.coll_table.specs.Drafts.{Numbered, DraftState, draft_of, table_of, line_fault, is_end}
 use Rattle.coll_table.specs.Loading.{draft_with, draft_after}
 use Rattle.coll_table.specs.Reading.{Outcome, Decided, by_grammar, by_tokens, line_judged, accepted, outcome_within, outcome_before, outcome_of}
-use Rattle.coll_table.specs.Loads.{with_feeds}
-use Rattle.coll_table.specs.CanonicalText.{opening_lines}
+use Rattle.coll_table.specs.CanonicalText.{opening_lines, line_bytes}
 use Rattle.coll_table.proofs.DraftSteps.{draft_more}
 use Rattle.coll_table.proofs.PrintedDrafts.{Leads, EndsAs}
 use Rattle.coll_table.proofs.PrintedLines.{IsLine, Says}
@@ -104,13 +104,13 @@ opening_decides more = refl
 
 -- The bytes of a text.
 
--- lines with their line feeds are these lines
-pub lines_of_feeds : (lines : List (List ℕ)) → All IsInLine lines → lines_of (with_feeds lines) ≡ lines
+-- the physical lines of lines with their line feeds
+pub lines_of_feeds : (lines : List (List ℕ)) → All IsInLine (bytes_of lines) → lines_of (flat_map line_bytes lines) ≡ bytes_of lines
 lines_of_feeds [] h = lines_of-nil
 lines_of_feeds (line ∷ lines) h =
-    ap lines_of (append_assoc line (line_feed ∷ []) (with_feeds lines))
-    ∙ lines_of-ended line (with_feeds lines) (All-head IsInLine line lines h)
-    ∙ ap (λ ls. line ∷ ls) (lines_of_feeds lines (All-tail IsInLine line lines h))
+    ap lines_of (append_assoc (encode_utf8_all line) (line_feed ∷ []) (flat_map line_bytes lines))
+    ∙ lines_of-ended (encode_utf8_all line) (flat_map line_bytes lines) (All-head IsInLine (encode_utf8_all line) (bytes_of lines) h)
+    ∙ ap (λ ls. encode_utf8_all line ∷ ls) (lines_of_feeds lines (All-tail IsInLine (encode_utf8_all line) (bytes_of lines) h))
 
 -- a line that says something has no line feed in it
 pub says_in_line : (line : List ℕ) (read : TableLine) → Says line read → IsInLine (encode_utf8_all line)

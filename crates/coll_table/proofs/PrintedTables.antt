@@ -20,9 +20,8 @@ use Rattle.coll_table.specs.WellFormed.{IsKeptWeight, HasWeights, IsWeighted, Is
 use Rattle.coll_table.specs.Limits.{most_entries, most_declarations, most_sections}
 use Rattle.coll_table.specs.Drafts.{draft_of}
 use Rattle.coll_table.specs.Walks.{Met, MetSection, MetEntry, met}
-use Rattle.coll_table.specs.Loads.{with_feeds}
 use Rattle.coll_table.specs.Reading.{answer_at_end, outcome_of, outcome_within, reads}
-use Rattle.coll_table.specs.CanonicalText.{declaration_line, rules_line, met_line, opening_lines, closing_lines, canonical_lines, text, PrintedTablesAreReadBack}
+use Rattle.coll_table.specs.CanonicalText.{declaration_line, rules_line, met_line, opening_lines, closing_lines, canonical_lines, line_bytes, text, PrintedTablesAreReadBack}
 use Rattle.coll_table.proofs.PrintedTokens.{declaration_read}
 use Rattle.coll_table.proofs.PrintedDrafts.{entry_met, name_met, met_read, entries_met, names_met, names_of_first, said, said_leads}
 use Rattle.coll_table.proofs.PrintedSpellings.{is_clean}
@@ -141,7 +140,7 @@ printed_tables_are_read_back table w ids =
     let in_lines : All IsInLine (bytes_of opening_lines ++ (bytes_of body ++ encode_utf8_all last ∷ [])) =
     All-append IsInLine (bytes_of opening_lines) (bytes_of body ++ encode_utf8_all last ∷ []) opening_in_line
     (All-append IsInLine (bytes_of body) (encode_utf8_all last ∷ []) (say_in_line body (said table) says) last_in_line) in
-    let lines : lines_of (with_feeds (bytes_of (canonical_lines table))) ≡ bytes_of opening_lines ++ (bytes_of body ++ encode_utf8_all last ∷ []) =
-    ap (λ ls. lines_of (with_feeds ls)) parts ∙ lines_of_feeds (bytes_of opening_lines ++ (bytes_of body ++ encode_utf8_all last ∷ [])) in_lines in
+    let lines : lines_of (flat_map line_bytes (canonical_lines table)) ≡ bytes_of opening_lines ++ (bytes_of body ++ encode_utf8_all last ∷ []) =
+    lines_of_feeds (canonical_lines table) (subst (All IsInLine) (sym parts) in_lines) ∙ parts in
     let decides = lines_decide table [] 3 body (said table) last says category_end_says (said_leads table w 4) (body_is_short table w ids) in
-    ap (answer_at_end (length (lines_of (with_feeds (bytes_of (canonical_lines table)))))) (ap (outcome_of true) lines ∙ opening_decides (bytes_of body ++ encode_utf8_all last ∷ []) ∙ decides)
+    ap (answer_at_end (length (lines_of (flat_map line_bytes (canonical_lines table))))) (ap (outcome_of true) lines ∙ opening_decides (bytes_of body ++ encode_utf8_all last ∷ []) ∙ decides)

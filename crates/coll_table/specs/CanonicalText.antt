@@ -3,8 +3,9 @@
 -- Each spelling takes what follows it, so that a whole line is spelled by putting one spelling into the next. The lines are
 -- characters, and their bytes are the text. A form of a line that is not spelled here is read all the same, and is never written.
 use Rattle.std.specs.Prelude.{◌≡◌, All, Ok, ℕ, Bool, true, false, if◌then◌else◌, List, [], ◌∷◌, ◌++◌, map, codes, encode_utf8_all}
-use Rattle.std.specs.List.{list_all}
+use Rattle.std.specs.List.{flat_map, list_all}
 use Rattle.coll_lex.specs.Characters.{space, quotation_mark, semicolon}
+use Rattle.coll_lex.specs.PhysicalLines.{line_feed}
 use Rattle.coll_lex.specs.Spelling.{spelled_symbol, spelled_code}
 use Rattle.coll_syntax.specs.Proper.{IsId}
 use Rattle.coll_syntax.specs.declared.identifiers.Id.{Id}
@@ -17,7 +18,6 @@ use Rattle.coll_table.specs.declared.declarations.Declaration.TheVariants.{Symbo
 use Rattle.coll_table.specs.declared.entries.Entry.{Entry}
 use Rattle.coll_table.specs.Table.{Collation, entries_of, ids_of}
 use Rattle.coll_table.specs.Walks.{Met, MetSection, MetEntry, met}
-use Rattle.coll_table.specs.Loads.{with_feeds}
 use Rattle.coll_table.specs.Reading.{reads}
 use Rattle.coll_table.specs.WellFormed.{IsWellFormed}
 
@@ -125,9 +125,13 @@ unfoldable pub canonical_lines : Collation → List (List ℕ)
 canonical_lines table =
     opening_lines ++ (map declaration_line table.declared ++ (rules_line table.rules ∷ (map met_line (met table.sections) ++ closing_lines)))
 
--- the canonical text of a table: the bytes of its lines, each with its line feed
+-- the bytes of a line, with its line feed
+abbrev pub line_bytes : List ℕ → List ℕ
+line_bytes line = encode_utf8_all line ++ line_feed ∷ []
+
+-- the canonical text of a table: the bytes of its lines
 unfoldable pub text : Collation → List ℕ
-text table = with_feeds (map encode_utf8_all (canonical_lines table))
+text table = flat_map line_bytes (canonical_lines table)
 
 -- the canonical text of a table is read as that table; each identifier that the table places is one
 abbrev pub PrintedTablesAreReadBack : Type 0

@@ -14,6 +14,7 @@ pub mod NodeMaps
 pub mod Placement
 pub mod PlainDeltaLines
 pub mod PlainOrderLines
+pub mod PrintedParts
 pub mod Reading
 pub mod Record
 pub mod Refusals

@@ -37,6 +37,7 @@ mod plain;
 mod printing;
 mod records;
 mod refusals;
+mod spelled_entries;
 mod tables;
 mod walks;
 
