@@ -5,6 +5,7 @@ use Rattle.std.specs.Io.KnownBytes.{Appends}
 use Rattle.std.specs.List.{flat_map, list_all}
 use Rattle.std.proofs.KnownBytes.{Appends-trans}
 use lib.Utf8.{encode}
+use Rattle.std.proofs.lemmas.Grind.{flat_map-append}
 use Rattle.std.proofs.lemmas.Str.{encodes-append}
 use Rattle.std.proofs.lemmas.List.{drop_more, drop_all}
 use Rattle.coll_lex.specs.Devices.{AppendsFront, Sends}
@@ -16,8 +17,12 @@ use Rattle.coll_syntax.specs.declared.identifiers.Id.{Id}
 use Rattle.coll_syntax.specs.declared.identifiers.Id.TheVariants.{Char, Named, Undefined}
 use Rattle.coll_syntax.specs.declared.weights.Weight.{Weight}
 use Rattle.coll_syntax.specs.declared.weights.Weight.TheVariants.{Ignore, Own, Names}
-use Rattle.coll_table.specs.CanonicalText.{spelled_all, spelled_behind, spelled_joined, spelled_id, spelled_string, spelled_own, spelled_names, spelled_weight, is_own, weights_behind, line_bytes}
-use Rattle.coll_table.specs.PrintedParts.{id_bytes, behind_bytes}
+use Rattle.coll_syntax.specs.declared.rules.Rule.{Rule}
+use Rattle.coll_table.specs.declared.declarations.Declaration.TheVariants as declaration
+use Rattle.coll_table.specs.Table.{Collation}
+use Rattle.coll_table.specs.Walks.{Met, MetSection, MetEntry, met}
+use Rattle.coll_table.specs.CanonicalText.{spelled_all, spelled_behind, spelled_joined, spelled_id, spelled_string, spelled_own, spelled_names, spelled_weight, is_own, weights_behind, direction_word, spelled_position, spelled_rule, declaration_line, rules_line, met_line, closing_lines, canonical_lines, line_bytes, text}
+use Rattle.coll_table.specs.PrintedParts.{id_bytes, behind_bytes, char_bytes, symbol_bytes, text_bytes, element_bytes, declaration_bytes, met_bytes, sections_bytes, order_bytes, category_bytes}
 
 -- What is written.
 
@@ -135,3 +140,69 @@ undefined_bytes = refl
 -- what is left of a list begins with the member at this place
 pub left_begins : {X : Type 0} (xs : List X) (i : ℕ) (x : X) → i < length xs → x ≡ get_or xs i x → drop i xs ≡ x ∷ drop (i + 1) xs
 left_begins xs i x within is = drop_more xs i x within ∙ ap (λ y. y ∷ drop (i + 1) xs) (sym is)
+
+-- the line of a symbol
+pub symbol_parts : (name : List ℕ) → declaration_bytes (declaration.Symbol name) ≡ codes "collating-symbol " ++ (symbol_bytes name ++ line_feed ∷ [])
+unfolding encode
+symbol_parts name = refl
+
+-- the line that begins a section
+pub section_parts : (name : List ℕ) → met_bytes (MetSection name) ≡ codes "section " ++ (symbol_bytes name ++ line_feed ∷ [])
+unfolding encode
+section_parts name = refl
+
+-- the line of a collating element
+text_ids : (chars : List ℕ) → flat_map id_bytes (map Char chars) ≡ flat_map char_bytes chars
+text_ids [] = refl
+text_ids (c ∷ cs) = ap (λ l. char_bytes c ++ l) (text_ids cs)
+
+from_parts : (chars : List ℕ) → encode_utf8_all (codes " from " ++ spelled_string (map Char chars) []) ++ line_feed ∷ [] ≡ codes " from \"" ++ text_bytes chars
+unfolding encode
+from_parts chars =
+    ap (λ l. codes " from " ++ (l ++ line_feed ∷ [])) (string_parts (map Char chars) [])
+    ∙ ap (λ l. codes " from \"" ++ (l ++ line_feed ∷ [])) (ap (λ l. l ++ 34 ∷ []) (text_ids chars))
+    ∙ ap (λ l. codes " from \"" ++ l) (append_assoc (flat_map char_bytes chars) (34 ∷ []) (line_feed ∷ []))
+
+pub element_parts : (name chars : List ℕ) → declaration_bytes (declaration.Element name chars) ≡ codes "collating-element " ++ element_bytes name chars
+unfolding encode
+element_parts name chars =
+    ap (λ l. codes "collating-element " ++ (l ++ line_feed ∷ [])) (id_before (Named name) (codes " from " ++ spelled_string (map Char chars) []))
+    ∙ ap (λ l. codes "collating-element " ++ l) (append_assoc (symbol_bytes name) (encode_utf8_all (codes " from " ++ spelled_string (map Char chars) [])) (line_feed ∷ []) ∙ ap (λ l. symbol_bytes name ++ l) (from_parts chars))
+
+-- rules
+rule_by : (backward position : Bool) → (rest : List ℕ) → encode_utf8_all (direction_word backward ++ spelled_position position rest) ≡ encode_utf8_all (direction_word backward ++ spelled_position position []) ++ encode_utf8_all rest
+rule_by true true rest = encodes-append (codes "backward,position") rest
+rule_by true false rest = encodes-append (codes "backward") rest
+rule_by false true rest = encodes-append (codes "forward,position") rest
+rule_by false false rest = encodes-append (codes "forward") rest
+
+pub rule_before : StandsBefore spelled_rule
+rule_before r rest = rule_by r.backward r.position rest
+
+-- the line of the rules
+pub rules_parts : (rs : List Rule) → line_bytes (rules_line rs) ≡ codes "order_start " ++ (encode_utf8_all (spelled_joined spelled_rule rs []) ++ line_feed ∷ [])
+unfolding encode
+rules_parts rs = refl
+
+-- The whole text.
+
+-- the lines of members
+lines_of_members : {X : Type 0} (line : X → List ℕ) (xs : List X) → flat_map line_bytes (map line xs) ≡ flat_map (λ x. line_bytes (line x)) xs
+lines_of_members line [] = refl
+lines_of_members line (x ∷ xs) = ap (λ l. line_bytes (line x) ++ l) (lines_of_members line xs)
+
+pub text_parts : (table : Collation) → text table ≡ codes "comment_char %\nescape_char /\nLC_COLLATE\n" ++ category_bytes table
+unfolding text canonical_lines encode
+text_parts table =
+    let front = map declaration_line table.declared in
+    let middle = map met_line (met table.sections) in
+    let closed : flat_map line_bytes (middle ++ closing_lines) ≡ sections_bytes table =
+    flat_map-append line_bytes middle closing_lines ∙ ap (λ l. l ++ flat_map line_bytes closing_lines) (lines_of_members met_line (met table.sections)) in
+    ap (λ l. codes "comment_char %\nescape_char /\nLC_COLLATE\n" ++ l)
+    (flat_map-append line_bytes front (rules_line table.rules ∷ (middle ++ closing_lines))
+    ∙ ap (λ l. l ++ flat_map line_bytes (rules_line table.rules ∷ (middle ++ closing_lines))) (lines_of_members declaration_line table.declared)
+    ∙ ap (λ l. flat_map declaration_bytes table.declared ++ (line_bytes (rules_line table.rules) ++ l)) closed)
+
+-- a call that writes the same bytes, otherwise said
+pub sends_same : {T E : Type 0} (a b : Option (List ℕ)) (whole bytes : List ℕ) (r : Result T E) → whole ≡ bytes → Sends a b bytes r → Sends a b whole r
+sends_same a b whole bytes r same sent = subst (λ bytes. Sends a b bytes r) (sym same) sent

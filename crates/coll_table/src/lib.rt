@@ -38,6 +38,7 @@ mod printing;
 mod records;
 mod refusals;
 mod spelled_entries;
+mod spelled_lines;
 mod tables;
 mod walks;
 
