@@ -63,7 +63,7 @@ fn write_sections<W: Sink>(out: &mut W, table: &Table) -> Result<(), WriteStop>
 
 // Writes a line for each declaration.
 fn write_declarations<W: Sink>(out: &mut W, declared: Declared<'_>) -> Result<(), WriteStop>
-    ensures sent { Sends (W.taken out.old) (W.taken out.new) (flat_map declaration_bytes declared) result }
+    ensures sent { Sends (W.taken out.old) (W.taken out.new) (flat_map declaration_bytes declared.entry) result }
     ensures errors { CountsErr (W.failed out.old) (W.failed out.new) result }
 {
     let mut left = declared;
@@ -77,7 +77,7 @@ fn write_declarations<W: Sink>(out: &mut W, declared: Declared<'_>) -> Result<()
 
 // Writes a line for each section with a name, and for each entry.
 fn write_walk<W: Sink>(out: &mut W, walk: Walk<'_>) -> Result<(), WriteStop>
-    ensures sent { Sends (W.taken out.old) (W.taken out.new) (flat_map met_bytes walk) result }
+    ensures sent { Sends (W.taken out.old) (W.taken out.new) (flat_map met_bytes walk.entry) result }
     ensures errors { CountsErr (W.failed out.old) (W.failed out.new) result }
 {
     let mut left = walk;
