@@ -24,7 +24,7 @@ use Rattle.coll_table.proofs.NodeLists.{any_map, any_from, any_to}
 use Rattle.coll_table.proofs.Sameness.{same_id_decides}
 
 -- equal answers are of one node
-some_same : {a b : NodeId} → Some a ≡ Some b → a ≡ b
+pub some_same : {a b : NodeId} → Some a ≡ Some b → a ≡ b
 some_same e = cc
 
 module _ (layout : TableLayout) (shaped : IsShaped layout) where
@@ -78,7 +78,7 @@ module _ (layout : TableLayout) (shaped : IsShaped layout) where
       let test = declares_symbol name in
       let covers = declared_covers layout same_name names_in shaped (λ _ _. refl) (λ _. refl) in
       let found_at = λ (node : NodeId) (there : has_node (ring_at layout 0) node ≡ true) (has : list_any test (read_at declaration_in layout node) ≡ true).
-          sound.finds name node (and_true (in_rings layout 0 node there) (symbol_named name (content_of layout node) has)) in
+      sound.finds name node (and_true (in_rings layout 0 node there) (symbol_named name (content_of layout node) has)) in
       ap (list_any test) (declared_read layout) ∙ elim (find name) as (λ found. find name ≡ found → list_any test (flat_map (read_at declaration_in layout) (ring_at layout 0)) ≡ list_any test (flat_map (read_at declaration_in layout) (if_any found))) [
         | None ↦ λ none. by_test (λ b. list_any test (flat_map (read_at declaration_in layout) (ring_at layout 0)) ≡ b → b ≡ false) (list_any test (flat_map (read_at declaration_in layout) (ring_at layout 0)))
             (λ on e. let at = any_from test (read_at declaration_in layout) (ring_at layout 0) e in let found = found_at at.0 at.1 at.2 in cc) (λ off e. refl) refl
@@ -114,9 +114,13 @@ module _ (layout : TableLayout) (shaped : IsShaped layout) where
       (λ off e. let later = entry_from f nodes id entry e in (later.0, or_second (same_node later.0 node) _ later.1, later.2))
       (sym (entry_append (f node) (flat_map f nodes) id) ∙ there)
 
-  -- a node that stands in a ring is found by its identifier
-  found_by : (find : Id → Option NodeId) (id : Id) (node : NodeId) → Finds same_id ids_in layout find → is_in layout.rings node ≡ true → list_any (same_id id) (read_at ids_in layout node) ≡ true → find id ≡ Some node
-  found_by find id node sound linked has = sound.finds id node (and_true linked has)
+  -- a node that stands in a ring and is the entry of an identifier is found
+  entry_by : (find : Id → Option NodeId) (id : Id) (node : NodeId) (entry : Entry) → Finds same_id ids_in layout find → is_in layout.rings node ≡ true → entry_at (read_at entry_in layout node) id ≡ Some entry
+      → Some entry ≡ entry_at (flat_map (read_at entry_in layout) (if_any (find id))) id
+  entry_by find id node entry sound linked is =
+      let has : list_any (same_id id) (read_at ids_in layout node) ≡ true = ids_of_node id (content_of layout node) ∙ (sym (entry_any (read_at entry_in layout node) id) ∙ ap is_some is) in
+      let found : find id ≡ Some node = sound.finds id node (and_true linked has) in
+      sym (ap (λ nodes. entry_at (flat_map (read_at entry_in layout) (if_any nodes)) id) found ∙ (ap (λ es. entry_at es id) (append-nil (read_at entry_in layout node)) ∙ is))
 
   -- the entry of an identifier is read of the node that is found
   pub entry_found : (find : Id → Option NodeId) (id : Id) → Finds same_id ids_in layout find
@@ -136,9 +140,7 @@ module _ (layout : TableLayout) (shaped : IsShaped layout) where
             let section = entry_from (joined_at layout) (ring_at layout 1) id entry (sym (ap (λ es. entry_at es id) (joined_read layout)) ∙ is) in
             let known = section_at layout shaped section.0 section.1 in
             let at = entry_from (read_at entry_in layout) (ring_at layout known.1.index) id entry (sym (ap (λ es. entry_at es id) (joined_known layout section.0 known.0 known.1 known.2 ∙ entries_read layout known.1)) ∙ section.2) in
-            let has : list_any test (read_at entry_in layout at.0) ≡ true = sym (entry_any (read_at entry_in layout at.0) id) ∙ ap is_some at.2 in
-            let found : find id ≡ Some at.0 = found_by find id at.0 sound (in_rings layout known.1.index at.0 at.1) (ids_of_node id (content_of layout at.0) ∙ has) in
-            sym (ap (λ nodes. entry_at (flat_map (read_at entry_in layout) (if_any nodes)) id) found ∙ (ap (λ es. entry_at es id) (append-nil (read_at entry_in layout at.0)) ∙ at.2))
+            entry_by find id at.0 entry sound (in_rings layout known.1.index at.0 at.1) at.2
       ] refl
 
   -- a node that is found by a name and declares a symbol declares the symbol of the name

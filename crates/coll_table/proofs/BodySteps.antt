@@ -10,11 +10,13 @@ use Rattle.coll_order.specs.declared.places.RingId.{RingId}
 use Rattle.coll_order.specs.declared.places.Place.{Place}
 use Rattle.coll_order.specs.declared.places.Place.TheVariants.{Head, After}
 use Rattle.coll_order.proofs.LayoutLemmas.{is_in_ring}
-use Rattle.coll_order.proofs.Sameness.{by_test, not_both}
+use Rattle.coll_order.proofs.RingLemmas.{is_in_push}
+use Rattle.coll_order.proofs.Sameness.{by_test, not_both, same_node_itself}
 use Rattle.coll_syntax.specs.Identifier.{same_name, same_id}
 use Rattle.coll_syntax.specs.declared.identifiers.Id.{Id}
+use Rattle.coll_syntax.specs.declared.identifiers.Id.TheVariants.{Char, Named, Undefined}
 use Rattle.coll_table.specs.Bodies.{Makes, IsLooseNode, IsPlaceAmong, with_link}
-use Rattle.coll_table.specs.NodeLookUps.{Leading, NodesById, node_named, node_with, LeadAlike, SetsId, LeadNamesAlike, SetsName}
+use Rattle.coll_table.specs.NodeLookUps.{Leading, NodesById, node_named, node_with, no_nodes, LeadAlike, SetsId, LeadNamesAlike, SetsName}
 use Rattle.coll_table.specs.SoundBodies.{read_at, ring_at, has_key, rings_in, same_ring, ids_in, names_in, texts_in, section_names_in, is_place_of, IsDeclaration, IsSection, IsShaped, IsOwned, IsPlaceIn, IsEntryPlace, IsSoundBody, Finds, Adds, with_empty_ring}
 use Rattle.coll_table.specs.Table.{Section, is_placed_in, joined_entries}
 use Rattle.coll_table.specs.TableLayout.{TableLayout, content_of, entry_in, declared_at, sections_at, entries_in}
@@ -34,13 +36,9 @@ use Rattle.coll_table.proofs.Sameness.{same_id_decides, same_name_decides}
 pub place_among_rings : (layout : TableLayout) (index : ℕ) (place : Place) → IsPlaceIn layout index place → IsPlaceAmong layout.rings place
 place_among_rings layout index (Head ring) at =
     let here : eqb ring.index index ≡ true = by_test (λ b. (b || list_any (λ node. same_place (Head ring) (After node)) (ring_at layout index)) ≡ true → b ≡ true) (eqb ring.index index)
-        (λ t e. refl) (λ f e. not_both e (head_after ring.index (ring_at layout index))) at.on in
+    (λ t e. refl) (λ f e. not_both e (head_after ring.index (ring_at layout index))) at.on in
     subst (λ k. k < length layout.rings) (sym ((Decides-eqb ring.index index).0 here)) at.ring
 place_among_rings layout index (After node) at = is_in_ring layout.rings index node at.on
-
--- a node that is made is loose
-pub made_loose : (old mid : TableLayout) (node : NodeId) (known : Content) → content_of mid node ≡ Some known → is_in old.rings node ≡ false → mid.rings ≡ old.rings → IsLooseNode mid node
-made_loose old mid node known is apart same = record { made = ap is_some is; apart = ap (λ rings. is_in rings node) same ∙ apart }
 
 -- a node that is made and linked is added
 pub adds_linked : (old mid new : TableLayout) (node : NodeId) (known : Content) (place : Place) → Makes old mid node known → is_in old.rings node ≡ false → mid.rings ≡ old.rings → new ≡ with_link mid node place → Adds old new node known place
@@ -132,7 +130,7 @@ module _ (old new : TableLayout) (node : NodeId) (place : Place) (declarations s
       let one = one_ring_more old in
       let two = sound.shaped.two in
       let none : entries_in new ring ≡ [] = entries_read new ring ∙ (ap (flat_map (read_at entry_in new)) (ring_other mid new node (content.Begun name ring) place 1 adds at once ring.index (λ e. absurd (omega (arith, e, last, two)))
-          ∙ (get_push old.rings ring.index ∙ (ap (λ k. ring_at old k) last ∙ get_past old.rings)))) in
+      ∙ (get_push old.rings ring.index ∙ (ap (λ k. ring_at old k) last ∙ get_past old.rings)))) in
       record {
         declarations = sound.declarations;
         begun = sound.begun;
@@ -150,8 +148,52 @@ module _ (old new : TableLayout) (node : NodeId) (place : Place) (declarations s
       } where
         one_key : (own other : RingId) → list_any (same_ring other) (own ∷ []) ≡ true → other.index ≡ own.index
         one_key own other e = (Decides-eqb other.index own.index).0 (sym (or_false (eqb other.index own.index)) ∙ e)
+
         free : (other_ring : RingId) (other : NodeId) → other_ring.index ≡ ring.index → has_key same_ring rings_in (with_empty_ring old) other_ring other ≡ true → ⊥
         free other_ring other e has =
             let had : has_key same_ring rings_in old other_ring other ≡ true = sym (key_push old same_ring rings_in other_ring other) ∙ has in
             let inside = owned_low old sound.shaped other_ring.index other had in
             omega (arith, e, last, inside)
+
+-- a node that is made is what it was made
+pub made_is : (old mid : TableLayout) (node : NodeId) (known : Content) → Makes old mid node known → content_of mid node ≡ Some known
+made_is old mid node known makes = makes.contents node ∙ ap (λ b. cond b (Some known) (content_of old node)) (same_node_itself node)
+
+-- a section that is made with its ring and linked is added to the layout with the ring
+pub section_adds : (old mid new : TableLayout) (node : NodeId) (known : Content) (place : Place) → Makes old mid node known → is_in old.rings node ≡ false → mid.rings ≡ old.rings ++ [] ∷ [] → new ≡ with_link mid node place
+    → Adds (with_empty_ring old) new node known place
+section_adds old mid new node known place makes apart same linked =
+    adds_linked (with_empty_ring old) mid new node known place (record { fresh = makes.fresh; contents = makes.contents }) (is_in_push old.rings node ∙ apart) same linked
+
+-- nothing is declared, there is no section, and nothing is found
+pub nothing_sound : (declarations sections : RingId) → declarations.index ≡ 0 → sections.index ≡ 1
+    → IsSoundBody (record { rings = [] ∷ [] ∷ []; nodes = [] }) declarations sections [] [] [] no_nodes 0 0 0
+unfolding declared_at sections_at
+nothing_sound declarations sections first second = record {
+  declarations = ap (λ index. record { index = index }) first;
+  begun = ap (λ index. record { index = index }) second;
+  shaped = record {
+    two = omega arith;
+    declared = λ node. λ there. not_both there refl;
+    begun = λ node. λ there. not_both there refl;
+    placed = λ index node. λ there. not_both there (ap (λ nodes. has_node nodes node) (no_more index));
+    own = λ ring a b. λ p q. not_both p refl;
+  };
+  names_found = none_found same_name names_in (node_named []) (λ key. refl);
+  texts_found = none_found same_name texts_in (node_named []) (λ key. refl);
+  sections_found = none_found same_name section_names_in (node_named []) (λ key. refl);
+  ids_found = none_found same_id ids_in (node_with no_nodes) none_with;
+  declared_count = refl;
+  section_count = refl;
+  entry_count = refl;
+} where
+  no_more : (index : ℕ) → ring_at (record { rings = [] ∷ [] ∷ []; nodes = [] }) (suc (suc index)) ≡ []
+  no_more index = refl
+
+  none_with : (id : Id) → node_with no_nodes id ≡ None
+  none_with (Char c) = refl
+  none_with (Named name) = refl
+  none_with Undefined = refl
+
+  none_found : {Key : Type 0} (same : Key → Key → Bool) (keys : Content → List Key) (find : Key → Option NodeId) → ((key : Key) → find key ≡ None) → Finds same keys (record { rings = [] ∷ [] ∷ []; nodes = [] }) find
+  none_found same keys find none = record { leads = λ key node. λ e. let empty = none key in cc; finds = λ key node. λ has. not_both has refl }

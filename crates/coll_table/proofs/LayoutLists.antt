@@ -35,11 +35,11 @@ ring_key layout node name ring linked is = and_true linked (ap (list_any (same_r
 module _ (old new : TableLayout) (node : NodeId) (node_content : Content) (place : Place) (index : ℕ)
     (adds : Adds old new node node_content place) (at : IsPlaceIn old index place) (once : StandOnce old.rings) (shaped : IsShaped old) where
   -- a node of a ring is another
-  other_in : (ring : ℕ) (other : NodeId) → has_node (ring_at old ring) other ≡ true → same_node other node ≡ false
+  pub other_in : (ring : ℕ) (other : NodeId) → has_node (ring_at old ring) other ≡ true → same_node other node ≡ false
   other_in ring other there = member_differs (ring_at old ring) other node there (absent old new node node_content place index adds at once ring)
 
   -- of the nodes of a ring the same is read
-  reads_in : {X : Type 0} (keys : Content → List X) (ring : ℕ) (other : NodeId) → has_node (ring_at old ring) other ≡ true → read_at keys new other ≡ read_at keys old other
+  pub reads_in : {X : Type 0} (keys : Content → List X) (ring : ℕ) (other : NodeId) → has_node (ring_at old ring) other ≡ true → read_at keys new other ≡ read_at keys old other
   reads_in keys ring other there = read_other old new node node_content place index adds at once keys other (other_in ring other there)
 
   -- another ring reads the same
@@ -65,7 +65,7 @@ module _ (old new : TableLayout) (node : NodeId) (node_content : Content) (place
       ∙ sym (read_known (section_in old) old other (content.Begun is.0 is.1) is.2))
 
   -- a section's ring is none of the first two
-  past_two : (other : NodeId) → has_node (ring_at old 1) other ≡ true → (first : ℕ) → first < 2 → (name : Option (List ℕ)) (ring : RingId) → content_of old other ≡ Some (content.Begun name ring) → first ≡ ring.index → ⊥
+  pub past_two : (other : NodeId) → has_node (ring_at old 1) other ≡ true → (first : ℕ) → first < 2 → (name : Option (List ℕ)) (ring : RingId) → content_of old other ≡ Some (content.Begun name ring) → first ≡ ring.index → ⊥
   past_two other there first below name ring is same =
       let own = section_at old shaped other there in
       let it : own.1.index ≡ ring.index = ap number (sym own.2 ∙ is) in

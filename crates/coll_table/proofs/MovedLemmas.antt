@@ -157,3 +157,14 @@ module _ (table : Collation) (id : Id) where
       known_of : (entries : List Entry) → All (λ (entry : Entry). IsKnown table.declared entry.id) entries → (found : Option Entry) → entry_at entries id ≡ found → is_some found ≡ true → IsTrue (is_known table.declared id)
       known_of entries h None e there = absurd (false≢true there)
       known_of entries h (Some found) e there = let of = entry_found (λ (entry : Entry). IsKnown table.declared entry.id) entries id found h e in subst (IsKnown table.declared) of.1 of.0
+
+    -- so is one with an entry moved
+    pub moved_stays_well_formed : same_id id target ≡ false → is_placed table target ≡ true → is_placed table id ≡ true → IsWellFormed (moved table target id)
+    moved_stays_well_formed apart there here =
+        moved_well_formed apart there (known_placed here) (let e = length_moved target w.built.distinct_entries apart there here in let f = w.built.few_entries in omega arith)
+
+    -- and one with a new entry, where there is room
+    pub placed_stays_well_formed : is_placed table target ≡ true → is_placed table id ≡ false → IsTrue (is_known table.declared id) → length (entries_of table) < most_entries → IsWellFormed (moved table target id)
+    placed_stays_well_formed there new known room =
+        let apart = apart_when_new (ids_of (entries_of table)) target id there new in
+        moved_well_formed apart there known (let e = length_placed target w.built.distinct_entries apart there new in omega arith)

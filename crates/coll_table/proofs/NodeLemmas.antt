@@ -25,6 +25,7 @@ both : (a b : Bool) → T (a && b) → T a × T b
 both true b h = (tt, h)
 both false b h = absurd h
 
+-- tests that hold each hold together
 together : (a b : Bool) → T a → T b → T (a && b)
 together true b p q = q
 together false b p q = absurd p
@@ -57,9 +58,9 @@ among_from slots (e ∷ es) node sorted lead =
     let tied : (key : ℕ) → eq_by_cmp nat_cmp key e.0 ≡ eqb key e.0 = λ key. unsigned_tied key e.0 in
     let first : finmap.find nat_cmp e.0 (e ∷ es) ≡ Some e.1 = ap (λ b. cond b (Some e.1) (finmap.find nat_cmp e.0 es)) (tied e.0 ∙ (Decides-eqb e.0 e.0).1 refl) in
     let later : (key tag : ℕ) → finmap.find nat_cmp key es ≡ Some tag → IsSome (slot_of slots tag) = λ key tag at.
-        lead key tag (ap (λ b. cond b (Some e.1) (finmap.find nat_cmp key es)) (tied key) ∙ by_test (λ b. eqb key e.0 ≡ b → cond b (Some e.1) (finmap.find nat_cmp key es) ≡ Some tag) (eqb key e.0)
-        (λ on t. let none : finmap.find nat_cmp key es ≡ None = ap (λ k. finmap.find nat_cmp k es) ((Decides-eqb key e.0).0 on) ∙ later_without e es sorted in cc)
-        (λ off t. at) refl) in
+    lead key tag (ap (λ b. cond b (Some e.1) (finmap.find nat_cmp key es)) (tied key) ∙ by_test (λ b. eqb key e.0 ≡ b → cond b (Some e.1) (finmap.find nat_cmp key es) ≡ Some tag) (eqb key e.0)
+    (λ on t. let none : finmap.find nat_cmp key es ≡ None = ap (λ k. finmap.find nat_cmp k es) ((Decides-eqb key e.0).0 on) ∙ later_without e es sorted in cc)
+    (λ off t. at) refl) in
     let rest = among_from slots es node (both _ _ sorted).1 later in
     elim (slot_of slots e.1) as (λ slot. slot_of slots e.1 ≡ slot → content_among (made_with e.0 slot ++ made_from slots es) node ≡ option_and_then (slot_of slots) (finmap.find nat_cmp node.key (e ∷ es))) [
       | None ↦ λ none. some_not_none (slot_of slots e.1) (lead e.0 e.1 first) none
@@ -101,26 +102,13 @@ content_at layout slots node tag made at = content_found layout slots node made 
 pub loose_node : (layout : Layout) (slots : List (Option Content)) (node : NodeId) → AreMade layout.tags slots → IsLooseNode (layout_with layout slots) node → IsLoose layout node
 loose_node layout slots node made loose = record { made = made_tagged layout slots node made loose.made; apart = loose.apart }
 
+-- and the other way round
 pub node_loose : (layout : Layout) (slots : List (Option Content)) (node : NodeId) → AreMade layout.tags slots → IsLoose layout node → IsLooseNode (layout_with layout slots) node
 node_loose layout slots node made loose = record { made = tagged_made layout slots node made loose.made; apart = loose.apart }
-
--- a place is one by its rings
-pub place_among : (layout : Layout) (place : Place) → IsPlaceAmong layout.rings place → IsPlace layout place
-place_among layout (Head ring) there = there
-place_among layout (After node) there = there
-
-pub among_place : (layout : Layout) (place : Place) → IsPlace layout place → IsPlaceAmong layout.rings place
-among_place layout (Head ring) there = there
-among_place layout (After node) there = there
 
 -- what holds of rings holds of the layout
 pub laid_out : (layout : Layout) (slots : List (Option Content)) → AreMade layout.tags slots → IsSound layout → IsLaidOut (layout_with layout slots)
 laid_out layout slots made sound = record { once = sound.once; made = λ node linked. tagged_made layout slots node made (sound.made node linked) }
-
--- a node without a tag stands nowhere
-pub fresh_apart : (layout : Layout) (node : NodeId) → IsSound layout → tag_of layout node ≡ None → is_in layout.rings node ≡ false
-fresh_apart layout node sound fresh = by_test (λ b. is_in layout.rings node ≡ b → b ≡ false) (is_in layout.rings node)
-    (λ on e. some_not_none (tag_of layout node) (sound.made node e) fresh) (λ off e. refl) refl
 
 module _ (layout : Layout) (old new : List (Option Content)) (node : NodeId) (tag : ℕ) (content : Content) (made : AreMade layout.tags old)
     (fresh : tag_of layout node ≡ None) (free : slot_of old tag ≡ None) (filled : slot_of new tag ≡ Some content)

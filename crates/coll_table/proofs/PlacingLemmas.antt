@@ -9,7 +9,7 @@ use Rattle.coll_syntax.specs.declared.identifiers.Id.{Id}
 use Rattle.coll_table.proofs.EntryLemmas.{turned}
 use Rattle.coll_table.proofs.MovedLemmas.{apart_when_new, distinct_moved, here_moved, length_moved, length_placed}
 use Rattle.coll_table.proofs.Sameness.{same_id_itself}
-use Rattle.coll_table.specs.Delta.{lines_refusal, moved, all_moved, within_limit}
+use Rattle.coll_table.specs.Delta.{lines_refusal, moved, all_moved, within_limit, block_delta}
 use Rattle.coll_table.specs.Limits.{most_entries}
 use Rattle.coll_table.specs.LookUps.{AddsId}
 use Rattle.coll_table.specs.Rewriting.{IsFullAt}
@@ -160,3 +160,7 @@ module _ (start : Collation) (target : Id) (lines : List PlainLine) where
   rewriting_all i now after h e =
       let all : all_moved start target lines ≡ now = h.goes_on ∙ ap (all_moved now after) e in
       ap within_limit all ∙ ap (λ b. cond b (Ok now) (Err Full)) (le-leb _ _ h.well_formed.built.few_entries)
+
+-- a block whose lines are judged is rewritten
+pub block_goes_on : (table : Collation) (target : Id) (lines : List PlainLine) → is_placed table target ≡ true → lines_refusal table (target ∷ []) lines ≡ None → block_delta table target lines ≡ within_limit (all_moved table target lines)
+block_goes_on table target lines placed judged = rw (placed, judged) refl

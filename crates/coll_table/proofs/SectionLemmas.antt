@@ -5,8 +5,8 @@ use Rattle.std.proofs.lemmas.List.Elements.{filter-append, All-nil, All-cons, Al
 use Rattle.coll_order.proofs.Sameness.{by_test}
 use Rattle.coll_syntax.specs.Identifier.{same_id, has_id}
 use Rattle.coll_syntax.specs.declared.identifiers.Id.{Id}
-use Rattle.coll_table.proofs.EntryLemmas.{distinct_without}
-use Rattle.coll_table.proofs.Sameness.{same_id_decides, neither}
+use Rattle.coll_table.proofs.EntryLemmas.{distinct_without, none_without}
+use Rattle.coll_table.proofs.Sameness.{same_id_decides, neither, nor}
 use Rattle.coll_table.specs.Placement.{entries_after, entries_without, without, placed_after}
 use Rattle.coll_table.specs.Table.{Section, ids_of, joined_entries, section_names, named}
 use Rattle.coll_table.specs.WellFormed.{AreDistinct, IsNamed, FirstIsUnnamed}
@@ -29,7 +29,7 @@ after_left (first ∷ xs) ys target entry e =
     (λ _. λ p. rw p (ap (λ es. first ∷ es) (after_left xs ys target entry (ap (λ b. b || has_id (ids_of xs) target) (sym p) ∙ e)))) refl
 
 -- a target that isn't in the first of two lists
-after_right : (xs ys : List Entry) (target : Id) (entry : Entry) → has_id (ids_of xs) target ≡ false → entries_after (xs ++ ys) target entry ≡ xs ++ entries_after ys target entry
+pub after_right : (xs ys : List Entry) (target : Id) (entry : Entry) → has_id (ids_of xs) target ≡ false → entries_after (xs ++ ys) target entry ≡ xs ++ entries_after ys target entry
 after_right [] ys target entry e = refl
 after_right (first ∷ xs) ys target entry e =
     let h = neither _ _ e in
@@ -102,3 +102,14 @@ module _ (change : List Entry → List Entry) where
   pub first_stays : (sections : List Section) → FirstIsUnnamed sections → FirstIsUnnamed (changed sections)
   first_stays [] h = h
   first_stays (section ∷ sections) h = (h.0, named_stay sections h.1)
+
+-- where an identifier isn't there, nothing is taken out
+pub without_none : (sections : List Section) (id : Id) → has_id (ids_of (joined_entries sections)) id ≡ false → without sections id ≡ sections
+without_none [] id e = refl
+without_none (section ∷ sections) id e =
+    let here = absent_left section.entries (joined_entries sections) id e in
+    let later = absent_right section.entries (joined_entries sections) id e in
+    ap (λ es. record section { entries = es } ∷ without sections id) (none_without section.entries id here) ∙ ap (λ ss. section ∷ ss) (without_none sections id later) where
+      absent_left : (xs ys : List Entry) (id : Id) → has_id (ids_of (xs ++ ys)) id ≡ false → has_id (ids_of xs) id ≡ false
+      absent_left [] ys id e = refl
+      absent_left (x ∷ xs) ys id e = let h = neither _ _ e in nor _ _ h.0 (absent_left xs ys id h.1)

@@ -18,6 +18,8 @@ pub mod PrintedParts
 pub mod Reading
 pub mod Record
 pub mod Refusals
+pub mod Rewriting
+pub mod SoundBodies
 pub mod SoundDrafts
 pub mod SoundLoaders
 pub mod Table
@@ -26,5 +28,3 @@ pub mod WalkItems
 pub mod WalkStates
 pub mod Walks
 pub mod WellFormed
-pub mod Rewriting
-pub mod SoundBodies

@@ -11,7 +11,7 @@ use Rattle.coll_syntax.specs.Identifier.{same_name, same_id}
 use Rattle.coll_syntax.specs.declared.identifiers.Id.{Id}
 use Rattle.coll_table.specs.Bodies.{Makes}
 use Rattle.coll_table.specs.NodeLookUps.{Leading, NodesById, node_named, node_with}
-use Rattle.coll_table.specs.Table.{name_of, text_of, named, ids_of, joined_entries}
+use Rattle.coll_table.specs.Table.{Section, name_of, text_of, named, ids_of, joined_entries}
 use Rattle.coll_table.specs.TableLayout.{TableLayout, content_of, if_any, declaration_in, entry_in, declared_at, sections_at, declarations_ring, sections_ring}
 use Rattle.coll_table.specs.declared.contents.Content.{Content}
 use Rattle.coll_table.specs.declared.contents.Content.TheVariants as content
@@ -154,3 +154,29 @@ end_of start (first ∷ rest) = end_of (After first) rest
 -- the place behind the last node of a ring
 abbrev pub end_in : TableLayout → ℕ → Place
 end_in layout index = end_of (head_of index) (ring_at layout index)
+
+-- the section that is the last, and its ring
+pub record IsLastSection (layout : TableLayout) (section : NodeId) (name : Option (List ℕ)) (ring : RingId) : Type 0 where
+  pub last : (front : List NodeId) × (ring_at layout 1 ≡ front ++ section ∷ [])
+  pub begun : content_of layout section ≡ Some (content.Begun name ring)
+
+-- the place behind the last entry of the last section
+abbrev pub IsLastEnd : TableLayout → Place → Type 0
+IsLastEnd layout place = (section : NodeId) × (name : Option (List ℕ)) × (ring : RingId) × IsLastSection layout section name ring × (place ≡ end_in layout ring.index)
+
+-- each of these sections has a name
+abbrev pub HaveNames : List Section → Type 0
+HaveNames [] = Unit {0}
+HaveNames (section ∷ later) = ((name : List ℕ) × (section.name ≡ Some name)) × HaveNames later
+
+-- the first section alone has no name
+abbrev pub FirstAloneUnnamed : List Section → Type 0
+FirstAloneUnnamed [] = ⊥
+FirstAloneUnnamed (first ∷ later) = (first.name ≡ None) × HaveNames later
+
+-- places behind the last declaration, the last section, and the last entry of that
+pub record IsSoundBuilder (layout : TableLayout) (declared_end sections_end entries_end : Place) : Type 0 where
+  pub declared : declared_end ≡ end_in layout 0
+  pub sections : sections_end ≡ end_in layout 1
+  pub entries : IsLastEnd layout entries_end
+  pub unnamed : FirstAloneUnnamed (sections_at layout)

@@ -5,9 +5,11 @@
 //! find just the nodes that stand in a ring, is said in `specs/SoundBodies.antt`: whoever links a node or takes one out sets the
 //! look-ups with it. A new kind of node is a new ring, and a look-up where it has a key.
 
-ghost use Rattle.std.specs.Prelude.{◌≡◌, ◌∷◌, ◌++◌, [], Some, None, true, false, length, IfOk, IfNone, OnOk, OnErr, option_copied};
-ghost use Rattle.coll_syntax.specs.Identifier.{has_name, same_id};
+ghost use Rattle.std.specs.Prelude.{◌≡◌, ◌∷◌, ◌++◌, [], Some, None, false, length, ◌+◌, IfOk, OnOk, OnErr, option_copied};
+ghost use Rattle.coll_syntax.specs.Identifier.{has_name};
 ghost use Rattle.coll_table.specs.SoundBodies.{declares_a_symbol, entry_if};
+
+mod moving;
 
 use crate::contents::Content;
 use crate::node_ids::NodeIds;
@@ -52,6 +54,16 @@ impl Model for Body {
     ghost invariant = { λ b. IsSoundBody b.nodes.layout b.declarations b.sections b.names b.texts b.section_names b.placed b.declared_len b.section_len b.entry_len };
 }
 
+// One more. A count that no number has is refused, as want of memory.
+fn one_more(count: usize) -> Result<usize, AllocError>
+    ensures { IfOk result (λ more. more ≡ count + 1) }
+{
+    if count == usize::MAX {
+        return Err(AllocError);
+    }
+    Ok(count + 1)
+}
+
 // Whether a node declares a collating symbol.
 fn is_symbol_node(node: &Content) -> bool
     ensures { result ≡ declares_a_symbol node.now }
@@ -76,8 +88,7 @@ impl Body {
     ghost use Rattle.coll_order.specs.Changes.{one_step_more};
     ghost use Rattle.coll_table.specs.Bodies.{IsLaidOut};
     ghost use Rattle.coll_table.specs.Drafts.{has_text};
-    ghost use Rattle.coll_table.specs.Placement.{entry_at, placed_after, without};
-    ghost use Rattle.coll_table.specs.declared.entries.Entry.{Entry};
+    ghost use Rattle.coll_table.specs.Placement.{entry_at};
     ghost use Rattle.coll_table.specs.SoundBodies.{IsShaped, IsPlaceIn, IsEntryPlace, Adds, with_empty_ring};
     ghost use Rattle.std.specs.List.{list_any};
     ghost use Rattle.coll_table.specs.declared.declarations.Declaration.TheVariants.{Symbol, Element};
@@ -87,7 +98,8 @@ impl Body {
 
     /// Nothing declared, and no section.
     pub(crate) fn new(alloc: Global) -> Result<Body, AllocError>
-        ensures declared { IfOk result (λ body. body.layout ≡ record { rings = [] ∷ [] ∷ []; nodes = [] }) }
+        ensures layout { IfOk result (λ body. body.layout ≡ record { rings = [] ∷ [] ∷ []; nodes = [] }) }
+        ensures steps { IfOk result (λ body. body.steps ≡ 0) }
     {
         let mut nodes = Nodes::new(alloc);
         let declarations = nodes.new_ring()?;
@@ -257,7 +269,11 @@ impl Body {
     }
 
     /// Puts a declaration of a collating symbol directly after a place.
-    pub(crate) fn declare_symbol(&mut self, name: TextBuf, place: Place) -> Result<NodeId, AllocError>
+    pub(crate) fn declare_symbol(
+        &mut self,
+        name: TextBuf,
+        place: Place,
+    ) -> Result<NodeId, AllocError>
         requires name { is_declared (declared_at self.old.layout) name ≡ false }
         requires place { IsPlaceIn self.old.layout 0 place }
         ensures ok { IfOk result (λ node. Adds self.old.layout self.new.layout node (content.Declared (Symbol name)) place) }
@@ -265,12 +281,15 @@ impl Body {
         ensures err { OnErr result (self.new ≡ self.old) }
     {
         self.nodes.check_layout();
-        let Some(more) = self.declared_len.checked_add(1) else {
-            return Err(AllocError);
-        };
+        let more = one_more(self.declared_len)?;
         self.names.reserve(&name)?;
-        let node = self.nodes.make(Content::Declared(Declaration::Symbol(name)))?;
-        let Content::Declared(Declaration::Symbol(name)) = self.nodes.content(node) else {
+        let node = self
+            .nodes
+            .make(Content::Declared(Declaration::Symbol(name)))?;
+        let Content::Declared(declared) = self.nodes.content(node) else {
+            unreachable!();
+        };
+        let Declaration::Symbol(name) = declared else {
             unreachable!();
         };
         self.names.set(name, Some(node));
@@ -280,7 +299,12 @@ impl Body {
     }
 
     /// Puts a declaration of a collating element directly after a place.
-    pub(crate) fn declare_element(&mut self, name: TextBuf, text: TextBuf, place: Place) -> Result<NodeId, AllocError>
+    pub(crate) fn declare_element(
+        &mut self,
+        name: TextBuf,
+        text: TextBuf,
+        place: Place,
+    ) -> Result<NodeId, AllocError>
         requires name { is_declared (declared_at self.old.layout) name ≡ false }
         requires text { has_name (texts_of (declared_at self.old.layout)) text ≡ false }
         requires place { IsPlaceIn self.old.layout 0 place }
@@ -289,13 +313,16 @@ impl Body {
         ensures err { OnErr result (self.new ≡ self.old) }
     {
         self.nodes.check_layout();
-        let Some(more) = self.declared_len.checked_add(1) else {
-            return Err(AllocError);
-        };
+        let more = one_more(self.declared_len)?;
         self.names.reserve(&name)?;
         self.texts.reserve(&text)?;
-        let node = self.nodes.make(Content::Declared(Declaration::Element { name, text }))?;
-        let Content::Declared(Declaration::Element { name, text }) = self.nodes.content(node) else {
+        let node = self
+            .nodes
+            .make(Content::Declared(Declaration::Element { name, text }))?;
+        let Content::Declared(declared) = self.nodes.content(node) else {
+            unreachable!();
+        };
+        let Declaration::Element { name, text } = declared else {
             unreachable!();
         };
         self.names.set(name, Some(node));
@@ -310,12 +337,11 @@ impl Body {
         requires place { IsPlaceIn self.old.layout 1 place }
         ensures ok { IfOk result (λ begun. Adds (with_empty_ring self.old.layout) self.new.layout begun.0 (content.Begun None begun.1) place) }
         ensures ring { IfOk result (λ begun. begun.1.index ≡ length self.old.layout.rings) }
+        ensures steps { OnOk result (self.new.steps ≡ one_step_more self.old.steps) }
         ensures err { OnErr result (self.new ≡ self.old) }
     {
         self.nodes.check_layout();
-        let Some(more) = self.section_len.checked_add(1) else {
-            return Err(AllocError);
-        };
+        let more = one_more(self.section_len)?;
         let (node, ring) = self.nodes.make_section(None)?;
         self.nodes.link(node, place);
         self.section_len = more;
@@ -323,20 +349,26 @@ impl Body {
     }
 
     /// Begins a section directly after a place, and answers its node and its ring.
-    pub(crate) fn begin(&mut self, name: TextBuf, place: Place) -> Result<(NodeId, RingId), AllocError>
+    pub(crate) fn begin(
+        &mut self,
+        name: TextBuf,
+        place: Place,
+    ) -> Result<(NodeId, RingId), AllocError>
         requires name { has_name (section_names (sections_at self.old.layout)) name ≡ false }
         requires place { IsPlaceIn self.old.layout 1 place }
         ensures ok { IfOk result (λ begun. Adds (with_empty_ring self.old.layout) self.new.layout begun.0 (content.Begun (Some name) begun.1) place) }
         ensures ring { IfOk result (λ begun. begun.1.index ≡ length self.old.layout.rings) }
+        ensures steps { OnOk result (self.new.steps ≡ one_step_more self.old.steps) }
         ensures err { OnErr result (self.new ≡ self.old) }
     {
         self.nodes.check_layout();
-        let Some(more) = self.section_len.checked_add(1) else {
-            return Err(AllocError);
-        };
+        let more = one_more(self.section_len)?;
         self.section_names.reserve(&name)?;
         let (node, ring) = self.nodes.make_section(Some(name))?;
-        let Content::Begun { name: Some(name), ring: _ } = self.nodes.content(node) else {
+        let Content::Begun { name: begun, .. } = self.nodes.content(node) else {
+            unreachable!();
+        };
+        let Some(name) = begun else {
             unreachable!();
         };
         self.section_names.set(name, Some(node));
@@ -354,9 +386,7 @@ impl Body {
         ensures err { OnErr result (self.new ≡ self.old) }
     {
         self.nodes.check_layout();
-        let Some(more) = self.entry_len.checked_add(1) else {
-            return Err(AllocError);
-        };
+        let more = one_more(self.entry_len)?;
         self.placed.reserve(&entry.id)?;
         let node = self.nodes.make(Content::Placed(entry))?;
         let Content::Placed(entry) = self.nodes.content(node) else {
@@ -366,27 +396,5 @@ impl Body {
         self.nodes.link(node, place);
         self.entry_len = more;
         Ok(node)
-    }
-
-    /// Moves an entry directly after another.
-    pub(crate) fn move_after(&mut self, id: &Id, target: &Id)
-        requires here { is_placed_in (sections_at self.old.layout) id.now ≡ true }
-        requires placed { is_placed_in (sections_at self.old.layout) target.now ≡ true }
-        requires apart { same_id id.now target.now ≡ false }
-        ensures declared { declared_at self.new.layout ≡ declared_at self.old.layout }
-        ensures sections { (entry : Entry) → entry_at (joined_entries (sections_at self.old.layout)) id.now ≡ Some entry → sections_at self.new.layout ≡ placed_after (without (sections_at self.old.layout) id.now) target.now entry }
-    {
-        unreachable!();
-    }
-
-    /// Places a new entry directly after another.
-    pub(crate) fn place_new_after(&mut self, entry: Entry, target: &Id) -> Result<(), AllocError>
-        requires new { is_placed_in (sections_at self.old.layout) entry.id ≡ false }
-        requires placed { is_placed_in (sections_at self.old.layout) target.now ≡ true }
-        ensures declared { declared_at self.new.layout ≡ declared_at self.old.layout }
-        ensures ok { OnOk result (sections_at self.new.layout ≡ placed_after (sections_at self.old.layout) target.now entry) }
-        ensures err { OnErr result (self.new ≡ self.old) }
-    {
-        unreachable!();
     }
 }

@@ -2,7 +2,8 @@
 //!
 //! A `Builder` puts declarations, sections and entries behind those that are there, and answers what is there by look-ups. What
 //! contracts see of it are the two lists (`Parts` of `specs/Building.antt`); `finish` makes the table of them. It judges
-//! nothing: what may be put where is for its caller to know.
+//! nothing: what may be put where is for its caller to know. Beside the body it keeps the places where each list ends
+//! (`IsSoundBuilder` of `specs/SoundBodies.antt`), so that no call walks.
 
 ghost use Rattle.std.specs.Prelude.{◌≡◌, ◌∷◌, ◌++◌, [], ◌<◌, Some, false, IfOk, OnOk, OnErr, length};
 ghost use Rattle.coll_syntax.specs.Identifier.{has_name};
@@ -10,6 +11,7 @@ ghost use Rattle.coll_syntax.specs.Identifier.{has_name};
 use crate::bodies::Body;
 use crate::{Declaration, Entry, Table, Walk};
 use coll_lex::TextBuf;
+use coll_order::Place;
 use coll_syntax::{Id, Rules};
 use std::alloc::{AllocError, Global};
 use std::marker::Model;
@@ -18,6 +20,12 @@ use std::marker::Model;
 #[derive(Debug, Drop)]
 pub(crate) struct Builder {
     body: Body,
+    /// The place behind the last declaration.
+    declared_end: Place,
+    /// The place behind the last section.
+    sections_end: Place,
+    /// The place behind the last entry of the last section.
+    entries_end: Place,
 }
 
 impl Model for Builder {
@@ -25,9 +33,12 @@ impl Model for Builder {
 
     ghost Value = { Parts };
 
-    ghost use Rattle.coll_table.specs.Building.{no_parts};
+    ghost use Rattle.coll_table.specs.Building.{parts_at};
+    ghost use Rattle.coll_table.specs.SoundBodies.{IsSoundBuilder};
 
-    ghost view = { λ b. no_parts };
+    ghost view = { λ b. parts_at b.body.layout };
+
+    ghost invariant = { λ b. IsSoundBuilder b.body.layout b.declared_end b.sections_end b.entries_end };
 }
 
 impl Builder {
@@ -38,75 +49,86 @@ impl Builder {
     ghost use Rattle.coll_table.specs.TableLayout.{collation};
     ghost use Rattle.coll_table.specs.Walks.{met};
     ghost use Rattle.coll_table.specs.WellFormed.{IsWellFormed};
+    ghost use Rattle.coll_table.specs.declared.declarations.Declaration.TheVariants.{Symbol, Element};
 
     /// Nothing declared, and an empty first section.
     pub(crate) fn new(alloc: Global) -> Result<Builder, AllocError>
         ensures { IfOk result (λ builder. builder ≡ no_parts) }
     {
-        unreachable!();
+        let mut body = Body::new(alloc)?;
+        body.check_layout();
+        let sections = body.sections();
+        let (section, ring) = body.begin_unnamed(Place::Head(sections))?;
+        let declarations = body.declarations();
+        Ok(Builder {
+            body,
+            declared_end: Place::Head(declarations),
+            sections_end: Place::After(section),
+            entries_end: Place::Head(ring),
+        })
     }
 
     /// Whether a name is declared.
     pub(crate) fn declares(&self, name: &TextBuf) -> bool
         ensures { result ≡ is_declared self.now.declared name.now }
     {
-        unreachable!();
+        self.body.declares(name)
     }
 
     /// Whether a collating element has this string.
     pub(crate) fn has_text(&self, text: &TextBuf) -> bool
         ensures { result ≡ has_name (texts_of self.now.declared) text.now }
     {
-        unreachable!();
+        self.body.has_text(text)
     }
 
     /// Whether a section has this name.
     pub(crate) fn has_section(&self, name: &TextBuf) -> bool
         ensures { result ≡ has_name (section_names self.now.sections) name.now }
     {
-        unreachable!();
+        self.body.has_section(name)
     }
 
     /// Whether an identifier stands in a section.
     pub(crate) fn is_placed(&self, id: &Id) -> bool
         ensures { result ≡ is_placed_in self.now.sections id.now }
     {
-        unreachable!();
+        self.body.is_placed(id)
     }
 
     /// Whether an identifier may be used: a name has to be declared.
     pub(crate) fn is_known(&self, id: &Id) -> bool
         ensures { result ≡ is_known self.now.declared id.now }
     {
-        unreachable!();
+        self.body.is_known(id)
     }
 
     /// Whether an identifier is a collating symbol.
     pub(crate) fn is_symbol(&self, id: &Id) -> bool
         ensures { result ≡ is_symbol self.now.declared id.now }
     {
-        unreachable!();
+        self.body.is_symbol(id)
     }
 
     /// The number of entries, in all sections together.
     pub(crate) fn len(&self) -> usize
         ensures { result ≡ length (joined_entries self.now.sections) }
     {
-        unreachable!();
+        self.body.entry_len()
     }
 
     /// The number of declarations.
     pub(crate) fn declared_len(&self) -> usize
         ensures { result ≡ length self.now.declared }
     {
-        unreachable!();
+        self.body.declared_len()
     }
 
     /// The number of sections, the first counted.
     pub(crate) fn section_len(&self) -> usize
         ensures { result ≡ length self.now.sections }
     {
-        unreachable!();
+        self.body.section_len()
     }
 
     /// Puts a declaration behind all others.
@@ -116,7 +138,35 @@ impl Builder {
         ensures ok { OnOk result (self.new ≡ record self.old { declared = self.old.declared ++ new ∷ [] }) }
         ensures err { OnErr result (self.new ≡ self.old) }
     {
-        unreachable!();
+        match new {
+            Declaration::Symbol(name) => self.declare_symbol(name),
+            Declaration::Element { name, text } => self.declare_element(name, text),
+        }
+    }
+
+    // Puts a declaration of a collating symbol behind all others.
+    fn declare_symbol(&mut self, name: TextBuf) -> Result<(), AllocError>
+        requires name { is_declared self.old.declared name ≡ false }
+        ensures ok { OnOk result (self.new ≡ record self.old { declared = self.old.declared ++ Symbol name ∷ [] }) }
+        ensures err { OnErr result (self.new ≡ self.old) }
+    {
+        self.body.check_layout();
+        let node = self.body.declare_symbol(name, self.declared_end)?;
+        self.declared_end = Place::After(node);
+        Ok(())
+    }
+
+    // Puts a declaration of a collating element behind all others.
+    fn declare_element(&mut self, name: TextBuf, text: TextBuf) -> Result<(), AllocError>
+        requires name { is_declared self.old.declared name ≡ false }
+        requires text { has_name (texts_of self.old.declared) text ≡ false }
+        ensures ok { OnOk result (self.new ≡ record self.old { declared = self.old.declared ++ Element name text ∷ [] }) }
+        ensures err { OnErr result (self.new ≡ self.old) }
+    {
+        self.body.check_layout();
+        let node = self.body.declare_element(name, text, self.declared_end)?;
+        self.declared_end = Place::After(node);
+        Ok(())
     }
 
     /// Begins a section behind all others.
@@ -125,7 +175,11 @@ impl Builder {
         ensures ok { OnOk result (self.new ≡ record self.old { sections = with_section self.old.sections name }) }
         ensures err { OnErr result (self.new ≡ self.old) }
     {
-        unreachable!();
+        self.body.check_layout();
+        let (section, ring) = self.body.begin(name, self.sections_end)?;
+        self.sections_end = Place::After(section);
+        self.entries_end = Place::Head(ring);
+        Ok(())
     }
 
     /// Puts an entry behind all others, in the last section.
@@ -134,14 +188,17 @@ impl Builder {
         ensures ok { OnOk result (self.new ≡ record self.old { sections = with_last self.old.sections entry }) }
         ensures err { OnErr result (self.new ≡ self.old) }
     {
-        unreachable!();
+        self.body.check_layout();
+        let node = self.body.place(entry, self.entries_end)?;
+        self.entries_end = Place::After(node);
+        Ok(())
     }
 
     /// A walk through the sections and entries so far.
     pub(crate) fn walk(&self) -> Walk<'_>
         ensures { result ≡ met self.now.sections }
     {
-        unreachable!();
+        self.body.walk()
     }
 
     /// The table of these parts and these rules.
@@ -149,6 +206,7 @@ impl Builder {
         requires { IsWellFormed (table_with rules self) }
         ensures { collation result ≡ table_with rules self }
     {
-        unreachable!();
+        let Builder { body, .. } = self;
+        Table { rules, body }
     }
 }

@@ -148,7 +148,8 @@ impl Table {
         ensures ok { OnOk result (collation self.new ≡ moved (collation self.old) after.now id.now) }
     {
         let entry = self.new_entry(id)?;
-        self.body.place_new_after(entry, after)
+        self.body.place_new_after(entry, after)?;
+        Ok(())
     }
 
     /// The entry that an identifier gets without being given weights.

@@ -3,9 +3,9 @@
 //! A `Nodes` has the rings, and the content of each node that is there, found by the node's tag. Contracts see the layout that
 //! they make (`specs/Bodies.antt`); what may stand in which ring is for `bodies` to know. The way to a content may change.
 
-ghost use Rattle.std.specs.Prelude.{◌≡◌, ◌<◌, ◌∷◌, ◌++◌, [], Some, None, IsSome, false, true, length, IfOk, OnOk, OnErr};
-ghost use Rattle.coll_order.specs.Changes.{one_step_more};
-ghost use Rattle.coll_order.specs.Layout.{is_in, place_from};
+ghost use Rattle.std.specs.Prelude.{◌≡◌, ◌∷◌, ◌++◌, [], Some, None, IsSome, false, true, length, ◌<◌, IfOk, OnOk, OnErr};
+ghost use Rattle.coll_order.specs.Changes.{one_step_more, next_ring, with_node, with_ring};
+ghost use Rattle.coll_order.specs.Layout.{is_in, place_from, tag_of};
 ghost use Rattle.coll_order.specs.Lists.{first_in};
 
 use crate::contents::Content;
@@ -31,6 +31,24 @@ impl Model for Nodes {
     ghost view = { λ n. record { layout = layout_with n.rings.layout n.contents.slots; steps = n.rings.steps } };
 
     ghost invariant = { λ n. AreMade n.rings.layout.tags n.contents.slots };
+}
+
+// Makes a loose node and a ring of no nodes, or neither.
+fn new_node_and_ring(rings: &mut Rings, tag: usize) -> Result<(NodeId, RingId), AllocError>
+    ensures fresh { IfOk result (λ made. tag_of rings.old.layout made.0 ≡ None) }
+    ensures apart { IfOk result (λ made. is_in rings.old.layout.rings made.0 ≡ false) }
+    ensures ring { IfOk result (λ made. made.1 ≡ next_ring rings.old.layout) }
+    ensures ok { IfOk result (λ made. rings.new ≡ record rings.old { layout = with_ring (with_node rings.old.layout made.0 tag) }) }
+    ensures err { OnErr result (rings.new ≡ rings.old) }
+{
+    let node = rings.new_node(tag)?;
+    match rings.new_ring() {
+        Ok(ring) => Ok((node, ring)),
+        Err(refusal) => {
+            rings.drop_node(node);
+            Err(refusal)
+        }
+    }
 }
 
 impl Nodes {
@@ -74,7 +92,10 @@ impl Nodes {
     }
 
     /// Makes a loose node that is a section, and a ring for its entries.
-    pub(crate) fn make_section(&mut self, name: Option<TextBuf>) -> Result<(NodeId, RingId), AllocError>
+    pub(crate) fn make_section(
+        &mut self,
+        name: Option<TextBuf>,
+    ) -> Result<(NodeId, RingId), AllocError>
         ensures made { IfOk result (λ made. Makes self.old.layout self.new.layout made.0 (Begun name made.1)) }
         ensures apart { IfOk result (λ made. is_in self.old.layout.rings made.0 ≡ false) }
         ensures ring { IfOk result (λ made. made.1.index ≡ length self.old.layout.rings) }
@@ -83,17 +104,9 @@ impl Nodes {
         ensures err { OnErr result (self.new ≡ self.old) }
     {
         self.contents.reserve(1)?;
-        let node = self.rings.new_node(self.contents.vacant_key())?;
-        match self.rings.new_ring() {
-            Ok(ring) => {
-                self.contents.insert_reserved(Content::Begun { name, ring });
-                Ok((node, ring))
-            }
-            Err(refusal) => {
-                self.rings.drop_node(node);
-                Err(refusal)
-            }
-        }
+        let (node, ring) = new_node_and_ring(&mut self.rings, self.contents.vacant_key())?;
+        self.contents.insert_reserved(Content::Begun { name, ring });
+        Ok((node, ring))
     }
 
     /// Puts a loose node directly after a place.

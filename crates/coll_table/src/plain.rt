@@ -6,6 +6,5 @@ mod delta_lines;
 mod order_lines;
 mod statements;
 
-
 pub use delta_lines::{PlainDeltaLine, parse_plain_delta_line};
 pub use statements::{PlainLine, PlainStatement};

@@ -37,7 +37,7 @@ impl Record {
 impl Table {
     /// Undoes the record's statement, or does it again where it is undone. It takes no memory.
     ///
-    /// The answer is how many entries were linked anew, which is 0 while entries stand in a plain list.
+    /// The answer is how many entries were linked anew, which is 0, since the tables are exchanged whole.
     #[tactic(auto, unfolding(crate::specs::Record::turn, crate::specs::Record::fits))]
     pub fn flip(&mut self, kept: &mut Record) -> u32
         requires { fits self.old kept.old }

@@ -38,6 +38,7 @@ impl Table {
     ghost use Rattle.coll_table.specs.WellFormed.{IsWellFormed};
 
     /// The rules of its levels, one to four.
+    #[tactic(auto, unfolding(crate::specs::TableLayout::collation))]
     pub fn rules(&self) -> &[Rule]
         ensures { result.now ≡ (collation self.now).rules }
     {
@@ -45,6 +46,7 @@ impl Table {
     }
 
     /// The number of entries, in all sections together.
+    #[tactic(auto, unfolding(crate::specs::TableLayout::collation))]
     pub fn len(&self) -> usize
         ensures { result ≡ length (entries_of (collation self.now)) }
     {
@@ -52,6 +54,7 @@ impl Table {
     }
 
     /// The entry of an identifier, if it has one.
+    #[tactic(auto, unfolding(crate::specs::TableLayout::collation))]
     pub fn entry(&self, id: &Id) -> Option<&Entry>
         ensures { option_copied result ≡ entry_at (entries_of (collation self.now)) id.now }
     {
@@ -91,6 +94,7 @@ impl Table {
     }
 
     /// Whether an identifier stands in the table.
+    #[tactic(auto, unfolding(crate::specs::TableLayout::collation))]
     pub(crate) fn is_placed(&self, id: &Id) -> bool
         ensures { result ≡ is_placed (collation self.now) id.now }
     {
@@ -98,6 +102,7 @@ impl Table {
     }
 
     /// Whether an identifier may be used: a name has to be declared.
+    #[tactic(auto, unfolding(crate::specs::TableLayout::collation))]
     pub(crate) fn is_known(&self, id: &Id) -> bool
         ensures { result ≡ is_known (collation self.now).declared id.now }
     {
@@ -105,6 +110,7 @@ impl Table {
     }
 
     /// Whether an identifier is a collating symbol.
+    #[tactic(auto, unfolding(crate::specs::TableLayout::collation))]
     pub(crate) fn is_symbol(&self, id: &Id) -> bool
         ensures { result ≡ is_symbol (collation self.now).declared id.now }
     {

@@ -153,11 +153,11 @@ impl<'a> Iterator for Declared<'a> {
 }
 
 impl Body {
-    ghost use Rattle.coll_table.specs.WellFormed.{FirstIsUnnamed};
+    ghost use Rattle.coll_table.specs.SoundBodies.{FirstAloneUnnamed};
 
     /// A walk through the sections and entries, of which the first section alone has no name.
     pub(crate) fn walk(&self) -> Walk<'_>
-        requires { FirstIsUnnamed (sections_at self.now.layout) }
+        requires { FirstAloneUnnamed (sections_at self.now.layout) }
         ensures { result ≡ met (sections_at self.now.layout) }
     {
         self.check_layout();

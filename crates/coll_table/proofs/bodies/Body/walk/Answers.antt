@@ -1,6 +1,4 @@
 -- A body's sections are what a walk meets.
-use Rattle.std.proofs.Common.{subst, sym}
-use Rattle.coll_table.specs.WalkStates.{HasSections}
 use Rattle.coll_table.proofs.WalkShapes.{has_sections}
 use Rattle.coll_table.proofs.bodies.Body.walk.Goals as goal
 

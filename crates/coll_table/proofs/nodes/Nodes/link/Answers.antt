@@ -1,5 +1,5 @@
 -- A node that is loose by its content is loose by its tag.
-use Rattle.coll_table.proofs.NodeLemmas.{loose_node, place_among}
+use Rattle.coll_table.proofs.NodeLemmas.{loose_node}
 use Rattle.coll_table.proofs.nodes.Nodes.link.Goals as goal
 
 pub link-requires-clause-loose : goal.link-requires-clause-loose

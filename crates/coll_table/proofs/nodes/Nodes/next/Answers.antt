@@ -1,5 +1,5 @@
 -- What comes next in a ring stands directly after the node.
-use Rattle.std.proofs.Common.{◌≡◌, List, ◌∷◌, ◌++◌, [], ◌∙◌, slice_index_or}
+use Rattle.std.proofs.Common.{◌≡◌, ◌∷◌, ◌++◌, [], ◌∙◌, slice_index_or}
 use Rattle.coll_order.proofs.LayoutLemmas.{next_of_between}
 use Rattle.coll_table.proofs.nodes.Nodes.next.Goals as goal
 

@@ -1,8 +1,5 @@
 -- A node that was taken out is loose.
-use Rattle.std.proofs.Common.{sym, subst, ◌≡◌}
-use Rattle.coll_order.specs.Changes.{unlinked}
-use Rattle.coll_order.specs.Layout.{Layout, IsLoose}
-use Rattle.coll_table.specs.Bodies.{AreMade, IsLooseNode, layout_with}
+use Rattle.coll_table.specs.Bodies.{AreMade}
 use Rattle.coll_table.proofs.NodeLemmas.{node_loose}
 use Rattle.coll_table.proofs.nodes.Nodes.unlink.Goals as goal
 

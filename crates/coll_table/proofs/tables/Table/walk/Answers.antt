@@ -1,12 +1,13 @@
 -- A table's sections are those of its body.
 use Rattle.std.proofs.Common.{ap, ◌∙◌}
-use Rattle.coll_table.specs.TableLayout.{TableValue, collation}
+use Rattle.coll_table.specs.TableLayout.{TableValue, collation, sections_at}
 use Rattle.coll_table.specs.Walks.{met}
+use Rattle.coll_table.proofs.WalkShapes.{first_alone}
 use Rattle.coll_table.proofs.tables.Table.walk.Goals as goal
 
 pub walk-requires : goal.walk-requires
 unfolding collation
-walk-requires c = c.self.invariant.built.first_unnamed
+walk-requires c = first_alone (sections_at c.self.inside.body.layout) c.self.invariant.built.first_unnamed
 
 pub returns : goal.returns
 unfolding collation

@@ -1,6 +1,6 @@
 -- A step of a walk through declarations.
-use Rattle.std.proofs.Common.{◌≡◌, ◌∷◌, sym, ap, ◌∙◌}
-use Rattle.coll_table.proofs.WalkLemmas.{at_declaration, declaration_is, on_declared, met_declared, stands_linked, goes_on}
+use Rattle.std.proofs.Common.{sym, ap, ◌∙◌}
+use Rattle.coll_table.proofs.WalkLemmas.{at_declaration, declaration_is, on_declared, met_declared, goes_on}
 use Rattle.coll_table.specs.WalkItems.{declared_by}
 use Rattle.coll_table.specs.WalkStates.{declared_left}
 use Rattle.coll_table.proofs.walks.DeclaredIterator.next.Goals as goal

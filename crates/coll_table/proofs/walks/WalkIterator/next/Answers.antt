@@ -1,5 +1,5 @@
 -- A step of a walk: to an entry, or to a section.
-use Rattle.std.proofs.Common.{◌≡◌, ◌∷◌, None, Some, sym, ap, ◌∙◌, chars}
+use Rattle.std.proofs.Common.{None, sym, ap, ◌∙◌, chars}
 use Rattle.coll_table.proofs.WalkLemmas.{at_entry, at_section, entry_is, on_entry, met_entry, section_is, ring_is, on_section, met_section, goes_on}
 use Rattle.coll_table.specs.Walks.{MetSection, MetEntry}
 use Rattle.coll_table.specs.WalkStates.{met_left}
