@@ -1,6 +1,6 @@
 -- What a session keeps of its history, and what holds of it.
 use Rattle.std.specs.Prelude.{◌≡◌, ◌+◌, ◌≤◌, List, [], ◌∷◌, map, reverse, vec_len, vec_capacity, Ok}
-use Rattle.coll_table.specs.Table.{TableValue, collation}
+use Rattle.coll_table.specs.TableLayout.{TableValue, collation}
 use Rattle.coll_table.specs.Delta.{delta}
 use Rattle.coll_table.specs.Record.{fits, turn}
 use Rattle.coll_bench.specs.Histories.{History}

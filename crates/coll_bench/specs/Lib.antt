@@ -5,6 +5,7 @@ pub mod Histories
 pub mod Kept
 pub mod Laws
 pub mod Limits
+pub mod Listing
 pub mod OpenBlocks
 pub mod Replay
 pub mod Replies

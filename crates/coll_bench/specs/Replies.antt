@@ -1,9 +1,9 @@
 -- The replies of a session: what is written for each unit, from the history before it.
-use Rattle.std.specs.Prelude.{ℕ, suc, Bool, true, false, ◌&&◌, if◌then◌else◌, List, [], ◌∷◌, ◌++◌, length, Result, Ok, Err, codes, decimal, encode_utf8_all}
+use Rattle.std.specs.Prelude.{ℕ, suc, ◌+◌, Bool, true, false, ◌&&◌, if◌then◌else◌, List, [], ◌∷◌, ◌++◌, length, Option, Some, None, Result, Ok, Err, codes, decimal, encode_utf8_all}
 use Rattle.coll_lex.specs.LogicalLines.{first_choice, later_choices}
 use Rattle.coll_lex.specs.Spelling.{spelled_symbol, spelled_code}
 use Rattle.coll_lex.specs.declared.faults.LexFault.TheVariants as lex
-use Rattle.coll_table.specs.Table.{Collation, entries_of}
+use Rattle.coll_table.specs.Table.{Collation, Section, entries_of}
 use Rattle.coll_bench.specs.Histories.{History, table_now, judged, taken_back}
 use Rattle.coll_bench.specs.Faults.{fault_number, fault_name}
 use Rattle.coll_syntax.specs.declared.identifiers.Id.{Id}
@@ -51,9 +51,24 @@ unfoldable pub listed_lines : ℕ → List Entry → List ℕ
 listed_lines rank [] = []
 listed_lines rank (entry ∷ entries) = listed_line rank entry ++ listed_lines (suc rank) entries
 
+-- the line before the entries of a section that has a name
+unfoldable pub section_line : List ℕ → List ℕ
+section_line name = worded (codes "section") (encode_utf8_all (spelled_symbol name []))
+
+-- the line of a section's name, if it has one
+abbrev pub header : Option (List ℕ) → List ℕ
+header None = []
+header (Some name) = section_line name
+
+-- the lines of a listing by sections, from a rank on
+unfoldable pub listed_sections : ℕ → List Section → List ℕ
+listed_sections rank [] = []
+listed_sections rank (section ∷ later) =
+    header section.name ++ (listed_lines rank section.entries ++ listed_sections (rank + length section.entries) later)
+
 -- the reply to `:list`
 unfoldable pub listing : Collation → List ℕ
-listing table = listed_lines 1 (entries_of table) ++ counted_line (codes "listed") (length (entries_of table))
+listing table = listed_sections 1 table.sections ++ counted_line (codes "listed") (length (entries_of table))
 
 -- a reply that counts what remains, or a refusal
 abbrev pub count_reply : List ℕ → Result History BenchFault → List ℕ

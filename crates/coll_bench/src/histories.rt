@@ -6,7 +6,7 @@
 //! that, and to make the room that every later undo needs before the table changes.
 
 ghost use Rattle.std.specs.Prelude.{◌≡◌, ◌≢◌, ◌↔◌, ◌<◌, ◌≤◌, ◌+◌, [], length, vec_len, vec_capacity, IsOk, IsTrue, Ok, Err, IfOk, IfErr, OnOk, OnErr};
-ghost use Rattle.coll_table.specs.Table.{collation};
+ghost use Rattle.coll_table.specs.TableLayout.{collation};
 ghost use Rattle.coll_bench.specs.Histories.{History, begun, judged, taken_back, table_now, RefusesStatement};
 
 use crate::faults::BenchFault;
@@ -34,7 +34,7 @@ pub struct Session {
 }
 
 impl Model for Session {
-    ghost use Rattle.coll_table.specs.Table.{collation};
+    ghost use Rattle.coll_table.specs.TableLayout.{collation};
     ghost use Rattle.coll_bench.specs.Histories.{History};
 
     ghost Value = { History };

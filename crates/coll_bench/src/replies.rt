@@ -4,11 +4,13 @@
 //! flush fails, the device has taken a front of the reply. A new unit is a new case of `respond`, and of the
 //! definition of replies.
 
-ghost use Rattle.std.specs.Prelude.{◌≡◌, ◌++◌, ◌∷◌, [], Bool, length};
+ghost use Rattle.std.specs.Prelude.{◌≡◌, ◌≤◌, ◌++◌, ◌∷◌, [], Bool, length, chars, IfOk};
 ghost use Rattle.std.specs.Io.KnownBytes.{Keeps};
 ghost use Rattle.coll_lex.specs.Devices.{CountsErr, Sends};
-ghost use Rattle.coll_table.specs.Table.{collation, entries_of};
-ghost use Rattle.coll_bench.specs.Replies.{spelled_id, worded, counted_line, refused_line, listed_line, listed_lines, listing, outcome_line, command_reply, history_after_command, reply_if, history_after_if};
+ghost use Rattle.coll_table.specs.TableLayout.{collation};
+ghost use Rattle.coll_table.specs.WalkItems.{met_by};
+ghost use Rattle.coll_bench.specs.Listing.{listed_met, met_line, rank_after};
+ghost use Rattle.coll_bench.specs.Replies.{spelled_id, worded, counted_line, refused_line, section_line, listed_line, listing, outcome_line, command_reply, history_after_command, reply_if, history_after_if};
 
 use crate::faults::{BenchFault, Fault};
 use crate::histories::Session;
@@ -16,7 +18,7 @@ use crate::session_lines::Command;
 use crate::units::Request;
 use coll_lex::{Sink, WriteStop, write_bytes, write_char, write_symbol};
 use coll_syntax::Id;
-use coll_table::{Entry, Table};
+use coll_table::{Entry, Table, Walk, WalkItem};
 use itoa::Buffer;
 
 /// Does what a unit asks for, writes its reply and flushes it.
@@ -101,28 +103,60 @@ fn write_outcome<W: Sink>(
     }
 }
 
-// Writes the entries of a table in their order, and how many there are.
+// Writes the sections of a table with their entries in order, and how many entries there are.
 #[tactic(auto, unfolding(crate::specs::Replies::listing))]
 fn write_listing<W: Sink>(out: &mut W, table: &Table) -> Result<(), WriteStop>
     ensures sent { Sends (W.taken out.old) (W.taken out.new) (listing (collation table.now)) result }
     ensures errors { CountsErr (W.failed out.old) (W.failed out.new) result }
 {
-    let entries = table.entries();
-    write_entries(out, entries)?;
-    write_counted(out, b"listed", entries.len() as u64)
+    write_walk(out, table.walk())?;
+    write_counted(out, b"listed", table.len() as u64)
 }
 
-// Writes a line for each entry.
-fn write_entries<W: Sink>(out: &mut W, entries: &[Entry]) -> Result<(), WriteStop>
-    ensures sent { Sends (W.taken out.old) (W.taken out.new) (listed_lines 1 entries.now) result }
+// Writes a line for each named section and each entry that one meets.
+fn write_walk<W: Sink>(out: &mut W, walk: Walk<'_>) -> Result<(), WriteStop>
+    requires { length walk ≤ 4_294_967_295 }
+    ensures sent { Sends (W.taken out.old) (W.taken out.new) (listed_met 1 walk) result }
     ensures errors { CountsErr (W.failed out.old) (W.failed out.new) result }
 {
-    for (index, entry) in entries.iter().enumerate() {
-        if let Err(stop) = write_listed(out, index as u64 + 1, entry) {
-            return Err(stop);
+    let mut rank = 1u64;
+    for item in walk {
+        match write_met(out, rank, &item) {
+            Ok(next) => rank = next,
+            Err(stop) => return Err(stop),
         }
     }
     Ok(())
+}
+
+// Writes the line of a section's name, or of an entry with its rank. The answer is the rank of the next entry.
+fn write_met<W: Sink>(out: &mut W, rank: u64, item: &WalkItem<'_>) -> Result<u64, WriteStop>
+    requires { rank ≤ 4_294_967_295 }
+    ensures sent { Sends (W.taken out.old) (W.taken out.new) (met_line rank (met_by item.now)) result }
+    ensures rank { IfOk result (λ next. next ≡ rank_after rank (met_by item.now)) }
+    ensures errors { CountsErr (W.failed out.old) (W.failed out.new) result }
+{
+    match item {
+        WalkItem::Section(name) => {
+            write_section(out, name)?;
+            Ok(rank)
+        }
+        WalkItem::Entry(entry) => {
+            write_listed(out, rank, entry)?;
+            Ok(rank + 1)
+        }
+    }
+}
+
+// Writes the line before the entries of a section.
+#[tactic(auto, unfolding(crate::specs::Replies::section_line))]
+fn write_section<W: Sink>(out: &mut W, name: &str) -> Result<(), WriteStop>
+    ensures sent { Sends (W.taken out.old) (W.taken out.new) (section_line (chars name.now)) result }
+    ensures errors { CountsErr (W.failed out.old) (W.failed out.new) result }
+{
+    write_spaced(out, b"section")?;
+    write_symbol(out, name)?;
+    write_bytes(out, b"\n")
 }
 
 // Writes the line of one entry.
@@ -133,7 +167,7 @@ fn write_listed<W: Sink>(out: &mut W, rank: u64, entry: &Entry) -> Result<(), Wr
 {
     let mut number = Buffer::new();
     write_spaced(out, number.format(rank).as_bytes())?;
-    write_id_ended(out, &entry.id)
+    write_id_ended(out, entry.id())
 }
 
 // Writes an identifier and the line's end.

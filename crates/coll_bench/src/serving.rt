@@ -8,7 +8,7 @@ ghost use Rattle.std.specs.Prelude.{◌≡◌, ◌+◌, ◌<◌, ◌++◌, Bool,
 ghost use Rattle.coll_lex.specs.Devices.{CountsErr, Sends};
 ghost use Rattle.coll_lex.specs.LogicalLines.{pending, number_of};
 ghost use Rattle.coll_lex.specs.Limits.{most_lines};
-ghost use Rattle.coll_table.specs.Table.{collation};
+ghost use Rattle.coll_table.specs.TableLayout.{collation};
 ghost use Rattle.coll_bench.specs.OpenBlocks.{kept_after, kept_units_at, kept_end_faults, kept_dropped_faults, kept_last_faults};
 ghost use Rattle.coll_bench.specs.Replies.{refused_line, refused_lines};
 ghost use Rattle.coll_bench.specs.Units.{dangling as dangling_faults};

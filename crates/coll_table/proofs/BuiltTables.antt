@@ -1,19 +1,19 @@
 -- A table stays whole where a declaration, a section or an entry is put behind all others.
-use Rattle.std.proofs.Common.{◌≡◌, ℕ, suc, ◌<◌, ◌≤◌, Bool, true, false, ◌||◌, IsTrue, List, [], ◌∷◌, ◌++◌, length, map, Option, Some, None, sym, ap, subst, ◌∙◌, refl, arith, length-append, append_assoc, append-nil}
+use Rattle.std.proofs.Common.{◌≡◌, ℕ, suc, ◌<◌, ◌≤◌, Bool, true, false, ◌||◌, List, [], ◌∷◌, ◌++◌, length, Some, sym, ap, subst, ◌∙◌, refl, arith, length-append, append_assoc, append-nil}
 use Rattle.std.specs.Prelude.{All}
-use Rattle.std.specs.List.{flat_map, list_any}
+use Rattle.std.specs.List.{list_any}
 use Rattle.std.proofs.lemmas.Bool.{false≢true}
 use Rattle.std.proofs.lemmas.List.{map-append}
 use Rattle.std.proofs.lemmas.Grind.{flat_map-append}
 use Rattle.std.proofs.lemmas.List.Elements.{All-nil, All-cons, All-head, All-tail, All-push, All-append, All-weaker}
 use Rattle.std.proofs.lemmas.List.Folds.{list_any-append}
 use Rattle.coll_lex.specs.Names.{IsName}
-use Rattle.coll_syntax.specs.Identifier.{same_name, same_id, has_name, has_id}
-use Rattle.coll_syntax.specs.Proper.{IsElementText}
+use Rattle.coll_syntax.specs.Identifier.{same_name, same_id, has_name}
+use Rattle.coll_syntax.specs.Proper.{IsElementText, IsId}
 use Rattle.coll_syntax.specs.declared.identifiers.Id.{Id}
 use Rattle.coll_syntax.specs.declared.identifiers.Id.TheVariants.{Char, Named, Undefined}
-use Rattle.coll_table.proofs.Sameness.{same_name_decides, same_name_symmetric, same_id_symmetric, distinct_push, neither, nor}
-use Rattle.coll_table.specs.Table.{Collation, Section, name_of, text_of, names_of, texts_of, joined_entries, ids_of, named, section_names, is_placed_in, is_declared, is_known, declares_symbol, is_symbol}
+use Rattle.coll_table.proofs.Sameness.{same_name_decides, same_name_symmetric, same_id_symmetric, distinct_push, neither}
+use Rattle.coll_table.specs.Table.{Collation, Section, name_of, text_of, names_of, texts_of, joined_entries, ids_of, named, section_names, is_placed_in, is_declared, declares_symbol, is_symbol}
 use Rattle.coll_table.specs.Drafts.{has_text}
 use Rattle.coll_table.specs.Limits.{most_entries, most_declarations, most_sections}
 use Rattle.coll_table.specs.Loading.{with_last, with_section}
@@ -97,6 +97,7 @@ built_declared table new built proper absent no_text room = record {
   distinct_names = subst (AreDistinct same_name) (sym (names_push table.declared new)) (distinct_push same_name same_name_symmetric (names_of table.declared) (name_of new) built.distinct_names absent);
   distinct_texts = subst (AreDistinct same_name) (sym (texts_push table.declared new)) (distinct_texts_push (texts_of table.declared) new built.distinct_texts no_text);
   first_unnamed = built.first_unnamed;
+  ids = built.ids;
   distinct_sections = built.distinct_sections;
   distinct_entries = built.distinct_entries;
   known = All-weaker (IsKnown table.declared) (IsKnown (table.declared ++ new ∷ [])) (known_wider table.declared new) (ids_of (joined_entries table.sections)) built.known;
@@ -136,6 +137,7 @@ built_section table name built is absent room =
       distinct_names = built.distinct_names;
       distinct_texts = built.distinct_texts;
       first_unnamed = unnamed_with_section table.sections name is built.first_unnamed;
+      ids = subst (λ entries. All IsId (ids_of entries)) same built.ids;
       distinct_sections = subst (AreDistinct same_name) (sym (names_with_section table.sections name)) (distinct_push same_name same_name_symmetric (section_names table.sections) name built.distinct_sections absent);
       distinct_entries = subst (λ entries. AreDistinct same_id (ids_of entries)) same built.distinct_entries;
       known = subst (λ entries. All (IsKnown table.declared) (ids_of entries)) same built.known;
@@ -189,8 +191,8 @@ pub ids_push : (entries : List Entry) (entry : Entry) → ids_of (entries ++ ent
 ids_push entries entry = map-append (λ (e : Entry). e.id) entries (entry ∷ [])
 
 -- a table with one more entry in its last section
-pub built_entry : (table : Collation) (entry : Entry) → IsBuilt table → is_placed_in table.sections entry.id ≡ false → IsKnown table.declared entry.id → IsWeighted (length table.rules) table.declared entry → length (joined_entries table.sections) < most_entries → IsBuilt (record table { sections = with_last table.sections entry })
-built_entry table entry built absent known weighted room =
+pub built_entry : (table : Collation) (entry : Entry) → IsBuilt table → IsId entry.id → is_placed_in table.sections entry.id ≡ false → IsKnown table.declared entry.id → IsWeighted (length table.rules) table.declared entry → length (joined_entries table.sections) < most_entries → IsBuilt (record table { sections = with_last table.sections entry })
+built_entry table entry built is absent known weighted room =
     let entries = joined_entries table.sections in
     let more = sym (entries_with_last table.sections entry built.first_unnamed) in
     record {
@@ -200,6 +202,7 @@ built_entry table entry built absent known weighted room =
       distinct_names = built.distinct_names;
       distinct_texts = built.distinct_texts;
       first_unnamed = unnamed_with_last table.sections entry built.first_unnamed;
+      ids = subst (λ es. All IsId (ids_of es)) more (subst (All IsId) (sym (ids_push entries entry)) (All-push IsId (ids_of entries) entry.id built.ids is));
       distinct_sections = subst (AreDistinct same_name) (sym (names_with_last table.sections entry)) built.distinct_sections;
       distinct_entries = subst (λ es. AreDistinct same_id (ids_of es)) more (subst (AreDistinct same_id) (sym (ids_push entries entry)) (distinct_push same_id same_id_symmetric (ids_of entries) entry.id built.distinct_entries absent));
       known = subst (λ es. All (IsKnown table.declared) (ids_of es)) more (subst (All (IsKnown table.declared)) (sym (ids_push entries entry)) (All-push (IsKnown table.declared) (ids_of entries) entry.id built.known known));

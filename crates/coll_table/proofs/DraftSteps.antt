@@ -1,6 +1,5 @@
 -- What lines say together grows by one line, as each part of a draft does.
-use Rattle.std.proofs.Common.{◌≡◌, ℕ, Bool, true, false, List, [], ◌∷◌, ◌++◌, Option, Some, None, sym, ap, ◌∙◌, refl, append_assoc, append-nil}
-use Rattle.std.specs.List.{flat_map}
+use Rattle.std.proofs.Common.{◌≡◌, ℕ, false, List, [], ◌∷◌, ◌++◌, Option, Some, None, sym, ap, ◌∙◌, refl, append_assoc, append-nil}
 use Rattle.std.specs.Option.{option_or}
 use Rattle.std.proofs.lemmas.Grind.{flat_map-append, fold-append}
 use Rattle.coll_syntax.specs.declared.rules.Rule.{Rule}
@@ -9,7 +8,7 @@ use Rattle.coll_syntax.specs.declared.lines.TableLine.TheVariants as line
 use Rattle.coll_table.specs.declared.entries.Entry.{Entry}
 use Rattle.coll_table.specs.Table.{Section}
 use Rattle.coll_table.specs.Entries.{entry_of}
-use Rattle.coll_table.specs.Drafts.{Numbered, DraftState, declared_by, declared_in, open_after, is_open, rules_given, rules_by, rules_in, levels_of, begun_by, placed_by, Cut, cut_at, cut, sections_of, sections_in, placing_number, numbers_in, draft_of}
+use Rattle.coll_table.specs.Drafts.{Numbered, DraftState, declared_by, declared_in, open_after, is_open, rules_given, rules_by, rules_in, levels_of, begun_by, placed_by, Cut, cut_at, cut, sections_of, placing_number, numbers_in, draft_of}
 use Rattle.coll_table.specs.Loading.{with_last, rules_after, with_section, with_section_if, draft_with, draft_after}
 
 -- The rules: those of the first line that gives any.

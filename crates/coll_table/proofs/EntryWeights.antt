@@ -1,5 +1,5 @@
 -- The weights that an entry keeps, made one after another.
-use Rattle.std.proofs.Common.{◌≡◌, ℕ, zero, suc, ◌+◌, ◌-◌, ◌<◌, ◌≤◌, List, [], ◌∷◌, ◌++◌, length, get_or, set, take, drop, map, replicate, sym, ap, subst, ◌∙◌, refl, arith, length-append, append_assoc, add-one}
+use Rattle.std.proofs.Common.{◌≡◌, ℕ, zero, suc, ◌+◌, ◌-◌, ◌<◌, List, [], ◌∷◌, ◌++◌, length, get_or, set, take, drop, map, replicate, ap, ◌∙◌, refl, arith, length-append, append_assoc, add-one}
 use Rattle.std.proofs.lemmas.List.{replicate-append-replicate, length-replicate}
 
 module _ {X : Type 0} where
@@ -10,10 +10,10 @@ module _ {X : Type 0} where
   turned_step f (x ∷ xs) (suc i) d below = ap (λ ys. f x ∷ ys) (turned_step f xs i d (omega arith))
 
   -- the same of a list of which the members up to one were turned
-  pub turned_more : (f : X → X) (xs now : List X) (i : ℕ) (old new : X) → now ≡ map f (take i xs) ++ drop i xs → i < length xs → old ≡ get_or now i old → new ≡ f old → set now i new ≡ map f (take (i + 1) xs) ++ drop (i + 1) xs
-  turned_more f xs now i old new turned below read made =
-      let value : new ≡ f (get_or (map f (take i xs) ++ drop i xs) i old) = made ∙ ap f (read ∙ ap (λ ys. get_or ys i old) turned) in
-      rw (turned, value, add-one) (turned_step f xs i old below)
+  pub turned_more : (f : X → X) (xs now : List X) (i : ℕ) (d new : X) → now ≡ map f (take i xs) ++ drop i xs → i < length xs → new ≡ f (get_or now i d) → set now i new ≡ map f (take (i + 1) xs) ++ drop (i + 1) xs
+  turned_more f xs now i d new turned below made =
+      let value : new ≡ f (get_or (map f (take i xs) ++ drop i xs) i d) = made ∙ ap (λ ys. f (get_or ys i d)) turned in
+      rw (turned, value, add-one) (turned_step f xs i d below)
 
   -- one more is put behind those that are there
   pub filled_more : (start now new : List X) (x : X) → now ≡ start ++ replicate (length now - length start) x → new ≡ now ++ x ∷ [] → new ≡ start ++ replicate (length new - length start) x

@@ -7,6 +7,7 @@ pub mod BuiltTables
 pub mod CharNodes
 pub mod DraftSteps
 pub mod EmptyRings
+pub mod EndedDrafts
 pub mod EntryLemmas
 pub mod EntryMoves
 pub mod EntryWeights
@@ -17,8 +18,12 @@ pub mod LayoutReads
 pub mod LayoutSteps
 pub mod LineCauses
 pub mod LineCounts
+pub mod LineMemory
+pub mod LinesRead
+pub mod LoadEnds
 pub mod LoadSteps
 pub mod LookUps
+pub mod MetEntries
 pub mod MovedLemmas
 pub mod NameNodes
 pub mod NodeLemmas
@@ -34,10 +39,14 @@ pub mod PrintedSpellings
 pub mod PrintedTables
 pub mod PrintedTexts
 pub mod PrintedTokens
+pub mod ReadTables
 pub mod RingPlaces
 pub mod RuleLists
 pub mod Sameness
 pub mod SectionLemmas
 pub mod SoundLines
+pub mod TextLoading
+pub mod TextSteps
 pub mod WalkLemmas
 pub mod WalkShapes
+pub mod WeightCauses

@@ -1,30 +1,29 @@
 -- What the lines that are still to come decide, from where a loader stands: each line that is handed in leaves it as it is.
-use Rattle.std.proofs.Common.{◌≡◌, ◌≢◌, ℕ, ◌+◌, ◌<◌, ◌≤◌, Bool, true, false, if◌then◌else◌, List, [], ◌∷◌, ◌++◌, length, min, Option, Some, None, Result, Ok, Err, sym, ap, subst, ◌∙◌, refl, arith}
+use Rattle.std.proofs.Common.{◌≡◌, ◌≢◌, ℕ, ◌+◌, ◌<◌, ◌≤◌, Bool, true, false, if◌then◌else◌, List, [], ◌∷◌, ◌++◌, min, Option, Some, None, Result, Ok, Err, sym, ap, subst, ◌∙◌, refl, arith}
 use Rattle.std.proofs.lemmas.Bool.{false≢true}
-use Rattle.coll_lex.specs.LogicalLines.{LexerState, LogicalLine, number_of, fed, outside, first_line, logical_lines}
-use Rattle.coll_lex.specs.Limits.{most_lines, most_line_bytes}
+use Rattle.coll_lex.specs.LogicalLines.{LexerState, LogicalLine, number_of, fed, outside, logical_lines}
+use Rattle.coll_lex.specs.Limits.{most_lines}
 use Rattle.coll_lex.specs.declared.tokens.Line.{Line}
 use Rattle.coll_lex.specs.declared.faults.LexFault.{LexFault}
-use Rattle.coll_lex.specs.declared.faults.LexFault.TheVariants as lex
-use Rattle.coll_lex.proofs.LineSteps.{logical_lines-nil, logical_lines-none, logical_lines-whole, logical_lines-fault}
-use Rattle.coll_lex.proofs.LineEnds.{fed-count, fed-room, fed-too_long}
+use Rattle.coll_lex.proofs.LineSteps.{logical_lines-none, logical_lines-whole, logical_lines-fault}
+use Rattle.coll_lex.proofs.LineEnds.{fed-count, fed-room}
 use Rattle.coll_syntax.specs.TableLines.{table_line}
 use Rattle.coll_syntax.specs.declared.lines.TableLine.{TableLine}
 use Rattle.coll_syntax.specs.declared.lines.TableLine.TheVariants as line
 use Rattle.coll_syntax.specs.declared.syntax_faults.SyntaxFault.{SyntaxFault}
-use Rattle.coll_table.specs.Drafts.{Numbered, DraftState, draft_of, table_of, line_fault, at_line, is_end}
-use Rattle.coll_table.specs.Loading.{LoaderState, first_loader, draft_with, draft_after, by_outside, by_fed, by_read, taken_line, by_where, unless_faulty, loaded_line, early_end, loaded}
-use Rattle.coll_table.specs.Reading.{Outcome, Decided, Undecided, at_fault, accepted, line_judged, by_grammar, by_tokens, outcome_within, outcome_before, outcome_of, answer_at_end}
+use Rattle.coll_table.specs.Drafts.{Numbered, draft_of, table_of, line_fault, is_end}
+use Rattle.coll_table.specs.Loading.{LoaderState, first_loader, draft_after, by_outside, by_fed, by_read, taken_line, by_where, unless_faulty, loaded_line}
+use Rattle.coll_table.specs.Reading.{Outcome, Decided, Undecided, at_fault, accepted, line_judged, by_grammar, by_tokens, outcome_within, outcome_before}
 use Rattle.coll_table.specs.declared.load_faults.LoadFault.{LoadFault}
-use Rattle.coll_table.specs.declared.load_faults.LoadCause.{LoadCause}
-use Rattle.coll_table.specs.declared.load_faults.LoadCause.TheVariants.{Lex, Syntax, NoCategory, NoEnd}
+use Rattle.coll_table.specs.declared.load_faults.LoadCause.TheVariants.{Lex, NoCategory, NoEnd}
 use Rattle.coll_table.proofs.DraftSteps.{draft_more}
-use Rattle.coll_table.proofs.LineCounts.{outside_count, outside_room, outside_too_long}
+use Rattle.coll_table.proofs.EndedDrafts.{unchanged_at_end}
+use Rattle.coll_table.proofs.LineCounts.{outside_count, outside_room}
 
 -- The definition of reading, one line on.
 
 -- without a line nothing is decided
-outcome_before-nil : (ends : Bool) (s : LexerState) → outcome_before ends s [] ≡ Undecided NoCategory
+pub outcome_before-nil : (ends : Bool) (s : LexerState) → outcome_before ends s [] ≡ Undecided NoCategory
 unfolding outcome_before
 outcome_before-nil ends s = refl
 
@@ -44,12 +43,12 @@ unfolding outcome_before
 outcome_before-fault ends s line lines fault e = rw e refl
 
 -- without a line of the category nothing is decided
-outcome_within-nil : (before : List Numbered) → outcome_within before [] ≡ Undecided NoEnd
+pub outcome_within-nil : (before : List Numbered) → outcome_within before [] ≡ Undecided NoEnd
 unfolding outcome_within
 outcome_within-nil before = refl
 
 -- the first line of the category decides, or leaves it to the later ones
-outcome_within-cons : (before : List Numbered) (line : LogicalLine) (lines : List LogicalLine) → outcome_within before (line ∷ lines) ≡ by_tokens line.number before line.tokens (λ read. outcome_within (before ++ read ∷ []) lines)
+pub outcome_within-cons : (before : List Numbered) (line : LogicalLine) (lines : List LogicalLine) → outcome_within before (line ∷ lines) ≡ by_tokens line.number before line.tokens (λ read. outcome_within (before ++ read ∷ []) lines)
 unfolding outcome_within
 outcome_within-cons before line lines = refl
 
@@ -79,6 +78,7 @@ CountsOne old new = (old.count < most_lines) × (new.count ≡ old.count + 1)
 pub record LeadsOn (before : List Numbered) (s : LoaderState) (taken : List ℕ) (after : LoaderState) : Type 0 where
   pub next : List Numbered
   pub stands : StandsAfter next after
+  pub went_on : after.ended ≡ false → s.ended ≡ false
   pub counts : after.ended ≡ false → CountsOne s.lexer after.lexer
   pub decides : (ends : Bool) (lines : List (List ℕ)) → outcome_from ends before s (taken ∷ lines) ≡ outcome_from ends next after lines
 
@@ -91,13 +91,13 @@ Judged before s taken (Err fault) = (ends : Bool) (lines : List (List ℕ)) → 
 pub stands_first : StandsAfter [] first_loader
 stands_first = record { said = refl; faultless = refl; none_before = λ _. refl; closed = λ _. refl; few = omega arith }
 
-from_ended : (ends : Bool) (before : List Numbered) (s : LoaderState) (lines : List (List ℕ)) → s.ended ≡ true → outcome_from ends before s lines ≡ Decided (Ok (table_of s.draft))
+pub from_ended : (ends : Bool) (before : List Numbered) (s : LoaderState) (lines : List (List ℕ)) → s.ended ≡ true → outcome_from ends before s lines ≡ Decided (Ok (table_of s.draft))
 from_ended ends before s lines e = rw e refl
 
-from_within : (ends : Bool) (before : List Numbered) (s : LoaderState) (lines : List (List ℕ)) → s.ended ≡ false → s.begun ≡ true → outcome_from ends before s lines ≡ outcome_within before (logical_lines [] ends s.lexer lines)
+pub from_within : (ends : Bool) (before : List Numbered) (s : LoaderState) (lines : List (List ℕ)) → s.ended ≡ false → s.begun ≡ true → outcome_from ends before s lines ≡ outcome_within before (logical_lines [] ends s.lexer lines)
 from_within ends before s lines e f = rw e (rw f refl)
 
-from_before : (ends : Bool) (before : List Numbered) (s : LoaderState) (lines : List (List ℕ)) → s.ended ≡ false → s.begun ≡ false → outcome_from ends before s lines ≡ outcome_before ends s.lexer lines
+pub from_before : (ends : Bool) (before : List Numbered) (s : LoaderState) (lines : List (List ℕ)) → s.ended ≡ false → s.begun ≡ false → outcome_from ends before s lines ≡ outcome_before ends s.lexer lines
 from_before ends before s lines e f = rw e (rw f refl)
 
 -- what is counted of a line that is taken
@@ -108,18 +108,13 @@ counts_one old new a few room =
 
 -- One line more.
 
--- a line that ends the category says nothing
-end_adds : (d : DraftState) (number : ℕ) (l : TableLine) → is_end l ≡ true → draft_with d number l ≡ d
-unfolding draft_with
-end_adds d number line.EndCategory e = refl
-end_adds d number _ e = absurd (false≢true e)
-
 module _ (before : List Numbered) (s : LoaderState) (taken : List ℕ) (stands : StandsAfter before s) where
   -- behind the category
   judged_behind : s.ended ≡ true → Judged before s taken (Ok s)
   judged_behind e = record {
     next = before;
     stands = stands;
+    went_on = λ n. n;
     counts = λ n. absurd (false≢true (sym n ∙ e));
     decides = λ ends lines. from_ended ends before s (taken ∷ lines) e ∙ sym (from_ended ends before s lines e);
   }
@@ -132,6 +127,7 @@ module _ (before : List Numbered) (s : LoaderState) (taken : List ℕ) (stands :
         record {
           next = before;
           stands = record { said = stands.said; faultless = stands.faultless; none_before = λ n. absurd (false≢true (sym n)); closed = λ n. absurd (false≢true (sym n)); few = omega (arith, count.0) };
+          went_on = λ n. going;
           counts = λ n. counts_one s.lexer after count.0 stands.few (outside_room s.lexer after taken true e);
           decides = λ ends lines.
               from_before ends before s (taken ∷ lines) going none
@@ -144,6 +140,7 @@ module _ (before : List Numbered) (s : LoaderState) (taken : List ℕ) (stands :
         record {
           next = before;
           stands = record { said = stands.said; faultless = stands.faultless; none_before = λ n. stands.none_before none; closed = λ n. count.1; few = omega (arith, count.0) };
+          went_on = λ n. going;
           counts = λ n. counts_one s.lexer after count.0 stands.few (outside_room s.lexer after taken false e);
           decides = λ ends lines.
               from_before ends before s (taken ∷ lines) going none
@@ -161,6 +158,7 @@ module _ (before : List Numbered) (s : LoaderState) (taken : List ℕ) (stands :
           record {
             next = before;
             stands = record { said = stands.said; faultless = stands.faultless; none_before = stands.none_before; closed = λ n. absurd (false≢true (sym n ∙ within)); few = omega (arith, count) };
+            went_on = λ n. going;
             counts = λ n. counts_one s.lexer after count stands.few (fed-room s.lexer taken None after e);
             decides = λ ends lines.
                 from_within ends before s (taken ∷ lines) going within
@@ -201,12 +199,13 @@ module _ (before : List Numbered) (s : LoaderState) (taken : List ℕ) (stands :
             record {
               next = before ++ n ∷ [];
               stands = record { said = ap (λ d. draft_after d n) stands.said ∙ sym (draft_more before n); faultless = stands.faultless; none_before = λ none. absurd (false≢true (sym none ∙ within)); closed = λ none. absurd (false≢true (sym none ∙ within)); few = omega (arith, count) };
+              went_on = λ none. going;
               counts = λ none. counts_one s.lexer after count stands.few (fed-room s.lexer taken (Some given) after e);
               decides = λ ends lines. by_judgement n None same f g ends lines ∙ (accepted_by n ended _ is ∙ decides ended is ends lines);
             } where
-          decides : (ended : Bool) → is_end n.line ≡ ended → (ends : Bool) (lines : List (List ℕ)) → (if ended then Decided (Ok (table_of (draft_of before))) else outcome_within (before ++ n ∷ []) (logical_lines [] ends after lines)) ≡ outcome_from ends (before ++ n ∷ []) (record s { lexer = after; draft = draft_after s.draft n; ended = ended }) lines
-          decides true is ends lines = ap (λ d. Decided (Ok (table_of d))) (sym stands.said ∙ sym (end_adds s.draft n.number n.line is))
-          decides false is ends lines = sym (from_within ends (before ++ n ∷ []) (record s { lexer = after; draft = draft_after s.draft n; ended = false }) lines refl within)
+              decides : (ended : Bool) → is_end n.line ≡ ended → (ends : Bool) (lines : List (List ℕ)) → (if ended then Decided (Ok (table_of (draft_of before))) else outcome_within (before ++ n ∷ []) (logical_lines [] ends after lines)) ≡ outcome_from ends (before ++ n ∷ []) (record s { lexer = after; draft = draft_after s.draft n; ended = ended }) lines
+              decides true is ends lines = ap (λ d. Decided (Ok (table_of d))) (sym stands.said ∙ sym (unchanged_at_end s.draft n.number n.line is))
+              decides false is ends lines = sym (from_within ends (before ++ n ∷ []) (record s { lexer = after; draft = draft_after s.draft n; ended = false }) lines refl within)
 
         judged_line : (n : Numbered) (fault : Option LoadFault) → n.number ≡ given.number → table_line given.tokens ≡ Ok n.line → line_fault s.draft n ≡ fault → Judged before s taken (taken_line (record s { lexer = after }) n fault)
         judged_line n (Some fault) same f g = λ ends lines. by_judgement n (Some fault) same f g ends lines

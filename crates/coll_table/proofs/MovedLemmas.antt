@@ -4,21 +4,31 @@ use Rattle.std.specs.List.{flat_map}
 use Rattle.std.proofs.lemmas.Bool.{false≢true}
 use Rattle.std.proofs.lemmas.List.Elements.{All-nil, All-cons}
 use Rattle.coll_order.proofs.Sameness.{by_test}
+use Rattle.coll_lex.specs.Names.{IsName}
 use Rattle.coll_syntax.specs.Identifier.{same_id, same_name, has_id}
+use Rattle.coll_syntax.specs.Proper.{IsId}
 use Rattle.coll_syntax.specs.declared.identifiers.Id.{Id}
+use Rattle.coll_syntax.specs.declared.identifiers.Id.TheVariants.{Char, Named, Undefined}
 use Rattle.coll_syntax.specs.declared.weights.Weight.{Weight}
 use Rattle.coll_syntax.specs.declared.weights.Weight.TheVariants.{Own}
 use Rattle.coll_table.proofs.EntryLemmas.{absent_without, taken_out, others_without, distinct_without, all_without, none_without, length_without, distinct_after, all_after, length_after, has_after, entry_there, entry_found, found_id, by_ids, to_ids, all_so}
-use Rattle.coll_table.proofs.Sameness.{same_id_decides, same_id_symmetric, same_id_itself}
+use Rattle.coll_table.proofs.Sameness.{found_holds, same_name_decides, same_id_decides, same_id_symmetric, same_id_itself}
 use Rattle.coll_table.proofs.SectionLemmas.{joined_moved, names_stay, as_many, first_stays}
 use Rattle.coll_table.specs.Delta.{new_entry, entry_or, block_entry, moved}
 use Rattle.coll_table.specs.Entries.{ids_named, weight_ids, weights_of}
 use Rattle.coll_table.specs.Limits.{most_entries}
 use Rattle.coll_table.specs.Placement.{entry_at, entries_after, entries_without, without, placed_after}
-use Rattle.coll_table.specs.Table.{Collation, Section, entries_of, ids_of, section_names, is_known, is_symbol, is_placed}
+use Rattle.coll_table.specs.Rewriting.{HasCharacter}
+use Rattle.coll_table.specs.Table.{Collation, Section, names_of, entries_of, ids_of, section_names, is_known, is_symbol, is_placed}
 use Rattle.coll_table.specs.WellFormed.{AreDistinct, IsKnown, IsWeighted, HasWeights, IsKeptWeight, HasPlacedWeights, FirstIsUnnamed, IsBuilt, IsWellFormed}
 use Rattle.coll_table.specs.declared.declarations.Declaration.{Declaration}
 use Rattle.coll_table.specs.declared.entries.Entry.{Entry}
+
+-- what may be used, and is a character if it says so, is an identifier
+known_is : (declared : List Declaration) (id : Id) → All IsName (names_of declared) → HasCharacter id → IsTrue (is_known declared id) → IsId id
+known_is declared (Char c) names is known = is
+known_is declared (Named name) names is known = found_holds same_name same_name_decides IsName (names_of declared) name names known
+known_is declared Undefined names is known = tt
 
 -- its own weight at each level is as many weights, each of which an entry may keep
 own_kept : (id : Id) (levels : ℕ) → All (IsKeptWeight id) (replicate levels Own)
@@ -119,6 +129,10 @@ module _ (table : Collation) (id : Id) where
     all_moved_entries : (P : Entry → Type 0) → All P (entries_of table) → P (block_entry table id) → All P (entries_of (moved table target id))
     all_moved_entries P h p = subst (All P) (sym (moved_entries target w.built.distinct_entries)) (all_after P (entries_without (entries_of table) id) target (block_entry table id) (all_without P (entries_of table) id h) p)
 
+    -- so of identifiers
+    moved_ids : (P : Id → Type 0) → All P (ids_of (entries_of table)) → P id → All P (ids_of (entries_of (moved table target id)))
+    moved_ids P h p = to_ids P (entries_of (moved table target id)) (all_moved_entries (λ (entry : Entry). P entry.id) (by_ids P (entries_of table) h) (subst P (sym block_entry_id) p))
+
     block_entry_weighted : IsWeighted (length table.rules) table.declared (block_entry table id)
     block_entry_weighted = entry_by (IsWeighted (length table.rules) table.declared) (λ found e. (entry_found (IsWeighted (length table.rules) table.declared) (entries_of table) id found w.built.weighted e).0) (new_weighted table id)
 
@@ -127,18 +141,19 @@ module _ (table : Collation) (id : Id) where
         (subst (All (λ other. IsTrue (is_placed table other))) (sym (new_names table id)) (All-nil (λ other. IsTrue (is_placed table other))))
 
     -- the table is well formed, where there is room
-    pub moved_well_formed : same_id id target ≡ false → is_placed table target ≡ true → IsTrue (is_known table.declared id) → length (entries_of (moved table target id)) ≤ most_entries → IsWellFormed (moved table target id)
-    moved_well_formed apart there known few = record {
+    pub moved_well_formed : same_id id target ≡ false → is_placed table target ≡ true → IsId id → IsTrue (is_known table.declared id) → length (entries_of (moved table target id)) ≤ most_entries → IsWellFormed (moved table target id)
+    moved_well_formed apart there is known few = record {
       built = record {
         few_levels = w.built.few_levels;
         names = w.built.names;
         texts = w.built.texts;
         distinct_names = w.built.distinct_names;
         distinct_texts = w.built.distinct_texts;
+        ids = moved_ids IsId w.built.ids is;
         first_unnamed = first_stays (λ es. entries_after es target (block_entry table id)) (without table.sections id) (first_stays (λ es. entries_without es id) table.sections w.built.first_unnamed);
         distinct_sections = subst (AreDistinct same_name) (sym (sections_stay target section_names names_stay)) w.built.distinct_sections;
         distinct_entries = distinct_moved target w.built.distinct_entries;
-        known = to_ids (IsKnown table.declared) (entries_of (moved table target id)) (all_moved_entries (λ (entry : Entry). IsKnown table.declared entry.id) (by_ids (IsKnown table.declared) (entries_of table) w.built.known) (subst (IsKnown table.declared) (sym block_entry_id) known));
+        known = moved_ids (IsKnown table.declared) w.built.known known;
         weighted = all_moved_entries (IsWeighted (length table.rules) table.declared) w.built.weighted block_entry_weighted;
         few_entries = few;
         few_declarations = w.built.few_declarations;
@@ -151,20 +166,17 @@ module _ (table : Collation) (id : Id) where
           all_moved_entries (HasPlacedWeights (moved table target id)) (all_so (HasPlacedWeights table) (HasPlacedWeights (moved table target id)) so (entries_of table) w.weights_placed) (so (block_entry table id) block_entry_placed);
     }
 
-    -- each that is placed may be used
-    pub known_placed : is_placed table id ≡ true → IsTrue (is_known table.declared id)
-    known_placed is = known_of (entries_of table) (by_ids (IsKnown table.declared) (entries_of table) w.built.known) (entry_at (entries_of table) id) refl (sym (entry_there (entries_of table) id) ∙ is) where
-      known_of : (entries : List Entry) → All (λ (entry : Entry). IsKnown table.declared entry.id) entries → (found : Option Entry) → entry_at entries id ≡ found → is_some found ≡ true → IsTrue (is_known table.declared id)
-      known_of entries h None e there = absurd (false≢true there)
-      known_of entries h (Some found) e there = let of = entry_found (λ (entry : Entry). IsKnown table.declared entry.id) entries id found h e in subst (IsKnown table.declared) of.1 of.0
+    -- what holds of each identifier that is placed holds of this one, if it is
+    placed_holds : (P : Id → Type 0) → All P (ids_of (entries_of table)) → is_placed table id ≡ true → P id
+    placed_holds P h here = found_holds same_id same_id_decides P (ids_of (entries_of table)) id h here
 
     -- so is one with an entry moved
     pub moved_stays_well_formed : same_id id target ≡ false → is_placed table target ≡ true → is_placed table id ≡ true → IsWellFormed (moved table target id)
     moved_stays_well_formed apart there here =
-        moved_well_formed apart there (known_placed here) (let e = length_moved target w.built.distinct_entries apart there here in let f = w.built.few_entries in omega arith)
+        moved_well_formed apart there (placed_holds IsId w.built.ids here) (placed_holds (IsKnown table.declared) w.built.known here) (let e = length_moved target w.built.distinct_entries apart there here in let f = w.built.few_entries in omega arith)
 
     -- and one with a new entry, where there is room
-    pub placed_stays_well_formed : is_placed table target ≡ true → is_placed table id ≡ false → IsTrue (is_known table.declared id) → length (entries_of table) < most_entries → IsWellFormed (moved table target id)
-    placed_stays_well_formed there new known room =
+    pub placed_stays_well_formed : is_placed table target ≡ true → is_placed table id ≡ false → HasCharacter id → IsTrue (is_known table.declared id) → length (entries_of table) < most_entries → IsWellFormed (moved table target id)
+    placed_stays_well_formed there new is known room =
         let apart = apart_when_new (ids_of (entries_of table)) target id there new in
-        moved_well_formed apart there known (let e = length_placed target w.built.distinct_entries apart there new in omega arith)
+        moved_well_formed apart there (known_is table.declared id w.built.names is known) known (let e = length_placed target w.built.distinct_entries apart there new in omega arith)

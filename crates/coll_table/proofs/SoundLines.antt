@@ -1,6 +1,6 @@
 -- A draft stays sound with each line that is accepted.
-use Rattle.std.proofs.Common.{◌≡◌, ℕ, ◌+◌, ◌<◌, ◌≤◌, ◌-◌, Bool, true, false, ◌&&◌, not, if◌then◌else◌, List, [], ◌∷◌, ◌++◌, length, map, replicate, Option, Some, None, sym, ap, subst, ◌∙◌, refl, arith, length-append}
-use Rattle.std.specs.Prelude.{All, IsSome, is_some, is_none, nat_le, nat_lt}
+use Rattle.std.proofs.Common.{◌≡◌, ℕ, ◌+◌, ◌≤◌, ◌-◌, Bool, true, false, ◌&&◌, not, if◌then◌else◌, List, [], ◌∷◌, ◌++◌, length, map, replicate, Option, Some, None, sym, ap, subst, ◌∙◌, refl, arith, length-append}
+use Rattle.std.specs.Prelude.{All, IsSome, is_some, nat_le, nat_lt}
 use Rattle.std.proofs.lemmas.Bool.{false≢true, leb-false, ltb-false}
 use Rattle.std.proofs.lemmas.List.{length-map, length-replicate}
 use Rattle.std.proofs.lemmas.List.Elements.{All-nil, All-append, All-map, All-replicate, All-weaker}
@@ -8,12 +8,11 @@ use Rattle.coll_lex.specs.Names.{IsName}
 use Rattle.coll_syntax.specs.Identifier.{has_name}
 use Rattle.coll_syntax.specs.Proper.{IsProperWeight, AreProperWeights, IsProperLine}
 use Rattle.coll_syntax.specs.declared.identifiers.Id.{Id}
-use Rattle.coll_syntax.specs.declared.rules.Rule.{Rule}
 use Rattle.coll_syntax.specs.declared.statements.OrderLine.{OrderLine}
 use Rattle.coll_syntax.specs.declared.weights.Weight.{Weight}
 use Rattle.coll_syntax.specs.declared.weights.Weight.TheVariants.{Own}
 use Rattle.coll_table.proofs.BuiltTables.{built_declared, built_section, built_entry, entries_with_section, entries_with_last}
-use Rattle.coll_table.specs.Drafts.{DraftState, table_of, refused_if, has_text, declaration_cause, section_cause, order_cause, given_rules, levels_of}
+use Rattle.coll_table.specs.Drafts.{DraftState, table_of, refused_if, has_text, declaration_cause, section_cause, order_cause, levels_of}
 use Rattle.coll_table.specs.Entries.{names_only, kept_weight, kept_weights, given_weights, weights_of, entry_of}
 use Rattle.coll_table.specs.Limits.{most_entries, most_declarations, most_sections}
 use Rattle.coll_table.specs.Loading.{with_section, with_declaration, with_entry}
@@ -31,7 +30,7 @@ passed true cause later e = cc
 passed false cause later e = (refl, e)
 
 -- with one more declaration
-pub sound_declared : (d : DraftState) (new : Declaration) → IsSoundDraft d → IsProperDeclaration new → declaration_cause d new ≡ None → IsSoundDraft (with_declaration d new)
+pub sound_declared : (d : DraftState) (new : Declaration) → IsSoundDraft d → IsProperDeclaration new → declaration_cause d.declared new ≡ None → IsSoundDraft (with_declaration d new)
 sound_declared d new sound proper accepted =
     let absent = passed (is_declared d.declared (name_of new)) _ _ accepted in
     let no_text = passed (has_text d.declared (text_of new)) StringTwice (refused_if (nat_le most_declarations (length d.declared)) Full None) absent.1 in
@@ -60,7 +59,7 @@ sound_section d name sound is accepted =
 -- with one more entry
 pub sound_entry : (d : DraftState) (number : ℕ) (entry : Entry) → IsSoundDraft d → MayBePut d entry → IsSoundDraft (with_entry d number entry)
 sound_entry d number entry sound may = record {
-  built = built_entry (table_of d) entry sound.built may.new may.known may.weighted may.room;
+  built = built_entry (table_of d) entry sound.built may.id may.new may.known may.weighted may.room;
   started = sound.started;
   none_before = λ none. absurd (false≢true (subst IsSome none may.rules));
   some_levels = sound.some_levels;
@@ -100,7 +99,7 @@ weights_are levels false line proper few =
     (length-kept levels line.id (given_weights line.weights) few, kept_are levels line.id (given_weights line.weights) (given_are line.weights proper.1))
 
 -- what is not false is true
-not_false : (b : Bool) → not b ≡ false → b ≡ true
+pub not_false : (b : Bool) → not b ≡ false → b ≡ true
 not_false true e = refl
 not_false false e = cc
 
@@ -119,6 +118,7 @@ may_be_put d line sound proper accepted =
     let room = passed (nat_le most_entries (length (joined_entries d.sections))) Full None levels.1 in
     record {
       rules = sound.started (not_false d.order_open in_order.0);
+      id = proper.0;
       new = new.0;
       known = not_false (is_known d.declared line.id) known.0;
       weighted = weights_are (levels_of d.rules) (is_symbol d.declared line.id) line proper (ltb-false (levels_of d.rules) (length (given_weights line.weights)) levels.0);

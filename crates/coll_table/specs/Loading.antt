@@ -1,5 +1,6 @@
 -- A table text handed in line by line: what is stored of the lines before, and what one more line makes of it.
 use Rattle.std.specs.Prelude.{◌≡◌, ℕ, Bool, true, false, if◌then◌else◌, List, [], ◌∷◌, ◌++◌, Option, Some, None, Result, Ok, Err}
+use Rattle.coll_lex.specs.PhysicalLines.{lines_of}
 use Rattle.coll_lex.specs.LogicalLines.{LexerState, OpenLine, first_state, number_of, fed, outside}
 use Rattle.coll_lex.specs.declared.faults.LexFault.{LexFault}
 use Rattle.coll_lex.specs.declared.faults.LexFault.TheVariants as lex
@@ -15,8 +16,8 @@ use Rattle.coll_table.specs.declared.entries.Entry.{Entry}
 use Rattle.coll_table.specs.Table.{Collation, Section}
 use Rattle.coll_table.specs.Entries.{entry_of}
 use Rattle.coll_table.specs.Drafts.{Numbered, DraftState, draft_of, table_of, line_fault, at_line, is_end, levels_of, rules_given}
+use Rattle.coll_table.specs.Reading.{reads}
 use Rattle.coll_table.specs.declared.load_faults.LoadFault.{LoadFault}
-use Rattle.coll_table.specs.declared.load_faults.LoadCause.{LoadCause}
 use Rattle.coll_table.specs.declared.load_faults.LoadCause.TheVariants.{Lex, Syntax, NoCategory, NoEnd}
 
 -- What one more accepted line makes of what the lines before it say.
@@ -123,3 +124,17 @@ early_end s None = at_line s.lexer.count (if s.begun then NoEnd else NoCategory)
 -- the table, where the category has ended, or the fault
 unfoldable pub loaded : LoaderState → Result Collation LoadFault
 loaded s = unless_faulty s.fault (if s.ended then Ok (table_of s.draft) else Err (early_end s s.lexer.line))
+
+-- what follows a line, unless it is at fault
+abbrev pub past_line : Result LoaderState LoadFault → (LoaderState → Result Collation LoadFault) → Result Collation LoadFault
+past_line (Ok after) later = later after
+past_line (Err fault) later = Err fault
+
+-- the answer to lines that are handed in one after another
+unfoldable pub answer_to : LoaderState → List (List ℕ) → Result Collation LoadFault
+answer_to s [] = loaded s
+answer_to s (physical ∷ lines) = past_line (loaded_line s physical) (λ after. answer_to after lines)
+
+-- handing in the lines of a text one after another answers what the text is
+abbrev pub LinesAreRead : Type 0
+LinesAreRead = (text : List ℕ) → answer_to first_loader (lines_of text) ≡ reads text

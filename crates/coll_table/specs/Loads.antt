@@ -4,7 +4,10 @@ use Rattle.std.specs.List.{flat_map}
 use Rattle.coll_lex.specs.Devices.{raised}
 use Rattle.coll_lex.specs.PhysicalLines.{line_feed, lines_of, IsInLine}
 use Rattle.coll_lex.specs.declared.faults.LexFault.TheVariants as lex
+use Rattle.coll_lex.specs.declared.faults.ReadStop.{ReadStop}
+use Rattle.coll_lex.specs.declared.faults.ReadStop.TheVariants as stop
 use Rattle.coll_table.specs.TableLayout.{TableValue, collation}
+use Rattle.coll_table.specs.Drafts.{at_line}
 use Rattle.coll_table.specs.Reading.{Outcome, Decided, Undecided, outcome_of, reads}
 use Rattle.coll_syntax.specs.declared.syntax_faults.SyntaxFault.TheVariants as syntax
 use Rattle.coll_table.specs.declared.load_faults.LoadFault.{LoadFault}
@@ -19,6 +22,11 @@ with_feeds lines = flat_map (λ line. line ++ line_feed ∷ []) lines
 abbrev pub IsUndecided : Outcome → Type 0
 IsUndecided (Decided answer) = ⊥
 IsUndecided (Undecided cause) = Unit {0}
+
+-- the fault that is answered where the reader stops before the line with this number
+abbrev pub stop_fault : ℕ → ReadStop → LoadFault
+stop_fault number stop.LineTooLong = at_line number (Lex lex.LineTooLong)
+stop_fault number stop.ReadFault = at_line 0 ReadFault
 
 -- a read failed behind a part of a line: the text begins with the lines read before it, each with its line feed, and these
 -- decide nothing; behind them stand that part and the rest

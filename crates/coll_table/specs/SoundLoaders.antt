@@ -1,5 +1,6 @@
 -- What holds of every loader.
-use Rattle.std.specs.Prelude.{◌≡◌, true, Option, IfSome}
+use Rattle.std.specs.Prelude.{◌≡◌, ℕ, true, false, IsTrue, List, IfSome}
+use Rattle.coll_lex.specs.LogicalLines.{takes_memory}
 use Rattle.coll_lex.specs.declared.faults.LexFault.TheVariants as lex
 use Rattle.coll_syntax.specs.declared.syntax_faults.SyntaxFault.TheVariants as syntax
 use Rattle.coll_table.specs.WellFormed.{IsWellFormed}
@@ -15,6 +16,13 @@ IsLineCause (Lex lex.OutOfMemory) = ⊥
 IsLineCause (Syntax syntax.OutOfMemory) = ⊥
 IsLineCause ReadFault = ⊥
 IsLineCause _ = Unit {0}
+
+-- memory may be taken for a line: it stands in the category, and the lexer takes memory for it, as it does for each line that
+-- ends a logical line with tokens
+pub record MayTake (s : LoaderState) (line : List ℕ) : Type 0 where
+  pub begun : s.begun ≡ true
+  pub going : s.ended ≡ false
+  pub taken : IsTrue (takes_memory s.lexer line)
 
 -- where the category has ended, the table that its lines say is well formed; a fault that is stored is one of lines
 pub record IsSoundLoader (s : LoaderState) : Type 0 where

@@ -1,4 +1,4 @@
--- A walk through a table: its sections and entries in order, and its declarations in order.
+-- A walk through the sections of a table: what one meets on it, in order.
 use Rattle.std.specs.Prelude.{ℕ, List, [], ◌∷◌, ◌++◌, Option, Some, None, map}
 use Rattle.std.specs.List.{flat_map}
 use Rattle.coll_table.specs.declared.entries.Entry.{Entry}
@@ -21,3 +21,12 @@ met_in section = met_name section.name ++ map MetEntry section.entries
 -- what one meets on a walk through sections
 abbrev pub met : List Section → List Met
 met sections = flat_map met_in sections
+
+-- the entry that one meets, if it is one
+abbrev pub entry_met : Met → List Entry
+entry_met (MetSection name) = []
+entry_met (MetEntry entry) = entry ∷ []
+
+-- the entries among what one meets
+abbrev pub entries_met : List Met → List Entry
+entries_met items = flat_map entry_met items

@@ -1,9 +1,9 @@
 -- What is true of every table.
-use Rattle.std.specs.Prelude.{◌≡◌, ◌≤◌, ℕ, Bool, true, false, IsTrue, List, [], ◌∷◌, length, All, Option, Some, None}
+use Rattle.std.specs.Prelude.{◌≡◌, ◌≤◌, ℕ, Bool, true, false, IsTrue, List, [], ◌∷◌, length, All, Some, None}
 use Rattle.std.specs.List.{list_any}
 use Rattle.coll_lex.specs.Names.{IsName}
 use Rattle.coll_syntax.specs.Identifier.{same_name, same_id}
-use Rattle.coll_syntax.specs.Proper.{IsElementText, IsProperWeight}
+use Rattle.coll_syntax.specs.Proper.{IsElementText, IsId, IsProperWeight}
 use Rattle.coll_syntax.specs.declared.identifiers.Id.{Id}
 use Rattle.coll_syntax.specs.declared.weights.Weight.{Weight}
 use Rattle.coll_table.specs.declared.declarations.Declaration.{Declaration}
@@ -34,7 +34,7 @@ FirstIsUnnamed (first ∷ others) = IsUnnamed first × All IsNamed others
 abbrev pub IsKeptWeight : Id → Weight → Type 0
 IsKeptWeight id weight = IsProperWeight weight × (names_only id weight ≡ false)
 
--- the weights of an entry that is a collating symbol, or is none
+-- the weights that an entry has, by whether it is a collating symbol: none, or one for each level
 abbrev pub HasWeights : (levels : ℕ) → (symbol : Bool) → Entry → Type 0
 HasWeights levels true entry = entry.weights ≡ []
 HasWeights levels false entry = (length entry.weights ≡ levels) × All (IsKeptWeight entry.id) entry.weights
@@ -51,7 +51,11 @@ IsKnown declared id = IsTrue (is_known declared id)
 abbrev pub HasPlacedWeights : Collation → Entry → Type 0
 HasPlacedWeights table entry = All (λ id. IsTrue (is_placed table id)) (ids_named entry)
 
--- all that holds of a table but for its weights being placed, as it does of a table that is being read
+-- what holds of a table already while it is read: all but that it has a level and that the identifiers in its weights are
+-- placed. It has at most four levels; names declared and names of sections are names, strings may be those of elements, and
+-- identifiers placed are identifiers; of each of these four none stands twice; the first section alone has no name; each name
+-- placed is declared; each entry has one weight for each level, and none if it is a collating symbol, and no weight is a list
+-- that names only its entry; the limits hold
 pub record IsBuilt (table : Collation) : Type 0 where
   pub few_levels : length table.rules ≤ 4
   pub names : All IsName (names_of table.declared)
@@ -59,6 +63,7 @@ pub record IsBuilt (table : Collation) : Type 0 where
   pub distinct_names : AreDistinct same_name (names_of table.declared)
   pub distinct_texts : AreDistinct same_name (texts_of table.declared)
   pub first_unnamed : FirstIsUnnamed table.sections
+  pub ids : All IsId (ids_of (entries_of table))
   pub distinct_sections : AreDistinct same_name (section_names table.sections)
   pub distinct_entries : AreDistinct same_id (ids_of (entries_of table))
   pub known : All (IsKnown table.declared) (ids_of (entries_of table))
@@ -67,9 +72,8 @@ pub record IsBuilt (table : Collation) : Type 0 where
   pub few_declarations : length table.declared ≤ most_declarations
   pub few_sections : length table.sections ≤ most_sections
 
--- the rules are one to four; every name is one; names declared, strings, names of sections and identifiers placed are
--- distinct; the first section alone has no name; each name placed is declared, each identifier in a weight is placed; the
--- limits hold
+-- what holds of a table that is being read, and: it has a level, so that its rules are one to four, and each identifier in a
+-- weight is placed
 pub record IsWellFormed (table : Collation) : Type 0 where
   pub built : IsBuilt table
   pub some_levels : 1 ≤ length table.rules

@@ -5,12 +5,13 @@
 //! new refusal of one, is a case of `delta` first.
 
 ghost use Rattle.std.specs.Prelude.{◌≡◌, ◌≢◌, ◌<◌, ◌∷◌, [], length, replicate, true, false, None, Some, Ok, Err, IsTrue, IfOk, IfErr, OnOk, OnErr};
+ghost use Rattle.std.specs.Char.{IsScalar};
 ghost use Rattle.coll_syntax.specs.Identifier.{same_id};
 ghost use Rattle.coll_syntax.specs.declared.weights.Weight.TheVariants.{Own};
 ghost use Rattle.coll_table.specs.Delta.{delta, block_delta, lines_refusal, reweight_refusal, new_entry, moved, all_moved, within_limit};
 ghost use Rattle.coll_table.specs.Limits.{most_entries};
 ghost use Rattle.coll_table.specs.Record.{Extends, fits, turn};
-ghost use Rattle.coll_table.specs.Rewriting.{IsFullAt};
+ghost use Rattle.coll_table.specs.Rewriting.{HasCharacter, IsFullAt};
 ghost use Rattle.coll_table.specs.Table.{entries_of, is_known, is_placed};
 ghost use Rattle.coll_table.specs.TableLayout.{collation};
 ghost use Rattle.coll_table.specs.declared.refusals.Refusal.TheVariants.{OutOfMemory};
@@ -147,6 +148,7 @@ impl Table {
         requires room { length (entries_of (collation self.old)) < most_entries }
         ensures ok { OnOk result (collation self.new ≡ moved (collation self.old) after.now id.now) }
     {
+        check_character(id);
         let entry = self.new_entry(id)?;
         self.body.place_new_after(entry, after)?;
         Ok(())
@@ -167,6 +169,22 @@ impl Table {
         Ok(Entry { id: copy, weights })
     }
 }
+
+// What holds of every identifier: one that says it is a character is one, since each `char` is.
+//
+// It does nothing; its contract hands the fact to callers.
+fn check_character(id: &Id)
+    ensures { HasCharacter id.now }
+{
+    if let Id::Char(c) = id {
+        check_scalar(*c);
+    }
+}
+
+// What holds of every `char`.
+fn check_scalar(_c: char)
+    ensures { IsScalar _c }
+{}
 
 // Its own weight at each level.
 fn own_weights(alloc: Global, levels: usize) -> Result<ListBuf<Weight>, AllocError>

@@ -5,13 +5,12 @@
 //! of line, as `cause_after` does. After a refusal the draft is given up. What may stand where is changed in
 //! `specs/Drafts.antt` first.
 
-ghost use Rattle.std.specs.Prelude.{◌≡◌, ◌≢◌, true, false, [], ◌++◌, ◌-◌, length, map, replicate, Some, None, IfOk, IfErr, OnOk};
+ghost use Rattle.std.specs.Prelude.{◌≡◌, ◌≢◌, true, false, [], length, Some, None, IfOk, IfErr, OnOk};
+ghost use Rattle.std.specs.List.{flat_map};
 ghost use Rattle.coll_lex.specs.Names.{IsName};
 ghost use Rattle.coll_syntax.specs.Proper.{IsProperTableLine, IsProperLine, IsNameIfGiven, AreRulesIfGiven};
 ghost use Rattle.coll_syntax.specs.declared.lines.TableLine.TheVariants.{OrderStart, OrderEnd, Section, EndCategory, Order};
-ghost use Rattle.coll_syntax.specs.declared.weights.Weight.TheVariants.{Own};
-ghost use Rattle.coll_table.specs.Drafts.{has_text, levels_of};
-ghost use Rattle.coll_table.specs.Entries.{kept_weight, kept_weights, names_only, given_weights};
+ghost use Rattle.coll_table.specs.Drafts.{has_text, is_end, levels_of};
 ghost use Rattle.coll_table.specs.Loading.{rules_after};
 ghost use Rattle.coll_table.specs.SoundDrafts.{IsSoundDraft, IsProperDeclaration, MayBePut};
 ghost use Rattle.coll_table.specs.Table.{name_of, text_of};
@@ -20,7 +19,11 @@ ghost use Rattle.coll_table.specs.TableLayout.{collation};
 ghost use Rattle.coll_table.specs.declared.load_faults.LoadCause.TheVariants.{OutOfMemory};
 
 use crate::building::Builder;
-use crate::{Declaration, Entry, LoadCause, LoadFault, MOST_DECLARATIONS, MOST_ENTRIES, MOST_SECTIONS, Table};
+use crate::line_weights::{given_len, kept_weights};
+use crate::{
+    Declaration, Entry, LoadCause, LoadFault, MOST_DECLARATIONS, MOST_ENTRIES, MOST_SECTIONS,
+    Table, Walk, WalkItem,
+};
 use coll_lex::{ListBuf, TextBuf};
 use coll_syntax::{Id, OrderLine, Rule, Rules, TableLine, Weight};
 use std::alloc::{AllocError, Global};
@@ -29,10 +32,15 @@ use std::marker::Model;
 /// A table that is being read.
 #[derive(Debug, Drop)]
 pub(crate) struct Draft {
+    // Whether an order is open.
     order_open: bool,
+    // The rules, from the first `order_start` on.
     rules: Option<Rules>,
+    // What is declared, and the sections.
     builder: Builder,
+    // The number of the line of each entry, in order.
     numbers: Vec<u32>,
+    // Where the weights of an entry grow.
     alloc: Global,
 }
 
@@ -48,8 +56,9 @@ impl Model for Draft {
 }
 
 impl Draft {
-    ghost use Rattle.coll_table.specs.Entries.{entry_of};
-    ghost use Rattle.coll_table.specs.Drafts.{Numbered, draft_of, line_fault, table_of, is_end, cause_after, weights_fault, declaration_cause, section_cause, section_cause_if, order_cause, rules_differ};
+    ghost use Rattle.coll_table.specs.Entries.{entry_of, weight_ids};
+    ghost use Rattle.coll_table.specs.Drafts.{draft_of, line_fault, table_of, cause_after, weights_fault, entries_fault, declaration_cause, section_cause, section_cause_if, order_cause, rules_differ, weight_cause, ids_cause};
+    ghost use Rattle.coll_table.specs.Walks.{entries_met};
     ghost use Rattle.coll_table.specs.Loading.{draft_after, draft_with, with_declaration, with_section, with_section_if, with_entry};
 
     /// A draft before the first line.
@@ -76,15 +85,19 @@ impl Draft {
         ensures well_formed { IfOk result (λ ended. ended ≡ true → IsWellFormed (table_of self.new)) }
         ensures err { IfErr result (λ fault. fault.cause ≢ OutOfMemory → line_fault self.old (record { number = number; line = line }) ≡ Some fault) }
     {
-        let ends = matches!(&line, TableLine::EndCategory);
+        let ends = ends_category(&line);
         match self.keep(number, line) {
             Ok(()) => {}
-            Err(cause) => return Err(LoadFault { line: number, cause }),
+            Err(cause) => return Err(LoadFault {
+                line: number,
+                cause,
+            }),
         }
         if !ends {
             return Ok(false);
         }
         self.judge_weights()?;
+        self.check();
         Ok(true)
     }
 
@@ -93,8 +106,10 @@ impl Draft {
         requires { IsWellFormed (table_of self) }
         ensures { collation result ≡ table_of self }
     {
-        let Draft { order_open: _, rules, builder, numbers: _, alloc: _ } = self;
-        let Some(rules) = rules else { unreachable!() };
+        let Draft { rules, builder, .. } = self;
+        let Some(rules) = rules else {
+            unreachable!();
+        };
         builder.finish(rules)
     }
 
@@ -121,9 +136,9 @@ impl Draft {
     /// `collating-symbol` and `collating-element`.
     fn declare(&mut self, new: Declaration) -> Result<(), LoadCause>
         requires { IsProperDeclaration new }
-        ensures ok { OnOk result (declaration_cause self.old new ≡ None) }
+        ensures ok { OnOk result (declaration_cause self.old.declared new ≡ None) }
         ensures after { OnOk result (self.new ≡ with_declaration self.old new) }
-        ensures err { IfErr result (λ cause. cause ≢ OutOfMemory → declaration_cause self.old new ≡ Some cause) }
+        ensures err { IfErr result (λ cause. cause ≢ OutOfMemory → declaration_cause self.old.declared new ≡ Some cause) }
     {
         if let Some(cause) = self.declaration_cause(&new) {
             return Err(cause);
@@ -134,7 +149,7 @@ impl Draft {
 
     /// Why a declaration is refused, if it is.
     fn declaration_cause(&self, new: &Declaration) -> Option<LoadCause>
-        ensures { result ≡ declaration_cause self.now new.now }
+        ensures { result ≡ declaration_cause self.now.declared new.now }
     {
         if self.builder.declares(declared_name(new)) {
             return Some(LoadCause::DeclaredTwice);
@@ -337,13 +352,93 @@ impl Draft {
         Ok(())
     }
 
+    /// Why an identifier in a weight is refused, if it is: what is placed was declared, so a second look is taken only at
+    /// what isn't.
+    fn weight_cause(&self, id: &Id) -> Option<LoadCause>
+        ensures { result ≡ weight_cause self.now.declared self.now.sections id.now }
+    {
+        if self.builder.is_placed(id) {
+            return None;
+        }
+        if self.builder.is_known(id) {
+            return Some(LoadCause::WeightNotPlaced);
+        }
+        Some(LoadCause::NotDeclared)
+    }
+
+    /// Why the first of these identifiers that is refused in a weight is.
+    fn ids_cause(&self, ids: &[Id]) -> Option<LoadCause>
+        ensures { result ≡ ids_cause self.now.declared self.now.sections ids.now }
+    {
+        for id in ids {
+            if let Some(cause) = self.weight_cause(id) {
+                return Some(cause);
+            }
+        }
+        None
+    }
+
+    /// Why a weight is refused, if it is.
+    fn named_cause(&self, weight: &Weight) -> Option<LoadCause>
+        ensures { result ≡ ids_cause self.now.declared self.now.sections (weight_ids weight.now) }
+    {
+        match weight {
+            Weight::Names(ids) => self.ids_cause(ids.get()),
+            _ => None,
+        }
+    }
+
+    /// Why the first of these weights that is refused is.
+    fn weights_cause(&self, weights: &[Weight]) -> Option<LoadCause>
+        ensures { result ≡ ids_cause self.now.declared self.now.sections (flat_map weight_ids weights.now) }
+    {
+        for weight in weights {
+            if let Some(cause) = self.named_cause(weight) {
+                return Some(cause);
+            }
+        }
+        None
+    }
+
     /// Judges the weights of all entries, where the category ends.
     fn judge_weights(&self) -> Result<(), LoadFault>
         ensures ok { OnOk result (weights_fault self.now ≡ None) }
         ensures err { IfErr result (λ fault. weights_fault self.now ≡ Some fault) }
     {
-        unreachable!();
+        self.judge_met(&self.numbers, self.builder.walk())
     }
+
+    /// Judges the weights of the entries that a walk meets, each with the number of its line.
+    fn judge_met(&self, mut numbers: &[u32], walk: Walk<'_>) -> Result<(), LoadFault>
+        requires { length numbers.now ≡ length (entries_met walk) }
+        ensures ok { OnOk result (entries_fault self.now numbers.now (entries_met walk.entry) ≡ None) }
+        ensures err { IfErr result (λ fault. entries_fault self.now numbers.now (entries_met walk.entry) ≡ Some fault) }
+    {
+        for item in walk {
+            let entry = match item {
+                WalkItem::Section(_) => continue,
+                WalkItem::Entry(entry) => entry,
+            };
+            let Some((number, later)) = numbers.split_first() else {
+                unreachable!();
+            };
+            if let Some(cause) = self.weights_cause(entry.weights()) {
+                return Err(LoadFault {
+                    line: *number,
+                    cause,
+                });
+            }
+            numbers = later;
+        }
+        Ok(())
+    }
+}
+
+/// Whether a line ends the category.
+fn ends_category(line: &TableLine) -> bool
+    ensures { result ≡ is_end line.now }
+{
+    matches!(line, TableLine::EndCategory)
 }
 
 /// The name that a declaration declares.
@@ -390,76 +485,4 @@ fn levels(rules: &Option<Rules>) -> usize
         Some(rules) => rules.get().len(),
         None => 0,
     }
-}
-
-/// The number of weights that a line gives.
-fn given_len(weights: &Option<ListBuf<Weight>>) -> usize
-    ensures { result ≡ length (given_weights weights.now) }
-{
-    match weights {
-        Some(weights) => weights.get().len(),
-        None => 0,
-    }
-}
-
-/// The weights that an entry keeps of those that its line gives, with its own at each level behind them.
-fn kept_weights(alloc: Global, levels: usize, id: &Id, given: Option<ListBuf<Weight>>) -> Result<ListBuf<Weight>, AllocError>
-    ensures { IfOk result (λ weights. weights ≡ kept_weights levels id.now (given_weights given)) }
-{
-    let mut weights = given_list(alloc, given);
-    keep_each(id, &mut weights);
-    fill_up(&mut weights, levels)?;
-    Ok(ListBuf::new(weights))
-}
-
-/// The weights that a line gives, as a list that may grow.
-fn given_list(alloc: Global, given: Option<ListBuf<Weight>>) -> Vec<Weight>
-    ensures { result.items ≡ given_weights given }
-{
-    match given {
-        Some(weights) => weights.into_items(),
-        None => Vec::new(alloc),
-    }
-}
-
-/// Replaces each list that names only this identifier by the entry's own weight.
-fn keep_each(id: &Id, weights: &mut [Weight])
-    ensures each { weights.new ≡ map (kept_weight id.now) weights.old }
-    ensures len { length weights.new ≡ length weights.old }
-{
-    for weight in weights.iter_mut() {
-        keep(id, weight);
-    }
-}
-
-/// Replaces a list that names only this identifier by the entry's own weight.
-fn keep(id: &Id, weight: &mut Weight)
-    ensures { weight.new ≡ kept_weight id.now weight.old }
-{
-    if is_only(id, weight) {
-        *weight = Weight::Own;
-    }
-}
-
-/// Whether a weight is a list that names only this identifier.
-fn is_only(id: &Id, weight: &Weight) -> bool
-    ensures { result ≡ names_only id.now weight.now }
-{
-    let Weight::Names(ids) = weight else {
-        return false;
-    };
-    match ids.get() {
-        [only] => id.is_same(only),
-        _ => false,
-    }
-}
-
-/// Puts the entry's own weight at each level behind those that are there.
-fn fill_up(weights: &mut Vec<Weight>, levels: usize) -> Result<(), AllocError>
-    ensures { OnOk result (weights.new.items ≡ weights.old.items ++ replicate (levels - length weights.old.items) Own) }
-{
-    while weights.len() < levels {
-        weights.push(Weight::Own)?;
-    }
-    Ok(())
 }

@@ -9,9 +9,11 @@
 //! - `bodies`, and `bodies/moving`: the whole, with its look-ups, and what is put in and moved (`SoundBodies`);
 //! - `tables`, `walks` and `met_nodes`: a table, read (`Walks`, `WalkStates`, `WalkItems`);
 //! - `building`: a table that grows (`Building`);
-//! - `drafts`: the lines of a category, each judged by those before it (`Drafts`);
-//! - `loaders` and `loading`: a text, read line by line (`Reading`, `Loading`, `Loads`), with its `load_faults` (`LoadFaults`);
-//! - `printing`: the canonical text of a table, and that it is read back (`CanonicalText`);
+//! - `drafts`: the lines of a category, each judged by those before it (`Drafts`), and in `line_weights` the weights of an entry
+//!   (`Entries`);
+//! - `loaders` and `loading`: a text, read line by line (`Reading`, `Loading`, `SoundLoaders`, `Loads`), with its `load_faults` (`LoadFaults`);
+//! - `printing`, and for its lines `spelled_lines` and `spelled_entries`: the canonical text of a table, written, and that it is
+//!   read back (`CanonicalText`, `PrintedParts`);
 //! - `plain/`: what a line of a delta says (`PlainDeltaLines`, `PlainOrderLines`);
 //! - `names`, `places`, `deltas` and `refusals`: a statement, applied (`LookUps`, `Delta`, `Placement`, `Refusals`);
 //! - `records`: a statement, taken back (`Record`).
@@ -25,6 +27,7 @@ mod deltas;
 mod drafts;
 mod entries;
 mod limits;
+mod line_weights;
 mod load_faults;
 mod loaders;
 mod loading;
@@ -47,7 +50,7 @@ pub use declarations::Declaration;
 pub use entries::Entry;
 pub use limits::{MOST_DECLARATIONS, MOST_ENTRIES, MOST_SECTIONS, limits_are_stated};
 pub use load_faults::{LoadCause, LoadFault};
-pub use loaders::Loader;
+pub use loaders::{Loader, lines_are_read};
 pub use loading::{load, texts_are_well_formed};
 pub use plain::{PlainDeltaLine, PlainLine, PlainStatement, parse_plain_delta_line};
 pub use printing::printed_tables_are_read_back;

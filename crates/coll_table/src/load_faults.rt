@@ -140,6 +140,17 @@ impl LoadCause {
     }
 }
 
+impl From<AllocError> for LoadFault {
+    ghost from_gives = { λ _ fault. fault ≡ record { line = 0; cause = OutOfMemory } };
+
+    fn from(_error: AllocError) -> LoadFault {
+        LoadFault {
+            line: 0,
+            cause: LoadCause::OutOfMemory,
+        }
+    }
+}
+
 impl From<LexFault> for LoadCause {
     ghost use Rattle.coll_table.specs.LoadFaults.{lex_cause};
 

@@ -5,11 +5,13 @@
 //! what it means to the second; here lines are passed on, and faults get the number of their line. A fault is stored where it
 //! is met, in `line` alone.
 
-ghost use Rattle.std.specs.Prelude.{◌≡◌, ◌≢◌, false, Ok, Err, Some, IfOk, IfErr, OnOk};
-ghost use Rattle.coll_lex.specs.LogicalLines.{number_of, fed, outside};
+ghost use Rattle.std.specs.Prelude.{◌≡◌, ◌≢◌, false, None, Ok, Err, Some, IsTrue, IfOk, IfErr, OnOk, OnErr};
+ghost use Rattle.coll_lex.specs.LogicalLines.{number_of, fed, outside, takes_memory};
 ghost use Rattle.coll_lex.specs.Names.{AreTokens};
 ghost use Rattle.coll_syntax.specs.TableLines.{table_line};
-ghost use Rattle.coll_table.specs.SoundLoaders.{IsLineCause};
+ghost use Rattle.coll_table.specs.Loading.{LinesAreRead};
+ghost use Rattle.coll_table.specs.SoundLoaders.{IsLineCause, MayTake};
+ghost use Rattle.coll_table.specs.declared.load_faults.LoadFault.{LoadFault};
 ghost use Rattle.coll_table.specs.TableLayout.{collation};
 ghost use Rattle.coll_table.specs.WellFormed.{IsWellFormed};
 ghost use Rattle.coll_table.specs.declared.load_faults.LoadCause.TheVariants.{OutOfMemory};
@@ -22,6 +24,9 @@ use std::alloc::{AllocError, Global};
 use std::marker::Model;
 
 /// A table text that is handed in line by line.
+///
+/// What is answered to the lines of a text, handed in one after another, and then to its end, is what `load` answers to the
+/// text (`lines_are_read`).
 #[derive(Drop)]
 pub struct Loader {
     lexer: Lexer,
@@ -67,13 +72,18 @@ impl Loader {
 
     /// Hands in the next physical line, without its line feed.
     ///
-    /// After a fault each later call answers the same fault. Behind the end of the category nothing is looked at.
+    /// The first fault is stored, want of memory as any other, and each later call answers it again. Behind the end of the
+    /// category nothing is looked at. Memory is taken in the category alone, and there where the lexer takes it or a line has
+    /// tokens. A line that is refused doesn't end the category.
     #[tactic(auto, unfolding(crate::specs::Loading::loaded_line))]
     pub fn line(&mut self, line: &[u8]) -> Result<(), LoadFault>
         ensures ok { OnOk result (loaded_line self.old line.now ≡ Ok self.new) }
         ensures err { IfErr result (λ fault. fault.cause ≢ OutOfMemory → loaded_line self.old line.now ≡ Err fault) }
+        ensures again { IfErr result (λ fault. (first : LoadFault) → self.old.fault ≡ Some first → fault ≡ first) }
+        ensures memory { IfErr result (λ fault. fault.cause ≡ OutOfMemory → self.old.fault ≡ None → MayTake self.old line.now) }
         ensures cause { IfErr result (λ fault. IsLineCause fault.cause) }
         ensures stays { IfErr result (λ fault. self.new.fault ≡ Some fault) }
+        ensures ended { OnErr result (self.new.ended ≡ self.old.ended) }
     {
         if let Some(fault) = self.fault {
             return Err(fault);
@@ -100,11 +110,12 @@ impl Loader {
         self.ended
     }
 
-    /// The table, where the category has ended; otherwise the fault of a text that ends here.
+    /// The table, where the category has ended; otherwise the fault that is stored, or that of a text that ends here. It takes
+    /// no memory.
     #[tactic(auto, unfolding(crate::specs::Loading::loaded))]
     pub fn finish(self) -> Result<Table, LoadFault>
         ensures ok { IfOk result (λ table. loaded self ≡ Ok (collation table)) }
-        ensures err { IfErr result (λ fault. fault.cause ≢ OutOfMemory → loaded self ≡ Err fault) }
+        ensures err { IfErr result (λ fault. loaded self ≡ Err fault) }
         ensures cause { IfErr result (λ fault. IsLineCause fault.cause) }
         ensures well_formed { IfOk result (λ table. IsWellFormed (collation table)) }
     {
@@ -117,9 +128,10 @@ impl Loader {
         Err(self.early_end())
     }
 
-    // The fault of a text that ends here, before its category does.
+    /// The fault of a text that ends here, before its category does.
     fn early_end(&self) -> LoadFault
-        ensures { result ≡ early_end self.now self.now.lexer.line }
+        ensures fault { result ≡ early_end self.now self.now.lexer.line }
+        ensures cause { IsLineCause result.cause }
     {
         if let Some(number) = self.lexer.pending() {
             return LoadFault {
@@ -137,11 +149,13 @@ impl Loader {
         }
     }
 
-    // Judges a line by where it stands: behind the category, in it, or before it.
+    /// Judges a line by where it stands: behind the category, in it, or before it.
     fn judge(&mut self, line: &[u8]) -> Result<(), LoadFault>
         ensures ok { OnOk result (by_where self.old line.now ≡ Ok self.new) }
         ensures err { IfErr result (λ fault. fault.cause ≢ OutOfMemory → by_where self.old line.now ≡ Err fault) }
+        ensures memory { IfErr result (λ fault. fault.cause ≡ OutOfMemory → MayTake self.old line.now) }
         ensures cause { IfErr result (λ fault. IsLineCause fault.cause) }
+        ensures ended { OnErr result (self.new.ended ≡ self.old.ended) }
     {
         if self.ended {
             return Ok(());
@@ -152,11 +166,13 @@ impl Loader {
         self.skip_physical(line)
     }
 
-    // Takes a line before the category, which may begin with it.
+    /// Takes a line before the category, which may begin with it.
     fn skip_physical(&mut self, line: &[u8]) -> Result<(), LoadFault>
         ensures ok { OnOk result (by_outside self.old (outside self.old.lexer line.now) ≡ Ok self.new) }
-        ensures err { IfErr result (λ fault. fault.cause ≢ OutOfMemory → by_outside self.old (outside self.old.lexer line.now) ≡ Err fault) }
+        ensures err { IfErr result (λ fault. by_outside self.old (outside self.old.lexer line.now) ≡ Err fault) }
+        ensures memory { IfErr result (λ fault. fault.cause ≢ OutOfMemory) }
         ensures cause { IfErr result (λ fault. IsLineCause fault.cause) }
+        ensures ended { OnErr result (self.new.ended ≡ self.old.ended) }
     {
         let number = self.lexer.next_number();
         match self.lexer.outside(line) {
@@ -171,12 +187,14 @@ impl Loader {
         }
     }
 
-    // Takes a line of the category.
+    /// Takes a line of the category.
     fn take_physical(&mut self, line: &[u8]) -> Result<(), LoadFault>
         requires { self.old.ended ≡ false }
         ensures ok { OnOk result (by_fed self.old (fed self.old.lexer line.now) ≡ Ok self.new) }
         ensures err { IfErr result (λ fault. fault.cause ≢ OutOfMemory → by_fed self.old (fed self.old.lexer line.now) ≡ Err fault) }
+        ensures memory { IfErr result (λ fault. fault.cause ≡ OutOfMemory → IsTrue (takes_memory self.old.lexer line.now)) }
         ensures cause { IfErr result (λ fault. IsLineCause fault.cause) }
+        ensures ended { OnErr result (self.new.ended ≡ self.old.ended) }
     {
         let number = self.lexer.next_number();
         match self.lexer.feed(line) {
@@ -189,13 +207,14 @@ impl Loader {
         }
     }
 
-    // Takes a logical line of the category.
+    /// Takes a logical line of the category.
     fn take_logical(&mut self, line: &Line) -> Result<(), LoadFault>
         requires tokens { AreTokens line.now.tokens }
         requires going { self.old.ended ≡ false }
         ensures ok { OnOk result (by_read self.old line.now.number (table_line line.now.tokens) ≡ Ok self.new) }
         ensures err { IfErr result (λ fault. fault.cause ≢ OutOfMemory → by_read self.old line.now.number (table_line line.now.tokens) ≡ Err fault) }
         ensures cause { IfErr result (λ fault. IsLineCause fault.cause) }
+        ensures ended { OnErr result (self.new.ended ≡ self.old.ended) }
     {
         match parse_table_line(self.alloc, line) {
             Ok(read) => {
@@ -209,3 +228,10 @@ impl Loader {
         }
     }
 }
+
+/// The law of loaders: handing in the lines of a text one after another answers what the text is.
+///
+/// It does nothing; its contract is the law.
+pub fn lines_are_read()
+    ensures { LinesAreRead }
+{}

@@ -4,14 +4,14 @@
 //! as logical lines, each judged from the lines accepted before it, and the first line at fault decides. The lines come
 //! from a reader of physical lines, and a `Loader` takes them. A new cause of a refused load is a case of `reads` first.
 
-ghost use Rattle.std.specs.Prelude.{IfOk};
-ghost use Rattle.coll_table.specs.Loads.{Loads, CountsFault};
+ghost use Rattle.std.specs.Prelude.{◌≡◌, IfOk};
+ghost use Rattle.coll_table.specs.Loads.{Loads, CountsFault, stop_fault};
 ghost use Rattle.coll_table.specs.Reading.{TextsAreWellFormed};
 ghost use Rattle.coll_table.specs.TableLayout.{collation};
 ghost use Rattle.coll_table.specs.WellFormed.{IsWellFormed};
 
-use crate::{LoadFault, Table};
-use coll_lex::Source;
+use crate::{LoadCause, LoadFault, Loader, Table};
+use coll_lex::{LexFault, LineReader, ReadStop, Source};
 use std::alloc::Global;
 
 /// Reads a table text to the end of its category, and makes the table.
@@ -24,7 +24,18 @@ pub fn load<R: Source>(alloc: Global, input: &mut R) -> Result<Table, LoadFault>
     ensures well_formed { IfOk result (λ table. IsWellFormed (collation table)) }
     ensures errors { CountsFault (R.failed input.old) (R.failed input.new) result }
 {
-    unreachable!();
+    let mut loader = Loader::new(alloc)?;
+    let mut reader = LineReader::new(alloc)?;
+    'lines: loop {
+        match reader.advance(input) {
+            Ok(true) => loader.line(reader.line())?,
+            Ok(false) => return loader.finish(),
+            Err(stop) => return Err(stop_fault(loader.next_number(), stop)),
+        }
+        if loader.finished() {
+            return loader.finish();
+        }
+    }
 }
 
 /// The law of tables: whatever text is a table by `reads`, that table is well formed.
@@ -33,3 +44,19 @@ pub fn load<R: Source>(alloc: Global, input: &mut R) -> Result<Table, LoadFault>
 pub fn texts_are_well_formed()
     ensures { TextsAreWellFormed }
 {}
+
+/// The fault that is answered where the reader stops before the line with this number.
+fn stop_fault(number: u32, stop: ReadStop) -> LoadFault
+    ensures { result ≡ stop_fault number stop }
+{
+    match stop {
+        ReadStop::LineTooLong => LoadFault {
+            line: number,
+            cause: LoadCause::Lex(LexFault::LineTooLong),
+        },
+        ReadStop::ReadFault => LoadFault {
+            line: 0,
+            cause: LoadCause::ReadFault,
+        },
+    }
+}

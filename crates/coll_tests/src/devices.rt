@@ -7,7 +7,7 @@ use std::io;
 use std::io::{ErrorKind, Read, Write};
 
 /// Gives at most three bytes per read, and fails at its n-th read.
-#[derive(Debug, Drop)]
+#[derive(Drop)]
 pub struct ShortReader<'a> {
     text: &'a [u8],
     fails_at: usize,
@@ -40,7 +40,7 @@ impl Read for ShortReader<'_> {
 }
 
 /// How a `ShortWriter` fails.
-#[derive(Clone, Copy, Debug, PartialEq, Eq)]
+#[derive(Clone, Copy, PartialEq)]
 pub enum Failure {
     /// The call answers an error.
     Error,
@@ -49,7 +49,7 @@ pub enum Failure {
 }
 
 /// Takes at most three bytes per write, and fails at its n-th write or flush.
-#[derive(Debug, Drop)]
+#[derive(Drop)]
 pub struct ShortWriter {
     /// The bytes taken.
     pub taken: Vec<u8>,
@@ -96,7 +96,7 @@ impl Write for ShortWriter {
 }
 
 /// What a scripted device does at one call.
-#[derive(Clone, Copy, Debug, PartialEq, Eq)]
+#[derive(Clone, Copy, PartialEq)]
 pub enum Step {
     /// Gives or takes no byte.
     Nothing,
@@ -131,7 +131,7 @@ impl Step {
 }
 
 /// The steps of the first four calls; from then on nothing is given or taken.
-#[derive(Clone, Copy, Debug, PartialEq, Eq)]
+#[derive(Clone, Copy, PartialEq)]
 pub struct Script {
     steps: [Step; 4],
 }
@@ -159,7 +159,7 @@ impl Script {
 }
 
 /// Gives the bytes of a text as its script says.
-#[derive(Debug, Drop)]
+#[derive(Drop)]
 pub struct ScriptedReader<'a> {
     script: Script,
     /// The bytes not given yet.
@@ -198,7 +198,7 @@ impl Read for ScriptedReader<'_> {
 }
 
 /// Takes bytes, and answers flushes, as its script says.
-#[derive(Debug, Drop)]
+#[derive(Drop)]
 pub struct ScriptedWriter {
     script: Script,
     /// The writes and flushes so far.
@@ -248,7 +248,7 @@ impl Write for ScriptedWriter {
 }
 
 /// Takes all bytes, and counts the writes.
-#[derive(Debug, Drop)]
+#[derive(Drop)]
 pub struct WholeWriter {
     /// The writes so far.
     pub writes: usize,

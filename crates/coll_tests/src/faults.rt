@@ -2,6 +2,7 @@
 //!
 //! A table has all variants of its type; a fault that another one holds is shown as itself, which one row for each shows.
 
+use crate::assertions::assert_same;
 use coll_bench::{BenchFault, Fault, RunFault};
 use coll_lex::{LexFault, ReadStop, WriteStop};
 use coll_syntax::SyntaxFault;
@@ -9,7 +10,6 @@ use coll_table::{LoadCause, LoadFault, Refusal};
 use std::alloc::Global;
 use std::fmt::Display;
 use std::process::Abort;
-use std::test::Fail;
 
 const READ_STOPS: &[(ReadStop, &str)] = &[
     (ReadStop::LineTooLong, "10 LineTooLong"),
@@ -107,38 +107,41 @@ const WITH_LINES: &[(RunFault, &str)] = &[(
 )];
 
 // Asserts that each of these faults is shown so.
-fn assert_shown<F: Display>(
-    rt: &impl Abort,
-    alloc: Global,
-    faults: &[(F, &str)],
-) -> Result<(), Fail> {
+fn assert_shown<F: Display>(rt: &impl Abort, alloc: Global, faults: &[(F, &str)]) {
     for (fault, text) in faults {
-        let shown = format!(in alloc; "{fault}")?;
-        assert_eq!(rt; shown.as_str(), *text);
+        let shown = format!(in alloc; "{fault}").expect(rt, text);
+        assert_same(rt, *text, shown.as_str(), *text);
     }
-    Ok(())
 }
 
 #[test]
-fn a_fault_of_a_line_or_a_device_is_shown_by_number_and_name(rt: HostRuntime) -> Result<(), Fail> {
-    assert_shown(&rt, rt.alloc(), READ_STOPS)?;
-    assert_shown(&rt, rt.alloc(), WRITE_STOPS)?;
-    assert_shown(&rt, rt.alloc(), LEX_FAULTS)?;
-    assert_shown(&rt, rt.alloc(), SYNTAX_FAULTS)
+fn a_fault_of_a_device_is_shown_by_number_and_name(rt: HostRuntime) {
+    assert_shown(&rt, rt.alloc(), READ_STOPS);
+    assert_shown(&rt, rt.alloc(), WRITE_STOPS);
 }
 
 #[test]
-fn a_fault_of_a_table_or_a_session_is_shown_by_number_and_name(
-    rt: HostRuntime,
-) -> Result<(), Fail> {
-    assert_shown(&rt, rt.alloc(), LOAD_CAUSES)?;
-    assert_shown(&rt, rt.alloc(), REFUSALS)?;
-    assert_shown(&rt, rt.alloc(), BENCH_FAULTS)?;
-    assert_shown(&rt, rt.alloc(), FAULTS)
+fn a_fault_of_a_line_is_shown_by_number_and_name(rt: HostRuntime) {
+    assert_shown(&rt, rt.alloc(), LEX_FAULTS);
+    assert_shown(&rt, rt.alloc(), SYNTAX_FAULTS);
 }
 
 #[test]
-fn the_fault_of_a_load_or_a_run_is_shown_with_its_line(rt: HostRuntime) -> Result<(), Fail> {
-    assert_shown(&rt, rt.alloc(), &[(LOAD_FAULT, "line 12: 35 PlacedTwice")])?;
-    assert_shown(&rt, rt.alloc(), WITH_LINES)
+fn a_fault_of_a_table_is_shown_by_number_and_name(rt: HostRuntime) {
+    assert_shown(&rt, rt.alloc(), LOAD_CAUSES);
+    assert_shown(&rt, rt.alloc(), REFUSALS);
+}
+
+#[test]
+fn a_fault_of_a_session_is_shown_by_number_and_name(rt: HostRuntime) {
+    assert_shown(&rt, rt.alloc(), BENCH_FAULTS);
+    assert_shown(&rt, rt.alloc(), FAULTS);
+}
+
+const LOADS: &[(LoadFault, &str)] = &[(LOAD_FAULT, "line 12: 35 PlacedTwice")];
+
+#[test]
+fn the_fault_of_a_load_or_a_run_is_shown_with_its_line(rt: HostRuntime) {
+    assert_shown(&rt, rt.alloc(), LOADS);
+    assert_shown(&rt, rt.alloc(), WITH_LINES);
 }

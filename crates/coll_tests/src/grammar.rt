@@ -4,27 +4,25 @@
 //! parentheses, `-` for an entry's own, and `I` for `IGNORE`. A fault is shown by its number. A new kind of line is a row of
 //! the tables in `table_lines` and `delta_lines`.
 
-ghost use Rattle.std.specs.Prelude.{IfOk};
 ghost use Rattle.coll_lex.specs.Names.{AreTokens};
 
 mod copies;
 mod delta_lines;
 mod table_lines;
 
-use coll_lex::{Lexer, Line};
+use crate::assertions::assert_same;
+use coll_lex::{Lexer, Line, TextBuf};
 use coll_syntax::{Id, OrderLine, Rule, Rules, SyntaxFault, Weight};
 use std::alloc::{AllocError, Global};
 use std::process::Abort;
-use std::test::Fail;
 
 /// The one logical line of a text.
-pub fn line_of(alloc: Global, text: &str) -> Result<Line, Fail>
-    ensures { IfOk result (λ line. AreTokens line.tokens) }
+pub fn line_of(rt: &impl Abort, alloc: Global, text: &str) -> Line
+    ensures { AreTokens result.tokens }
 {
-    let mut lexer = Lexer::new(alloc)?;
-    let line = lexer.feed(text.as_bytes())?;
-    let line = line.ok_or("a line with a token")?;
-    Ok(line)
+    let mut lexer = Lexer::new(alloc).expect(rt, "a lexer");
+    let line = lexer.feed(text.as_bytes()).expect(rt, text);
+    line.expect(rt, text)
 }
 
 /// Where a line stands.
@@ -45,25 +43,19 @@ fn show(out: &mut String, alloc: Global, place: Place, line: &Line) -> Result<()
 }
 
 // What a text says as a line in this place, in short.
-fn said(alloc: Global, place: Place, text: &str) -> Result<String, Fail> {
-    let line = line_of(alloc, text)?;
+fn said(rt: &impl Abort, alloc: Global, place: Place, text: &str) -> String {
+    let line = line_of(rt, alloc, text);
     let mut out = String::new(alloc);
-    show(&mut out, alloc, place, &line)?;
-    Ok(out)
+    show(&mut out, alloc, place, &line).expect(rt, text);
+    out
 }
 
 /// Asserts what each of these texts says as a line in this place.
-pub fn assert_said(
-    rt: &impl Abort,
-    alloc: Global,
-    place: Place,
-    rows: &[(&str, &str)],
-) -> Result<(), Fail> {
+pub fn assert_said(rt: &impl Abort, alloc: Global, place: Place, rows: &[(&str, &str)]) {
     for (text, want) in rows {
-        let given = said(alloc, place, text)?;
-        assert_eq!(rt; given.as_str(), *want, "at {text}");
+        let given = said(rt, alloc, place, text);
+        assert_same(rt, *text, given.as_str(), *want);
     }
-    Ok(())
 }
 
 // The number of a fault.
@@ -77,6 +69,19 @@ fn show_name(out: &mut String, name: &str) -> Result<(), AllocError> {
     out.push_str(name)?;
     out.push('>')?;
     Ok(())
+}
+
+// A keyword and a name.
+fn show_named(out: &mut String, keyword: &str, name: &TextBuf) -> Result<(), AllocError> {
+    out.push_str(keyword)?;
+    show_name(out, name.get())
+}
+
+// A collating element, with its characters.
+fn show_element(out: &mut String, name: &TextBuf, text: &TextBuf) -> Result<(), AllocError> {
+    show_named(out, "element", name)?;
+    out.push(' ')?;
+    out.push_str(text.get())
 }
 
 /// An identifier: a character as it is, a name between its brackets, or `UNDEFINED`.

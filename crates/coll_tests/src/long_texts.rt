@@ -1,19 +1,32 @@
 //! Texts that are too long to be written out.
 
 use std::alloc::{AllocError, Global};
+use std::process::Abort;
 
 /// A front, a part so many times, and a rest.
 pub fn repeated(
+    rt: &impl Abort,
     alloc: Global,
     front: &[u8],
     part: &[u8],
     count: usize,
     rest: &[u8],
-) -> Result<Vec<u8>, AllocError> {
-    let mut text = Vec::from_slice(alloc, front)?;
+) -> Vec<u8> {
+    let mut text = Vec::new(alloc);
+    extend(&mut text, front, part, count, rest).expect(rt, "a long text");
+    text
+}
+
+fn extend(
+    text: &mut Vec<u8>,
+    front: &[u8],
+    part: &[u8],
+    count: usize,
+    rest: &[u8],
+) -> Result<(), AllocError> {
+    text.extend_from_slice(front)?;
     for _ in 0..count {
         text.extend_from_slice(part)?;
     }
-    text.extend_from_slice(rest)?;
-    Ok(text)
+    text.extend_from_slice(rest)
 }

@@ -4,10 +4,10 @@
 //! would: what it asks for is asserted first. A ring is shown as the list of its nodes' tags; in the random sequences
 //! a node's tag is its number.
 
+use crate::assertions::{assert_same, assert_that};
 use coll_order::{NodeId, Place, RingId, Rings};
 use std::alloc::{AllocError, Global};
 use std::process::Abort;
-use std::test::Fail;
 
 // More nodes than any ring here has.
 const MOST_NODES: usize = 1_000;
@@ -109,10 +109,10 @@ impl Stage {
                 panic!(rt; "ring {ring} ends before {wanted}");
             };
             let (tag, next) = self.tag_and_next(rt, node);
-            assert_eq!(rt; tag, *wanted, "in ring {ring}");
+            assert_same(rt, ring, tag, *wanted);
             here = next;
         }
-        assert_eq!(rt; here, None, "after the last of ring {ring}");
+        assert_same(rt, "after the last", here, None);
     }
 
     fn link(&mut self, rt: &impl Abort, node: NodeId, place: Place) {
@@ -145,7 +145,7 @@ impl Stage {
             Call::Link(node, at) => self.link(rt, self.node(rt, node), self.place(rt, at)),
             Call::Unlink(node, at) => {
                 let place = self.unlink(rt, self.node(rt, node));
-                assert_eq!(rt; place, self.place(rt, at), "of node {node}");
+                assert_same(rt, node, place, self.place(rt, at));
             }
             Call::Drop(node) => self.drop_node(rt, self.node(rt, node)),
         }
@@ -167,11 +167,11 @@ impl Stage {
 }
 
 // A store of so many rings, and of loose nodes with these tags.
-fn stage_with(alloc: Global, rings: usize, tags: &[usize]) -> Result<Stage, AllocError> {
+fn stage_with(rt: &impl Abort, alloc: Global, rings: usize, tags: &[usize]) -> Stage {
     let mut stage = Stage::new(alloc);
-    stage.add_rings(rings)?;
-    stage.add_nodes(tags)?;
-    Ok(stage)
+    stage.add_rings(rings).expect(rt, "rings");
+    stage.add_nodes(tags).expect(rt, "nodes");
+    stage
 }
 
 // Two nodes are linked, the second one behind the first.
@@ -180,14 +180,13 @@ const LINKED: &[Call] = &[Call::Link(0, At::Head(0)), Call::Link(1, At::After(0)
 const MOVED_BEHIND: &[Call] = &[Call::Unlink(0, At::Head(0)), Call::Link(0, At::After(1))];
 
 #[test]
-fn a_node_goes_from_the_head_behind_the_other(rt: HostRuntime) -> Result<(), Fail> {
-    let mut stage = stage_with(rt.alloc(), 1, &[1, 2])?;
+fn a_node_goes_from_the_head_behind_the_other(rt: HostRuntime) {
+    let mut stage = stage_with(&rt, rt.alloc(), 1, &[1, 2]);
     stage.perform_all(&rt, LINKED);
     stage.assert_ring(&rt, 0, &[1, 2]);
     stage.perform_all(&rt, MOVED_BEHIND);
     stage.assert_ring(&rt, 0, &[2, 1]);
-    assert_eq!(rt; stage.rings.steps(), 4);
-    Ok(())
+    assert_same(&rt, "the steps", stage.rings.steps(), 4);
 }
 
 const LEFT_ALONE: &[Call] = &[
@@ -199,31 +198,30 @@ const LEFT_ALONE: &[Call] = &[
 const VISITED_AND_DROPPED: &[Call] = &[Call::Unlink(0, At::After(1)), Call::Drop(0)];
 
 #[test]
-fn a_node_goes_into_another_ring_and_is_dropped(rt: HostRuntime) -> Result<(), Fail> {
-    let mut stage = stage_with(rt.alloc(), 2, &[7, 8])?;
+fn a_node_goes_into_another_ring_and_is_dropped(rt: HostRuntime) {
+    let mut stage = stage_with(&rt, rt.alloc(), 2, &[7, 8]);
     stage.perform_all(&rt, LEFT_ALONE);
     stage.assert_ring(&rt, 0, &[]);
     stage.perform(&rt, Call::Link(0, At::After(1)));
     stage.assert_ring(&rt, 1, &[8, 7]);
     stage.perform_all(&rt, VISITED_AND_DROPPED);
     stage.assert_ring(&rt, 1, &[8]);
-    assert_eq!(rt; stage.rings.steps(), 5);
-    Ok(())
+    assert_same(&rt, "the steps", stage.rings.steps(), 5);
 }
 
 const LAST_DROPPED: &[Call] = &[Call::Unlink(1, At::After(0)), Call::Drop(1)];
 
 #[test]
-fn a_copy_and_its_source_change_apart(rt: HostRuntime) -> Result<(), Fail> {
-    let mut stage = stage_with(rt.alloc(), 1, &[1, 2])?;
+fn a_copy_and_its_source_change_apart(rt: HostRuntime) {
+    let mut stage = stage_with(&rt, rt.alloc(), 1, &[1, 2]);
     stage.perform_all(&rt, LINKED);
-    let mut copy = stage.try_copy(rt.alloc())?;
-    copy.add_rings(1)?;
+    let mut copy = stage.try_copy(rt.alloc()).expect(&rt, "a copy");
+    copy.add_rings(1).expect(&rt, "a ring");
     stage.perform_all(&rt, LAST_DROPPED);
     stage.assert_ring(&rt, 0, &[1]);
     copy.assert_ring(&rt, 0, &[1, 2]);
-    assert!(rt; !stage.rings.is_ring(copy.ring(&rt, 1)));
-    Ok(())
+    let other = copy.ring(&rt, 1);
+    assert_that(&rt, "no ring here", !stage.rings.is_ring(other));
 }
 
 // A sequence of numbers that look random, from a seed.
@@ -318,7 +316,7 @@ fn assert_rings(rt: &impl Abort, stage: &Stage, lists: &[Vec<usize>]) {
 // A thousand changes, each compared.
 fn change_often(rt: &impl Abort, alloc: Global, seed: u64) -> Result<(), AllocError> {
     let mut random = Random { state: seed };
-    let mut stage = stage_with(alloc, 4, &[0, 1, 2, 3, 4, 5, 6, 7, 8, 9])?;
+    let mut stage = stage_with(rt, alloc, 4, &[0, 1, 2, 3, 4, 5, 6, 7, 8, 9]);
     let mut lists = vec![in alloc;
         Vec::new(alloc),
         Vec::new(alloc),
@@ -333,9 +331,8 @@ fn change_often(rt: &impl Abort, alloc: Global, seed: u64) -> Result<(), AllocEr
 }
 
 #[test]
-fn random_calls_do_what_they_do_to_lists(rt: HostRuntime) -> Result<(), Fail> {
+fn random_calls_do_what_they_do_to_lists(rt: HostRuntime) {
     for seed in 0..20 {
-        change_often(&rt, rt.alloc(), seed)?;
+        change_often(&rt, rt.alloc(), seed).expect(&rt, "memory");
     }
-    Ok(())
 }

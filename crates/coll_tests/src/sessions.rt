@@ -6,7 +6,7 @@ mod histories;
 mod limits;
 mod replies;
 
-use crate::tables::examples::{FIRST_TABLE, loaded};
+use crate::tables::examples::first_table;
 use coll_bench::{RunFault, run_session};
 use coll_lex::{Sink, Source};
 use std::alloc::Global;
@@ -19,9 +19,7 @@ fn run<R: Source, W: Sink>(
     input: &mut R,
     output: &mut W,
 ) -> Result<(), RunFault> {
-    let Ok(table) = loaded(alloc, FIRST_TABLE) else {
-        panic!(rt; "the first table is not loaded");
-    };
+    let table = first_table(rt, alloc);
     run_session(alloc, table, input, output)
 }
 

@@ -2,51 +2,51 @@
 
 ghost use Rattle.coll_lex.specs.Names.{AreTokens};
 
-use super::{Place, assert_said, show_fault, show_id, show_name, show_order};
-use coll_lex::Line;
-use coll_syntax::{DeltaLine, parse_delta_line};
+use super::{
+    Place, assert_said, show_element, show_fault, show_id, show_name, show_named, show_order,
+};
+use coll_lex::{Line, TextBuf};
+use coll_syntax::{DeltaLine, Id, SyntaxFault, parse_delta_line};
 use std::alloc::{AllocError, Global};
-use std::test::Fail;
 
 /// Shows what a line says as one of a delta.
 pub fn show(out: &mut String, alloc: Global, line: &Line) -> Result<(), AllocError>
     requires { AreTokens line.now.tokens }
 {
-    match parse_delta_line(alloc, line) {
-        Ok(read) => show_read(out, &read),
-        Err(fault) => show_fault(out, fault),
+    let read = parse_delta_line(alloc, line);
+    show_answer(out, &read)
+}
+
+fn show_answer(out: &mut String, read: &Result<DeltaLine, SyntaxFault>) -> Result<(), AllocError> {
+    match read {
+        Ok(line) => show_read(out, line),
+        Err(fault) => show_fault(out, *fault),
     }
 }
 
 fn show_read(out: &mut String, line: &DeltaLine) -> Result<(), AllocError> {
     match line {
-        DeltaLine::Symbol(name) => {
-            out.push_str("symbol")?;
-            show_name(out, name.get())?;
-        }
-        DeltaLine::Element { name, text } => {
-            out.push_str("element")?;
-            show_name(out, name.get())?;
-            out.push(' ')?;
-            out.push_str(text.get())?;
-        }
-        DeltaLine::Script => out.push_str("script")?,
-        DeltaLine::Category => out.push_str("LC_COLLATE")?,
-        DeltaLine::EndCategory => out.push_str("END")?,
-        DeltaLine::Copy => out.push_str("copy")?,
-        DeltaLine::ReorderAfter(target) => {
-            out.push_str("after ")?;
-            show_id(out, target)?;
-        }
-        DeltaLine::ReorderEnd => out.push_str("end")?,
-        DeltaLine::SectionAfter { moved, after } => {
-            out.push_str("section")?;
-            show_name(out, moved.get())?;
-            show_name(out, after.get())?;
-        }
-        DeltaLine::Order(line) => show_order(out, line)?,
+        DeltaLine::Symbol(name) => show_named(out, "symbol", name),
+        DeltaLine::Element { name, text } => show_element(out, name, text),
+        DeltaLine::Script => out.push_str("script"),
+        DeltaLine::Category => out.push_str("LC_COLLATE"),
+        DeltaLine::EndCategory => out.push_str("END"),
+        DeltaLine::Copy => out.push_str("copy"),
+        DeltaLine::ReorderAfter(target) => show_target(out, target),
+        DeltaLine::ReorderEnd => out.push_str("end"),
+        DeltaLine::SectionAfter { moved, after } => show_section(out, moved, after),
+        DeltaLine::Order(line) => show_order(out, line),
     }
-    Ok(())
+}
+
+fn show_target(out: &mut String, target: &Id) -> Result<(), AllocError> {
+    out.push_str("after ")?;
+    show_id(out, target)
+}
+
+fn show_section(out: &mut String, moved: &TextBuf, after: &TextBuf) -> Result<(), AllocError> {
+    show_named(out, "section", moved)?;
+    show_name(out, after.get())
 }
 
 const DECLARATIONS_AND_LINES_WITHOUT_EFFECT: &[(&str, &str)] = &[
@@ -71,13 +71,13 @@ const DECLARATIONS_AND_LINES_WITHOUT_EFFECT: &[(&str, &str)] = &[
 ];
 
 #[test]
-fn declarations_and_lines_without_effect(rt: HostRuntime) -> Result<(), Fail> {
+fn declarations_and_lines_without_effect(rt: HostRuntime) {
     assert_said(
         &rt,
         rt.alloc(),
         Place::Delta,
         DECLARATIONS_AND_LINES_WITHOUT_EFFECT,
-    )
+    );
 }
 
 const BLOCKS_AND_SECTIONS: &[(&str, &str)] = &[
@@ -106,8 +106,8 @@ const BLOCKS_AND_SECTIONS: &[(&str, &str)] = &[
 ];
 
 #[test]
-fn blocks_and_sections(rt: HostRuntime) -> Result<(), Fail> {
-    assert_said(&rt, rt.alloc(), Place::Delta, BLOCKS_AND_SECTIONS)
+fn blocks_and_sections(rt: HostRuntime) {
+    assert_said(&rt, rt.alloc(), Place::Delta, BLOCKS_AND_SECTIONS);
 }
 
 const ORDER_LINES_AND_FIRST_TOKENS: &[(&str, &str)] = &[
@@ -133,6 +133,6 @@ const ORDER_LINES_AND_FIRST_TOKENS: &[(&str, &str)] = &[
 ];
 
 #[test]
-fn order_lines_and_first_tokens(rt: HostRuntime) -> Result<(), Fail> {
-    assert_said(&rt, rt.alloc(), Place::Delta, ORDER_LINES_AND_FIRST_TOKENS)
+fn order_lines_and_first_tokens(rt: HostRuntime) {
+    assert_said(&rt, rt.alloc(), Place::Delta, ORDER_LINES_AND_FIRST_TOKENS);
 }

@@ -2,53 +2,54 @@
 
 ghost use Rattle.coll_lex.specs.Names.{AreTokens};
 
-use super::{Place, assert_said, show_fault, show_name, show_order, show_rules};
-use coll_lex::Line;
-use coll_syntax::{TableLine, parse_table_line};
+use super::{
+    Place, assert_said, show_element, show_fault, show_name, show_named, show_order, show_rules,
+};
+use coll_lex::{Line, TextBuf};
+use coll_syntax::{Rules, SyntaxFault, TableLine, parse_table_line};
 use std::alloc::{AllocError, Global};
-use std::test::Fail;
 
 /// Shows what a line says as one of a table.
 pub fn show(out: &mut String, alloc: Global, line: &Line) -> Result<(), AllocError>
     requires { AreTokens line.now.tokens }
 {
-    match parse_table_line(alloc, line) {
-        Ok(read) => show_read(out, &read),
-        Err(fault) => show_fault(out, fault),
+    let read = parse_table_line(alloc, line);
+    show_answer(out, &read)
+}
+
+fn show_answer(out: &mut String, read: &Result<TableLine, SyntaxFault>) -> Result<(), AllocError> {
+    match read {
+        Ok(line) => show_read(out, line),
+        Err(fault) => show_fault(out, *fault),
     }
 }
 
 fn show_read(out: &mut String, line: &TableLine) -> Result<(), AllocError> {
     match line {
-        TableLine::Symbol(name) => {
-            out.push_str("symbol")?;
-            show_name(out, name.get())?;
-        }
-        TableLine::Element { name, text } => {
-            out.push_str("element")?;
-            show_name(out, name.get())?;
-            out.push(' ')?;
-            out.push_str(text.get())?;
-        }
-        TableLine::OrderStart { section, rules } => {
-            out.push_str("start")?;
-            if let Some(name) = section {
-                show_name(out, name.get())?;
-            }
-            if let Some(rules) = rules {
-                show_rules(out, rules)?;
-            }
-        }
-        TableLine::OrderEnd => out.push_str("order_end")?,
-        TableLine::Section(name) => {
-            out.push_str("section")?;
-            show_name(out, name.get())?;
-        }
-        TableLine::Script => out.push_str("script")?,
-        TableLine::EndCategory => out.push_str("END")?,
-        TableLine::Order(line) => show_order(out, line)?,
+        TableLine::Symbol(name) => show_named(out, "symbol", name),
+        TableLine::Element { name, text } => show_element(out, name, text),
+        TableLine::OrderStart { section, rules } => show_start(out, section, rules),
+        TableLine::OrderEnd => out.push_str("order_end"),
+        TableLine::Section(name) => show_named(out, "section", name),
+        TableLine::Script => out.push_str("script"),
+        TableLine::EndCategory => out.push_str("END"),
+        TableLine::Order(line) => show_order(out, line),
     }
-    Ok(())
+}
+
+fn show_start(
+    out: &mut String,
+    section: &Option<TextBuf>,
+    rules: &Option<Rules>,
+) -> Result<(), AllocError> {
+    out.push_str("start")?;
+    if let Some(name) = section {
+        show_name(out, name.get())?;
+    }
+    match rules {
+        Some(rules) => show_rules(out, rules),
+        None => Ok(()),
+    }
 }
 
 const DECLARATIONS: &[(&str, &str)] = &[
@@ -79,8 +80,8 @@ const DECLARATIONS: &[(&str, &str)] = &[
 ];
 
 #[test]
-fn declarations(rt: HostRuntime) -> Result<(), Fail> {
-    assert_said(&rt, rt.alloc(), Place::Table, DECLARATIONS)
+fn declarations(rt: HostRuntime) {
+    assert_said(&rt, rt.alloc(), Place::Table, DECLARATIONS);
 }
 
 const ELEMENT_STRINGS: &[(&str, &str)] = &[
@@ -104,8 +105,8 @@ const ELEMENT_STRINGS: &[(&str, &str)] = &[
 ];
 
 #[test]
-fn strings_of_elements(rt: HostRuntime) -> Result<(), Fail> {
-    assert_said(&rt, rt.alloc(), Place::Table, ELEMENT_STRINGS)
+fn strings_of_elements(rt: HostRuntime) {
+    assert_said(&rt, rt.alloc(), Place::Table, ELEMENT_STRINGS);
 }
 
 const RULES: &[(&str, &str)] = &[
@@ -139,8 +140,8 @@ const RULES: &[(&str, &str)] = &[
 ];
 
 #[test]
-fn rules_of_a_table(rt: HostRuntime) -> Result<(), Fail> {
-    assert_said(&rt, rt.alloc(), Place::Table, RULES)
+fn rules_of_a_table(rt: HostRuntime) {
+    assert_said(&rt, rt.alloc(), Place::Table, RULES);
 }
 
 const FIFTH_OPERANDS_AND_SECTIONS: &[(&str, &str)] = &[
@@ -179,8 +180,8 @@ const FIFTH_OPERANDS_AND_SECTIONS: &[(&str, &str)] = &[
 ];
 
 #[test]
-fn fifth_operands_and_sections(rt: HostRuntime) -> Result<(), Fail> {
-    assert_said(&rt, rt.alloc(), Place::Table, FIFTH_OPERANDS_AND_SECTIONS)
+fn fifth_operands_and_sections(rt: HostRuntime) {
+    assert_said(&rt, rt.alloc(), Place::Table, FIFTH_OPERANDS_AND_SECTIONS);
 }
 
 const ENDS_AND_FIRST_TOKENS: &[(&str, &str)] = &[
@@ -208,8 +209,8 @@ const ENDS_AND_FIRST_TOKENS: &[(&str, &str)] = &[
 ];
 
 #[test]
-fn ends_and_first_tokens(rt: HostRuntime) -> Result<(), Fail> {
-    assert_said(&rt, rt.alloc(), Place::Table, ENDS_AND_FIRST_TOKENS)
+fn ends_and_first_tokens(rt: HostRuntime) {
+    assert_said(&rt, rt.alloc(), Place::Table, ENDS_AND_FIRST_TOKENS);
 }
 
 const WEIGHTS: &[(&str, &str)] = &[
@@ -237,8 +238,8 @@ const WEIGHTS: &[(&str, &str)] = &[
 ];
 
 #[test]
-fn weights_of_order_lines(rt: HostRuntime) -> Result<(), Fail> {
-    assert_said(&rt, rt.alloc(), Place::Table, WEIGHTS)
+fn weights_of_order_lines(rt: HostRuntime) {
+    assert_said(&rt, rt.alloc(), Place::Table, WEIGHTS);
 }
 
 const NO_SEMICOLONS: &[(&str, &str)] = &[
@@ -263,6 +264,6 @@ const NO_SEMICOLONS: &[(&str, &str)] = &[
 ];
 
 #[test]
-fn tokens_where_a_semicolon_is_wanted(rt: HostRuntime) -> Result<(), Fail> {
-    assert_said(&rt, rt.alloc(), Place::Table, NO_SEMICOLONS)
+fn tokens_where_a_semicolon_is_wanted(rt: HostRuntime) {
+    assert_said(&rt, rt.alloc(), Place::Table, NO_SEMICOLONS);
 }

@@ -1,10 +1,10 @@
 //! A counted device calls its device once a call, and tells that answer; and a line reader that has met the end, or
 //! has stopped, calls it no more.
 
+use crate::assertions::{assert_same, assert_that};
 use crate::devices::{Script, ScriptedReader, ScriptedWriter, Step};
 use coll_lex::{Counted, LineReader, ReadStop, Sink, Source};
 use std::process::Abort;
-use std::test::Fail;
 
 // Asserts that a call answers as its script says, in one call of the device.
 fn assert_one_call(
@@ -14,8 +14,13 @@ fn assert_one_call(
     calls_before: usize,
     calls: usize,
 ) {
-    assert_eq!(rt; answer, step.most());
-    assert_eq!(rt; calls, calls_before.saturating_add(1));
+    assert_same(rt, "the answer of a call", answer, step.most());
+    assert_same(
+        rt,
+        "the calls of a device",
+        calls,
+        calls_before.saturating_add(1),
+    );
 }
 
 fn assert_reads(rt: &impl Abort, script: Script) {
@@ -23,7 +28,12 @@ fn assert_reads(rt: &impl Abort, script: Script) {
     for call in 0..4_usize {
         let answer = input.read(&mut [0; 8]).ok();
         assert_one_call(rt, answer, script.step(call), call, input.device().calls);
-        assert_eq!(rt; input.errors(), input.device().errors);
+        assert_same(
+            rt,
+            "the errors of reads",
+            input.errors(),
+            input.device().errors,
+        );
     }
 }
 
@@ -32,7 +42,12 @@ fn assert_writes(rt: &impl Abort, script: Script) {
     for call in 0..4_usize {
         let answer = out.write(b"bytes").ok();
         assert_one_call(rt, answer, script.step(call), call, out.device().calls);
-        assert_eq!(rt; out.errors(), out.device().errors);
+        assert_same(
+            rt,
+            "the errors of writes",
+            out.errors(),
+            out.device().errors,
+        );
     }
 }
 
@@ -40,9 +55,24 @@ fn assert_flushes(rt: &impl Abort, script: Script) {
     let mut out = Counted::new(ScriptedWriter::new(script));
     for call in 0..4_usize {
         let fails = out.flush().is_err();
-        assert_eq!(rt; fails, script.step(call) == Step::Error);
-        assert_eq!(rt; out.device().calls, call.saturating_add(1));
-        assert_eq!(rt; out.errors(), out.device().errors);
+        assert_same(
+            rt,
+            "whether a flush fails",
+            fails,
+            script.step(call) == Step::Error,
+        );
+        assert_same(
+            rt,
+            "the flushes",
+            out.device().calls,
+            call.saturating_add(1),
+        );
+        assert_same(
+            rt,
+            "the errors of flushes",
+            out.errors(),
+            out.device().errors,
+        );
     }
 }
 
@@ -90,22 +120,31 @@ fn assert_still(
 ) {
     let calls = input.device().calls;
     for _ in 0..3 {
-        assert_eq!(rt; reader.advance(input), last);
-        assert!(rt; reader.line().is_empty());
+        assert_same(rt, "the answer once more", reader.advance(input), last);
+        assert_that(rt, "the line is empty", reader.line().is_empty());
     }
-    assert_eq!(rt; input.device().calls, calls);
+    assert_same(
+        rt,
+        "the reads after the last one",
+        input.device().calls,
+        calls,
+    );
+}
+
+// Asserts that under the script of a number a reader gives each line that is read whole, and then stays where it stands.
+fn assert_stays(rt: &impl Abort, reader: &mut LineReader, number: u8) {
+    let mut input = Counted::new(ScriptedReader::new(Script::of(number), TEXT));
+    let (given, last) = read_all(rt, reader, &mut input);
+    if last == Err(ReadStop::ReadFault) {
+        assert_same(rt, number, given, ended_lines(input.device().text));
+    }
+    assert_still(rt, reader, &mut input, last);
 }
 
 #[test]
-fn nothing_is_read_after_the_end_or_a_stop(rt: HostRuntime) -> Result<(), Fail> {
+fn nothing_is_read_after_the_end_or_a_stop(rt: HostRuntime) {
     for number in 0..=255 {
-        let mut reader = LineReader::new(rt.alloc())?;
-        let mut input = Counted::new(ScriptedReader::new(Script::of(number), TEXT));
-        let (given, last) = read_all(&rt, &mut reader, &mut input);
-        if last == Err(ReadStop::ReadFault) {
-            assert_eq!(rt; given, ended_lines(input.device().text), "{number}");
-        }
-        assert_still(&rt, &mut reader, &mut input, last);
+        let mut reader = LineReader::new(rt.alloc()).expect(&rt, "a reader");
+        assert_stays(&rt, &mut reader, number);
     }
-    Ok(())
 }

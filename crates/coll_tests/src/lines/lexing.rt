@@ -1,11 +1,11 @@
 //! Tables of physical lines and the answers to them, in the order of POSIX.1-2017, 7.3: continuation, characters
 //! made literal, directives, symbols, strings, and the line that begins the category. A new rule of lines is a new row.
 
+use crate::assertions::assert_same;
 use crate::long_texts::repeated;
 use coll_lex::{LexFault, Lexer, Line, Piece, TextBuf, Token};
 use std::alloc::{AllocError, Global};
 use std::process::Abort;
-use std::test::Fail;
 
 // A token as the tables show it: a word as it is, a symbol in brackets, a character between apostrophes, and a
 // string in quotation marks.
@@ -80,23 +80,26 @@ fn write_answers(out: &mut String, lexer: &mut Lexer, lines: &[&str]) -> Result<
     }
 }
 
-fn answers(alloc: Global, lines: &[&str]) -> Result<String, AllocError> {
-    let mut lexer = Lexer::new(alloc)?;
+fn new_lexer(rt: &impl Abort, alloc: Global) -> Lexer {
+    Lexer::new(alloc).expect(rt, "a lexer")
+}
+
+fn answers(rt: &impl Abort, alloc: Global, lines: &[&str]) -> String {
+    let mut lexer = new_lexer(rt, alloc);
     let mut out = String::new(alloc);
-    write_answers(&mut out, &mut lexer, lines)?;
-    Ok(out)
+    write_answers(&mut out, &mut lexer, lines).expect(rt, "the answers");
+    out
 }
 
 // The physical lines of a text, and the answers to them.
 type Answered = (&'static [&'static str], &'static str);
 
 // Asserts that each of these texts has its answers.
-fn assert_answers(rt: &impl Abort, alloc: Global, rows: &[Answered]) -> Result<(), AllocError> {
+fn assert_answers(rt: &impl Abort, alloc: Global, rows: &[Answered]) {
     for (lines, wanted) in rows {
-        let given = answers(alloc, lines)?;
-        assert_eq!(rt; given.as_str(), *wanted);
+        let given = answers(rt, alloc, lines);
+        assert_same(rt, "the answers", given.as_str(), *wanted);
     }
-    Ok(())
 }
 
 const CONTINUED: &[Answered] = &[
@@ -110,9 +113,8 @@ const CONTINUED: &[Answered] = &[
 ];
 
 #[test]
-fn words_strings_and_symbols_go_on_in_the_next_line(rt: HostRuntime) -> Result<(), Fail> {
-    assert_answers(&rt, rt.alloc(), CONTINUED)?;
-    Ok(())
+fn words_strings_and_symbols_go_on_in_the_next_line(rt: HostRuntime) {
+    assert_answers(&rt, rt.alloc(), CONTINUED);
 }
 
 const COMMENTS: &[Answered] = &[
@@ -123,9 +125,8 @@ const COMMENTS: &[Answered] = &[
 ];
 
 #[test]
-fn a_comment_is_not_continued(rt: HostRuntime) -> Result<(), Fail> {
-    assert_answers(&rt, rt.alloc(), COMMENTS)?;
-    Ok(())
+fn a_comment_is_not_continued(rt: HostRuntime) {
+    assert_answers(&rt, rt.alloc(), COMMENTS);
 }
 
 const ENDS: &[Answered] = &[
@@ -135,9 +136,8 @@ const ENDS: &[Answered] = &[
 ];
 
 #[test]
-fn the_text_ends_where_a_line_is_continued(rt: HostRuntime) -> Result<(), Fail> {
-    assert_answers(&rt, rt.alloc(), ENDS)?;
-    Ok(())
+fn the_text_ends_where_a_line_is_continued(rt: HostRuntime) {
+    assert_answers(&rt, rt.alloc(), ENDS);
 }
 
 const DIRECTIVES: &[Answered] = &[
@@ -157,9 +157,8 @@ const DIRECTIVES: &[Answered] = &[
 ];
 
 #[test]
-fn directives_choose_the_two_characters(rt: HostRuntime) -> Result<(), Fail> {
-    assert_answers(&rt, rt.alloc(), DIRECTIVES)?;
-    Ok(())
+fn directives_choose_the_two_characters(rt: HostRuntime) {
+    assert_answers(&rt, rt.alloc(), DIRECTIVES);
 }
 
 const DIRECTIVES_AT_FAULT: &[Answered] = &[
@@ -176,9 +175,8 @@ const DIRECTIVES_AT_FAULT: &[Answered] = &[
 ];
 
 #[test]
-fn a_directive_may_be_at_fault(rt: HostRuntime) -> Result<(), Fail> {
-    assert_answers(&rt, rt.alloc(), DIRECTIVES_AT_FAULT)?;
-    Ok(())
+fn a_directive_may_be_at_fault(rt: HostRuntime) {
+    assert_answers(&rt, rt.alloc(), DIRECTIVES_AT_FAULT);
 }
 
 const LIKE_DIRECTIVES: &[Answered] = &[
@@ -198,9 +196,8 @@ const LIKE_DIRECTIVES: &[Answered] = &[
 ];
 
 #[test]
-fn what_looks_like_a_directive_may_be_text(rt: HostRuntime) -> Result<(), Fail> {
-    assert_answers(&rt, rt.alloc(), LIKE_DIRECTIVES)?;
-    Ok(())
+fn what_looks_like_a_directive_may_be_text(rt: HostRuntime) {
+    assert_answers(&rt, rt.alloc(), LIKE_DIRECTIVES);
 }
 
 const LINE_ENDS: &[Answered] = &[
@@ -211,9 +208,8 @@ const LINE_ENDS: &[Answered] = &[
 ];
 
 #[test]
-fn carriage_returns_and_escapes_at_the_end(rt: HostRuntime) -> Result<(), Fail> {
-    assert_answers(&rt, rt.alloc(), LINE_ENDS)?;
-    Ok(())
+fn carriage_returns_and_escapes_at_the_end(rt: HostRuntime) {
+    assert_answers(&rt, rt.alloc(), LINE_ENDS);
 }
 
 const SYMBOLS: &[Answered] = &[
@@ -240,9 +236,8 @@ const SYMBOLS: &[Answered] = &[
 ];
 
 #[test]
-fn symbols_are_decided_after_unescaping(rt: HostRuntime) -> Result<(), Fail> {
-    assert_answers(&rt, rt.alloc(), SYMBOLS)?;
-    Ok(())
+fn symbols_are_decided_after_unescaping(rt: HostRuntime) {
+    assert_answers(&rt, rt.alloc(), SYMBOLS);
 }
 
 // A name of 64 characters, which have two bytes each, and one of 65.
@@ -258,9 +253,8 @@ const LONGEST_NAMES: &[Answered] = &[
 ];
 
 #[test]
-fn a_name_has_at_most_sixty_four_characters(rt: HostRuntime) -> Result<(), Fail> {
-    assert_answers(&rt, rt.alloc(), LONGEST_NAMES)?;
-    Ok(())
+fn a_name_has_at_most_sixty_four_characters(rt: HostRuntime) {
+    assert_answers(&rt, rt.alloc(), LONGEST_NAMES);
 }
 
 const STRINGS: &[Answered] = &[
@@ -279,9 +273,8 @@ const STRINGS: &[Answered] = &[
 ];
 
 #[test]
-fn strings_hold_characters_and_names(rt: HostRuntime) -> Result<(), Fail> {
-    assert_answers(&rt, rt.alloc(), STRINGS)?;
-    Ok(())
+fn strings_hold_characters_and_names(rt: HostRuntime) {
+    assert_answers(&rt, rt.alloc(), STRINGS);
 }
 
 const WORDS: &[Answered] = &[
@@ -296,9 +289,8 @@ const WORDS: &[Answered] = &[
 ];
 
 #[test]
-fn words_end_before_separators(rt: HostRuntime) -> Result<(), Fail> {
-    assert_answers(&rt, rt.alloc(), WORDS)?;
-    Ok(())
+fn words_end_before_separators(rt: HostRuntime) {
+    assert_answers(&rt, rt.alloc(), WORDS);
 }
 
 const AFTER_FAULTS: &[Answered] = &[
@@ -310,9 +302,8 @@ const AFTER_FAULTS: &[Answered] = &[
 ];
 
 #[test]
-fn after_a_fault_the_next_line_begins_a_new_one(rt: HostRuntime) -> Result<(), Fail> {
-    assert_answers(&rt, rt.alloc(), AFTER_FAULTS)?;
-    Ok(())
+fn after_a_fault_the_next_line_begins_a_new_one(rt: HostRuntime) {
+    assert_answers(&rt, rt.alloc(), AFTER_FAULTS);
 }
 
 // Asserts that a line is refused with this fault, or else taken, and that the open line then begins here.
@@ -323,8 +314,8 @@ fn assert_feeds(
     fault: Option<LexFault>,
     pending: Option<u32>,
 ) {
-    assert_eq!(rt; lexer.feed(line).err(), fault);
-    assert_eq!(rt; lexer.pending(), pending);
+    assert_same(rt, "the fault", lexer.feed(line).err(), fault);
+    assert_same(rt, "the open line", lexer.pending(), pending);
 }
 
 const LINES_TO_AN_OPEN_ONE: &[(&[u8], Option<u32>)] = &[
@@ -334,15 +325,19 @@ const LINES_TO_AN_OPEN_ONE: &[(&[u8], Option<u32>)] = &[
 ];
 
 #[test]
-fn the_open_line_has_the_number_of_its_first_line(rt: HostRuntime) -> Result<(), Fail> {
-    let mut lexer = Lexer::new(rt.alloc())?;
-    assert_eq!(rt; lexer.pending(), None);
+fn the_open_line_has_the_number_of_its_first_line(rt: HostRuntime) {
+    let mut lexer = new_lexer(&rt, rt.alloc());
+    assert_same(&rt, "at first", lexer.pending(), None);
     for (line, pending) in LINES_TO_AN_OPEN_ONE {
         assert_feeds(&rt, &mut lexer, line, None, *pending);
     }
-    assert_eq!(rt; lexer.finish(), Err(LexFault::DanglingEscape));
-    assert_eq!(rt; lexer.pending(), None);
-    Ok(())
+    assert_same(
+        &rt,
+        "the end",
+        lexer.finish(),
+        Err(LexFault::DanglingEscape),
+    );
+    assert_same(&rt, "after the end", lexer.pending(), None);
 }
 
 // A continued line, and then lines that end it, as they aren't UTF-8, whatever else they are.
@@ -354,13 +349,12 @@ const LINES_AND_NO_TEXTS: &[(&[u8], Option<LexFault>, Option<u32>)] = &[
 ];
 
 #[test]
-fn each_line_is_tested_as_text(rt: HostRuntime) -> Result<(), Fail> {
-    let mut lexer = Lexer::new(rt.alloc())?;
+fn each_line_is_tested_as_text(rt: HostRuntime) {
+    let mut lexer = new_lexer(&rt, rt.alloc());
     for (line, fault, pending) in LINES_AND_NO_TEXTS {
         assert_feeds(&rt, &mut lexer, line, *fault, *pending);
     }
-    assert_eq!(rt; lexer.chars().comment, '#');
-    Ok(())
+    assert_same(&rt, "the comment character", lexer.chars().comment, '#');
 }
 
 // Lengths of lines of blanks, and the fault of each; the line outside the category has the same one.
@@ -370,28 +364,26 @@ const LENGTHS: &[(usize, Option<LexFault>)] = &[
 ];
 
 #[test]
-fn a_line_has_at_most_65_536_bytes(rt: HostRuntime) -> Result<(), Fail> {
-    let mut lexer = Lexer::new(rt.alloc())?;
+fn a_line_has_at_most_65_536_bytes(rt: HostRuntime) {
+    let mut lexer = new_lexer(&rt, rt.alloc());
     for (length, fault) in LENGTHS {
-        let line = repeated(rt.alloc(), b"", b" ", *length, b"")?;
+        let line = repeated(&rt, rt.alloc(), b"", b" ", *length, b"");
         assert_feeds(&rt, &mut lexer, &line, *fault, None);
-        assert_eq!(rt; lexer.outside(&line).err(), *fault);
+        assert_same(&rt, "outside", lexer.outside(&line).err(), *fault);
     }
-    Ok(())
 }
 
 // Two bytes that continue the line, 65,534, two more, and 65,535.
 #[test]
-fn the_lengths_of_joined_lines_are_added(rt: HostRuntime) -> Result<(), Fail> {
-    let most = repeated(rt.alloc(), b"", b" ", 65_534, b"")?;
-    let more = repeated(rt.alloc(), b"", b" ", 65_535, b"")?;
-    let mut lexer = Lexer::new(rt.alloc())?;
+fn the_lengths_of_joined_lines_are_added(rt: HostRuntime) {
+    let most = repeated(&rt, rt.alloc(), b"", b" ", 65_534, b"");
+    let more = repeated(&rt, rt.alloc(), b"", b" ", 65_535, b"");
+    let mut lexer = new_lexer(&rt, rt.alloc());
     let too_long = Some(LexFault::LineTooLong);
     assert_feeds(&rt, &mut lexer, b"\\\r", None, Some(1));
     assert_feeds(&rt, &mut lexer, &most, None, None);
     assert_feeds(&rt, &mut lexer, b"\\\r", None, Some(3));
     assert_feeds(&rt, &mut lexer, &more, too_long, None);
-    Ok(())
 }
 
 // Lines outside the category, and whether each begins it. A directive among them counts from the next line on.
@@ -411,19 +403,18 @@ const OUTSIDE: &[(&[u8], Result<bool, LexFault>)] = &[
 ];
 
 #[test]
-fn the_category_begins_by_its_bytes(rt: HostRuntime) -> Result<(), Fail> {
-    let mut lexer = Lexer::new(rt.alloc())?;
+fn the_category_begins_by_its_bytes(rt: HostRuntime) {
+    let mut lexer = new_lexer(&rt, rt.alloc());
     for (line, begins) in OUTSIDE {
-        assert_eq!(rt; lexer.outside(line), *begins);
+        assert_same(&rt, "outside", lexer.outside(line), *begins);
     }
-    assert_eq!(rt; lexer.chars().comment, '%');
-    assert_eq!(rt; lexer.chars().escape, '/');
-    Ok(())
+    assert_same(&rt, "the comment character", lexer.chars().comment, '%');
+    assert_same(&rt, "the escape character", lexer.chars().escape, '/');
 }
 
 #[test]
-fn a_text_is_copied(rt: HostRuntime) -> Result<(), Fail> {
-    let text = TextBuf::new(String::from_str(rt.alloc(), "é")?);
-    assert_eq!(rt; text.try_copy()?.get(), "é");
-    Ok(())
+fn a_text_is_copied(rt: HostRuntime) {
+    let text = TextBuf::new("é".to_string(rt.alloc()).expect(&rt, "a text"));
+    let copy = text.try_copy().expect(&rt, "a copy");
+    assert_same(&rt, "the copy", copy.get(), "é");
 }

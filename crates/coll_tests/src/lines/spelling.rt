@@ -1,12 +1,12 @@
 //! Spellings as they are written, read back, and cut off where a device fails.
 
+use crate::assertions::{assert_same, assert_that};
 use crate::devices::{Failure, ShortWriter, WholeWriter};
 use coll_lex::{
     Counted, Lexer, Line, Sink, Token, WriteStop, write_bytes, write_char, write_symbol,
 };
 use std::alloc::{AllocError, Global};
 use std::process::Abort;
-use std::test::Fail;
 
 const NAMES: &[(&str, &str)] = &[
     ("BASE", "<BASE>"),
@@ -32,8 +32,8 @@ const CHARACTERS: &[(char, &str)] = &[
 fn names_are_spelled_with_their_escapes(rt: HostRuntime) {
     for (name, spelled) in NAMES {
         let mut out = Counted::new(Vec::new(rt.alloc()));
-        assert_eq!(rt; write_symbol(&mut out, name), Ok(()));
-        assert_eq!(rt; out.device().as_slice(), spelled.as_bytes(), "{name}");
+        assert_same(&rt, *name, write_symbol(&mut out, name), Ok(()));
+        assert_same(&rt, *name, out.device().as_slice(), spelled.as_bytes());
     }
 }
 
@@ -41,42 +41,41 @@ fn names_are_spelled_with_their_escapes(rt: HostRuntime) {
 fn characters_are_spelled_by_their_code_points(rt: HostRuntime) {
     for (c, spelled) in CHARACTERS {
         let mut out = Counted::new(Vec::new(rt.alloc()));
-        assert_eq!(rt; write_char(&mut out, *c), Ok(()));
-        assert_eq!(rt; out.device().as_slice(), spelled.as_bytes(), "{spelled}");
+        assert_same(&rt, *spelled, write_char(&mut out, *c), Ok(()));
+        assert_same(&rt, *spelled, out.device().as_slice(), spelled.as_bytes());
     }
 }
 
 // The line that a spelling is, under the comment character `%` and the escape character `/`.
-fn read_back(alloc: Global, spelled: &str) -> Result<Line, Fail> {
-    let mut lexer = Lexer::new(alloc)?;
-    lexer.feed(b"comment_char %")?;
-    lexer.feed(b"escape_char /")?;
-    let line = lexer.feed(spelled.as_bytes())?;
-    Ok(line.ok_or("no line")?)
+fn read_back(rt: &impl Abort, alloc: Global, spelled: &str) -> Line {
+    let mut lexer = Lexer::new(alloc).expect(rt, "a lexer");
+    for line in ["comment_char %", "escape_char /"] {
+        assert_that(rt, line, lexer.feed(line.as_bytes()).is_ok());
+    }
+    let line = lexer.feed(spelled.as_bytes()).expect(rt, spelled);
+    line.expect(rt, spelled)
 }
 
 #[test]
-fn names_are_read_back(rt: HostRuntime) -> Result<(), Fail> {
+fn names_are_read_back(rt: HostRuntime) {
     for (name, spelled) in NAMES {
-        let line = read_back(rt.alloc(), spelled)?;
+        let line = read_back(&rt, rt.alloc(), spelled);
         match line.tokens.get() {
-            [Token::Symbol(symbol)] => assert_eq!(rt; symbol.get(), *name),
-            _ => assert!(rt; false, "{name}"),
+            [Token::Symbol(symbol)] => assert_same(&rt, *spelled, symbol.get(), *name),
+            _ => assert_that(&rt, *spelled, false),
         }
     }
-    Ok(())
 }
 
 #[test]
-fn characters_are_read_back(rt: HostRuntime) -> Result<(), Fail> {
+fn characters_are_read_back(rt: HostRuntime) {
     for (c, spelled) in CHARACTERS {
-        let line = read_back(rt.alloc(), spelled)?;
+        let line = read_back(&rt, rt.alloc(), spelled);
         match line.tokens.get() {
-            [Token::Char(character)] => assert_eq!(rt; *character, *c),
-            _ => assert!(rt; false, "{c}"),
+            [Token::Char(character)] => assert_same(&rt, *spelled, *character, *c),
+            _ => assert_that(&rt, *spelled, false),
         }
     }
-    Ok(())
 }
 
 // Asserts that a name whose n-th write fails is cut off there.
@@ -84,10 +83,10 @@ fn assert_cut_off(rt: &impl Abort, alloc: Global, fails_at: usize, failure: Fail
     let writer = ShortWriter::new(Vec::new(alloc), fails_at, failure);
     let mut out = Counted::new(writer);
     let result = write_symbol(&mut out, "one/two>");
-    assert_eq!(rt; result, Err(WriteStop::WriteFault));
-    assert_eq!(rt; out.errors(), 1);
+    assert_same(rt, fails_at, result, Err(WriteStop::WriteFault));
+    assert_same(rt, "the errors", out.errors(), 1);
     let taken = out.device().taken.as_slice();
-    assert!(rt; b"<one//two/>>".starts_with(taken), "at {fails_at}");
+    assert_that(rt, fails_at, b"<one//two/>>".starts_with(taken));
 }
 
 #[test]
@@ -100,8 +99,8 @@ fn a_write_that_fails_stops_the_writing(rt: HostRuntime) {
 
 fn assert_one_write(rt: &impl Abort, name: &str) {
     let mut out = Counted::new(WholeWriter::new());
-    assert_eq!(rt; write_symbol(&mut out, name), Ok(()));
-    assert_eq!(rt; out.device().writes, 1, "{name}");
+    assert_same(rt, name, write_symbol(&mut out, name), Ok(()));
+    assert_same(rt, name, out.device().writes, 1);
 }
 
 #[test]
@@ -112,8 +111,8 @@ fn a_spelling_is_one_write(rt: HostRuntime) {
     assert_one_write(&rt, "");
     for (c, spelled) in CHARACTERS {
         let mut out = Counted::new(WholeWriter::new());
-        assert_eq!(rt; write_char(&mut out, *c), Ok(()));
-        assert_eq!(rt; out.device().writes, 1, "{spelled}");
+        assert_same(&rt, *spelled, write_char(&mut out, *c), Ok(()));
+        assert_same(&rt, *spelled, out.device().writes, 1);
     }
 }
 
@@ -128,39 +127,39 @@ fn long_name(alloc: Global, c: char, count: usize) -> Result<String, AllocError>
 
 // 64 characters of four bytes are the most that a name has; here each byte is one that is escaped.
 #[test]
-fn a_name_of_the_most_bytes_is_one_write(rt: HostRuntime) -> Result<(), Fail> {
-    let most = long_name(rt.alloc(), '>', 256)?;
+fn a_name_of_the_most_bytes_is_one_write(rt: HostRuntime) {
+    let most = long_name(rt.alloc(), '>', 256).expect(&rt, "a name");
     assert_one_write(&rt, most.as_str());
-    Ok(())
 }
 
 #[test]
-fn a_text_longer_than_any_name_is_spelled(rt: HostRuntime) -> Result<(), Fail> {
-    let long = long_name(rt.alloc(), 'a', 257)?;
+fn a_text_longer_than_any_name_is_spelled(rt: HostRuntime) {
+    let long = long_name(rt.alloc(), 'a', 257).expect(&rt, "a text");
     let mut out = Counted::new(Vec::new(rt.alloc()));
-    assert_eq!(rt; write_symbol(&mut out, long.as_str()), Ok(()));
-    assert_eq!(rt; out.device().len(), 259);
-    Ok(())
+    let written = write_symbol(&mut out, long.as_str());
+    assert_same(&rt, "the answer", written, Ok(()));
+    assert_same(&rt, "the bytes", out.device().len(), 259);
 }
 
 #[test]
 fn small_writes_take_everything(rt: HostRuntime) {
     let mut out = Counted::new(ShortWriter::new(Vec::new(rt.alloc()), 0, Failure::Error));
-    assert_eq!(rt; write_symbol(&mut out, "one/two>"), Ok(()));
-    assert_eq!(rt; write_char(&mut out, 'a'), Ok(()));
-    assert_eq!(rt; write_bytes(&mut out, b""), Ok(()));
-    assert_eq!(rt; write_bytes(&mut out, b" and more\n"), Ok(()));
+    assert_same(&rt, "a name", write_symbol(&mut out, "one/two>"), Ok(()));
+    assert_same(&rt, "a character", write_char(&mut out, 'a'), Ok(()));
+    assert_same(&rt, "no bytes", write_bytes(&mut out, b""), Ok(()));
+    let written = write_bytes(&mut out, b" and more\n");
+    assert_same(&rt, "bytes", written, Ok(()));
     let want = b"<one//two/>><U0061> and more\n".as_slice();
-    assert_eq!(rt; out.device().taken.as_slice(), want);
-    assert_eq!(rt; out.errors(), 0);
+    assert_same(&rt, "all", out.device().taken.as_slice(), want);
+    assert_same(&rt, "the errors", out.errors(), 0);
 }
 
 #[test]
 fn a_flush_that_fails_is_counted(rt: HostRuntime) {
     let writer = ShortWriter::new(Vec::new(rt.alloc()), 2, Failure::Error);
     let mut out = Counted::new(writer);
-    assert!(rt; out.flush().is_ok());
-    assert_eq!(rt; out.errors(), 0);
-    assert!(rt; out.flush().is_err());
-    assert_eq!(rt; out.errors(), 1);
+    assert_that(&rt, "the first flush", out.flush().is_ok());
+    assert_same(&rt, "the errors then", out.errors(), 0);
+    assert_that(&rt, "the second fails", out.flush().is_err());
+    assert_same(&rt, "the errors", out.errors(), 1);
 }

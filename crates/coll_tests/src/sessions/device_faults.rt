@@ -1,12 +1,12 @@
 //! Sessions whose reader or writer fails in mid-text.
 
+use crate::assertions::{assert_same, assert_that};
 use crate::devices::{Failure, ShortReader, ShortWriter};
 use crate::sessions::{MOVED, MOVED_TEXT, run};
 use coll_bench::{Fault, RunFault};
 use coll_lex::{Counted, ReadStop, Sink, Source, WriteStop};
 use std::alloc::{AllocError, Global};
 use std::process::Abort;
-use std::test::Fail;
 
 // All that is written for the session's text.
 fn all_replies(alloc: Global) -> Result<String, AllocError> {
@@ -46,27 +46,23 @@ fn assert_read(
 ) {
     let mut input = Counted::new(ShortReader::new(MOVED_TEXT, fails_at));
     let mut output = Counted::new(Vec::new(alloc));
-    assert_eq!(rt; run(rt, alloc, &mut input, &mut output), answer);
-    assert_eq!(rt; input.errors(), u64::from(answer.is_err()));
+    let given = run(rt, alloc, &mut input, &mut output);
+    assert_same(rt, fails_at, given, answer);
+    assert_same(rt, "the errors", input.errors(), u64::from(answer.is_err()));
     let end = written_within(fails_at.saturating_sub(1).saturating_mul(3));
     let written = output.device().as_slice();
-    assert_eq!(rt;
-        Some(written),
-        replies.as_bytes().get(..end),
-        "at {fails_at}"
-    );
+    assert_same(rt, fails_at, Some(written), replies.as_bytes().get(..end));
 }
 
 // The text has 66 bytes, which 22 reads give. A further read finds its end.
 #[test]
-fn a_read_that_fails_ends_the_session_without_a_reply(rt: HostRuntime) -> Result<(), Fail> {
-    let replies = all_replies(rt.alloc())?;
-    assert_eq!(rt; MOVED_TEXT.len(), 66);
+fn a_read_that_fails_ends_the_session_without_a_reply(rt: HostRuntime) {
+    let replies = all_replies(rt.alloc()).expect(&rt, "the replies");
+    assert_same(&rt, "the text's bytes", MOVED_TEXT.len(), 66);
     for fails_at in 1..=23 {
         assert_read(&rt, rt.alloc(), replies.as_str(), fails_at, Err(READ_FAULT));
     }
     assert_read(&rt, rt.alloc(), replies.as_str(), 24, Ok(()));
-    Ok(())
 }
 
 const WRITE_FAULT: RunFault = RunFault {
@@ -89,22 +85,22 @@ fn is_whole(
     let answer = run(rt, alloc, &mut Counted::new(MOVED_TEXT), &mut output);
     let taken = output.device().taken.as_slice();
     if answer.is_ok() {
-        assert_eq!(rt; taken, replies.as_bytes());
+        assert_same(rt, fails_at, taken, replies.as_bytes());
     } else {
-        assert_eq!(rt; answer, Err(WRITE_FAULT));
-        assert!(rt; replies.as_bytes().starts_with(taken), "at {fails_at}");
+        assert_same(rt, fails_at, answer, Err(WRITE_FAULT));
+        assert_that(rt, fails_at, replies.as_bytes().starts_with(taken));
     }
-    assert_eq!(rt; output.errors(), u64::from(answer.is_err()));
+    let errors = u64::from(answer.is_err());
+    assert_same(rt, "the errors", output.errors(), errors);
     answer.is_ok()
 }
 
 // Each write and each flush of the session fails in turn, up to a run in which none is left to fail.
 #[test]
-fn a_write_that_fails_leaves_a_front_of_the_replies(rt: HostRuntime) -> Result<(), Fail> {
-    let replies = all_replies(rt.alloc())?;
+fn a_write_that_fails_leaves_a_front_of_the_replies(rt: HostRuntime) {
+    let replies = all_replies(rt.alloc()).expect(&rt, "the replies");
     for failure in [Failure::Error, Failure::TakesNothing] {
         let whole = (1..1_000).find(|at| is_whole(&rt, rt.alloc(), replies.as_str(), *at, failure));
-        assert!(rt; whole.is_some());
+        assert_that(&rt, "a whole run", whole.is_some());
     }
-    Ok(())
 }

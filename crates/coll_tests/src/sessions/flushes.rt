@@ -1,5 +1,6 @@
 //! A session whose reader looks, at each read, at what its writer has flushed.
 
+use crate::assertions::assert_same;
 use crate::sessions::{MOVED, run};
 use coll_lex::Counted;
 use std::cell::Cell;
@@ -53,11 +54,11 @@ fn assert_flushed(rt: &impl Abort, seen: &[usize]) {
     let mut written = 0_usize;
     let mut reads = seen.iter();
     for (_, reply) in MOVED {
-        assert_eq!(rt; reads.next(), Some(&written));
+        assert_same(rt, "a read", reads.next(), Some(&written));
         written = written.saturating_add(reply.len());
     }
-    assert_eq!(rt; reads.next(), Some(&written));
-    assert_eq!(rt; reads.next(), None);
+    assert_same(rt, "the last read", reads.next(), Some(&written));
+    assert_same(rt, "behind it", reads.next(), None);
 }
 
 #[test]
@@ -72,6 +73,7 @@ fn each_reply_is_flushed_before_the_next_line_is_read(rt: HostRuntime) {
         taken: 0,
         flushed: &flushed,
     });
-    assert_eq!(rt; run(&rt, rt.alloc(), &mut input, &mut output), Ok(()));
+    let answer = run(&rt, rt.alloc(), &mut input, &mut output);
+    assert_same(&rt, "the answer", answer, Ok(()));
     assert_flushed(&rt, input.device().seen.as_slice());
 }

@@ -1,16 +1,16 @@
 //! The calls of a session, one after another.
 
-use crate::tables::examples::{FIRST_TABLE, assert_order, block, loaded};
+use crate::assertions::assert_same;
+use crate::tables::examples::{assert_order, block, first_table};
 use coll_bench::{BenchFault, Session};
 use coll_table::Refusal;
 use std::alloc::Global;
 use std::process::Abort;
-use std::test::Fail;
 
 // Asserts that a session has this order, and so many statements to be taken back.
 fn assert_session(rt: &impl Abort, session: &Session, order: &str, remaining: u32) {
     assert_order(rt, session.table(), order);
-    assert_eq!(rt; session.remaining_len(), remaining);
+    assert_same(rt, "what remains", session.remaining_len(), remaining);
 }
 
 // The target and the order line of a block, what answers it, the order after it, and how many statements then remain.
@@ -33,26 +33,24 @@ const UNDONE: &[(Result<u32, BenchFault>, &str, u32)] = &[
     (Err(BenchFault::NothingToUndo), "<abc", 0),
 ];
 
-fn assert_statements(rt: &impl Abort, alloc: Global, session: &mut Session) -> Result<(), Fail> {
+fn assert_statements(rt: &impl Abort, alloc: Global, session: &mut Session) {
     for (target, line, answer, order, remaining) in STATEMENTS {
-        let statement = block(alloc, target, &[*line])?;
-        assert_eq!(rt; session.statement(statement), *answer);
+        let statement = block(alloc, target, &[*line]).expect(rt, "a block");
+        assert_same(rt, "a statement", session.statement(statement), *answer);
         assert_session(rt, session, order, *remaining);
     }
-    Ok(())
 }
 
 fn assert_undone(rt: &impl Abort, session: &mut Session) {
     for (answer, order, remaining) in UNDONE {
-        assert_eq!(rt; session.undo(), *answer);
+        assert_same(rt, "an undo", session.undo(), *answer);
         assert_session(rt, session, order, *remaining);
     }
 }
 
 #[test]
-fn statements_are_accepted_and_taken_back(rt: HostRuntime) -> Result<(), Fail> {
-    let mut session = Session::new(rt.alloc(), loaded(rt.alloc(), FIRST_TABLE)?);
-    assert_statements(&rt, rt.alloc(), &mut session)?;
+fn statements_are_accepted_and_taken_back(rt: HostRuntime) {
+    let mut session = Session::new(rt.alloc(), first_table(&rt, rt.alloc()));
+    assert_statements(&rt, rt.alloc(), &mut session);
     assert_undone(&rt, &mut session);
-    Ok(())
 }

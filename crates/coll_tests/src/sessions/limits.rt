@@ -1,12 +1,12 @@
 //! Sessions that meet a limit.
 
+use crate::assertions::{assert_same, assert_that};
 use crate::long_texts::repeated;
 use crate::sessions::run;
 use coll_bench::{Fault, MOST_REMAINING, RunFault};
 use coll_lex::{Counted, LexFault, MOST_LINE_BYTES};
 use std::alloc::Global;
 use std::process::Abort;
-use std::test::Fail;
 
 // Asserts what a session over this text answers, and with which replies it ends.
 fn assert_ends(
@@ -17,11 +17,10 @@ fn assert_ends(
     replies: &str,
 ) {
     let mut output = Counted::new(Vec::new(alloc));
-    assert_eq!(rt;
-        run(rt, alloc, &mut Counted::new(text), &mut output),
-        answer
-    );
-    assert!(rt; output.device().ends_with(replies.as_bytes()));
+    let given = run(rt, alloc, &mut Counted::new(text), &mut output);
+    assert_same(rt, replies, given, answer);
+    let written = output.device().as_slice();
+    assert_that(rt, replies, written.ends_with(replies.as_bytes()));
 }
 
 const LINE_TOO_LONG: RunFault = RunFault {
@@ -32,20 +31,25 @@ const LINE_TOO_LONG: RunFault = RunFault {
 
 // One byte more than a line may have, in an open block.
 #[test]
-fn a_line_too_long_drops_the_open_block_and_ends_the_session(rt: HostRuntime) -> Result<(), Fail> {
+fn a_line_too_long_drops_the_open_block_and_ends_the_session(rt: HostRuntime) {
     let opened = b"reorder-after <U0061>\n";
-    let text = repeated(rt.alloc(), opened, b"a", MOST_LINE_BYTES + 1, b"\n:list\n")?;
+    let text = repeated(
+        &rt,
+        rt.alloc(),
+        opened,
+        b"a",
+        MOST_LINE_BYTES + 1,
+        b"\n:list\n",
+    );
     let replies = "refused 10 LineTooLong\n";
     assert_ends(&rt, rt.alloc(), &text, Err(LINE_TOO_LONG), replies);
-    Ok(())
 }
 
 // One block more than may remain, and then one is taken back.
 #[test]
-fn a_full_history_refuses_a_statement(rt: HostRuntime) -> Result<(), Fail> {
+fn a_full_history_refuses_a_statement(rt: HostRuntime) {
     let block = b"reorder-after <U0061>\nreorder-end\n";
-    let text = repeated(rt.alloc(), b"", block, MOST_REMAINING + 1, b":undo\n")?;
+    let text = repeated(&rt, rt.alloc(), b"", block, MOST_REMAINING + 1, b":undo\n");
     let replies = "ok 65535\nrefused 66 HistoryFull\nundone 65534\n";
     assert_ends(&rt, rt.alloc(), &text, Ok(()), replies);
-    Ok(())
 }

@@ -1,9 +1,11 @@
 //! Texts of whole sessions, and their replies.
 
+use crate::assertions::assert_same;
 use crate::devices::{Failure, ShortReader, ShortWriter};
 use crate::sessions::run;
 use coll_bench::RunFault;
 use coll_lex::Counted;
+use std::alloc::Global;
 use std::process::Abort;
 
 // Texts of whole sessions, and what is written for each.
@@ -151,26 +153,36 @@ const SESSIONS: &[(&[u8], &str)] = &[
 
 // Asserts that a session ended with its input, and has written these replies.
 fn assert_replies(rt: &impl Abort, answer: Result<(), RunFault>, written: &[u8], replies: &str) {
-    assert_eq!(rt; answer, Ok(()), "for {replies}");
-    assert_eq!(rt; written, replies.as_bytes(), "for {replies}");
+    assert_same(rt, replies, answer, Ok(()));
+    assert_same(rt, replies, written, replies.as_bytes());
+}
+
+// Asserts what a session over this text replies to a device that takes all bytes.
+fn assert_session(rt: &impl Abort, alloc: Global, text: &[u8], replies: &str) {
+    let mut output = Counted::new(Vec::new(alloc));
+    let answer = run(rt, alloc, &mut Counted::new(text), &mut output);
+    assert_replies(rt, answer, output.device(), replies);
 }
 
 #[test]
 fn each_unit_has_its_reply(rt: HostRuntime) {
     for (text, replies) in SESSIONS {
-        let mut output = Counted::new(Vec::new(rt.alloc()));
-        let answer = run(&rt, rt.alloc(), &mut Counted::new(*text), &mut output);
-        assert_replies(&rt, answer, output.device(), replies);
+        assert_session(&rt, rt.alloc(), text, replies);
     }
+}
+
+// Asserts the same of devices that give and take a few bytes at a time.
+fn assert_short_session(rt: &impl Abort, alloc: Global, text: &[u8], replies: &str) {
+    let mut input = Counted::new(ShortReader::new(text, 0));
+    let writer = ShortWriter::new(Vec::new(alloc), 0, Failure::Error);
+    let mut output = Counted::new(writer);
+    let answer = run(rt, alloc, &mut input, &mut output);
+    assert_replies(rt, answer, &output.device().taken, replies);
 }
 
 #[test]
 fn short_reads_and_writes_change_no_reply(rt: HostRuntime) {
     for (text, replies) in SESSIONS {
-        let mut input = Counted::new(ShortReader::new(text, 0));
-        let writer = ShortWriter::new(Vec::new(rt.alloc()), 0, Failure::Error);
-        let mut output = Counted::new(writer);
-        let answer = run(&rt, rt.alloc(), &mut input, &mut output);
-        assert_replies(&rt, answer, &output.device().taken, replies);
+        assert_short_session(&rt, rt.alloc(), text, replies);
     }
 }

@@ -1,10 +1,10 @@
 //! Statements applied to the first table, and turned back.
 
-use crate::tables::examples::{FIRST_TABLE, assert_order, block, id, loaded};
+use crate::assertions::assert_same;
+use crate::tables::examples::{assert_order, block, first_table, id};
 use coll_table::{PlainLine, PlainStatement, Refusal, Table};
-use std::alloc::{AllocError, Global};
+use std::alloc::Global;
 use std::process::Abort;
-use std::test::Fail;
 
 // A block's target and its lines, and the order after it.
 const BLOCKS: &[(&str, &[&str], &str)] = &[
@@ -16,30 +16,34 @@ const BLOCKS: &[(&str, &[&str], &str)] = &[
 ];
 
 // Asserts that the first table, rewritten by a statement, has this order, and the first one turned back.
-fn assert_turns(
-    rt: &impl Abort,
-    table: &mut Table,
-    statement: &PlainStatement,
-    after: &str,
-) -> Result<(), Refusal> {
-    let mut record = table.apply(statement)?;
+fn assert_turns(rt: &impl Abort, table: &mut Table, statement: &PlainStatement, after: &str) {
+    let mut record = table.apply(statement).expect(rt, after);
     assert_order(rt, table, after);
-    assert_eq!(rt; table.flip(&mut record), 0);
+    assert_same(rt, "the steps back", table.flip(&mut record), 0);
     assert_order(rt, table, "<abc");
-    assert_eq!(rt; table.flip(&mut record), 0);
+    assert_same(rt, "the steps", table.flip(&mut record), 0);
     table.forget(record);
     assert_order(rt, table, after);
-    Ok(())
+}
+
+fn assert_block_turns(
+    rt: &impl Abort,
+    alloc: Global,
+    table: &mut Table,
+    target: &str,
+    lines: &[&str],
+    after: &str,
+) {
+    let statement = block(alloc, target, lines).expect(rt, "a block");
+    assert_turns(rt, table, &statement, after);
 }
 
 #[test]
-fn a_block_is_applied_turned_back_and_applied_again(rt: HostRuntime) -> Result<(), Fail> {
+fn a_block_is_applied_turned_back_and_applied_again(rt: HostRuntime) {
     for (target, lines, after) in BLOCKS {
-        let statement = block(rt.alloc(), target, lines)?;
-        let mut table = loaded(rt.alloc(), FIRST_TABLE)?;
-        assert_turns(&rt, &mut table, &statement, after)?;
+        let mut table = first_table(&rt, rt.alloc());
+        assert_block_turns(&rt, rt.alloc(), &mut table, target, lines, after);
     }
-    Ok(())
 }
 
 // A block's target and its lines, and why the first table refuses it: the target is judged first, and then line by line.
@@ -59,7 +63,8 @@ fn assert_refused(
     statement: &PlainStatement,
     refusal: Refusal,
 ) {
-    assert_eq!(rt; table.apply(statement).err(), Some(refusal));
+    let refused = table.apply(statement).err();
+    assert_same(rt, "the refusal", refused, Some(refusal));
     assert_order(rt, table, "<abc");
 }
 
@@ -70,19 +75,21 @@ fn assert_refused_block(
     target: &str,
     lines: &[&str],
     refusal: Refusal,
-) -> Result<(), AllocError> {
-    let statement = block(alloc, target, lines)?;
+) {
+    let statement = block(alloc, target, lines).expect(rt, "a block");
     assert_refused(rt, table, &statement, refusal);
-    Ok(())
+}
+
+fn assert_refused_blocks(rt: &impl Abort, alloc: Global, table: &mut Table) {
+    for (target, lines, refusal) in REFUSED_BLOCKS {
+        assert_refused_block(rt, alloc, table, target, lines, *refusal);
+    }
 }
 
 #[test]
-fn a_refused_block_changes_nothing(rt: HostRuntime) -> Result<(), Fail> {
-    let mut table = loaded(rt.alloc(), FIRST_TABLE)?;
-    for (target, lines, refusal) in REFUSED_BLOCKS {
-        assert_refused_block(&rt, rt.alloc(), &mut table, target, lines, *refusal)?;
-    }
-    Ok(())
+fn a_refused_block_changes_nothing(rt: HostRuntime) {
+    let mut table = first_table(&rt, rt.alloc());
+    assert_refused_blocks(&rt, rt.alloc(), &mut table);
 }
 
 const REFUSED_LINES: &[(&str, Refusal)] = &[
@@ -93,13 +100,26 @@ const REFUSED_LINES: &[(&str, Refusal)] = &[
     ("SMALL", Refusal::NotDeclared),
 ];
 
-#[test]
-fn an_order_line_outside_a_block_is_refused(rt: HostRuntime) -> Result<(), Fail> {
-    let mut table = loaded(rt.alloc(), FIRST_TABLE)?;
+fn assert_refused_line(
+    rt: &impl Abort,
+    alloc: Global,
+    table: &mut Table,
+    text: &str,
+    refusal: Refusal,
+) {
+    let id = id(alloc, text).expect(rt, text);
+    let statement = PlainStatement::Reweight(PlainLine { id });
+    assert_refused(rt, table, &statement, refusal);
+}
+
+fn assert_refused_lines(rt: &impl Abort, alloc: Global, table: &mut Table) {
     for (text, refusal) in REFUSED_LINES {
-        let id = id(rt.alloc(), text)?;
-        let statement = PlainStatement::Reweight(PlainLine { id });
-        assert_refused(&rt, &mut table, &statement, *refusal);
+        assert_refused_line(rt, alloc, table, text, *refusal);
     }
-    Ok(())
+}
+
+#[test]
+fn an_order_line_outside_a_block_is_refused(rt: HostRuntime) {
+    let mut table = first_table(&rt, rt.alloc());
+    assert_refused_lines(&rt, rt.alloc(), &mut table);
 }

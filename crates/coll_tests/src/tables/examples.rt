@@ -1,9 +1,10 @@
 //! Tables, identifiers and statements that several tests use.
 
+use crate::assertions::assert_same;
 use crate::tables::shown::shown;
 use coll_lex::{Counted, ListBuf, TextBuf};
 use coll_syntax::Id;
-use coll_table::{LoadCause, LoadFault, Loader, PlainLine, PlainStatement, Table, WalkItem, load};
+use coll_table::{LoadFault, Loader, PlainLine, PlainStatement, Table, WalkItem, load};
 use std::alloc::{AllocError, Global};
 use std::process::Abort;
 
@@ -39,6 +40,11 @@ pub fn loaded(alloc: Global, text: &[u8]) -> Result<Table, LoadFault> {
     load(alloc, &mut Counted::new(text))
 }
 
+/// The first table.
+pub fn first_table(rt: &impl Abort, alloc: Global) -> Table {
+    loaded(alloc, FIRST_TABLE).expect(rt, "the first table")
+}
+
 /// Hands lines to a loader.
 pub fn hand_in(loader: &mut Loader, lines: &[&str]) -> Result<(), LoadFault> {
     for line in lines {
@@ -47,20 +53,9 @@ pub fn hand_in(loader: &mut Loader, lines: &[&str]) -> Result<(), LoadFault> {
     Ok(())
 }
 
-/// A loader before the first line.
-pub fn new_loader(alloc: Global) -> Result<Loader, LoadFault> {
-    match Loader::new(alloc) {
-        Ok(loader) => Ok(loader),
-        Err(_) => Err(LoadFault {
-            line: 0,
-            cause: LoadCause::OutOfMemory,
-        }),
-    }
-}
-
 /// The table that these lines are.
 pub fn loaded_lines(alloc: Global, lines: &[&str]) -> Result<Table, LoadFault> {
-    let mut loader = new_loader(alloc)?;
+    let mut loader = Loader::new(alloc)?;
     hand_in(&mut loader, lines)?;
     loader.finish()
 }
@@ -76,15 +71,9 @@ pub fn text_of(alloc: Global, lines: &[&str]) -> Result<Vec<u8>, AllocError> {
 }
 
 /// Asserts that a table is so, shown in short.
-pub fn assert_shown(
-    rt: &impl Abort,
-    alloc: Global,
-    table: &Table,
-    want: &str,
-) -> Result<(), AllocError> {
-    let given = shown(alloc, table)?;
-    assert_eq!(rt; given.as_str(), want);
-    Ok(())
+pub fn assert_shown(rt: &impl Abort, alloc: Global, table: &Table, want: &str) {
+    let given = shown(alloc, table).expect(rt, want);
+    assert_same(rt, "the table", given.as_str(), want);
 }
 
 /// Asserts that a table has these identifiers in order, where `<` stands for a name and `?` for UNDEFINED.

@@ -1,10 +1,10 @@
 //! The limits of a table, at their last value and one past it.
 
-use crate::tables::examples::{block, hand_in, new_loader};
-use coll_table::{LoadCause, LoadFault, Loader, Refusal};
+use crate::assertions::{assert_same, assert_that};
+use crate::tables::examples::{block, hand_in};
+use coll_table::{LoadCause, LoadFault, Loader, Refusal, Table};
 use std::alloc::Global;
 use std::process::Abort;
-use std::test::Fail;
 
 const FULL: LoadCause = LoadCause::Full;
 
@@ -24,18 +24,12 @@ fn hand_in_one(
     number: usize,
 ) -> Result<(), LoadFault> {
     let mut line = String::new(alloc);
-    let written = match kind {
-        Kind::Declarations => write!(line, "collating-symbol <N{number}>"),
-        Kind::Sections => write!(line, "section <N{number}>"),
-        Kind::Characters => write!(line, "<U{:08X}>", number.saturating_add(0x10000)),
-    };
-    match written {
-        Ok(()) => loader.line(line.as_bytes()),
-        Err(_) => Err(LoadFault {
-            line: 0,
-            cause: LoadCause::OutOfMemory,
-        }),
+    match kind {
+        Kind::Declarations => write!(line, "collating-symbol <N{number}>")?,
+        Kind::Sections => write!(line, "section <N{number}>")?,
+        Kind::Characters => write!(line, "<U{:08X}>", number.saturating_add(0x10000))?,
     }
+    loader.line(line.as_bytes())
 }
 
 // Hands in so many lines.
@@ -54,20 +48,20 @@ fn hand_in_many(
 const BEGIN: &[&str] = &["LC_COLLATE", "order_start"];
 const END: &[&str] = &["order_end", "END LC_COLLATE"];
 
-// The fault of a table of so many lines of a kind, if it has one.
-fn filled(alloc: Global, kind: Kind, count: usize) -> Result<(), LoadFault> {
-    let mut loader = new_loader(alloc)?;
+// The table of so many lines of a kind.
+fn filled(alloc: Global, kind: Kind, count: usize) -> Result<Table, LoadFault> {
+    let mut loader = Loader::new(alloc)?;
     hand_in(&mut loader, BEGIN)?;
     hand_in_many(alloc, &mut loader, kind, count)?;
     hand_in(&mut loader, END)?;
-    loader.finish()?;
-    Ok(())
+    loader.finish()
 }
 
 fn assert_limit(rt: &impl Abort, alloc: Global, kind: Kind, most: usize, line: u32) {
     let fault = LoadFault { line, cause: FULL };
-    assert_eq!(rt; filled(alloc, kind, most), Ok(()));
-    assert_eq!(rt; filled(alloc, kind, most.saturating_add(1)), Err(fault));
+    assert_that(rt, "the last", filled(alloc, kind, most).is_ok());
+    let past = filled(alloc, kind, most.saturating_add(1)).err();
+    assert_same(rt, "one past it", past, Some(fault));
 }
 
 #[test]
@@ -85,16 +79,21 @@ fn a_table_has_262144_entries(rt: HostRuntime) {
     assert_limit(&rt, rt.alloc(), Kind::Characters, 262_144, 262_147);
 }
 
+// Asserts what a table answers to a block.
+fn assert_applied(
+    rt: &impl Abort,
+    alloc: Global,
+    table: &mut Table,
+    lines: &[&str],
+    refusal: Option<Refusal>,
+) {
+    let statement = block(alloc, "\u{10001}", lines).expect(rt, "a block");
+    assert_same(rt, "the refusal", table.apply(&statement).err(), refusal);
+}
+
 #[test]
-fn a_full_table_takes_no_new_entry_and_moves_those_it_has(rt: HostRuntime) -> Result<(), Fail> {
-    let mut loader = new_loader(rt.alloc())?;
-    hand_in(&mut loader, BEGIN)?;
-    hand_in_many(rt.alloc(), &mut loader, Kind::Characters, 262_144)?;
-    hand_in(&mut loader, END)?;
-    let mut table = loader.finish()?;
-    let places_another = block(rt.alloc(), "\u{10001}", &["a"])?;
-    assert_eq!(rt; table.apply(&places_another).err(), Some(Refusal::Full));
-    let moves_one = block(rt.alloc(), "\u{10001}", &["\u{10000}"])?;
-    assert!(rt; table.apply(&moves_one).is_ok());
-    Ok(())
+fn a_full_table_takes_no_new_entry_and_moves_those_it_has(rt: HostRuntime) {
+    let mut table = filled(rt.alloc(), Kind::Characters, 262_144).expect(&rt, "a table");
+    assert_applied(&rt, rt.alloc(), &mut table, &["a"], Some(Refusal::Full));
+    assert_applied(&rt, rt.alloc(), &mut table, &["\u{10000}"], None);
 }

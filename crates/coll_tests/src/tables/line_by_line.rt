@@ -1,12 +1,12 @@
 //! Tables handed in line by line: the fault of each change of a table that loads.
 
-use crate::tables::examples::{BASE_TABLE, hand_in, loaded_lines, new_loader};
+use crate::assertions::{assert_same, assert_that};
+use crate::tables::examples::{BASE_TABLE, hand_in};
 use coll_lex::LexFault;
 use coll_syntax::SyntaxFault;
-use coll_table::{LoadCause, LoadFault};
+use coll_table::{LoadCause, LoadFault, Loader};
 use std::alloc::Global;
 use std::process::Abort;
-use std::test::Fail;
 
 // A change of the base table: lines from a first to a last, counted from 1, what stands in their place, and the line and the
 // cause of the fault that the table then is.
@@ -262,8 +262,11 @@ const CHANGES: &[Change] = &[
 
 // The fault of the base table so changed, handed in line by line.
 fn changed(alloc: Global, change: &Change) -> Result<(), LoadFault> {
-    let mut loader = new_loader(alloc)?;
-    hand_in(&mut loader, &BASE_TABLE[..change.first.saturating_sub(1).min(19)])?;
+    let mut loader = Loader::new(alloc)?;
+    hand_in(
+        &mut loader,
+        &BASE_TABLE[..change.first.saturating_sub(1).min(19)],
+    )?;
     hand_in(&mut loader, change.lines)?;
     hand_in(&mut loader, &BASE_TABLE[change.last.min(19)..])?;
     loader.finish()?;
@@ -277,37 +280,36 @@ fn each_change_has_its_fault(rt: HostRuntime) {
             line: change.line,
             cause: change.cause,
         };
-        assert_eq!(rt; changed(rt.alloc(), change), Err(want), "at {want}");
+        assert_same(&rt, want, changed(rt.alloc(), change), Err(want));
     }
 }
 
-#[test]
-fn the_base_table_has_nine_entries(rt: HostRuntime) -> Result<(), Fail> {
-    let table = loaded_lines(rt.alloc(), BASE_TABLE)?;
-    assert_eq!(rt; table.len(), 9);
-    Ok(())
+const FAULT: LoadFault = LoadFault {
+    line: 2,
+    cause: LoadCause::Syntax(SyntaxFault::UnknownStatement),
+};
+
+// Asserts that a loader answers the fault whatever it is handed then.
+fn assert_stays_faulty(rt: &impl Abort, mut loader: Loader) {
+    assert_same(rt, "a blank line", hand_in(&mut loader, &[""]), Err(FAULT));
+    assert_same(rt, "another fault", hand_in(&mut loader, &["<"]), Err(FAULT));
+    assert_that(rt, "not finished", !loader.finished());
+    assert_same(rt, "the end", loader.finish().err(), Some(FAULT));
 }
 
 #[test]
-fn a_fault_is_answered_again(rt: HostRuntime) -> Result<(), Fail> {
-    let fault = LoadFault {
-        line: 2,
-        cause: LoadCause::Syntax(SyntaxFault::UnknownStatement),
-    };
-    let mut loader = new_loader(rt.alloc())?;
-    assert_eq!(rt; hand_in(&mut loader, &["LC_COLLATE", "bogus"]), Err(fault));
-    assert_eq!(rt; hand_in(&mut loader, &["<"]), Err(fault));
-    assert!(rt; !loader.finished());
-    assert_eq!(rt; loader.finish().err(), Some(fault));
-    Ok(())
+fn a_fault_is_answered_again(rt: HostRuntime) {
+    let mut loader = Loader::new(rt.alloc()).expect(&rt, "a loader");
+    let fault = hand_in(&mut loader, &["LC_COLLATE", "bogus"]);
+    assert_same(&rt, "the fault", fault, Err(FAULT));
+    assert_stays_faulty(&rt, loader);
 }
 
 #[test]
-fn nothing_behind_the_end_is_looked_at(rt: HostRuntime) -> Result<(), Fail> {
-    let mut loader = new_loader(rt.alloc())?;
-    assert_eq!(rt; hand_in(&mut loader, BASE_TABLE), Ok(()));
-    assert!(rt; loader.finished());
-    assert_eq!(rt; hand_in(&mut loader, &["<", "bogus"]), Ok(()));
-    assert!(rt; loader.finish().is_ok());
-    Ok(())
+fn nothing_behind_the_end_is_looked_at(rt: HostRuntime) {
+    let mut loader = Loader::new(rt.alloc()).expect(&rt, "a loader");
+    assert_same(&rt, "the table", hand_in(&mut loader, BASE_TABLE), Ok(()));
+    assert_that(&rt, "finished", loader.finished());
+    assert_same(&rt, "more", hand_in(&mut loader, &["<", "bogus"]), Ok(()));
+    assert_that(&rt, "the end", loader.finish().is_ok());
 }

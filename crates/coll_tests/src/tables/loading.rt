@@ -1,20 +1,19 @@
 //! Table texts: the table that each is, or the line and the cause of its first fault.
 
+use crate::assertions::{assert_same, assert_that};
 use crate::devices::ShortReader;
-use crate::tables::examples::{BASE_TABLE, FIRST_TABLE, assert_order, loaded, text_of};
+use crate::tables::examples::{BASE_TABLE, FIRST_TABLE, assert_order, first_table, loaded, text_of};
 use coll_lex::{Counted, LexFault, Source};
 use coll_syntax::SyntaxFault;
 use coll_table::{LoadCause, LoadFault, load};
-use std::alloc::Global;
+use std::alloc::{AllocError, Global};
 use std::process::Abort;
-use std::test::Fail;
 
 #[test]
-fn the_first_table_gives_its_entries_in_order(rt: HostRuntime) -> Result<(), Fail> {
-    let table = loaded(rt.alloc(), FIRST_TABLE)?;
-    assert_eq!(rt; table.len(), 4);
+fn the_first_table_gives_its_entries_in_order(rt: HostRuntime) {
+    let table = first_table(&rt, rt.alloc());
+    assert_same(&rt, "the entries", table.len(), 4);
     assert_order(&rt, &table, "<abc");
-    Ok(())
 }
 
 // Escapes, continued lines, comments, carriage returns, and what stands before and behind the category.
@@ -22,10 +21,9 @@ const SPELLED_IN_MANY_WAYS: &[u8] =
     b"junk \xFF\nLC_COLLATE  # now\r\n\ncollating-symbol \\\n  <a\\>b>\r\norder_start\norder_end\norder_start forward\n  b # trailing\n<a\\>b>\n<U\\0041>\norder_end\nEND \\\nLC_COLLATE\n\xFF\n";
 
 #[test]
-fn lines_may_be_spelled_in_many_ways(rt: HostRuntime) -> Result<(), Fail> {
-    let table = loaded(rt.alloc(), SPELLED_IN_MANY_WAYS)?;
+fn lines_may_be_spelled_in_many_ways(rt: HostRuntime) {
+    let table = loaded(rt.alloc(), SPELLED_IN_MANY_WAYS).expect(&rt, "the table");
     assert_order(&rt, &table, "b<A");
-    Ok(())
 }
 
 // A text, and the line and the cause of its first fault.
@@ -149,14 +147,16 @@ const FAULTS: &[(&[u8], u32, LoadCause)] = &[
     ),
 ];
 
+// Asserts that a text isn't a table, and where its first fault is.
+fn assert_fault(rt: &impl Abort, alloc: Global, text: &[u8], line: u32, cause: LoadCause) {
+    let want = LoadFault { line, cause };
+    assert_same(rt, want, loaded(alloc, text).err(), Some(want));
+}
+
 #[test]
 fn the_first_line_at_fault_decides(rt: HostRuntime) {
     for (text, line, cause) in FAULTS {
-        let want = LoadFault {
-            line: *line,
-            cause: *cause,
-        };
-        assert_eq!(rt; loaded(rt.alloc(), text).err(), Some(want), "at {cause}");
+        assert_fault(&rt, rt.alloc(), text, *line, *cause);
     }
 }
 
@@ -168,8 +168,8 @@ const READ_FAULT: LoadFault = LoadFault {
 // Asserts the fault of a load whose n-th read fails, if it comes so far.
 fn assert_read(rt: &impl Abort, alloc: Global, fails_at: usize, fault: Option<LoadFault>) {
     let mut input = Counted::new(ShortReader::new(FIRST_TABLE, fails_at));
-    assert_eq!(rt; load(alloc, &mut input).err(), fault, "at {fails_at}");
-    assert_eq!(rt; input.errors(), u64::from(fault.is_some()));
+    assert_same(rt, fails_at, load(alloc, &mut input).err(), fault);
+    assert_same(rt, "the errors", input.errors(), u64::from(fault.is_some()));
 }
 
 // The first table has 111 bytes, which 37 reads give; its last line feed is the last of them. A read that fails is the fault
@@ -196,29 +196,33 @@ const CUT_LINES: &[(usize, &str, u32, LoadCause)] = &[
     ),
 ];
 
-#[test]
-fn a_cut_line_is_judged_as_it_stands(rt: HostRuntime) -> Result<(), Fail> {
-    for (whole, cut, line, cause) in CUT_LINES {
-        let mut text = text_of(rt.alloc(), &BASE_TABLE[..(*whole).min(19)])?;
-        text.extend_from_slice(cut.as_bytes())?;
-        let want = LoadFault {
-            line: *line,
-            cause: *cause,
-        };
-        assert_eq!(rt; loaded(rt.alloc(), text.as_slice()).err(), Some(want), "at {cut}");
-    }
-    Ok(())
+// The first lines of the base table, and one that is cut.
+fn cut_text(alloc: Global, whole: usize, cut: &str) -> Result<Vec<u8>, AllocError> {
+    let mut text = text_of(alloc, &BASE_TABLE[..whole.min(19)])?;
+    text.extend_from_slice(cut.as_bytes())?;
+    Ok(text)
 }
 
 #[test]
-fn each_front_of_a_table_is_a_fault_but_for_the_last_line_feed(
-    rt: HostRuntime,
-) -> Result<(), Fail> {
-    let text = text_of(rt.alloc(), BASE_TABLE)?;
-    let whole = text.len().saturating_sub(1);
-    for count in 0..whole {
-        assert!(rt; loaded(rt.alloc(), &text[..count]).is_err(), "at {count}");
+fn a_cut_line_is_judged_as_it_stands(rt: HostRuntime) {
+    for (whole, cut, line, cause) in CUT_LINES {
+        let text = cut_text(rt.alloc(), *whole, cut).expect(&rt, "a text");
+        assert_fault(&rt, rt.alloc(), text.as_slice(), *line, *cause);
     }
-    assert!(rt; loaded(rt.alloc(), &text[..whole]).is_ok());
-    Ok(())
+}
+
+// Asserts that each shorter front of a text isn't a table.
+fn assert_fronts(rt: &impl Abort, alloc: Global, text: &[u8]) {
+    for count in 0..text.len() {
+        let refused = loaded(alloc, &text[..count]).is_err();
+        assert_that(rt, count, refused);
+    }
+}
+
+#[test]
+fn each_front_of_a_table_is_a_fault_but_for_the_last_line_feed(rt: HostRuntime) {
+    let text = text_of(rt.alloc(), BASE_TABLE).expect(&rt, "a text");
+    let whole = &text[..text.len().saturating_sub(1)];
+    assert_fronts(&rt, rt.alloc(), whole);
+    assert_that(&rt, "the whole", loaded(rt.alloc(), whole).is_ok());
 }

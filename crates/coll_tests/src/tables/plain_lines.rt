@@ -1,10 +1,11 @@
 //! Lines of deltas without weights: what each says, or the fault of the first token that doesn't fit. Lines of tables
 //! are shown by `loading`.
 
+use crate::assertions::assert_same;
 use crate::grammar::{line_of, show_id};
 use coll_table::{PlainDeltaLine, parse_plain_delta_line};
 use std::alloc::{AllocError, Global};
-use std::test::Fail;
+use std::process::Abort;
 
 // Shows what a line of a delta says.
 fn show(out: &mut String, line: &PlainDeltaLine) -> Result<(), AllocError> {
@@ -19,8 +20,8 @@ fn show(out: &mut String, line: &PlainDeltaLine) -> Result<(), AllocError> {
 }
 
 // What a text says as a line of a delta, or its fault.
-fn said_in_a_delta(alloc: Global, text: &str) -> Result<String, Fail> {
-    let line = line_of(alloc, text)?;
+fn said_in_a_delta(rt: &impl Abort, alloc: Global, text: &str) -> Result<String, AllocError> {
+    let line = line_of(rt, alloc, text);
     let mut said = String::new(alloc);
     match parse_plain_delta_line(alloc, &line) {
         Ok(read) => show(&mut said, &read)?,
@@ -52,10 +53,9 @@ const LINES: &[(&str, &str)] = &[
 ];
 
 #[test]
-fn lines_of_a_delta_are_read_by_their_tokens(rt: HostRuntime) -> Result<(), Fail> {
+fn lines_of_a_delta_are_read_by_their_tokens(rt: HostRuntime) {
     for (text, want) in LINES {
-        let said = said_in_a_delta(rt.alloc(), text)?;
-        assert_eq!(rt; said.as_str(), *want, "at {text}");
+        let said = said_in_a_delta(&rt, rt.alloc(), text).expect(&rt, text);
+        assert_same(&rt, *text, said.as_str(), *want);
     }
-    Ok(())
 }

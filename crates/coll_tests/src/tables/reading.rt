@@ -1,11 +1,11 @@
 //! Tables as they are read: rules, declarations, sections, entries and weights, and each entry by its identifier.
 
-use crate::tables::examples::{BASE_TABLE, assert_shown, id, loaded, loaded_lines};
+use crate::assertions::assert_same;
+use crate::tables::examples::{BASE_TABLE, assert_shown, hand_in, id, loaded, loaded_lines};
 use crate::tables::shown::show_entry;
-use coll_table::{LoadCause, LoadFault, Table};
+use coll_table::{LoadCause, LoadFault, Loader, Table};
 use std::alloc::{AllocError, Global};
 use std::process::Abort;
-use std::test::Fail;
 
 // Sections by `order_start`, one that is empty, rules that are given twice and once left out, weights that are left out or
 // name the entry alone, and UNDEFINED.
@@ -56,30 +56,37 @@ fn with_returns(alloc: Global, text: &str) -> Result<String, AllocError> {
     Ok(out)
 }
 
-#[test]
-fn a_table_is_read_as_it_was_written(rt: HostRuntime) -> Result<(), Fail> {
-    let table = loaded_lines(rt.alloc(), BASE_TABLE)?;
-    assert_shown(&rt, rt.alloc(), &table, BASE_SHOWN)?;
-    Ok(())
+// Asserts that these lines are a table, and which.
+fn assert_loaded(rt: &impl Abort, alloc: Global, lines: &[&str], want: &str) {
+    let table = loaded_lines(alloc, lines).expect(rt, want);
+    assert_shown(rt, alloc, &table, want);
+}
+
+// Asserts that a text is a table, and which.
+fn assert_read(rt: &impl Abort, alloc: Global, text: &str, want: &str) {
+    let table = loaded(alloc, text.as_bytes()).expect(rt, want);
+    assert_shown(rt, alloc, &table, want);
 }
 
 #[test]
-fn sections_and_weights_may_be_left_out(rt: HostRuntime) -> Result<(), Fail> {
-    let table = loaded_lines(rt.alloc(), TWO_SECTIONS)?;
-    assert_shown(&rt, rt.alloc(), &table, TWO_SECTIONS_SHOWN)?;
-    Ok(())
+fn a_table_is_read_as_it_was_written(rt: HostRuntime) {
+    assert_loaded(&rt, rt.alloc(), BASE_TABLE, BASE_SHOWN);
 }
 
 #[test]
-fn a_copy_is_the_same_table(rt: HostRuntime) -> Result<(), Fail> {
-    let table = loaded_lines(rt.alloc(), TWO_SECTIONS)?;
-    let copy = table.try_copy(rt.alloc())?;
-    assert_shown(&rt, rt.alloc(), &copy, TWO_SECTIONS_SHOWN)?;
-    assert_eq!(rt; copy.steps(), table.steps());
-    Ok(())
+fn sections_and_weights_may_be_left_out(rt: HostRuntime) {
+    assert_loaded(&rt, rt.alloc(), TWO_SECTIONS, TWO_SECTIONS_SHOWN);
 }
 
-// The lines before the last but two of the spellings' endings, and what each ending gives.
+#[test]
+fn a_copy_is_the_same_table(rt: HostRuntime) {
+    let table = loaded_lines(rt.alloc(), TWO_SECTIONS).expect(&rt, "a table");
+    let copy = table.try_copy(rt.alloc()).expect(&rt, "a copy");
+    assert_shown(&rt, rt.alloc(), &copy, TWO_SECTIONS_SHOWN);
+    assert_same(&rt, "the steps", copy.steps(), table.steps());
+}
+
+// What follows the spellings, and the fault of the whole: an escaped digit makes a name of it, or none.
 const ENDINGS: &[(&str, u32, LoadCause)] = &[
     (
         "<U\\0041> \"<U0041>\";<U/0041>\n<U/0041>\norder_end\nEND LC_COLLATE\n",
@@ -94,29 +101,26 @@ const ENDINGS: &[(&str, u32, LoadCause)] = &[
 ];
 
 #[test]
-fn escaped_digits_make_a_name_or_a_code_point(rt: HostRuntime) -> Result<(), Fail> {
+fn escaped_digits_make_a_name_or_a_code_point(rt: HostRuntime) {
     for (ending, line, cause) in ENDINGS {
-        let text = spelled(rt.alloc(), ending)?;
+        let text = spelled(rt.alloc(), ending).expect(&rt, "a text");
         let want = LoadFault {
             line: *line,
             cause: *cause,
         };
-        assert_eq!(rt; loaded(rt.alloc(), text.as_bytes()).err(), Some(want));
+        let fault = loaded(rt.alloc(), text.as_bytes()).err();
+        assert_same(&rt, want, fault, Some(want));
     }
-    Ok(())
 }
 
 const LAST_ENDING: &str = "<U\\0041> \"<U0041>\";<a\\>b>\norder_end\nEND LC_COLLATE\n";
 
 #[test]
-fn spellings_are_read_with_and_without_carriage_returns(rt: HostRuntime) -> Result<(), Fail> {
-    let text = spelled(rt.alloc(), LAST_ENDING)?;
-    let table = loaded(rt.alloc(), text.as_bytes())?;
-    assert_shown(&rt, rt.alloc(), &table, SPELLINGS_SHOWN)?;
-    let text = with_returns(rt.alloc(), text.as_str())?;
-    let table = loaded(rt.alloc(), text.as_bytes())?;
-    assert_shown(&rt, rt.alloc(), &table, SPELLINGS_SHOWN)?;
-    Ok(())
+fn spellings_are_read_with_and_without_carriage_returns(rt: HostRuntime) {
+    let text = spelled(rt.alloc(), LAST_ENDING).expect(&rt, "a text");
+    assert_read(&rt, rt.alloc(), text.as_str(), SPELLINGS_SHOWN);
+    let text = with_returns(rt.alloc(), text.as_str()).expect(&rt, "a text");
+    assert_read(&rt, rt.alloc(), text.as_str(), SPELLINGS_SHOWN);
 }
 
 // An identifier, and its entry in the table of two sections.
@@ -138,25 +142,17 @@ fn entry_shown(alloc: Global, table: &Table, text: &str) -> Result<String, Alloc
     Ok(out)
 }
 
-fn assert_entry(
-    rt: &impl Abort,
-    alloc: Global,
-    table: &Table,
-    text: &str,
-    want: &str,
-) -> Result<(), AllocError> {
-    let given = entry_shown(alloc, table, text)?;
-    assert_eq!(rt; given.as_str(), want, "at {text}");
-    Ok(())
+fn assert_entries(rt: &impl Abort, alloc: Global, table: &Table) {
+    for (text, want) in ENTRIES {
+        let given = entry_shown(alloc, table, text).expect(rt, text);
+        assert_same(rt, *text, given.as_str(), *want);
+    }
 }
 
 #[test]
-fn an_entry_is_found_by_its_identifier(rt: HostRuntime) -> Result<(), Fail> {
-    let table = loaded_lines(rt.alloc(), TWO_SECTIONS)?;
-    for (text, want) in ENTRIES {
-        assert_entry(&rt, rt.alloc(), &table, text, want)?;
-    }
-    Ok(())
+fn an_entry_is_found_by_its_identifier(rt: HostRuntime) {
+    let table = loaded_lines(rt.alloc(), TWO_SECTIONS).expect(&rt, "a table");
+    assert_entries(&rt, rt.alloc(), &table);
 }
 
 // The same table with one line changed, and the fault that it then is.
@@ -165,18 +161,21 @@ const OTHER_LINES: &[(usize, &str, u32, LoadCause)] = &[
     (7, "order_start <L>", 7, LoadCause::SectionTwice),
 ];
 
+// The fault of the table of two sections with one line changed.
+fn with_line(alloc: Global, number: usize, line: &str) -> Result<(), LoadFault> {
+    let mut loader = Loader::new(alloc)?;
+    hand_in(&mut loader, &TWO_SECTIONS[..number.saturating_sub(1).min(12)])?;
+    hand_in(&mut loader, &[line])?;
+    hand_in(&mut loader, &TWO_SECTIONS[number.min(12)..])
+}
+
 #[test]
-fn rules_are_given_once_and_sections_begin_once(rt: HostRuntime) -> Result<(), Fail> {
+fn rules_are_given_once_and_sections_begin_once(rt: HostRuntime) {
     for (number, line, at, cause) in OTHER_LINES {
-        let mut lines = Vec::from_slice(rt.alloc(), TWO_SECTIONS)?;
-        if let Some(slot) = lines.get_mut(number.saturating_sub(1)) {
-            *slot = *line;
-        }
         let want = LoadFault {
             line: *at,
             cause: *cause,
         };
-        assert_eq!(rt; loaded_lines(rt.alloc(), lines.as_slice()).err(), Some(want));
+        assert_same(&rt, want, with_line(rt.alloc(), *number, line), Err(want));
     }
-    Ok(())
 }

@@ -1,7 +1,4 @@
 -- Two lists of rules are the same where they are equal.
-use Rattle.std.proofs.Common.{Option, List, ap, ◌∙◌}
-use Rattle.coll_syntax.specs.declared.rules.Rule.{Rule}
-use Rattle.coll_table.specs.Drafts.{rules_differ}
 use Rattle.coll_table.proofs.RuleLists.{differ_unless_same}
 use Rattle.coll_table.proofs.drafts.Draft.rules_differ.Goals as goal
 

@@ -37,6 +37,7 @@ invariant_of-self-2 c =
     (placed_stays_well_formed (collation (value_of c.self.inside.rules c.self.inside.body)) c.args.id.now c.args.after.now c.self.invariant
     (subst (λ (t : TableValue). is_placed (collation t) c.args.after.now ≡ true) opened c.requires.placed)
     (subst (λ (t : TableValue). is_placed (collation t) c.args.id.now ≡ false) opened c.requires.new)
+    c.check_character.ensures
     (subst (λ (t : TableValue). IsTrue (is_known (collation t).declared c.args.id.now)) opened c.requires.known)
     (subst (λ (t : TableValue). length (entries_of (collation t)) < most_entries) opened c.requires.room))
 

@@ -1,7 +1,7 @@
 -- Each turn of the loop puts one more behind those that are there.
 use Rattle.std.proofs.Common.{arith}
 use Rattle.coll_table.proofs.EntryWeights.{filled_more}
-use Rattle.coll_table.proofs.drafts.fill_up.Goals as goal
+use Rattle.coll_table.proofs.line_weights.fill_up.Goals as goal
 
 pub loop-weights-preserved : goal.loop-weights-preserved
 loop-weights-preserved c = record {

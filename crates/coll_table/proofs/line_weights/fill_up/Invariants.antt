@@ -1,6 +1,6 @@
 use Rattle.std.proofs.Common.{◌≡◌, ◌≤◌, ◌++◌, ◌-◌, length, max, replicate}
 use Rattle.coll_syntax.specs.declared.weights.Weight.TheVariants.{Own}
-use Rattle.coll_table.proofs.drafts.fill_up.Given as goal
+use Rattle.coll_table.proofs.line_weights.fill_up.Given as goal
 
 abbrev pub invariant-loop-weights : goal.invariant-loop-weights
 invariant-loop-weights l = record {

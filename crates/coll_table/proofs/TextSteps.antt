@@ -1,0 +1,113 @@
+-- What a reader's answer to one call says of the lines of the text that is unread.
+use Rattle.std.proofs.Common.{◌≡◌, ℕ, ◌<◌, Bool, true, false, List, [], ◌∷◌, ◌++◌, length, Option, Some, None, ◌⊎◌, ⊎_elim, sym, ap, subst, ◌∙◌, refl, append_assoc, append-nil}
+use Rattle.std.proofs.lemmas.Bool.{false≢true}
+use Rattle.std.specs.Io.KnownBytes.{prepend_known, Keeps, IsAtEnd}
+use Rattle.coll_lex.specs.LineReading.{ReaderState, unread, Cuts, CutsLine, GivesLine, GivesEnd, EndsAgain, StopsNow, StopsAgain}
+use Rattle.coll_lex.specs.PhysicalLines.{line_feed, lines_of, IsInLine}
+use Rattle.coll_lex.specs.Limits.{most_line_bytes}
+use Rattle.coll_lex.specs.declared.faults.ReadStop.{ReadStop}
+use Rattle.coll_lex.specs.declared.faults.ReadStop.TheVariants as stop
+use Rattle.coll_lex.proofs.PhysicalLinesLemmas.{lines_of-nil, lines_of-cut, lines_of-long}
+use Rattle.coll_table.specs.Loads.{with_feeds}
+
+-- this text is still to be given; where the end of the input was met there is none
+abbrev pub IsUnread : ReaderState → Option (List ℕ) → List ℕ → Type 0
+IsUnread reader left text = (unread reader left ≡ Some text) × (reader.ended ≡ true → text ≡ [])
+
+-- the reader gave the first of the lines unread; if it hasn't met the end by it, that line ended in a line feed
+pub record GivesFirst (old new : ReaderState) (left_after : Option (List ℕ)) (text : List ℕ) : Type 0 where
+  pub rest : List ℕ
+  pub unread : IsUnread new left_after rest
+  pub first : lines_of text ≡ new.line ∷ lines_of rest
+  pub fed : new.ended ≡ false → text ≡ with_feeds (new.line ∷ []) ++ rest
+  pub went_on : old.ended ≡ false
+
+-- the first of the lines unread is longer than a line may be
+pub record IsFirstLong (text : List ℕ) : Type 0 where
+  pub line : List ℕ
+  pub later : List (List ℕ)
+  pub first : lines_of text ≡ line ∷ later
+  pub long : most_line_bytes < length line
+
+-- a read failed behind a part of the first line unread, before the end was met
+pub record IsCutShort (old : ReaderState) (left_after : Option (List ℕ)) (text : List ℕ) : Type 0 where
+  pub part : List ℕ
+  pub rest : List ℕ
+  pub left : left_after ≡ Some rest
+  pub all : text ≡ part ++ rest
+  pub whole : IsInLine part
+  pub went_on : old.ended ≡ false
+
+-- bytes that are known lose a line, and the rest is known
+known_cut : (ended : Bool) (new : Option (List ℕ)) (text line : List ℕ) → Cuts ended (Some text) new line → (rest : List ℕ) × (new ≡ Some rest) × CutsLine ended text line rest
+known_cut ended None text line cut = absurd cut
+known_cut ended (Some rest) text line cut = (rest, refl, cut)
+
+-- bytes that are known stay known
+known_kept : (new : Option (List ℕ)) (text : List ℕ) → Keeps (Some text) new → new ≡ Some text
+known_kept None text kept = absurd kept
+known_kept (Some rest) text kept = ap Some kept
+
+-- where bytes behind others are known, those are
+known_behind : (left : Option (List ℕ)) (held text : List ℕ) → prepend_known held left ≡ Some text → (rest : List ℕ) × (left ≡ Some rest) × (text ≡ held ++ rest)
+known_behind None held text e = cc
+known_behind (Some rest) held text e = (rest, refl, cc)
+
+-- before the end is met, a line that is cut off ends in a line feed
+ended_by_feed : (ended : Bool) (text line rest : List ℕ) → CutsLine ended text line rest → ended ≡ false → text ≡ with_feeds (line ∷ []) ++ rest
+ended_by_feed true text line rest cut n = absurd (false≢true (sym n))
+ended_by_feed false text line rest cut n =
+    cut ∙ (sym (append_assoc line (line_feed ∷ []) rest) ∙ ap (λ l. l ++ rest) (sym (append-nil (line ++ line_feed ∷ []))))
+
+-- behind the line at the end there is nothing
+last_at_end : (ended : Bool) (text line rest : List ℕ) → CutsLine ended text line rest → ended ≡ true → rest ≡ []
+last_at_end true text line rest cut n = cut.2
+last_at_end false text line rest cut n = absurd (false≢true n)
+
+module _ (old new : ReaderState) (left left_after : Option (List ℕ)) (failed failed_after : ℕ) (text : List ℕ) (unread_before : IsUnread old left text) where
+  -- a line that was given is the first one unread
+  pub gives_first : GivesLine old new left left_after failed failed_after → GivesFirst old new left_after text
+  gives_first h =
+      let cut = known_cut new.ended (unread new left_after) text new.line (subst (λ o. Cuts new.ended o (unread new left_after) new.line) unread_before.0 h.cut) in
+      record {
+        rest = cut.0;
+        unread = (cut.1, last_at_end new.ended text new.line cut.0 cut.2);
+        first = lines_of-cut new.ended text new.line cut.0 cut.2 h.whole;
+        fed = λ n. ended_by_feed new.ended text new.line cut.0 cut.2 n;
+        went_on = h.not_ended;
+      }
+
+  -- where the end is met now there is no line unread
+  ends_now : GivesEnd old new left left_after failed failed_after → lines_of text ≡ []
+  ends_now h =
+      let kept = known_kept (unread new left_after) text (subst (λ o. Keeps o (unread new left_after)) unread_before.0 h.kept) in
+      let none : text ≡ [] = subst IsAtEnd kept h.end in
+      ap lines_of none ∙ lines_of-nil
+
+  -- at the end there is no line unread
+  pub was_last : GivesEnd old new left left_after failed failed_after ⊎ EndsAgain old new left left_after failed failed_after → lines_of text ≡ []
+  was_last h = ⊎_elim (λ now. ends_now now) (λ again. ap lines_of (unread_before.1 again.ended) ∙ lines_of-nil) h
+
+  -- a reader that hasn't stopped stops now
+  stops_now : (s : ReadStop) → old.stop ≡ None → StopsNow old new left left_after failed failed_after s ⊎ StopsAgain old new left left_after failed failed_after s → StopsNow old new left left_after failed failed_after s
+  stops_now s none h = ⊎_elim (λ now. now) (λ again. let both : None ≡ Some s = sym none ∙ again.stopped in cc) h
+
+  -- the bytes that were unread are those held and those left
+  stopped_at : (s : ReadStop) → StopsNow old new left left_after failed failed_after s → (rest : List ℕ) × (left_after ≡ Some rest) × (text ≡ new.held ++ rest)
+  stopped_at s h =
+      known_behind left_after new.held text (known_kept (unread new left_after) text (subst (λ o. Keeps o (unread new left_after)) unread_before.0 h.kept))
+
+  -- at a line that is too long, the first one unread is
+  pub stops_long : old.stop ≡ None → StopsNow old new left left_after failed failed_after stop.LineTooLong ⊎ StopsAgain old new left left_after failed failed_after stop.LineTooLong → IsFirstLong text
+  stops_long none either =
+      let h = stops_now stop.LineTooLong none either in
+      let at = stopped_at stop.LineTooLong h in
+      let long = lines_of-long new.held at.0 h.cause.1 in
+      record { line = long.0; later = long.1; first = ap lines_of at.2 ∙ long.2; long = long.3 }
+
+  -- at a read that fails, a part of the first one unread was read
+  pub stops_short : old.stop ≡ None → StopsNow old new left left_after failed failed_after stop.ReadFault ⊎ StopsAgain old new left left_after failed failed_after stop.ReadFault → IsCutShort old left_after text
+  stops_short none either =
+      let h = stops_now stop.ReadFault none either in
+      let at = stopped_at stop.ReadFault h in
+      record { part = new.held; rest = at.0; left = at.1; all = at.2; whole = h.cause.1; went_on = h.not_ended }

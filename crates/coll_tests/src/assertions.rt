@@ -1,0 +1,24 @@
+//! Assertions that are functions.
+//!
+//! `assert_eq!` writes a comparison and two shown values into the function that it stands in, which is then proved with
+//! all of it. A call of a function that asserts is proved in no time, so values are compared here, and `what` says which
+//! value it is, and in which row of a table. For the same reason a test ends by `expect` where something is refused that
+//! it needs, and not by `?`, behind which all that it holds would have to be given up once more.
+
+use std::fmt::{Debug, Display};
+use std::process::Abort;
+
+/// Asserts that a value is the one that is wanted.
+pub fn assert_same<T: PartialEq + Debug + Drop>(
+    rt: &impl Abort,
+    what: impl Display + Drop,
+    given: T,
+    wanted: T,
+) {
+    assert!(rt; given == wanted, "{what}: {given:?} in place of {wanted:?}");
+}
+
+/// Asserts that something is so.
+pub fn assert_that(rt: &impl Abort, what: impl Display + Drop, holds: bool) {
+    assert!(rt; holds, "{what}: it is not so");
+}
