@@ -69,11 +69,11 @@ apart_texts texts later (declaration.Symbol name) d = refl
 apart_texts texts later (declaration.Element name text) d = rw (distinct_before same_name same_name_symmetric texts text later d) refl
 
 -- a declaration is accepted where those before it and it are apart
-declaration_passes : (d : DraftState) (new : Declaration) (later : List Declaration) → AreDistinct same_name (names_of (d.declared ++ new ∷ later)) → AreDistinct same_name (texts_of (d.declared ++ new ∷ later)) → length (d.declared ++ new ∷ later) ≤ most_declarations → declaration_cause d new ≡ None
-declaration_passes d new later names texts few =
-    let own : is_declared d.declared (name_of new) ≡ false = distinct_before same_name same_name_symmetric (names_of d.declared) (name_of new) (names_of later) (subst (AreDistinct same_name) (map-append name_of d.declared (new ∷ later)) names) in
-    let text : has_text d.declared (text_of new) ≡ false = apart_texts (texts_of d.declared) (texts_of later) new (subst (AreDistinct same_name) (flat_map-append text_of d.declared (new ∷ later)) texts) in
-    let room : nat_le most_declarations (length d.declared) ≡ false = lt-leb most_declarations (length d.declared) (omega (arith, length-append d.declared (new ∷ later))) in
+declaration_passes : (declared : List Declaration) (new : Declaration) (later : List Declaration) → AreDistinct same_name (names_of (declared ++ new ∷ later)) → AreDistinct same_name (texts_of (declared ++ new ∷ later)) → length (declared ++ new ∷ later) ≤ most_declarations → declaration_cause declared new ≡ None
+declaration_passes declared new later names texts few =
+    let own : is_declared declared (name_of new) ≡ false = distinct_before same_name same_name_symmetric (names_of declared) (name_of new) (names_of later) (subst (AreDistinct same_name) (map-append name_of declared (new ∷ later)) names) in
+    let text : has_text declared (text_of new) ≡ false = apart_texts (texts_of declared) (texts_of later) new (subst (AreDistinct same_name) (flat_map-append text_of declared (new ∷ later)) texts) in
+    let room : nat_le most_declarations (length declared) ≡ false = lt-leb most_declarations (length declared) (omega (arith, length-append declared (new ∷ later))) in
     passes _ _ _ own (passes _ _ _ text (passes _ _ _ room refl))
 
 -- all declarations, accepted one after another
@@ -88,8 +88,8 @@ declarations_lead done (new ∷ later) number rest Last names texts few goes_on 
     let more = declarations_lead (done ++ new ∷ []) later (suc number) rest Last
     (subst (λ ds. AreDistinct same_name (names_of ds)) (sym all) names) (subst (λ ds. AreDistinct same_name (texts_of ds)) (sym all) texts)
     (subst (λ (ds : List Declaration). length ds ≤ most_declarations) (sym all) few) (subst (λ ds. (number : ℕ) → Leads (declared_draft ds) number rest Last) (sym all) goes_on) in
-    one_leads done new number (map declaration_read later ++ rest) Last (declaration_passes (declared_draft done) new later names texts few) more where
-      one_leads : (done : List Declaration) (new : Declaration) (number : ℕ) (ls : List TableLine) (Last : DraftState → Type 0) → declaration_cause (declared_draft done) new ≡ None → Leads (declared_draft (done ++ new ∷ [])) (suc number) ls Last → Leads (declared_draft done) number (declaration_read new ∷ ls) Last
+    one_leads done new number (map declaration_read later ++ rest) Last (declaration_passes done new later names texts few) more where
+      one_leads : (done : List Declaration) (new : Declaration) (number : ℕ) (ls : List TableLine) (Last : DraftState → Type 0) → declaration_cause done new ≡ None → Leads (declared_draft (done ++ new ∷ [])) (suc number) ls Last → Leads (declared_draft done) number (declaration_read new ∷ ls) Last
       one_leads done (declaration.Symbol name) number ls Last e more = (faultless (declared_draft done) number (line.Symbol name) refl e, refl, more)
       one_leads done (declaration.Element name text) number ls Last e more = (faultless (declared_draft done) number (line.Element name text) refl e, refl, more)
 
@@ -373,18 +373,18 @@ closed_draft table numbers = record { order_open = false; rules = Some table.rul
 
 module _ (table : Collation) (w : IsWellFormed table) (numbers : List ℕ) where
   -- an identifier that is placed may stand in a weight
-  placed_passes : (id : Id) → is_placed table id ≡ true → weight_cause (closed_draft table numbers) id ≡ None
-  unfolding closed_draft
+  placed_passes : (id : Id) → is_placed table id ≡ true → weight_cause table.declared table.sections id ≡ None
   placed_passes id placed =
       let known : IsKnown table.declared id = has_property same_id same_id_decides (IsKnown table.declared) (ids_of (joined_entries table.sections)) id placed w.built.known in
       passes _ _ _ (ap not known) (passes _ _ _ (ap not placed) refl)
 
-  ids_pass : (ids : List Id) → All (λ id. IsTrue (is_placed table id)) ids → ids_cause (closed_draft table numbers) ids ≡ None
+  ids_pass : (ids : List Id) → All (λ id. IsTrue (is_placed table id)) ids → ids_cause table.declared table.sections ids ≡ None
   ids_pass [] h = refl
   ids_pass (id ∷ ids) h =
       rw (placed_passes id (All-head (λ id. IsTrue (is_placed table id)) id ids h)) (ids_pass ids (All-tail (λ id. IsTrue (is_placed table id)) id ids h))
 
   entries_pass : (places : List ℕ) (entries : List Entry) → All (HasPlacedWeights table) entries → entries_fault (closed_draft table numbers) places entries ≡ None
+  unfolding closed_draft
   entries_pass [] entries h = refl
   entries_pass (place ∷ places) [] h = refl
   entries_pass (place ∷ places) (e ∷ entries) h =

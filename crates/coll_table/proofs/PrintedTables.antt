@@ -75,13 +75,13 @@ count_met (MetEntry e ∷ ms) = omega (arith, count_met ms)
 body_lines : Collation → List (List ℕ)
 body_lines table = map declaration_line table.declared ++ (rules_line table.rules ∷ (map met_line (met table.sections) ++ codes "order_end" ∷ []))
 
-module _ (table : Collation) (w : IsWellFormed table) (ids : All IsId (ids_of (entries_of table))) where
+module _ (table : Collation) (w : IsWellFormed table) where
   -- each says what is read of it
   body_says : SayAll (body_lines table) (said table)
   unfolding body_lines said
   body_says =
       let names = subst (All IsName) (sym (names_met table.sections)) (names_of_first table.sections w.built.first_unnamed).0 in
-      let spelled = entries_spelled (length table.rules) table.declared (joined_entries table.sections) w.built.few_levels ids w.built.weighted in
+      let spelled = entries_spelled (length table.rules) table.declared (joined_entries table.sections) w.built.few_levels w.built.ids w.built.weighted in
       let entries = subst (All IsSpelledEntry) (sym (entries_met table.sections)) spelled in
       say_append (map declaration_line table.declared) (rules_line table.rules ∷ (map met_line (met table.sections) ++ codes "order_end" ∷ [])) (map declaration_read table.declared) (line.OrderStart None (Some table.rules) ∷ (map met_read (met table.sections) ++ line.OrderEnd ∷ []))
       (say_members declaration_line declaration_read IsSpelledDeclaration declaration_says table.declared (declarations_spelled table.declared w.built.names w.built.texts))
@@ -130,10 +130,10 @@ opening_in_line =
 -- the canonical text of a well-formed table is read as that table
 pub printed_tables_are_read_back : PrintedTablesAreReadBack
 unfolding text reads
-printed_tables_are_read_back table w ids =
+printed_tables_are_read_back table w =
     let last : List ℕ = codes "END LC_COLLATE" in
     let body = body_lines table in
-    let says = body_says table w ids in
+    let says = body_says table w in
     let parts : bytes_of (canonical_lines table) ≡ bytes_of opening_lines ++ (bytes_of body ++ encode_utf8_all last ∷ []) =
     ap bytes_of (lines_in_parts table) ∙ map-append encode_utf8_all opening_lines (body ++ last ∷ []) ∙ ap (λ back. bytes_of opening_lines ++ back) (map-append encode_utf8_all body (last ∷ [])) in
     let last_in_line : All IsInLine (encode_utf8_all last ∷ []) = All-cons IsInLine (encode_utf8_all last) [] (says_in_line last line.EndCategory category_end_says) (All-nil IsInLine) in
@@ -142,5 +142,5 @@ printed_tables_are_read_back table w ids =
     (All-append IsInLine (bytes_of body) (encode_utf8_all last ∷ []) (say_in_line body (said table) says) last_in_line) in
     let lines : lines_of (flat_map line_bytes (canonical_lines table)) ≡ bytes_of opening_lines ++ (bytes_of body ++ encode_utf8_all last ∷ []) =
     lines_of_feeds (canonical_lines table) (subst (All IsInLine) (sym parts) in_lines) ∙ parts in
-    let decides = lines_decide table [] 3 body (said table) last says category_end_says (said_leads table w 4) (body_is_short table w ids) in
+    let decides = lines_decide table [] 3 body (said table) last says category_end_says (said_leads table w 4) (body_is_short table w) in
     ap (answer_at_end (length (lines_of (flat_map line_bytes (canonical_lines table))))) (ap (outcome_of true) lines ∙ opening_decides (bytes_of body ++ encode_utf8_all last ∷ []) ∙ decides)

@@ -2,12 +2,11 @@
 --
 -- Each spelling takes what follows it, so that a whole line is spelled by putting one spelling into the next. The lines are
 -- characters, and their bytes are the text. A form of a line that is not spelled here is read all the same, and is never written.
-use Rattle.std.specs.Prelude.{◌≡◌, All, Ok, ℕ, Bool, true, false, if◌then◌else◌, List, [], ◌∷◌, ◌++◌, map, codes, encode_utf8_all}
+use Rattle.std.specs.Prelude.{◌≡◌, Ok, ℕ, Bool, true, false, if◌then◌else◌, List, [], ◌∷◌, ◌++◌, map, codes, encode_utf8_all}
 use Rattle.std.specs.List.{flat_map, list_all}
 use Rattle.coll_lex.specs.Characters.{space, quotation_mark, semicolon}
 use Rattle.coll_lex.specs.PhysicalLines.{line_feed}
 use Rattle.coll_lex.specs.Spelling.{spelled_symbol, spelled_code}
-use Rattle.coll_syntax.specs.Proper.{IsId}
 use Rattle.coll_syntax.specs.declared.identifiers.Id.{Id}
 use Rattle.coll_syntax.specs.declared.identifiers.Id.TheVariants.{Char, Named, Undefined}
 use Rattle.coll_syntax.specs.declared.weights.Weight.{Weight}
@@ -16,7 +15,7 @@ use Rattle.coll_syntax.specs.declared.rules.Rule.{Rule}
 use Rattle.coll_table.specs.declared.declarations.Declaration.{Declaration}
 use Rattle.coll_table.specs.declared.declarations.Declaration.TheVariants.{Symbol, Element}
 use Rattle.coll_table.specs.declared.entries.Entry.{Entry}
-use Rattle.coll_table.specs.Table.{Collation, entries_of, ids_of}
+use Rattle.coll_table.specs.Table.{Collation}
 use Rattle.coll_table.specs.Walks.{Met, MetSection, MetEntry, met}
 use Rattle.coll_table.specs.Reading.{reads}
 use Rattle.coll_table.specs.WellFormed.{IsWellFormed}
@@ -133,6 +132,6 @@ line_bytes line = encode_utf8_all line ++ line_feed ∷ []
 unfoldable pub text : Collation → List ℕ
 text table = flat_map line_bytes (canonical_lines table)
 
--- the canonical text of a table is read as that table; each identifier that the table places is one
+-- the canonical text of a well-formed table is read as that table
 abbrev pub PrintedTablesAreReadBack : Type 0
-PrintedTablesAreReadBack = (table : Collation) → IsWellFormed table → All IsId (ids_of (entries_of table)) → reads (text table) ≡ Ok table
+PrintedTablesAreReadBack = (table : Collation) → IsWellFormed table → reads (text table) ≡ Ok table
