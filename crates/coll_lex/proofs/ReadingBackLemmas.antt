@@ -20,7 +20,7 @@ abbrev mark_of : ℕ → Mark
 mark_of c = if is_escaped c then Literal c else Plain c
 
 -- a plain character that isn't the escape character
-marks-plain : (c : ℕ) (rest : List ℕ) → (c == 47) ≡ false → marks 47 false (c ∷ rest) ≡ Plain c ∷ marks 47 false rest
+pub marks-plain : (c : ℕ) (rest : List ℕ) → (c == 47) ≡ false → marks 47 false (c ∷ rest) ≡ Plain c ∷ marks 47 false rest
 unfolding marks
 marks-plain c rest other = ap (λ b. if b then marks 47 true rest else Plain c ∷ marks 47 false rest) other
 
@@ -115,7 +115,7 @@ is_hex_digit-hex_digit : (d : ℕ) → d < 16 → is_hex_digit (hex_digit d) ≡
 is_hex_digit-hex_digit d small = rw (digit_value-hex_digit d small) (lt-ltb d 16 small)
 
 -- and no character that a name escapes
-pub is_escaped-hex_digit : (d : ℕ) → d < 16 → is_escaped (hex_digit d) ≡ false
+is_escaped-hex_digit : (d : ℕ) → d < 16 → is_escaped (hex_digit d) ≡ false
 is_escaped-hex_digit d small =
     ⊎_elim
     (λ low. rw (lt-ltb d 10 low, ne_eqb (48 + d) 62 (λ same. omega arith), ne_eqb (48 + d) 47 (λ same. omega arith)) refl)

@@ -27,10 +27,11 @@ use Rattle.coll_table.specs.Drafts.{Numbered, DraftState, draft_of, table_of, re
 use Rattle.coll_table.specs.declared.load_faults.LoadFault.{LoadFault}
 use Rattle.coll_table.specs.declared.load_faults.LoadCause.{LoadCause}
 use Rattle.coll_table.specs.Loading.{with_last, with_section, draft_with}
-use Rattle.coll_table.specs.Walks.{Met, MetSection, MetEntry, met_name, met_in, met}
+use Rattle.coll_table.specs.Walks.{Met, MetSection, MetEntry, met_name, met_in, met, entry_met}
 use Rattle.coll_table.specs.CanonicalText.{is_own}
-use Rattle.coll_table.proofs.Sameness.{same_id_decides, same_name_symmetric, same_id_symmetric, same_id_itself, distinct_before}
+use Rattle.coll_table.proofs.Sameness.{same_id_decides, same_name_symmetric, same_id_symmetric, same_id_itself, distinct_before, found_holds}
 use Rattle.coll_table.proofs.BuiltTables.{names_push, texts_push, ids_push, entries_with_section, names_with_section, unnamed_with_section, entries_with_last, names_with_last, length_with_last, unnamed_with_last}
+use Rattle.coll_table.proofs.MetEntries.{met_all}
 use Rattle.coll_table.proofs.PrintedTokens.{own_read, weight_read, order_read, declaration_read}
 
 -- Lines that are accepted.
@@ -157,11 +158,7 @@ count_passes levels symbol e h =
 
 -- The sections.
 
--- the entry that is met, and the name
-unfoldable pub entry_met : Met → List Entry
-entry_met (MetSection name) = []
-entry_met (MetEntry entry) = entry ∷ []
-
+-- the name of a section that is met
 unfoldable pub name_met : Met → List (List ℕ)
 name_met (MetSection name) = name ∷ []
 name_met (MetEntry entry) = []
@@ -191,7 +188,7 @@ record CanFollow (levels : ℕ) (declared : List Declaration) (sections : List S
 module _ (levels : ℕ) (declared : List Declaration) where
   -- one section on
   section_on : (sections : List Section) (name : List ℕ) (ms : List Met) → CanFollow levels declared sections (MetSection name ∷ ms) → CanFollow levels declared (with_section sections name) ms
-  unfolding entry_met name_met
+  unfolding name_met
   section_on sections name ms can =
       let same = sym (entries_with_section sections name) in
       let names : section_names (with_section sections name) ++ flat_map name_met ms ≡ section_names sections ++ name ∷ flat_map name_met ms =
@@ -210,7 +207,7 @@ module _ (levels : ℕ) (declared : List Declaration) where
 
   -- one entry on
   entry_on : (sections : List Section) (e : Entry) (ms : List Met) → CanFollow levels declared sections (MetEntry e ∷ ms) → CanFollow levels declared (with_last sections e) ms
-  unfolding entry_met name_met
+  unfolding name_met
   entry_on sections e ms can =
       let more : joined_entries (with_last sections e) ++ flat_map entry_met ms ≡ joined_entries sections ++ e ∷ flat_map entry_met ms =
       ap (λ es. es ++ flat_map entry_met ms) (entries_with_last sections e can.first_unnamed) ∙ append_assoc (joined_entries sections) (e ∷ []) (flat_map entry_met ms) in
@@ -240,7 +237,7 @@ module _ (rules : List Rule) (declared : List Declaration) (sections : List Sect
 
   -- an entry is accepted
   entry_passes : (e : Entry) (ms : List Met) → CanFollow (length rules) declared sections (MetEntry e ∷ ms) → cause_after (open_draft rules declared sections numbers) (line.Order (order_read e.id e.weights)) ≡ None
-  unfolding open_draft entry_met order_read
+  unfolding open_draft order_read
   entry_passes e ms can =
       let weighted = All-head (IsWeighted (length rules) declared) e (flat_map entry_met ms) can.weighted in
       let ids : AreDistinct same_id (ids_of (joined_entries sections) ++ e.id ∷ ids_of (flat_map entry_met ms)) = subst (AreDistinct same_id) (map-append (λ (e : Entry). e.id) (joined_entries sections) (e ∷ flat_map entry_met ms)) can.distinct_ids in
@@ -255,7 +252,7 @@ meets_lead : (rules : List Rule) (declared : List Declaration) (sections : List 
     → CanFollow (length rules) declared sections ms
     → ((numbers : List ℕ) (number : ℕ) → Leads (open_draft rules declared (sections_past sections ms) numbers) number rest Last)
     → Leads (open_draft rules declared sections numbers) number (map met_read ms ++ rest) Last
-unfolding Leads open_draft draft_with sections_past met_read entry_met
+unfolding Leads open_draft draft_with sections_past met_read
 meets_lead rules declared sections numbers [] number rest Last can goes_on = goes_on numbers number
 meets_lead rules declared sections numbers (MetSection name ∷ ms) number rest Last can goes_on =
     (faultless (open_draft rules declared sections numbers) number (line.Section name) refl (section_passes rules declared sections numbers name ms can),
@@ -311,19 +308,7 @@ past_all (first ∷ others) h = by_name first.name first.entries h.0 where
   by_name None entries e = past_entries [] None [] entries (met others) ∙ past_sections [] None entries others h.1
   by_name (Some name) entries e = cc
 
--- the entries and the names that are met
-pub entries_met : (sections : List Section) → flat_map entry_met (met sections) ≡ joined_entries sections
-unfolding entry_met
-entries_met [] = refl
-entries_met (first ∷ others) =
-    flat_map-append entry_met (met_in first) (met others) ∙ ap (λ es. es ++ flat_map entry_met (met others)) (in_section first.name first.entries) ∙ ap (λ es. first.entries ++ es) (entries_met others) where
-      only_entries : (entries : List Entry) → flat_map entry_met (map MetEntry entries) ≡ entries
-      only_entries [] = refl
-      only_entries (e ∷ es) = ap (λ l. e ∷ l) (only_entries es)
-      in_section : (name : Option (List ℕ)) (entries : List Entry) → flat_map entry_met (met_name name ++ map MetEntry entries) ≡ entries
-      in_section None entries = only_entries entries
-      in_section (Some name) entries = only_entries entries
-
+-- the names that are met
 pub names_met : (sections : List Section) → flat_map name_met (met sections) ≡ section_names sections
 unfolding name_met
 names_met [] = refl
@@ -354,14 +339,6 @@ names_of_first (first ∷ others) h =
 
 -- The end of the category.
 
--- one of these, where each has this property, has it
-pub has_property : {X : Type 0} (same : X → X → Bool) → ((a b : X) → Decides (same a b) (a ≡ b)) → (P : X → Type 0) (xs : List X) (x : X) → list_any (same x) xs ≡ true → All P xs → P x
-has_property same decides P [] x found h = absurd (false≢true found)
-has_property {X = X} same decides P (first ∷ xs) x found h = by_answer (same x first) refl (λ found. has_property same decides P xs x found (All-tail P first xs h)) where
-  by_answer : (answer : Bool) → same x first ≡ answer → (list_any (same x) xs ≡ true → P x) → P x
-  by_answer true e later = subst P (sym ((decides x first).0 e)) (All-head P first xs h)
-  by_answer false e later = later (ap (λ b. b || list_any (same x) xs) (sym e) ∙ found)
-
 -- what is said at the end: no weight is refused, the order is closed, and the table is this one
 pub record EndsAs (table : Collation) (d : DraftState) : Type 0 where
   pub passes : (number : ℕ) → line_fault d (record { number = number; line = line.EndCategory }) ≡ None
@@ -375,7 +352,7 @@ module _ (table : Collation) (w : IsWellFormed table) (numbers : List ℕ) where
   -- an identifier that is placed may stand in a weight
   placed_passes : (id : Id) → is_placed table id ≡ true → weight_cause table.declared table.sections id ≡ None
   placed_passes id placed =
-      let known : IsKnown table.declared id = has_property same_id same_id_decides (IsKnown table.declared) (ids_of (joined_entries table.sections)) id placed w.built.known in
+      let known : IsKnown table.declared id = found_holds same_id same_id_decides (IsKnown table.declared) (ids_of (joined_entries table.sections)) id w.built.known placed in
       passes _ _ _ (ap not known) (passes _ _ _ (ap not placed) refl)
 
   ids_pass : (ids : List Id) → All (λ id. IsTrue (is_placed table id)) ids → ids_cause table.declared table.sections ids ≡ None
@@ -404,7 +381,7 @@ module _ (table : Collation) (w : IsWellFormed table) where
   -- what is met may stand behind a first section that is empty
   can_follow : CanFollow (length table.rules) table.declared (record { name = None; entries = [] } ∷ []) (met table.sections)
   can_follow =
-      let entries = sym (entries_met table.sections) in
+      let entries = sym (met_all table.sections) in
       let names = sym (names_met table.sections) in
       let named = names_of_first table.sections w.built.first_unnamed in
       record {

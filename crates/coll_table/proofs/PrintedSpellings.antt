@@ -19,7 +19,7 @@ use Rattle.std.proofs.lemmas.Str.{encode_ascii, length-encode, len_utf8_bounds}
 use Rattle.std.proofs.lemmas.List.Elements.{All-head, All-tail}
 use Rattle.coll_lex.specs.Marked.{Mark, Plain, Literal, marks, ends_escaped}
 use Rattle.coll_lex.specs.Spelling.{is_escaped, spelled_char, spelled_name, spelled_symbol, spelled_code, hex_digit, hex_digits, digit_count}
-use Rattle.coll_lex.proofs.ReadingBackLemmas.{reading-spelled_symbol, spelled_code-symbol, symbol_of-spelled_code, atoms-spelled_symbol, length-hex_digits}
+use Rattle.coll_lex.proofs.ReadingBackLemmas.{marks-plain, reading-spelled_symbol, spelled_code-symbol, symbol_of-spelled_code, atoms-spelled_symbol, length-hex_digits}
 use Rattle.coll_lex.specs.Kinds.{kind_of, ends_word}
 use Rattle.coll_lex.specs.Kinds as kind
 use Rattle.coll_lex.specs.Tokens.{symbol_of, symbol_by, code_point_of, is_name, is_control, Atom, Bracketed, Unclosed, Bare, atoms, Quoted, Closed, quoted, with_piece, with_symbol, word_run, after_plain, Reading, with_token, token_of, reading, reading_of}
@@ -128,10 +128,6 @@ letter c e =
     record { unescaped = is_not _ a.0; outside = is_not _ b.0; stays = is_not _ d.0; clean = f.0; small = ltb-true c 128 f.1 }
 
 -- a plain character at the front
-marks-plain : (c : ℕ) (rest : List ℕ) → (c == 47) ≡ false → marks 47 false (c ∷ rest) ≡ Plain c ∷ marks 47 false rest
-unfolding marks
-marks-plain c rest e = ap (λ b. if b then marks 47 true rest else Plain c ∷ marks 47 false rest) e
-
 stays-plain : (c : ℕ) (rest : List ℕ) → (c == 47) ≡ false → ends_escaped 47 false (c ∷ rest) ≡ ends_escaped 47 false rest
 unfolding ends_escaped
 stays-plain c rest e = ap (λ b. if b then ends_escaped 47 true rest else ends_escaped 47 false rest) e

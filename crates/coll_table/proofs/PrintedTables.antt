@@ -19,11 +19,12 @@ use Rattle.coll_table.specs.Table.{Collation, Section, names_of, texts_of, joine
 use Rattle.coll_table.specs.WellFormed.{IsKeptWeight, HasWeights, IsWeighted, IsWellFormed}
 use Rattle.coll_table.specs.Limits.{most_entries, most_declarations, most_sections}
 use Rattle.coll_table.specs.Drafts.{draft_of}
-use Rattle.coll_table.specs.Walks.{Met, MetSection, MetEntry, met}
+use Rattle.coll_table.specs.Walks.{Met, MetSection, MetEntry, met, entry_met}
+use Rattle.coll_table.proofs.MetEntries.{met_all}
 use Rattle.coll_table.specs.Reading.{answer_at_end, outcome_of, outcome_within, reads}
 use Rattle.coll_table.specs.CanonicalText.{declaration_line, rules_line, met_line, opening_lines, closing_lines, canonical_lines, line_bytes, text, PrintedTablesAreReadBack}
 use Rattle.coll_table.proofs.PrintedTokens.{declaration_read}
-use Rattle.coll_table.proofs.PrintedDrafts.{entry_met, name_met, met_read, entries_met, names_met, names_of_first, said, said_leads}
+use Rattle.coll_table.proofs.PrintedDrafts.{name_met, met_read, names_met, names_of_first, said, said_leads}
 use Rattle.coll_table.proofs.PrintedSpellings.{is_clean}
 use Rattle.coll_table.proofs.PrintedLines.{Says, IsSpelledDeclaration, IsSpelledEntry, declaration_says, rules_say, entry_says, section_says, order_end_says, category_end_says}
 use Rattle.coll_table.proofs.PrintedTexts.{in_line, lexer_at}
@@ -59,13 +60,13 @@ entries_spelled levels declared (e ∷ entries) few ids weighted =
 
 -- what is met on a walk
 met_say : (ms : List Met) → All IsName (flat_map name_met ms) → All IsSpelledEntry (flat_map entry_met ms) → SayAll (map met_line ms) (map met_read ms)
-unfolding SayAll entry_met name_met met_read
+unfolding SayAll name_met met_read
 met_say [] names entries = tt
 met_say (MetSection name ∷ ms) names entries = (section_says name (All-head IsName name (flat_map name_met ms) names), met_say ms (All-tail IsName name (flat_map name_met ms) names) entries)
 met_say (MetEntry e ∷ ms) names entries = (entry_says e (All-head IsSpelledEntry e (flat_map entry_met ms) entries), met_say ms names (All-tail IsSpelledEntry e (flat_map entry_met ms) entries))
 
 count_met : (ms : List Met) → length ms ≡ length (flat_map entry_met ms) + length (flat_map name_met ms)
-unfolding entry_met name_met
+unfolding name_met
 count_met [] = omega arith
 count_met (MetSection name ∷ ms) = omega (arith, count_met ms)
 count_met (MetEntry e ∷ ms) = omega (arith, count_met ms)
@@ -82,7 +83,7 @@ module _ (table : Collation) (w : IsWellFormed table) where
   body_says =
       let names = subst (All IsName) (sym (names_met table.sections)) (names_of_first table.sections w.built.first_unnamed).0 in
       let spelled = entries_spelled (length table.rules) table.declared (joined_entries table.sections) w.built.few_levels w.built.ids w.built.weighted in
-      let entries = subst (All IsSpelledEntry) (sym (entries_met table.sections)) spelled in
+      let entries = subst (All IsSpelledEntry) (sym (met_all table.sections)) spelled in
       say_append (map declaration_line table.declared) (rules_line table.rules ∷ (map met_line (met table.sections) ++ codes "order_end" ∷ [])) (map declaration_read table.declared) (line.OrderStart None (Some table.rules) ∷ (map met_read (met table.sections) ++ line.OrderEnd ∷ []))
       (say_members declaration_line declaration_read IsSpelledDeclaration declaration_says table.declared (declarations_spelled table.declared w.built.names w.built.texts))
       (say_append (rules_line table.rules ∷ []) (map met_line (met table.sections) ++ codes "order_end" ∷ []) (line.OrderStart None (Some table.rules) ∷ []) (map met_read (met table.sections) ++ line.OrderEnd ∷ [])
@@ -96,7 +97,7 @@ module _ (table : Collation) (w : IsWellFormed table) where
   body_is_short =
       let ms = met table.sections in
       let back = map met_line ms ++ codes "order_end" ∷ [] in
-      let entries : length (flat_map entry_met ms) ≡ length (joined_entries table.sections) = ap length (entries_met table.sections) in
+      let entries : length (flat_map entry_met ms) ≡ length (joined_entries table.sections) = ap length (met_all table.sections) in
       let names : length (flat_map name_met ms) ≡ length (section_names table.sections) = ap length (names_met table.sections) in
       let sections : suc (length (section_names table.sections)) ≡ length table.sections = (names_of_first table.sections w.built.first_unnamed).1 in
       let few_entries : length (joined_entries table.sections) ≤ most_entries = w.built.few_entries in
