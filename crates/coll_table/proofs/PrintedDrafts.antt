@@ -1,14 +1,13 @@
 -- The lines of a table, accepted one after another, say the table.
-use Rattle.std.proofs.Common.{◌≡◌, ℕ, zero, suc, ◌+◌, ◌-◌, ◌<◌, ◌≤◌, ◌||◌, Bool, true, false, not, if◌then◌else◌, IsTrue, List, [], ◌∷◌, ◌++◌, length, map, replicate, Decides, Option, Some, None, sym, ap, subst, ◌∙◌, refl, arith, length-append, append_assoc, append-nil}
+use Rattle.std.proofs.Common.{◌≡◌, ℕ, suc, ◌+◌, ◌-◌, ◌≤◌, Bool, true, false, not, if◌then◌else◌, IsTrue, List, [], ◌∷◌, ◌++◌, length, map, replicate, Option, Some, None, sym, ap, subst, ◌∙◌, refl, arith, length-append, append_assoc, append-nil}
 use Rattle.std.specs.Prelude.{◌&&◌, All, nat_le, nat_lt, is_some}
 use Rattle.std.specs.List.{flat_map, list_any, list_all}
-use Rattle.std.specs.Option.{option_or, option_map}
-use Rattle.std.proofs.lemmas.Bool.{false≢true, lt-leb, le-ltb}
+use Rattle.std.proofs.lemmas.Bool.{lt-leb, le-ltb}
 use Rattle.std.proofs.lemmas.List.{map-append, length-map}
 use Rattle.std.proofs.lemmas.Grind.{flat_map-append}
 use Rattle.std.proofs.lemmas.List.Elements.{All-nil, All-cons, All-head, All-tail}
 use Rattle.coll_lex.specs.Names.{IsName}
-use Rattle.coll_syntax.specs.Identifier.{same_name, same_id, has_name, has_id}
+use Rattle.coll_syntax.specs.Identifier.{same_name, same_id, has_name}
 use Rattle.coll_syntax.specs.declared.identifiers.Id.{Id}
 use Rattle.coll_syntax.specs.declared.identifiers.Id.TheVariants.{Char, Named, Undefined}
 use Rattle.coll_syntax.specs.declared.rules.Rule.{Rule}
@@ -21,16 +20,15 @@ use Rattle.coll_table.specs.declared.declarations.Declaration.TheVariants as dec
 use Rattle.coll_table.specs.declared.entries.Entry.{Entry}
 use Rattle.coll_table.specs.Table.{Collation, Section, name_of, text_of, names_of, texts_of, joined_entries, ids_of, named, section_names, is_placed_in, is_placed, is_declared, is_known, is_symbol}
 use Rattle.coll_table.specs.Entries.{names_only, kept_weight, kept_weights, given_weights, weights_of, entry_of, ids_named}
-use Rattle.coll_table.specs.WellFormed.{AreDistinct, IsNamed, FirstIsUnnamed, IsKeptWeight, HasWeights, IsWeighted, IsKnown, HasPlacedWeights, IsBuilt, IsWellFormed}
+use Rattle.coll_table.specs.WellFormed.{AreDistinct, IsNamed, FirstIsUnnamed, IsKeptWeight, HasWeights, IsWeighted, IsKnown, HasPlacedWeights, IsWellFormed}
 use Rattle.coll_table.specs.Limits.{most_entries, most_declarations, most_sections}
-use Rattle.coll_table.specs.Drafts.{Numbered, DraftState, draft_of, table_of, refused_if, has_text, declaration_cause, section_cause, order_cause, cause_after, weight_cause, ids_cause, at_line, entries_fault, line_fault, is_end}
-use Rattle.coll_table.specs.declared.load_faults.LoadFault.{LoadFault}
+use Rattle.coll_table.specs.Drafts.{DraftState, draft_of, table_of, refused_if, has_text, declaration_cause, cause_after, weight_cause, ids_cause, entries_fault, line_fault, is_end}
 use Rattle.coll_table.specs.declared.load_faults.LoadCause.{LoadCause}
 use Rattle.coll_table.specs.Loading.{with_last, with_section, draft_with}
 use Rattle.coll_table.specs.Walks.{Met, MetSection, MetEntry, met_name, met_in, met, entry_met}
 use Rattle.coll_table.specs.CanonicalText.{is_own}
 use Rattle.coll_table.proofs.Sameness.{same_id_decides, same_name_symmetric, same_id_symmetric, same_id_itself, distinct_before, found_holds}
-use Rattle.coll_table.proofs.BuiltTables.{names_push, texts_push, ids_push, entries_with_section, names_with_section, unnamed_with_section, entries_with_last, names_with_last, length_with_last, unnamed_with_last}
+use Rattle.coll_table.proofs.BuiltTables.{entries_with_section, names_with_section, unnamed_with_section, entries_with_last, names_with_last, length_with_last, unnamed_with_last}
 use Rattle.coll_table.proofs.MetEntries.{met_all}
 use Rattle.coll_table.proofs.PrintedTokens.{own_read, weight_read, order_read, declaration_read}
 

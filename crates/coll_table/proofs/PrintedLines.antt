@@ -1,8 +1,8 @@
 -- Each canonical line is read as its tokens.
-use Rattle.std.proofs.Common.{◌≡◌, ℕ, zero, suc, ◌+◌, ◌*◌, ◌<◌, ◌≤◌, Bool, true, false, if◌then◌else◌, List, [], ◌∷◌, ◌++◌, All, length, map, codes, Some, None, Ok, sym, ap, subst, ◌∙◌, refl, arith}
+use Rattle.std.proofs.Common.{◌≡◌, ℕ, ◌+◌, ◌*◌, ◌≤◌, Bool, true, false, if◌then◌else◌, List, [], ◌∷◌, ◌++◌, All, length, map, codes, Some, None, Ok, ap, subst, ◌∙◌, refl, arith}
 use Rattle.std.specs.Prelude.{encode_utf8_all}
 use Rattle.std.specs.List.{list_all}
-use lib.Utf8.{scalar, scalars, encode}
+use lib.Utf8.{scalars, encode}
 use Rattle.std.proofs.lemmas.Bool.{and_parts}
 use Rattle.std.proofs.lemmas.List.{length-map}
 use Rattle.std.proofs.lemmas.List.Elements.{All-nil, All-cons, All-head, All-tail}
@@ -28,12 +28,11 @@ use Rattle.coll_syntax.specs.declared.weights.Weight.TheVariants.{Ignore, Own, N
 use Rattle.coll_table.specs.declared.declarations.Declaration.{Declaration}
 use Rattle.coll_table.specs.declared.declarations.Declaration.TheVariants as declaration
 use Rattle.coll_table.specs.declared.entries.Entry.{Entry}
-use Rattle.coll_table.specs.Entries.{weight_ids}
 use Rattle.coll_table.specs.Table.{name_of, text_of}
-use Rattle.coll_table.specs.Walks.{Met, MetSection, MetEntry}
-use Rattle.coll_table.specs.CanonicalText.{spelled_behind, spelled_joined, spelled_id, spelled_string, spelled_own, spelled_names, spelled_weight, direction_word, spelled_position, spelled_rule, declaration_line, rules_line, is_own, weights_behind, entry_line, met_line}
+use Rattle.coll_table.specs.Walks.{MetSection}
+use Rattle.coll_table.specs.CanonicalText.{spelled_behind, spelled_joined, spelled_id, spelled_string, spelled_own, spelled_names, spelled_weight, direction_word, spelled_position, spelled_rule, declaration_line, rules_line, is_own, entry_line, met_line}
 use Rattle.coll_table.proofs.PrintedTokens.{tokens_behind, tokens_joined, id_token, id_piece, own_tokens, names_tokens, weight_tokens, order_tokens, position_tokens, rule_tokens, rules_tokens, declaration_tokens, section_tokens, order_read, declaration_read, declaration_is_read, rules_line_is_read, order_is_read, section_is_read, order_end_is_read, category_end_is_read}
-use Rattle.coll_table.proofs.PrintedSpellings.{with_tokens, EndsWord, is_clean, is_letter, Keeps, Spells, spells_both, spells_wider, spells_nothing, spells_word, spells_apart, separates_space, separates_semicolon, separates_comma, end_ends, space_ends, semicolon_ends, comma_ends, spells_id, spells_name, spells_string}
+use Rattle.coll_table.proofs.PrintedSpellings.{with_tokens, EndsWord, is_clean, is_letter, Spells, spells_both, spells_wider, spells_nothing, spells_word, spells_apart, separates_space, separates_semicolon, separates_comma, end_ends, space_ends, semicolon_ends, comma_ends, spells_id, spells_name, spells_string}
 
 -- Lists of spellings.
 

@@ -1,5 +1,5 @@
 -- Parts of a text that are written one behind another make up the text.
-use Rattle.std.proofs.Common.{◌≡◌, ℕ, ◌+◌, ◌<◌, ◌≤◌, Bool, true, false, List, [], ◌∷◌, ◌++◌, length, get_or, drop, map, codes, Option, Result, Ok, Err, IsErr, sym, ap, subst, ◌∙◌, refl, arith, append_assoc, append-nil}
+use Rattle.std.proofs.Common.{◌≡◌, ℕ, ◌+◌, ◌<◌, Bool, true, false, List, [], ◌∷◌, ◌++◌, length, get_or, drop, map, codes, Option, Result, IsErr, sym, ap, subst, ◌∙◌, refl, append_assoc, append-nil}
 use Rattle.std.specs.Prelude.{encode_utf8_all}
 use Rattle.std.specs.Io.KnownBytes.{Appends}
 use Rattle.std.specs.List.{flat_map, list_all}
@@ -7,7 +7,7 @@ use Rattle.std.proofs.KnownBytes.{Appends-trans}
 use lib.Utf8.{encode}
 use Rattle.std.proofs.lemmas.Grind.{flat_map-append}
 use Rattle.std.proofs.lemmas.Str.{encodes-append}
-use Rattle.std.proofs.lemmas.List.{drop_more, drop_all}
+use Rattle.std.proofs.lemmas.List.{drop_more}
 use Rattle.coll_lex.specs.Devices.{AppendsFront, Sends}
 use Rattle.coll_lex.specs.PhysicalLines.{line_feed}
 use Rattle.coll_lex.specs.Spelling.{spelled_symbol, spelled_code}
@@ -20,9 +20,9 @@ use Rattle.coll_syntax.specs.declared.weights.Weight.TheVariants.{Ignore, Own, N
 use Rattle.coll_syntax.specs.declared.rules.Rule.{Rule}
 use Rattle.coll_table.specs.declared.declarations.Declaration.TheVariants as declaration
 use Rattle.coll_table.specs.Table.{Collation}
-use Rattle.coll_table.specs.Walks.{Met, MetSection, MetEntry, met}
+use Rattle.coll_table.specs.Walks.{MetSection, met}
 use Rattle.coll_table.specs.CanonicalText.{spelled_all, spelled_behind, spelled_joined, spelled_id, spelled_string, spelled_own, spelled_names, spelled_weight, is_own, weights_behind, direction_word, spelled_position, spelled_rule, declaration_line, rules_line, met_line, closing_lines, canonical_lines, line_bytes, text}
-use Rattle.coll_table.specs.PrintedParts.{id_bytes, behind_bytes, char_bytes, symbol_bytes, text_bytes, element_bytes, declaration_bytes, met_bytes, sections_bytes, order_bytes, category_bytes}
+use Rattle.coll_table.specs.PrintedParts.{id_bytes, behind_bytes, char_bytes, symbol_bytes, text_bytes, element_bytes, declaration_bytes, met_bytes, sections_bytes, category_bytes}
 
 -- What is written.
 

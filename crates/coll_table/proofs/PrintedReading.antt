@@ -1,5 +1,5 @@
 -- The lines of a canonical text decide the table that they say.
-use Rattle.std.proofs.Common.{◌≡◌, ℕ, zero, suc, ◌+◌, ◌<◌, ◌≤◌, Bool, true, false, List, [], ◌∷◌, ◌++◌, length, map, codes, Option, Some, None, Result, Ok, Err, sym, ap, subst, ◌∙◌, refl, arith, add-one, append_assoc}
+use Rattle.std.proofs.Common.{◌≡◌, ℕ, suc, ◌+◌, ◌<◌, true, false, List, [], ◌∷◌, ◌++◌, length, map, None, Ok, sym, ap, subst, ◌∙◌, refl, arith, append_assoc}
 use Rattle.std.specs.Prelude.{All, encode_utf8_all}
 use Rattle.std.specs.List.{flat_map}
 use Rattle.std.proofs.lemmas.List.Elements.{All-nil, All-cons, All-head, All-tail}
@@ -10,15 +10,13 @@ use Rattle.coll_lex.specs.Directives.{operand_of, named_character, directive}
 use Rattle.coll_lex.specs.PhysicalLines.{line_feed, IsInLine, lines_of, without_return}
 use Rattle.coll_lex.proofs.PhysicalLinesLemmas.{lines_of-nil, lines_of-ended}
 use Rattle.coll_lex.specs.Limits.{most_lines}
-use Rattle.coll_lex.specs.LogicalLines.{LexerState, LogicalLine, first_state, fed, served, outside, first_line, logical_lines}
+use Rattle.coll_lex.specs.LogicalLines.{served, outside, first_line, logical_lines}
 use Rattle.coll_lex.specs.declared.tokens.Token.{Token}
-use Rattle.coll_syntax.specs.TableLines.{table_line}
 use Rattle.coll_syntax.specs.declared.lines.TableLine.{TableLine}
 use Rattle.coll_syntax.specs.declared.lines.TableLine.TheVariants as line
 use Rattle.coll_table.specs.Table.{Collation}
-use Rattle.coll_table.specs.Drafts.{Numbered, DraftState, draft_of, table_of, line_fault, is_end}
-use Rattle.coll_table.specs.Loading.{draft_with, draft_after}
-use Rattle.coll_table.specs.Reading.{Outcome, Decided, by_grammar, by_tokens, line_judged, accepted, outcome_within, outcome_before, outcome_of}
+use Rattle.coll_table.specs.Drafts.{Numbered, draft_of, table_of, line_fault, is_end}
+use Rattle.coll_table.specs.Reading.{Outcome, Decided, by_grammar, outcome_within, outcome_before, outcome_of}
 use Rattle.coll_table.specs.CanonicalText.{opening_lines, line_bytes}
 use Rattle.coll_table.proofs.DraftSteps.{draft_more}
 use Rattle.coll_table.proofs.PrintedDrafts.{Leads, EndsAs}

@@ -1,5 +1,5 @@
 -- The parts of a canonical line are read as their tokens, under the comment character `%` and the escape character `/`.
-use Rattle.std.proofs.Common.{◌≡◌, ℕ, zero, suc, ◌+◌, ◌*◌, ◌<◌, ◌≤◌, ◌==◌, ◌&&◌, ◌||◌, Bool, true, false, not, if◌then◌else◌, List, [], ◌∷◌, ◌++◌, length, map, codes, Option, Some, None, Ok, Err, ⊎_elim, sym, ap, subst, ◌∙◌, refl, arith, length-append, append_assoc, append-nil, ltb-true}
+use Rattle.std.proofs.Common.{◌≡◌, ℕ, zero, suc, ◌+◌, ◌*◌, ◌<◌, ◌≤◌, ◌==◌, ◌&&◌, ◌||◌, Bool, true, false, not, if◌then◌else◌, List, [], ◌∷◌, ◌++◌, length, map, codes, Option, Some, None, Ok, Err, ⊎_elim, sym, ap, subst, ◌∙◌, refl, arith, length-append, ltb-true}
 use Rattle.std.specs.Prelude.{All, nat_le, nat_lt, encode_utf8_all}
 use Rattle.std.specs.List.{list_all}
 use lib.Utf8.{scalar, scalars, low_scalar, encode}
@@ -17,12 +17,12 @@ use Rattle.coll_table.proofs.PrintedTokens.{id_token, id_piece}
 use Rattle.coll_lex.proofs.SpellingLemmas.{hex_digits-all}
 use Rattle.std.proofs.lemmas.Str.{encode_ascii, length-encode, len_utf8_bounds}
 use Rattle.std.proofs.lemmas.List.Elements.{All-head, All-tail}
-use Rattle.coll_lex.specs.Marked.{Mark, Plain, Literal, marks, ends_escaped}
-use Rattle.coll_lex.specs.Spelling.{is_escaped, spelled_char, spelled_name, spelled_symbol, spelled_code, hex_digit, hex_digits, digit_count}
+use Rattle.coll_lex.specs.Marked.{Mark, Plain, marks, ends_escaped}
+use Rattle.coll_lex.specs.Spelling.{spelled_char, spelled_name, spelled_symbol, spelled_code, hex_digit, hex_digits, digit_count}
 use Rattle.coll_lex.proofs.ReadingBackLemmas.{marks-plain, reading-spelled_symbol, spelled_code-symbol, symbol_of-spelled_code, atoms-spelled_symbol, length-hex_digits}
 use Rattle.coll_lex.specs.Kinds.{kind_of, ends_word}
 use Rattle.coll_lex.specs.Kinds as kind
-use Rattle.coll_lex.specs.Tokens.{symbol_of, symbol_by, code_point_of, is_name, is_control, Atom, Bracketed, Unclosed, Bare, atoms, Quoted, Closed, quoted, with_piece, with_symbol, word_run, after_plain, Reading, with_token, token_of, reading, reading_of}
+use Rattle.coll_lex.specs.Tokens.{symbol_of, symbol_by, code_point_of, is_name, is_control, Atom, Bracketed, Unclosed, Bare, atoms, Closed, quoted, with_piece, with_symbol, word_run, Reading, with_token, token_of, reading, reading_of}
 use Rattle.coll_lex.specs.declared.tokens.Token.{Token}
 use Rattle.coll_lex.specs.declared.tokens.Token.TheVariants as token
 use Rattle.coll_lex.specs.declared.tokens.Piece.{Piece}

@@ -1,5 +1,5 @@
 -- The canonical text of a table is read as that table.
-use Rattle.std.proofs.Common.{◌≡◌, ℕ, zero, suc, ◌+◌, ◌<◌, ◌≤◌, Bool, true, false, List, [], ◌∷◌, ◌++◌, length, map, codes, Some, None, Ok, sym, ap, subst, ◌∙◌, refl, arith, append_assoc, length-append}
+use Rattle.std.proofs.Common.{◌≡◌, ℕ, suc, ◌+◌, ◌<◌, ◌≤◌, Bool, true, false, List, [], ◌∷◌, ◌++◌, length, map, codes, Some, None, sym, ap, subst, ◌∙◌, refl, arith, append_assoc, length-append}
 use Rattle.std.specs.Prelude.{All, encode_utf8_all}
 use Rattle.std.specs.List.{flat_map}
 use Rattle.std.proofs.lemmas.List.{map-append, length-map}
@@ -8,26 +8,22 @@ use Rattle.coll_lex.specs.Limits.{most_lines}
 use Rattle.coll_lex.specs.Names.{IsName}
 use Rattle.coll_lex.specs.PhysicalLines.{IsInLine, lines_of}
 use Rattle.coll_syntax.specs.Proper.{IsId, IsElementText, IsProperWeight}
-use Rattle.coll_syntax.specs.declared.identifiers.Id.{Id}
-use Rattle.coll_syntax.specs.declared.weights.Weight.{Weight}
-use Rattle.coll_syntax.specs.declared.lines.TableLine.{TableLine}
 use Rattle.coll_syntax.specs.declared.lines.TableLine.TheVariants as line
 use Rattle.coll_table.specs.declared.declarations.Declaration.{Declaration}
 use Rattle.coll_table.specs.declared.declarations.Declaration.TheVariants as declaration
 use Rattle.coll_table.specs.declared.entries.Entry.{Entry}
-use Rattle.coll_table.specs.Table.{Collation, Section, names_of, texts_of, joined_entries, entries_of, ids_of, section_names, is_symbol}
+use Rattle.coll_table.specs.Table.{Collation, names_of, texts_of, joined_entries, ids_of, section_names, is_symbol}
 use Rattle.coll_table.specs.WellFormed.{IsKeptWeight, HasWeights, IsWeighted, IsWellFormed}
 use Rattle.coll_table.specs.Limits.{most_entries, most_declarations, most_sections}
-use Rattle.coll_table.specs.Drafts.{draft_of}
 use Rattle.coll_table.specs.Walks.{Met, MetSection, MetEntry, met, entry_met}
 use Rattle.coll_table.proofs.MetEntries.{met_all}
-use Rattle.coll_table.specs.Reading.{answer_at_end, outcome_of, outcome_within, reads}
-use Rattle.coll_table.specs.CanonicalText.{declaration_line, rules_line, met_line, opening_lines, closing_lines, canonical_lines, line_bytes, text, PrintedTablesAreReadBack}
+use Rattle.coll_table.specs.Reading.{answer_at_end, outcome_of, reads}
+use Rattle.coll_table.specs.CanonicalText.{declaration_line, rules_line, met_line, opening_lines, canonical_lines, line_bytes, text, PrintedTablesAreReadBack}
 use Rattle.coll_table.proofs.PrintedTokens.{declaration_read}
 use Rattle.coll_table.proofs.PrintedDrafts.{name_met, met_read, names_met, names_of_first, said, said_leads}
 use Rattle.coll_table.proofs.PrintedSpellings.{is_clean}
-use Rattle.coll_table.proofs.PrintedLines.{Says, IsSpelledDeclaration, IsSpelledEntry, declaration_says, rules_say, entry_says, section_says, order_end_says, category_end_says}
-use Rattle.coll_table.proofs.PrintedTexts.{in_line, lexer_at}
+use Rattle.coll_table.proofs.PrintedLines.{IsSpelledDeclaration, IsSpelledEntry, declaration_says, rules_say, entry_says, section_says, order_end_says, category_end_says}
+use Rattle.coll_table.proofs.PrintedTexts.{in_line}
 use Rattle.coll_table.proofs.PrintedReading.{bytes_of, SayAll, say_append, say_members, say_one, lines_decide, opening_decides, lines_of_feeds, says_in_line, say_in_line}
 
 -- What a well-formed table is made of.

@@ -1,26 +1,22 @@
 -- A canonical text is read line by line.
-use Rattle.std.proofs.Common.{◌≡◌, ◌≢◌, ℕ, zero, suc, ◌+◌, ◌-◌, ◌<◌, ◌≤◌, ◌==◌, ◌&&◌, min, Bool, true, false, if◌then◌else◌, List, [], ◌∷◌, ◌++◌, All, length, map, get_or, codes, Option, Some, None, Ok, chars, inl, inr, ⊎_elim, sym, ap, subst, ◌∙◌, refl, arith, add-one, append-nil, length-append}
+use Rattle.std.proofs.Common.{◌≡◌, ◌≢◌, ℕ, suc, ◌+◌, ◌-◌, ◌<◌, ◌≤◌, ◌==◌, ◌&&◌, min, Bool, true, false, if◌then◌else◌, List, [], ◌∷◌, ◌++◌, All, length, get_or, Some, None, Ok, chars, ⊎_elim, sym, ap, ◌∙◌, refl, arith, add-one, append-nil}
 use Rattle.std.specs.Prelude.{encode_utf8_all, nat_lt, nat_le, take}
-use Rattle.std.specs.Io.BufRead.{ends_with_byte, strip_last}
 use Rattle.std.specs.List.{list_all}
-use Rattle.std.specs.Str.{is_utf8, bytes_eq}
+use Rattle.std.specs.Str.{is_utf8}
 use lib.Utf8.{scalar, scalars, encode, encodes}
 use Rattle.std.proofs.lemmas.Bool.{and_parts, cases_lt, ne_eqb, leb-true, ltb-true, le-ltb}
 use Rattle.std.proofs.lemmas.List.{get_or_default}
 use Rattle.std.proofs.lemmas.List.Elements.{All-nil, All-append, All-weaker}
 use Rattle.std.proofs.lemmas.Slice.Eq.{bytes_eq-Decides}
 use Rattle.std.proofs.lemmas.Str.{chars-encodes, inside_one}
-use Rattle.coll_lex.specs.Directives.{directive}
 use Rattle.coll_lex.specs.Limits.{most_lines, most_line_bytes}
-use Rattle.coll_lex.specs.LogicalLines.{LexerState, OpenLine, LogicalLine, first_state, line_fault, reading_in, fed_as, fed_text, unless_fault, fed, served, outside, first_line, logical_lines}
+use Rattle.coll_lex.specs.LogicalLines.{LexerState, line_fault, reading_in, fed}
 use Rattle.coll_lex.specs.Marked.{marks, ends_escaped, joined_marks}
-use Rattle.coll_lex.specs.PhysicalLines.{line_feed, carriage_return, IsInLine, lines_of, without_return}
-use Rattle.coll_lex.specs.Tokens.{AtEnd, Reading, reading_of}
-use Rattle.coll_lex.specs.declared.tokens.Chars.{Chars}
-use Rattle.coll_lex.specs.declared.tokens.Line.{Line}
+use Rattle.coll_lex.specs.PhysicalLines.{line_feed, IsInLine, without_return}
+use Rattle.coll_lex.specs.Tokens.{AtEnd, reading_of}
 use Rattle.coll_lex.specs.declared.tokens.Token.{Token}
 use Rattle.coll_table.proofs.PrintedSpellings.{is_clean}
-use Rattle.coll_table.proofs.PrintedLines.{IsLine, Says}
+use Rattle.coll_table.proofs.PrintedLines.{IsLine}
 
 -- The bytes of a line.
 

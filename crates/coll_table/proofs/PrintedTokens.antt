@@ -1,5 +1,5 @@
 -- The tokens of each canonical line, and what the grammar says of them.
-use Rattle.std.proofs.Common.{◌≡◌, ℕ, suc, ◌+◌, ◌<◌, ◌≤◌, Bool, true, false, if◌then◌else◌, nat_le, List, [], ◌∷◌, ◌++◌, All, length, map, take, drop, Some, None, Result, Ok, Err, codes, refl, sym, ap, ◌∙◌, arith, append-nil}
+use Rattle.std.proofs.Common.{◌≡◌, ℕ, ◌<◌, ◌≤◌, Bool, true, false, if◌then◌else◌, nat_le, List, [], ◌∷◌, ◌++◌, All, length, map, drop, Some, None, Result, Ok, Err, codes, refl, ap, ◌∙◌, arith, append-nil}
 use Rattle.std.specs.List.{list_all}
 use Rattle.std.proofs.lemmas.Bool.{le-leb}
 use Rattle.std.proofs.lemmas.List.{length-map, length-append, take_all, drop_all}
@@ -12,7 +12,7 @@ use Rattle.coll_lex.specs.declared.tokens.Piece.TheVariants as piece
 use Rattle.coll_syntax.specs.Identifier.{id_of}
 use Rattle.coll_syntax.specs.Keywords.{keyword_of}
 use Rattle.coll_syntax.specs.Operands.{and_then, read_as, ended, is_semicolon, operands_of, all_read}
-use Rattle.coll_syntax.specs.Elements.{characters_of, short_text, element_text}
+use Rattle.coll_syntax.specs.Elements.{characters_of, element_text}
 use Rattle.coll_syntax.specs.Proper.{IsElementText, IsWeightId, IsProperWeight}
 use Rattle.coll_syntax.specs.OrderLines.{weighted}
 use Rattle.coll_syntax.specs.Weights.{string_weight, operand_weight, weights, piece_id}

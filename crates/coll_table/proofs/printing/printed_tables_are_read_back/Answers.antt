@@ -1,6 +1,5 @@
 -- The answers for the goals of `printed_tables_are_read_back`.
 use Rattle.coll_table.proofs.PrintedTables as printed
-use Rattle.coll_table.proofs.PrintedParts.{all_before}
 use Rattle.coll_table.proofs.printing.printed_tables_are_read_back.Goals as goal
 
 pub returns : goal.returns

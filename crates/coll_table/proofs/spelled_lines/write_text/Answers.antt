@@ -1,5 +1,5 @@
 -- Each character is one part.
-use Rattle.std.proofs.Common.{◌+◌, ◌∷◌, [], ◌++◌, drop, length, ◌∙◌, sym, ap, arith}
+use Rattle.std.proofs.Common.{◌+◌, drop, length, ◌∙◌, arith}
 use Rattle.std.specs.Str.{chars}
 use Rattle.std.proofs.lemmas.Iterator.{YieldsList-from_chars}
 use Rattle.std.proofs.lemmas.Iterator.Consumers.{YieldsList-turn, YieldsList-end}
