@@ -252,17 +252,19 @@ meets_lead : (rules : List Rule) (declared : List Declaration) (sections : List 
     → Leads (open_draft rules declared sections numbers) number (map met_read ms ++ rest) Last
 unfolding Leads open_draft draft_with sections_past met_read
 meets_lead rules declared sections numbers [] number rest Last can goes_on = goes_on numbers number
-meets_lead rules declared sections numbers (MetSection name ∷ ms) number rest Last can goes_on =
-    (faultless (open_draft rules declared sections numbers) number (line.Section name) refl (section_passes rules declared sections numbers name ms can),
-    refl,
-    meets_lead rules declared (with_section sections name) numbers ms (suc number) rest Last (section_on (length rules) declared sections name ms can) goes_on)
+meets_lead rules declared sections numbers (MetSection name ∷ ms) number rest Last can goes_on = (
+  faultless (open_draft rules declared sections numbers) number (line.Section name) refl (section_passes rules declared sections numbers name ms can),
+  refl,
+  meets_lead rules declared (with_section sections name) numbers ms (suc number) rest Last (section_on (length rules) declared sections name ms can) goes_on,
+)
 meets_lead rules declared sections numbers (MetEntry e ∷ ms) number rest Last can goes_on =
     let order = order_read e.id e.weights in
-    let same : e ≡ entry_of (length rules) declared order = sym (entry_as_it_was (length rules) declared e (weighted_first can)) in
-    (faultless (open_draft rules declared sections numbers) number (line.Order order) refl (entry_passes rules declared sections numbers e ms can),
-    refl,
-    subst (λ (entry : Entry). Leads (open_draft rules declared (with_last sections entry) (numbers ++ number ∷ [])) (suc number) (map met_read ms ++ rest) Last) same
-    (meets_lead rules declared (with_last sections e) (numbers ++ number ∷ []) ms (suc number) rest Last (entry_on (length rules) declared sections e ms can) goes_on)) where
+    let same : e ≡ entry_of (length rules) declared order = sym (entry_as_it_was (length rules) declared e (weighted_first can)) in (
+      faultless (open_draft rules declared sections numbers) number (line.Order order) refl (entry_passes rules declared sections numbers e ms can),
+      refl,
+      subst (λ (entry : Entry). Leads (open_draft rules declared (with_last sections entry) (numbers ++ number ∷ [])) (suc number) (map met_read ms ++ rest) Last) same
+          (meets_lead rules declared (with_last sections e) (numbers ++ number ∷ []) ms (suc number) rest Last (entry_on (length rules) declared sections e ms can) goes_on),
+    ) where
       weighted_first : CanFollow (length rules) declared sections (MetEntry e ∷ ms) → IsWeighted (length rules) declared e
       weighted_first can = All-head (IsWeighted (length rules) declared) e (flat_map entry_met ms) can.weighted
 
@@ -315,6 +317,7 @@ names_met (first ∷ others) =
       only_entries : (entries : List Entry) → flat_map name_met (map MetEntry entries) ≡ []
       only_entries [] = refl
       only_entries (e ∷ es) = only_entries es
+
       in_section : (name : Option (List ℕ)) (entries : List Entry) → flat_map name_met (met_name name ++ map MetEntry entries) ≡ named name
       in_section None entries = only_entries entries
       in_section (Some name) entries = ap (λ l. name ∷ l) (only_entries entries)
@@ -403,10 +406,11 @@ module _ (table : Collation) (w : IsWellFormed table) where
   -- behind the declarations the order begins
   rules_lead : (number : ℕ) → Leads (declared_draft table.declared) number (line.OrderStart None (Some table.rules) ∷ (map met_read (met table.sections) ++ line.OrderEnd ∷ [])) (EndsAs table)
   unfolding Leads declared_draft draft_with open_draft
-  rules_lead number =
-      (faultless (declared_draft table.declared) number (line.OrderStart None (Some table.rules)) refl refl,
-      refl,
-      meets_lead table.rules table.declared (record { name = None; entries = [] } ∷ []) [] (met table.sections) (suc number) (line.OrderEnd ∷ []) (EndsAs table) can_follow order_leads)
+  rules_lead number = (
+    faultless (declared_draft table.declared) number (line.OrderStart None (Some table.rules)) refl refl,
+    refl,
+    meets_lead table.rules table.declared (record { name = None; entries = [] } ∷ []) [] (met table.sections) (suc number) (line.OrderEnd ∷ []) (EndsAs table) can_follow order_leads,
+  )
 
   -- the lines of a table, accepted one after another, say it
   pub said_leads : (number : ℕ) → Leads (draft_of []) number (said table) (EndsAs table)

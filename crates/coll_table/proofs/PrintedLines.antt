@@ -242,9 +242,12 @@ pub declaration_says : (d : Declaration) → IsSpelledDeclaration d → Says (de
 unfolding declaration_tokens declaration_read
 declaration_says (declaration.Symbol name) h =
     (token.Word (codes "collating-symbol"), token.Symbol name ∷ [], symbol_is_line name h.name, declaration_is_read (declaration.Symbol name) h.texts)
-declaration_says (declaration.Element name text) h =
-    (token.Word (codes "collating-element"), token.Symbol name ∷ token.Word (codes "from") ∷ token.Text (map piece.Char text) ∷ [],
-    element_is_line name text h.name (All-head IsElementText text [] h.texts), declaration_is_read (declaration.Element name text) h.texts)
+declaration_says (declaration.Element name text) h = (
+  token.Word (codes "collating-element"),
+  token.Symbol name ∷ token.Word (codes "from") ∷ token.Text (map piece.Char text) ∷ [],
+  element_is_line name text h.name (All-head IsElementText text [] h.texts),
+  declaration_is_read (declaration.Element name text) h.texts,
+)
 
 -- the line of the rules
 pub rules_say : (rules : List Rule) → 1 ≤ length rules → length rules ≤ 4 → Says (rules_line rules) (line.OrderStart None (Some rules))

@@ -41,10 +41,11 @@ module _ {X : Type 0} (part : X → List ℕ) where
 
   -- one more is written
   pub written_more : (all left later : List X) (x : X) (a b c : Option (List ℕ)) → left ≡ x ∷ later → HasWritten all left a b → Appends b c (part x) → HasWritten all later a c
-  written_more all left later x a b c first h more =
-      (h.0 ++ part x,
-      h.1 ∙ ap (λ xs. h.0 ++ flat_map part xs) first ∙ sym (append_assoc h.0 (part x) (flat_map part later)),
-      Appends-trans a b c h.0 (part x) h.2 more)
+  written_more all left later x a b c first h more = (
+    h.0 ++ part x,
+    h.1 ∙ ap (λ xs. h.0 ++ flat_map part xs) first ∙ sym (append_assoc h.0 (part x) (flat_map part later)),
+    Appends-trans a b c h.0 (part x) h.2 more,
+  )
 
   -- the next stops
   pub written_front : (all left later : List X) (x : X) (a b c : Option (List ℕ)) → left ≡ x ∷ later → HasWritten all left a b → AppendsFront b c (part x) → AppendsFront a c (flat_map part all)

@@ -311,9 +311,11 @@ name_parts name is = by_code (code_point_of name) name name is where
   by_test : (test : Bool) (cs name : List ℕ) → (if test then Ok (piece.Name cs) else Err BadName) ≡ Ok (piece.Name name) → test ≡ true
   by_test true cs name e = refl
   by_test false cs name e = cc
+
   by_scalar : (test : Bool) (n : ℕ) (name : List ℕ) → (if test then Ok (piece.Char n) else Err BadCodePoint) ≡ Ok (piece.Name name) → ⊥
   by_scalar true n name e = cc
   by_scalar false n name e = cc
+
   by_code : (code : Option ℕ) (cs name : List ℕ) → symbol_by code cs ≡ Ok (piece.Name name) → is_name cs ≡ true
   by_code None [] name e = cc
   by_code None (c ∷ cs) name e = by_test (is_name (c ∷ cs)) (c ∷ cs) name e
@@ -445,10 +447,10 @@ pub spells_string : (ids : List Id) → length ids ≤ 32 → All IsWeightId ids
 unfolding with_tokens
 spells_string ids few h = record {
   keeps =
-    keeps_wider (spelled_string ids) (1 + (258 * length ids + 1)) 8258 (omega arith)
-    (keeps_both (λ rest. 34 ∷ rest) (λ rest. spelled_all spelled_id ids (34 ∷ rest)) 1 (258 * length ids + 1) keeps_mark
-    (keeps_both (spelled_all spelled_id ids) (λ rest. 34 ∷ rest) (258 * length ids) 1 (keeps_ids ids h) keeps_mark));
+      keeps_wider (spelled_string ids) (1 + (258 * length ids + 1)) 8258 (omega arith)
+      (keeps_both (λ rest. 34 ∷ rest) (λ rest. spelled_all spelled_id ids (34 ∷ rest)) 1 (258 * length ids + 1) keeps_mark
+      (keeps_both (spelled_all spelled_id ids) (λ rest. 34 ∷ rest) (258 * length ids) 1 (keeps_ids ids h) keeps_mark));
   reads = λ rest e.
-    ap (reading 37 zero) (atoms-mark (spelled_all spelled_id ids (34 ∷ rest)) ∙ ap (λ xs. Bare (Plain 34) ∷ xs) (atoms-ids ids (34 ∷ rest) h ∙ ap (λ xs. map id_atom ids ++ xs) (atoms-mark rest)))
-    ∙ reading-string ids (atoms zero (marks 47 false rest)) h;
+      ap (reading 37 zero) (atoms-mark (spelled_all spelled_id ids (34 ∷ rest)) ∙ ap (λ xs. Bare (Plain 34) ∷ xs) (atoms-ids ids (34 ∷ rest) h ∙ ap (λ xs. map id_atom ids ++ xs) (atoms-mark rest)))
+      ∙ reading-string ids (atoms zero (marks 47 false rest)) h;
 }

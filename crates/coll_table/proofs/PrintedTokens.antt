@@ -222,6 +222,7 @@ order_is_read id ws h =
     ∙ both (list_all is_own ws) ws refl h where
       behind : Bool → List Token
       behind b = if b then [] else tokens_joined (map (weight_tokens id) ws)
+
       both : (own : Bool) (ws : List Weight) → list_all is_own ws ≡ own → All IsProperWeight ws → read_as line.Order (weighted (Some id) (if own then [] else tokens_joined (map (weight_tokens id) ws))) ≡ Ok (line.Order (record { id = id; weights = if own then None else Some (map (weight_read id) ws) }))
       both true ws e h = refl
       both false [] e h = cc

@@ -25,7 +25,11 @@ pub(crate) fn write_entry<W: Sink>(out: &mut W, entry: &Entry) -> Result<(), Wri
 }
 
 // Writes the weights behind an identifier, and the line's end.
-fn write_weights_ended<W: Sink>(out: &mut W, owner: &Id, weights: &[Weight]) -> Result<(), WriteStop>
+fn write_weights_ended<W: Sink>(
+    out: &mut W,
+    owner: &Id,
+    weights: &[Weight],
+) -> Result<(), WriteStop>
     ensures sent { Sends (W.taken out.old) (W.taken out.new) (encode_utf8_all (weights_behind owner.now weights.now) ++ line_feed ∷ []) result }
     ensures errors { CountsErr (W.failed out.old) (W.failed out.new) result }
 {
@@ -34,7 +38,11 @@ fn write_weights_ended<W: Sink>(out: &mut W, owner: &Id, weights: &[Weight]) -> 
 }
 
 // Writes the weights behind an identifier, unless there are none but its own.
-fn write_weights_behind_id<W: Sink>(out: &mut W, owner: &Id, weights: &[Weight]) -> Result<(), WriteStop>
+fn write_weights_behind_id<W: Sink>(
+    out: &mut W,
+    owner: &Id,
+    weights: &[Weight],
+) -> Result<(), WriteStop>
     ensures sent { Sends (W.taken out.old) (W.taken out.new) (encode_utf8_all (weights_behind owner.now weights.now)) result }
     ensures errors { CountsErr (W.failed out.old) (W.failed out.new) result }
 {
@@ -75,7 +83,11 @@ fn write_weights<W: Sink>(out: &mut W, owner: &Id, weights: &[Weight]) -> Result
 }
 
 // Writes weights with a semicolon before each.
-fn write_later_weights<W: Sink>(out: &mut W, owner: &Id, weights: &[Weight]) -> Result<(), WriteStop>
+fn write_later_weights<W: Sink>(
+    out: &mut W,
+    owner: &Id,
+    weights: &[Weight],
+) -> Result<(), WriteStop>
     ensures sent { Sends (W.taken out.old) (W.taken out.new) (flat_map (behind_bytes (spelled_weight owner.now)) weights.now) result }
     ensures errors { CountsErr (W.failed out.old) (W.failed out.new) result }
 {

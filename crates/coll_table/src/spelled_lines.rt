@@ -19,7 +19,10 @@ use coll_lex::{Sink, WriteStop, write_bytes, write_char, write_symbol};
 use coll_syntax::Rule;
 
 /// Writes the line of a declaration.
-pub(crate) fn write_declaration<W: Sink>(out: &mut W, item: DeclaredItem<'_>) -> Result<(), WriteStop>
+pub(crate) fn write_declaration<W: Sink>(
+    out: &mut W,
+    item: DeclaredItem<'_>,
+) -> Result<(), WriteStop>
     ensures sent { Sends (W.taken out.old) (W.taken out.new) (declaration_bytes (declared_by item.entry)) result }
     ensures errors { CountsErr (W.failed out.old) (W.failed out.new) result }
 {

@@ -16,6 +16,6 @@ declared-preserved g c =
     let taken = g.W.Sink.taken in
     record {
       sent = written_more declaration_bytes c.args.declared c.declared.left c.next.new.self (declared_by c.in-Some.item) (taken c.args.out.now) (taken c.declared.out) (taken c.write_declaration.new.out)
-    c.in-Some.ensures.steps c.declared.invariant.sent c.in_default-write_declaration.ensures.sent;
+          c.in-Some.ensures.steps c.declared.invariant.sent c.in_default-write_declaration.ensures.sent;
       count = c.in_default-write_declaration.ensures.errors ∙ c.declared.invariant.count;
     }

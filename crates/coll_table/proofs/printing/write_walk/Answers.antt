@@ -16,6 +16,6 @@ walk-preserved g c =
     let taken = g.W.Sink.taken in
     record {
       sent = written_more met_bytes c.args.walk c.walk.left c.next.new.self (met_by c.in-Some.item) (taken c.args.out.now) (taken c.walk.out) (taken c.write_met.new.out)
-    c.in-Some.ensures.steps c.walk.invariant.sent c.in_default-write_met.ensures.sent;
+          c.in-Some.ensures.steps c.walk.invariant.sent c.in_default-write_met.ensures.sent;
       count = c.in_default-write_met.ensures.errors ∙ c.walk.invariant.count;
     }

@@ -15,6 +15,6 @@ loop-id-preserved g c =
     let taken = g.W.Sink.taken in
     record {
       sent = written_more id_bytes c.args.ids.now (drop c.loop-id.id-index c.args.ids.now) (drop (c.loop-id.id-index + 1) c.args.ids.now) c.id-item.result (taken c.args.out.now) (taken c.loop-id.out) (taken c.write_id.new.out)
-    (left_begins c.args.ids.now c.loop-id.id-index c.id-item.result c.loop-id-test.true c.id-item.is) c.loop-id.invariant.sent c.in_default.ensures.sent;
+          (left_begins c.args.ids.now c.loop-id.id-index c.id-item.result c.loop-id-test.true c.id-item.is) c.loop-id.invariant.sent c.in_default.ensures.sent;
       count = c.in_default.ensures.errors ∙ c.loop-id.invariant.count;
     }

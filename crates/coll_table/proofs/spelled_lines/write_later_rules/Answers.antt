@@ -24,6 +24,6 @@ loop-rule-preserved g c =
     let none : Rule = record { backward = false; position = false } in
     record {
       sent = written_more (behind_bytes spelled_rule) rules (drop i rules) (drop (i + 1) rules) (get_or rules i none) (taken c.args.out.now) (taken c.loop-rule.out) (taken c.write_rule_behind.new.out)
-      (drop_more rules i none c.loop-rule-test.true) c.loop-rule.invariant.sent c.in_default.ensures.sent;
+          (drop_more rules i none c.loop-rule-test.true) c.loop-rule.invariant.sent c.in_default.ensures.sent;
       count = c.in_default.ensures.errors ∙ c.loop-rule.invariant.count;
     }

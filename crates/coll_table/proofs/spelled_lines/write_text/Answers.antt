@@ -26,7 +26,7 @@ loop-c-preserved g c =
     rw (length_push c.loop-c.yielded c.in-Some.c)
     (record {
       sent = written_more char_bytes all (drop n all) (drop (n + 1) all) c.in-Some.c (taken c.args.out.now) (taken c.loop-c.out) (taken c.write_char.new.out)
-      (left_begins all n c.in-Some.c t.0 t.1) c.loop-c.invariant.sent c.in_default.ensures.sent;
+          (left_begins all n c.in-Some.c t.0 t.1) c.loop-c.invariant.sent c.in_default.ensures.sent;
       count = c.in_default.ensures.errors ∙ c.loop-c.invariant.count;
     })
 
