@@ -26,6 +26,10 @@ use Rattle.coll_table.specs.PrintedParts.{id_bytes, behind_bytes, char_bytes, sy
 
 -- What is written.
 
+-- a call that writes the same bytes, otherwise said
+pub sends_same : {T E : Type 0} (a b : Option (List ℕ)) (whole bytes : List ℕ) (r : Result T E) → whole ≡ bytes → Sends a b bytes r → Sends a b whole r
+sends_same a b whole bytes r same sent = subst (λ bytes. Sends a b bytes r) (sym same) sent
+
 -- a call that stops in the first part of a whole
 pub stops_first : {T E : Type 0} (a b : Option (List ℕ)) (whole first rest : List ℕ) (r : Result T E) → whole ≡ first ++ rest → IsErr r → AppendsFront a b first → Sends a b whole r
 stops_first a b whole first rest r same stopped part = Sends-stopped a b whole r stopped (subst (AppendsFront a b) (sym same) (AppendsFront-before a b first rest part))
@@ -33,6 +37,10 @@ stops_first a b whole first rest r same stopped part = Sends-stopped a b whole r
 -- a last call that writes the rest of a whole
 pub writes_rest : {T E : Type 0} (a b c : Option (List ℕ)) (whole first rest : List ℕ) (r : Result T E) → whole ≡ first ++ rest → Appends a b first → Sends b c rest r → Sends a c whole r
 writes_rest a b c whole first rest r same done last = subst (λ bytes. Sends a c bytes r) (sym same) (Sends-after a b c first rest r done last)
+
+-- what is left of a list begins with the member at this place
+pub left_begins : {X : Type 0} (xs : List X) (i : ℕ) (x : X) → i < length xs → x ≡ get_or xs i x → drop i xs ≡ x ∷ drop (i + 1) xs
+left_begins xs i x within is = drop_more xs i x within ∙ ap (λ y. y ∷ drop (i + 1) xs) (sym is)
 
 module _ {X : Type 0} (part : X → List ℕ) where
   -- the parts of some members are written, and those of the others are left
@@ -113,9 +121,6 @@ weight_before owner Own rest = own_before owner rest
 weight_before owner (Names ids) rest = names_before ids rest
 
 -- the weights behind an identifier
-pub own_weights : (id : Id) (ws : List Weight) → list_all is_own ws ≡ true → encode_utf8_all (weights_behind id ws) ≡ []
-own_weights id ws own = rw own refl
-
 pub other_weights : (id : Id) (ws : List Weight) → list_all is_own ws ≡ false → encode_utf8_all (weights_behind id ws) ≡ (32 ∷ []) ++ encode_utf8_all (spelled_joined (spelled_weight id) ws [])
 unfolding encode
 other_weights id ws own = rw own refl
@@ -128,19 +133,6 @@ entry_parts id ws = ap (λ l. l ++ line_feed ∷ []) (id_before id (weights_behi
 pub behind_parts : {X : Type 0} (spelled : X → List ℕ → List ℕ) (x : X) → behind_bytes spelled x ≡ (59 ∷ []) ++ encode_utf8_all (spelled x [])
 unfolding encode
 behind_parts spelled x = refl
-
--- a word in one part
-pub ignore_bytes : encode_utf8_all (codes "IGNORE") ≡ codes "IGNORE"
-unfolding encode
-ignore_bytes = refl
-
-pub undefined_bytes : encode_utf8_all (codes "UNDEFINED") ≡ codes "UNDEFINED"
-unfolding encode
-undefined_bytes = refl
-
--- what is left of a list begins with the member at this place
-pub left_begins : {X : Type 0} (xs : List X) (i : ℕ) (x : X) → i < length xs → x ≡ get_or xs i x → drop i xs ≡ x ∷ drop (i + 1) xs
-left_begins xs i x within is = drop_more xs i x within ∙ ap (λ y. y ∷ drop (i + 1) xs) (sym is)
 
 -- the line of a symbol
 pub symbol_parts : (name : List ℕ) → declaration_bytes (declaration.Symbol name) ≡ codes "collating-symbol " ++ (symbol_bytes name ++ line_feed ∷ [])
@@ -203,7 +195,3 @@ text_parts table =
     (flat_map-append line_bytes front (rules_line table.rules ∷ (middle ++ closing_lines))
     ∙ ap (λ l. l ++ flat_map line_bytes (rules_line table.rules ∷ (middle ++ closing_lines))) (lines_of_members declaration_line table.declared)
     ∙ ap (λ l. flat_map declaration_bytes table.declared ++ (line_bytes (rules_line table.rules) ++ l)) closed)
-
--- a call that writes the same bytes, otherwise said
-pub sends_same : {T E : Type 0} (a b : Option (List ℕ)) (whole bytes : List ℕ) (r : Result T E) → whole ≡ bytes → Sends a b bytes r → Sends a b whole r
-sends_same a b whole bytes r same sent = subst (λ bytes. Sends a b bytes r) (sym same) sent

@@ -56,5 +56,6 @@ pub use plain::{PlainDeltaLine, PlainLine, PlainStatement, parse_plain_delta_lin
 pub use printing::printed_tables_are_read_back;
 pub use records::Record;
 pub use refusals::Refusal;
+pub use spelled_entries::write_id;
 pub use tables::Table;
 pub use walks::{Declared, DeclaredItem, Walk, WalkItem};
