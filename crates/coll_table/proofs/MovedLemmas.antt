@@ -1,5 +1,5 @@
 -- A table with an entry moved, or newly placed, directly after another: what stands there, and that it is well formed.
-use Rattle.std.proofs.Common.{◌≡◌, ◌≤◌, ◌<◌, ℕ, suc, zero, Bool, true, false, ◌||◌, ◌-◌, List, [], ◌∷◌, ◌++◌, Option, Some, None, IsTrue, is_some, length, map, replicate, All, sym, ap, subst, ◌∙◌, refl, arith}
+use Rattle.std.proofs.Common.{◌≡◌, ◌≤◌, ◌<◌, ℕ, suc, zero, Bool, true, false, ◌||◌, ◌-◌, List, [], Option, Some, None, IsTrue, length, map, replicate, All, sym, ap, subst, ◌∙◌, refl, arith}
 use Rattle.std.specs.List.{flat_map}
 use Rattle.std.proofs.lemmas.Bool.{false≢true}
 use Rattle.std.proofs.lemmas.List.Elements.{All-nil, All-cons}
@@ -9,18 +9,17 @@ use Rattle.coll_syntax.specs.Identifier.{same_id, same_name, has_id}
 use Rattle.coll_syntax.specs.Proper.{IsId}
 use Rattle.coll_syntax.specs.declared.identifiers.Id.{Id}
 use Rattle.coll_syntax.specs.declared.identifiers.Id.TheVariants.{Char, Named, Undefined}
-use Rattle.coll_syntax.specs.declared.weights.Weight.{Weight}
 use Rattle.coll_syntax.specs.declared.weights.Weight.TheVariants.{Own}
-use Rattle.coll_table.proofs.EntryLemmas.{absent_without, taken_out, others_without, distinct_without, all_without, none_without, length_without, distinct_after, all_after, length_after, has_after, entry_there, entry_found, found_id, by_ids, to_ids, all_so}
+use Rattle.coll_table.proofs.EntryLemmas.{taken_out, others_without, distinct_without, all_without, none_without, length_without, distinct_after, all_after, length_after, has_after, entry_found, found_id, by_ids, to_ids, all_so}
 use Rattle.coll_table.proofs.Sameness.{found_holds, same_name_decides, same_id_decides, same_id_symmetric, same_id_itself}
 use Rattle.coll_table.proofs.SectionLemmas.{joined_moved, names_stay, as_many, first_stays}
 use Rattle.coll_table.specs.Delta.{new_entry, entry_or, block_entry, moved}
 use Rattle.coll_table.specs.Entries.{ids_named, weight_ids, weights_of}
 use Rattle.coll_table.specs.Limits.{most_entries}
-use Rattle.coll_table.specs.Placement.{entry_at, entries_after, entries_without, without, placed_after}
+use Rattle.coll_table.specs.Placement.{entry_at, entries_after, entries_without, without}
 use Rattle.coll_table.specs.Rewriting.{HasCharacter}
 use Rattle.coll_table.specs.Table.{Collation, Section, names_of, entries_of, ids_of, section_names, is_known, is_symbol, is_placed}
-use Rattle.coll_table.specs.WellFormed.{AreDistinct, IsKnown, IsWeighted, HasWeights, IsKeptWeight, HasPlacedWeights, FirstIsUnnamed, IsBuilt, IsWellFormed}
+use Rattle.coll_table.specs.WellFormed.{AreDistinct, IsKnown, IsWeighted, HasWeights, IsKeptWeight, HasPlacedWeights, IsWellFormed}
 use Rattle.coll_table.specs.declared.declarations.Declaration.{Declaration}
 use Rattle.coll_table.specs.declared.entries.Entry.{Entry}
 
