@@ -20,7 +20,7 @@ abbrev mark_of : ℕ → Mark
 mark_of c = if is_escaped c then Literal c else Plain c
 
 -- a plain character that isn't the escape character
-marks-plain : (c : ℕ) (rest : List ℕ) → (c == 47) ≡ false → marks 47 false (c ∷ rest) ≡ Plain c ∷ marks 47 false rest
+pub marks-plain : (c : ℕ) (rest : List ℕ) → (c == 47) ≡ false → marks 47 false (c ∷ rest) ≡ Plain c ∷ marks 47 false rest
 unfolding marks
 marks-plain c rest other = ap (λ b. if b then marks 47 true rest else Plain c ∷ marks 47 false rest) other
 
@@ -123,7 +123,7 @@ is_escaped-hex_digit d small =
     (cases_lt d 10)
 
 -- how many digits there are
-length-hex_digits : (count n : ℕ) → length (hex_digits count n) ≡ count
+pub length-hex_digits : (count n : ℕ) → length (hex_digits count n) ≡ count
 length-hex_digits zero n = ap length (hex_digits-zero n)
 length-hex_digits (suc count) n = ap length (hex_digits-suc count n) ∙ length_push (hex_digits count (n / 16)) (hex_digit (n % 16)) ∙ (omega (arith, length-hex_digits count (n / 16)))
 
@@ -159,7 +159,7 @@ symbol_of-spelled_code c is =
     (cases_lt c 65536)
 
 -- a spelled character is a spelled symbol
-spelled_code-symbol : (c : ℕ) (rest : List ℕ) → spelled_code c rest ≡ spelled_symbol (85 ∷ hex_digits (digit_count c) c) rest
+pub spelled_code-symbol : (c : ℕ) (rest : List ℕ) → spelled_code c rest ≡ spelled_symbol (85 ∷ hex_digits (digit_count c) c) rest
 unfolding spelled_code spelled_symbol
 spelled_code-symbol c rest =
     let digits = hex_digits (digit_count c) c in

@@ -26,11 +26,11 @@ use Rattle.coll_table.specs.declared.entries.Entry.{Entry}
 -- A declaration.
 
 -- the names declared with one more
-names_push : (declared : List Declaration) (new : Declaration) → names_of (declared ++ new ∷ []) ≡ names_of declared ++ name_of new ∷ []
+pub names_push : (declared : List Declaration) (new : Declaration) → names_of (declared ++ new ∷ []) ≡ names_of declared ++ name_of new ∷ []
 names_push declared new = map-append name_of declared (new ∷ [])
 
 -- the strings declared with those of one more
-texts_push : (declared : List Declaration) (new : Declaration) → texts_of (declared ++ new ∷ []) ≡ texts_of declared ++ text_of new
+pub texts_push : (declared : List Declaration) (new : Declaration) → texts_of (declared ++ new ∷ []) ≡ texts_of declared ++ text_of new
 texts_push declared (Symbol name) = flat_map-append text_of declared (Symbol name ∷ [])
 texts_push declared (Element name text) = flat_map-append text_of declared (Element name text ∷ [])
 
@@ -118,11 +118,11 @@ pub entries_with_section : (sections : List Section) (name : List ℕ) → joine
 entries_with_section sections name = flat_map-append (λ (section : Section). section.entries) sections (empty_section name ∷ []) ∙ append-nil (joined_entries sections)
 
 -- it adds its name
-names_with_section : (sections : List Section) (name : List ℕ) → section_names (with_section sections name) ≡ section_names sections ++ name ∷ []
+pub names_with_section : (sections : List Section) (name : List ℕ) → section_names (with_section sections name) ≡ section_names sections ++ name ∷ []
 names_with_section sections name = flat_map-append (λ (section : Section). named section.name) sections (empty_section name ∷ [])
 
 -- the first section still has no name, and it alone
-unnamed_with_section : (sections : List Section) (name : List ℕ) → IsName name → FirstIsUnnamed sections → FirstIsUnnamed (with_section sections name)
+pub unnamed_with_section : (sections : List Section) (name : List ℕ) → IsName name → FirstIsUnnamed sections → FirstIsUnnamed (with_section sections name)
 unnamed_with_section [] name is h = absurd h
 unnamed_with_section (first ∷ others) name is h = (h.0, All-push IsNamed others (empty_section name) h.1 (name, refl, is))
 
@@ -162,13 +162,13 @@ entries_with_last (first ∷ others) entry h = behind first others where
   behind first (second ∷ later) = ap (λ entries. first.entries ++ entries) (behind second later) ∙ sym (append_assoc first.entries (joined_entries (second ∷ later)) (entry ∷ []))
 
 -- the names of the sections stay
-names_with_last : (sections : List Section) (entry : Entry) → section_names (with_last sections entry) ≡ section_names sections
+pub names_with_last : (sections : List Section) (entry : Entry) → section_names (with_last sections entry) ≡ section_names sections
 names_with_last [] entry = refl
 names_with_last (last ∷ []) entry = refl
 names_with_last (first ∷ second ∷ later) entry = ap (λ names. named first.name ++ names) (names_with_last (second ∷ later) entry)
 
 -- their number stays
-length_with_last : (sections : List Section) (entry : Entry) → length (with_last sections entry) ≡ length sections
+pub length_with_last : (sections : List Section) (entry : Entry) → length (with_last sections entry) ≡ length sections
 length_with_last [] entry = refl
 length_with_last (last ∷ []) entry = refl
 length_with_last (first ∷ second ∷ later) entry = ap suc (length_with_last (second ∷ later) entry)
@@ -181,13 +181,13 @@ named_with_last (first ∷ second ∷ later) entry h =
     All-cons IsNamed first (with_last (second ∷ later) entry) (All-head IsNamed first (second ∷ later) h) (named_with_last (second ∷ later) entry (All-tail IsNamed first (second ∷ later) h))
 
 -- the first still has none
-unnamed_with_last : (sections : List Section) (entry : Entry) → FirstIsUnnamed sections → FirstIsUnnamed (with_last sections entry)
+pub unnamed_with_last : (sections : List Section) (entry : Entry) → FirstIsUnnamed sections → FirstIsUnnamed (with_last sections entry)
 unnamed_with_last [] entry h = absurd h
 unnamed_with_last (first ∷ []) entry h = h
 unnamed_with_last (first ∷ second ∷ later) entry h = (h.0, named_with_last (second ∷ later) entry h.1)
 
 -- the identifiers with one more
-ids_push : (entries : List Entry) (entry : Entry) → ids_of (entries ++ entry ∷ []) ≡ ids_of entries ++ entry.id ∷ []
+pub ids_push : (entries : List Entry) (entry : Entry) → ids_of (entries ++ entry ∷ []) ≡ ids_of entries ++ entry.id ∷ []
 ids_push entries entry = map-append (λ (e : Entry). e.id) entries (entry ∷ [])
 
 -- a table with one more entry in its last section

@@ -31,6 +31,14 @@ pub mod NodeLists
 pub mod NodeLookUps
 pub mod PlaceLookUps
 pub mod PlacingLemmas
+pub mod PrintedDrafts
+pub mod PrintedLines
+pub mod PrintedParts
+pub mod PrintedReading
+pub mod PrintedSpellings
+pub mod PrintedTables
+pub mod PrintedTexts
+pub mod PrintedTokens
 pub mod ReadTables
 pub mod RingPlaces
 pub mod RuleLists

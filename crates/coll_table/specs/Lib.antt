@@ -1,5 +1,6 @@
 pub mod Bodies
 pub mod Building
+pub mod CanonicalText
 pub mod Delta
 pub mod Drafts
 pub mod Entries
@@ -13,6 +14,7 @@ pub mod NodeMaps
 pub mod Placement
 pub mod PlainDeltaLines
 pub mod PlainOrderLines
+pub mod PrintedParts
 pub mod Reading
 pub mod Record
 pub mod Refusals

@@ -12,6 +12,8 @@
 //! - `drafts`: the lines of a category, each judged by those before it (`Drafts`), and in `line_weights` the weights of an entry
 //!   (`Entries`);
 //! - `loaders` and `loading`: a text, read line by line (`Reading`, `Loading`, `SoundLoaders`, `Loads`), with its `load_faults` (`LoadFaults`);
+//! - `printing`, and for its lines `spelled_lines` and `spelled_entries`: the canonical text of a table, written, and that it is
+//!   read back (`CanonicalText`, `PrintedParts`);
 //! - `plain/`: what a line of a delta says (`PlainDeltaLines`, `PlainOrderLines`);
 //! - `names`, `places`, `deltas` and `refusals`: a statement, applied (`LookUps`, `Delta`, `Placement`, `Refusals`);
 //! - `records`: a statement, taken back (`Record`).
@@ -36,8 +38,11 @@ mod node_names;
 mod nodes;
 mod places;
 mod plain;
+mod printing;
 mod records;
 mod refusals;
+mod spelled_entries;
+mod spelled_lines;
 mod tables;
 mod walks;
 
@@ -48,7 +53,9 @@ pub use load_faults::{LoadCause, LoadFault};
 pub use loaders::{Loader, lines_are_read};
 pub use loading::{load, texts_are_well_formed};
 pub use plain::{PlainDeltaLine, PlainLine, PlainStatement, parse_plain_delta_line};
+pub use printing::printed_tables_are_read_back;
 pub use records::Record;
 pub use refusals::Refusal;
+pub use spelled_entries::write_id;
 pub use tables::Table;
 pub use walks::{Declared, DeclaredItem, Walk, WalkItem};
