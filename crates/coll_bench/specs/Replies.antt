@@ -1,13 +1,13 @@
 -- The replies of a session: what is written for each unit, from the history before it.
 use Rattle.std.specs.Prelude.{ℕ, suc, ◌+◌, Bool, true, false, ◌&&◌, if◌then◌else◌, List, [], ◌∷◌, ◌++◌, length, Option, Some, None, Result, Ok, Err, codes, decimal, encode_utf8_all}
 use Rattle.coll_lex.specs.LogicalLines.{first_choice, later_choices}
-use Rattle.coll_lex.specs.Spelling.{spelled_symbol, spelled_code}
+use Rattle.coll_lex.specs.Spelling.{spelled_symbol}
 use Rattle.coll_lex.specs.declared.faults.LexFault.TheVariants as lex
 use Rattle.coll_table.specs.Table.{Collation, Section, entries_of}
+use Rattle.coll_table.specs.CanonicalText.{text}
+use Rattle.coll_table.specs.PrintedParts.{id_bytes}
 use Rattle.coll_bench.specs.Histories.{History, table_now, judged, taken_back}
 use Rattle.coll_bench.specs.Faults.{fault_number, fault_name}
-use Rattle.coll_syntax.specs.declared.identifiers.Id.{Id}
-use Rattle.coll_syntax.specs.declared.identifiers.Id.TheVariants as id
 use Rattle.coll_table.specs.declared.entries.Entry.{Entry}
 use Rattle.coll_bench.specs.declared.faults.BenchFault.{BenchFault}
 use Rattle.coll_bench.specs.declared.faults.Fault.{Fault}
@@ -18,12 +18,6 @@ use Rattle.coll_bench.specs.declared.units.Request.{Request}
 use Rattle.coll_bench.specs.declared.units.Request.TheVariants as request
 use Rattle.coll_bench.specs.declared.units.SessionUnit.{SessionUnit}
 use Rattle.coll_bench.specs.declared.units.FaultAt.{FaultAt}
-
--- an identifier, spelled
-unfoldable pub spelled_id : Id → List ℕ
-spelled_id (id.Char c) = encode_utf8_all (spelled_code c [])
-spelled_id (id.Named name) = encode_utf8_all (spelled_symbol name [])
-spelled_id id.Undefined = codes "UNDEFINED"
 
 -- two words with a space between them, and the line's end
 abbrev pub worded : List ℕ → List ℕ → List ℕ
@@ -44,7 +38,7 @@ refused_lines (at ∷ later) = refused_line at.fault ++ refused_lines later
 
 -- one line of a listing: the rank, and the identifier
 unfoldable pub listed_line : ℕ → Entry → List ℕ
-listed_line rank entry = worded (decimal rank) (spelled_id entry.id)
+listed_line rank entry = worded (decimal rank) (id_bytes entry.id)
 
 -- the lines of a listing, from a rank on
 unfoldable pub listed_lines : ℕ → List Entry → List ℕ
@@ -70,6 +64,26 @@ listed_sections rank (section ∷ later) =
 unfoldable pub listing : Collation → List ℕ
 listing table = listed_sections 1 table.sections ++ counted_line (codes "listed") (length (entries_of table))
 
+-- a word and a number behind it
+abbrev pub count_part : List ℕ → ℕ → List ℕ
+count_part word n = word ++ decimal n
+
+-- the levels of a table, behind which the line ends
+abbrev pub levels_part : Collation → List ℕ
+levels_part table = count_part (codes " levels ") (length table.rules) ++ 10 ∷ []
+
+-- the sections of a table, the first counted, and its levels
+abbrev pub sections_part : Collation → List ℕ
+sections_part table = count_part (codes " sections ") (length table.sections) ++ levels_part table
+
+-- the declarations of a table, and what follows them
+abbrev pub declared_part : Collation → List ℕ
+declared_part table = count_part (codes " declared ") (length table.declared) ++ sections_part table
+
+-- the reply to `:check`
+unfoldable pub checked_line : Collation → List ℕ
+checked_line table = count_part (codes "table entries ") (length (entries_of table)) ++ declared_part table
+
 -- a reply that counts what remains, or a refusal
 abbrev pub count_reply : List ℕ → Result History BenchFault → List ℕ
 count_reply word (Ok h) = counted_line word (length h.remaining)
@@ -79,6 +93,8 @@ count_reply word (Err f) = refused_line (fault.Bench f)
 abbrev pub command_reply : History → Command → List ℕ
 command_reply h command.Undo = count_reply (codes "undone") (taken_back h)
 command_reply h command.List = listing (table_now h)
+command_reply h command.Print = text (table_now h)
+command_reply h command.Check = checked_line (table_now h)
 
 -- the reply to a unit
 unfoldable pub reply : History → Request → List ℕ
@@ -95,6 +111,8 @@ history_or before (Err f) = before
 abbrev pub history_after_command : History → Command → History
 history_after_command h command.Undo = history_or h (taken_back h)
 history_after_command h command.List = h
+history_after_command h command.Print = h
+history_after_command h command.Check = h
 
 -- the history after a unit: one that is refused, and a listing, leave it
 unfoldable pub history_after : History → Request → History

@@ -54,7 +54,9 @@ abbrev pub command_heard : Token → List Token → Heard
 command_heard first arguments =
     if is_word first (codes ":undo") then alone command.Undo arguments
     else (if is_word first (codes ":list") then alone command.List arguments
-    else Misasks fault.UnknownCommand)
+    else (if is_word first (codes ":print") then alone command.Print arguments
+    else (if is_word first (codes ":check") then alone command.Check arguments
+    else Misasks fault.UnknownCommand)))
 
 -- a line of a delta, or a line that the grammar refuses
 abbrev pub delta_heard : Opening → Result PlainDeltaLine SyntaxFault → Heard

@@ -254,6 +254,12 @@ fn command_heard(first: &Token, arguments: &[Token]) -> Heard
     if is_word(first, ":list") {
         return alone(Command::List, arguments);
     }
+    if is_word(first, ":print") {
+        return alone(Command::Print, arguments);
+    }
+    if is_word(first, ":check") {
+        return alone(Command::Check, arguments);
+    }
     Heard::Misasks(Fault::UnknownCommand)
 }
 

@@ -9,17 +9,18 @@ ghost use Rattle.std.specs.Io.KnownBytes.{Keeps};
 ghost use Rattle.coll_lex.specs.Devices.{CountsErr, Sends};
 ghost use Rattle.coll_lex.specs.Spelling.{spelled_symbol};
 ghost use Rattle.coll_table.specs.TableLayout.{collation};
+ghost use Rattle.coll_table.specs.PrintedParts.{id_bytes};
 ghost use Rattle.coll_table.specs.WalkItems.{met_by};
 ghost use Rattle.coll_bench.specs.Listing.{met_line, rank_after};
-ghost use Rattle.coll_bench.specs.Replies.{spelled_id, worded, counted_line, refused_line, section_line, listed_line, listed_sections, listing, outcome_line, command_reply, history_after_command, reply_if, history_after_if};
+ghost use Rattle.coll_bench.specs.Replies.{worded, count_part, levels_part, sections_part, declared_part, checked_line, counted_line, refused_line, section_line, listed_line, listed_sections, listing, outcome_line, command_reply, history_after_command, reply_if, history_after_if};
 
 use crate::faults::{BenchFault, Fault};
 use crate::histories::Session;
 use crate::session_lines::Command;
 use crate::units::Request;
-use coll_lex::{Sink, WriteStop, write_bytes, write_char, write_symbol};
+use coll_lex::{Sink, WriteStop, write_bytes, write_symbol};
 use coll_syntax::Id;
-use coll_table::{Entry, Table, Walk, WalkItem};
+use coll_table::{Entry, Table, WalkItem, write_id};
 use itoa::Buffer;
 
 /// Does what a unit asks for, writes its reply and flushes it.
@@ -86,6 +87,8 @@ fn obey<W: Sink>(session: &mut Session, command: Command, out: &mut W) -> Result
             write_outcome(out, b"undone", outcome)
         }
         Command::List => write_listing(out, session.table()),
+        Command::Print => session.table().print(out),
+        Command::Check => write_checked(out, session.table()),
     }
 }
 
@@ -114,12 +117,59 @@ fn write_listing<W: Sink>(out: &mut W, table: &Table) -> Result<(), WriteStop>
     write_counted(out, b"listed", table.len() as u64)
 }
 
+// Writes how many entries, declarations, sections and levels a table has.
+#[tactic(auto, unfolding(crate::specs::Replies::checked_line))]
+fn write_checked<W: Sink>(out: &mut W, table: &Table) -> Result<(), WriteStop>
+    ensures sent { Sends (W.taken out.old) (W.taken out.new) (checked_line (collation table.now)) result }
+    ensures errors { CountsErr (W.failed out.old) (W.failed out.new) result }
+{
+    write_part(out, b"table entries ", table.len())?;
+    write_declared(out, table)
+}
+
+// Writes the counts from the declarations on.
+fn write_declared<W: Sink>(out: &mut W, table: &Table) -> Result<(), WriteStop>
+    ensures sent { Sends (W.taken out.old) (W.taken out.new) (declared_part (collation table.now)) result }
+    ensures errors { CountsErr (W.failed out.old) (W.failed out.new) result }
+{
+    write_part(out, b" declared ", table.declared_len())?;
+    write_sections(out, table)
+}
+
+// Writes the counts from the sections on.
+fn write_sections<W: Sink>(out: &mut W, table: &Table) -> Result<(), WriteStop>
+    ensures sent { Sends (W.taken out.old) (W.taken out.new) (sections_part (collation table.now)) result }
+    ensures errors { CountsErr (W.failed out.old) (W.failed out.new) result }
+{
+    write_part(out, b" sections ", table.section_len())?;
+    write_levels(out, table)
+}
+
+// Writes the count of levels, and the line's end.
+fn write_levels<W: Sink>(out: &mut W, table: &Table) -> Result<(), WriteStop>
+    ensures sent { Sends (W.taken out.old) (W.taken out.new) (levels_part (collation table.now)) result }
+    ensures errors { CountsErr (W.failed out.old) (W.failed out.new) result }
+{
+    write_part(out, b" levels ", table.rules().len())?;
+    write_bytes(out, b"\n")
+}
+
+// Writes a word and a number behind it.
+fn write_part<W: Sink>(out: &mut W, word: &[u8], count: usize) -> Result<(), WriteStop>
+    ensures sent { Sends (W.taken out.old) (W.taken out.new) (count_part word.now count) result }
+    ensures errors { CountsErr (W.failed out.old) (W.failed out.new) result }
+{
+    let mut number = Buffer::new();
+    write_bytes(out, word)?;
+    write_bytes(out, number.format(count as u64).as_bytes())
+}
+
 // Writes a line for each named section and each entry that one meets.
 fn write_walk<W: Sink>(out: &mut W, table: &Table) -> Result<(), WriteStop>
     ensures sent { Sends (W.taken out.old) (W.taken out.new) (listed_sections 1 (collation table.now).sections) result }
     ensures errors { CountsErr (W.failed out.old) (W.failed out.new) result }
 {
-    table.check();
+    table.check_table();
     let mut rank = 1u64;
     for item in table.walk() {
         match write_met(out, rank, &item) {
@@ -181,24 +231,11 @@ fn write_listed<W: Sink>(out: &mut W, rank: u64, entry: &Entry) -> Result<(), Wr
 
 // Writes an identifier and the line's end.
 fn write_id_ended<W: Sink>(out: &mut W, id: &Id) -> Result<(), WriteStop>
-    ensures sent { Sends (W.taken out.old) (W.taken out.new) (spelled_id id.now ++ 10 ∷ []) result }
+    ensures sent { Sends (W.taken out.old) (W.taken out.new) (id_bytes id.now ++ 10 ∷ []) result }
     ensures errors { CountsErr (W.failed out.old) (W.failed out.new) result }
 {
     write_id(out, id)?;
     write_bytes(out, b"\n")
-}
-
-// Writes an identifier in its canonical spelling.
-#[tactic(auto, unfolding(crate::specs::Replies::spelled_id))]
-fn write_id<W: Sink>(out: &mut W, id: &Id) -> Result<(), WriteStop>
-    ensures sent { Sends (W.taken out.old) (W.taken out.new) (spelled_id id.now) result }
-    ensures errors { CountsErr (W.failed out.old) (W.failed out.new) result }
-{
-    match id {
-        Id::Char(c) => write_char(out, *c),
-        Id::Named(name) => write_symbol(out, name.get()),
-        Id::Undefined => write_bytes(out, b"UNDEFINED"),
-    }
 }
 
 // Writes the reply to what is refused.

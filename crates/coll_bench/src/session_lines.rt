@@ -16,6 +16,10 @@ pub enum Command {
     Undo,
     /// `:list`: the entries of the table in their order.
     List,
+    /// `:print`: the canonical text of the table.
+    Print,
+    /// `:check`: how many entries, declarations, sections and levels the table has.
+    Check,
 }
 
 /// What the first physical line of a logical line begins with, blanks skipped, without regard to words or escapes.

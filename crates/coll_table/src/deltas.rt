@@ -68,7 +68,7 @@ impl Table {
         self.judge_lines(target, lines)?;
         let mut other = self.try_copy(self.alloc())?;
         other.rewrite(target, lines)?;
-        self.check();
+        self.check_table();
         mem::swap(self, &mut other);
         Ok(Record::of_table(other))
     }
@@ -101,11 +101,11 @@ impl Table {
         ensures ok { OnOk result (within_limit (all_moved (collation self.old) target.now lines.now) ≡ Ok (collation self.new)) }
         ensures err { IfErr result (λ refusal. refusal ≢ OutOfMemory → within_limit (all_moved (collation self.old) target.now lines.now) ≡ Err refusal) }
     {
-        self.check();
+        self.check_table();
         let mut after = target;
         for line in lines {
             self.place_after(&line.id, after)?;
-            self.check();
+            self.check_table();
             after = &line.id;
         }
         Ok(())

@@ -53,6 +53,22 @@ impl Table {
         self.body.entry_len()
     }
 
+    /// The number of declarations.
+    #[tactic(auto, unfolding(crate::specs::TableLayout::collation))]
+    pub fn declared_len(&self) -> usize
+        ensures { result ≡ length (collation self.now).declared }
+    {
+        self.body.declared_len()
+    }
+
+    /// The number of sections, the first, which has no name, counted.
+    #[tactic(auto, unfolding(crate::specs::TableLayout::collation))]
+    pub fn section_len(&self) -> usize
+        ensures { result ≡ length (collation self.now).sections }
+    {
+        self.body.section_len()
+    }
+
     /// The entry of an identifier, if it has one.
     #[tactic(auto, unfolding(crate::specs::TableLayout::collation))]
     pub fn entry(&self, id: &Id) -> Option<&Entry>
@@ -82,7 +98,7 @@ impl Table {
     /// What holds of every table: it is well formed.
     ///
     /// It does nothing; its contract hands the fact to callers.
-    pub fn check(&self)
+    pub fn check_table(&self)
         ensures { IsWellFormed (collation self.now) }
     {
         let _ = &self.rules;

@@ -182,7 +182,7 @@ impl Table {
     pub fn walk(&self) -> Walk<'_>
         ensures { result ≡ met (collation self.now).sections }
     {
-        self.check();
+        self.check_table();
         self.body.walk()
     }
 

@@ -18,3 +18,13 @@ pub returns-in-List : goal.returns-in-List
 returns-in-List g c =
     let sent = rw c.table.ensures at c.write_listing.ensures.sent in
     rw c.in-List.is (record { sent = sent; after = refl; errors = c.write_listing.ensures.errors })
+
+pub returns-in-Print : goal.returns-in-Print
+returns-in-Print g c =
+    let sent = rw c.table-in-Print.ensures at c.print.ensures.sent in
+    rw c.in-Print.is (record { sent = sent; after = refl; errors = c.print.ensures.errors })
+
+pub returns-in-Check : goal.returns-in-Check
+returns-in-Check g c =
+    let sent = rw c.table-in-Check.ensures at c.write_checked.ensures.sent in
+    rw c.in-Check.is (record { sent = sent; after = refl; errors = c.write_checked.ensures.errors })

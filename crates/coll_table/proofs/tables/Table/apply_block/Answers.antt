@@ -16,7 +16,7 @@ returns-in_err-rewrite-clause-err c =
 
 pub returns-clause-fits : goal.returns-clause-fits
 unfolding fits
-returns-clause-fits c = subst (λ (t : TableValue). IsWellFormed (collation t)) (sym (c.of_table.ensures ∙ c.swap.ensures.y_after)) c.check.ensures
+returns-clause-fits c = subst (λ (t : TableValue). IsWellFormed (collation t)) (sym (c.of_table.ensures ∙ c.swap.ensures.y_after)) c.check_table.ensures
 
 pub returns-clause-back : goal.returns-clause-back
 unfolding turn

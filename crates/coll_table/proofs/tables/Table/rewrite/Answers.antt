@@ -19,4 +19,4 @@ pub loop-line-preserved : goal.loop-line-preserved
 loop-line-preserved c =
     rewriting_more (collation c.args.self.now) c.args.target.now c.args.lines.now c.loop-line.line-index (collation c.loop-line.self) c.loop-line.after.now c.line-item.result
     c.loop-line.invariant c.loop-line-test.true c.line-item.is (collation c.place_after.new.self)
-    c.in_ok-place_after.ensures.ok c.check-in-loop-line.ensures
+    c.in_ok-place_after.ensures.ok c.check_table-in-loop-line.ensures
