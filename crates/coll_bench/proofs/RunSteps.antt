@@ -11,7 +11,7 @@ use Rattle.coll_lex.specs.LogicalLines.{LexerState, first_state, served, state_b
 use Rattle.coll_lex.specs.declared.faults.ReadStop.{ReadStop}
 use Rattle.coll_lex.proofs.PhysicalLinesLemmas.{lines_of-nil, lines_of-ended, lines_of-part, lines_of-cut}
 use Rattle.coll_table.specs.Table.{Collation}
-use Rattle.coll_table.specs.TextLines.{with_feeds}
+use Rattle.coll_table.specs.Loads.{with_feeds}
 use Rattle.coll_bench.specs.Histories.{History, begun}
 use Rattle.coll_bench.specs.Hearing.{heard_at}
 use Rattle.coll_bench.specs.Serving.{IsBegun, Served, ReadsNone, stop_at, line_units, line_block, history_after_all, replies_to, line_replies}

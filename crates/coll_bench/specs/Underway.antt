@@ -3,7 +3,7 @@ use Rattle.std.specs.Prelude.{◌≡◌, ℕ, Bool, true, false, List, [], ◌++
 use Rattle.coll_lex.specs.PhysicalLines.{lines_of}
 use Rattle.coll_lex.specs.LogicalLines.{LexerState, first_state, logical_lines}
 use Rattle.coll_table.specs.Table.{Collation}
-use Rattle.coll_table.specs.TextLines.{with_feeds}
+use Rattle.coll_table.specs.Loads.{with_feeds}
 use Rattle.coll_bench.specs.Histories.{History, begun}
 use Rattle.coll_bench.specs.SessionLines.{heard}
 use Rattle.coll_bench.specs.OpenBlocks.{kept_units}

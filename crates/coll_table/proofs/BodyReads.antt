@@ -78,7 +78,7 @@ module _ (layout : TableLayout) (shaped : IsShaped layout) where
       let test = declares_symbol name in
       let covers = declared_covers layout same_name names_in shaped (λ _ _. refl) (λ _. refl) in
       let found_at = λ (node : NodeId) (there : has_node (ring_at layout 0) node ≡ true) (has : list_any test (read_at declaration_in layout node) ≡ true).
-          sound.finds name node (and_true (in_rings layout 0 node there) (symbol_named name (content_of layout node) has)) in
+      sound.finds name node (and_true (in_rings layout 0 node there) (symbol_named name (content_of layout node) has)) in
       ap (list_any test) (declared_read layout) ∙ elim (find name) as (λ found. find name ≡ found → list_any test (flat_map (read_at declaration_in layout) (ring_at layout 0)) ≡ list_any test (flat_map (read_at declaration_in layout) (if_any found))) [
         | None ↦ λ none. by_test (λ b. list_any test (flat_map (read_at declaration_in layout) (ring_at layout 0)) ≡ b → b ≡ false) (list_any test (flat_map (read_at declaration_in layout) (ring_at layout 0)))
             (λ on e. let at = any_from test (read_at declaration_in layout) (ring_at layout 0) e in let found = found_at at.0 at.1 at.2 in cc) (λ off e. refl) refl

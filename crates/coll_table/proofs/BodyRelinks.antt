@@ -44,11 +44,11 @@ module _ (old : TableLayout) (shaped : IsShaped old) (find : Id → Option NodeI
   pub nodes_apart : same_node after node ≡ false
   nodes_apart = by_test (λ b. same_node after node ≡ b → b ≡ false) (same_node after node)
       (λ on _.
-          let mine = found_entry old shaped find id node sound found in
-          let other = found_entry old shaped find target after sound found_target in
-          let same : mine.0 ≡ other.0 = placed_same (sym mine.1 ∙ (ap (content_of old) (sym (same_node_is after node on)) ∙ other.1)) in
-          let ids : id ≡ target = (same_id_decides id mine.0.id).0 mine.2 ∙ (ap (λ (e : Entry). e.id) same ∙ sym ((same_id_decides target other.0.id).0 other.2)) in
-          not_both (ap (same_id id) (sym ids) ∙ same_id_itself id) apart)
+      let mine = found_entry old shaped find id node sound found in
+      let other = found_entry old shaped find target after sound found_target in
+      let same : mine.0 ≡ other.0 = placed_same (sym mine.1 ∙ (ap (content_of old) (sym (same_node_is after node on)) ∙ other.1)) in
+      let ids : id ≡ target = (same_id_decides id mine.0.id).0 mine.2 ∙ (ap (λ (e : Entry). e.id) same ∙ sym ((same_id_decides target other.0.id).0 other.2)) in
+      not_both (ap (same_id id) (sym ids) ∙ same_id_itself id) apart)
       (λ off _. refl) refl where
         placed_same : {a b : Entry} → Some (content.Placed a) ≡ Some (content.Placed b) → a ≡ b
         placed_same e = cc
@@ -57,10 +57,10 @@ module _ (old : TableLayout) (shaped : IsShaped old) (find : Id → Option NodeI
   moved_in : (other : NodeId) → is_in new.rings other ≡ is_in old.rings other
   moved_in other = by_test (λ b. same_node other node ≡ b → is_in new.rings other ≡ is_in old.rings other) (same_node other node)
       (λ on _.
-          let is = same_node_is other node on in
-          let linked : is_in (rings_without node old.rings) after ≡ true = is_in_without node after old.rings nodes_apart ∙ found_linked old shaped find target after sound found_target in
-          ap (is_in new.rings) is ∙ (is_in_put_itself (After after) node 0 (rings_without node old.rings) (among_after after 0 (rings_without node old.rings) ∙ linked)
-          ∙ sym (ap (is_in old.rings) is ∙ found_linked old shaped find id node sound found)))
+      let is = same_node_is other node on in
+      let linked : is_in (rings_without node old.rings) after ≡ true = is_in_without node after old.rings nodes_apart ∙ found_linked old shaped find target after sound found_target in
+      ap (is_in new.rings) is ∙ (is_in_put_itself (After after) node 0 (rings_without node old.rings) (among_after after 0 (rings_without node old.rings) ∙ linked)
+      ∙ sym (ap (is_in old.rings) is ∙ found_linked old shaped find id node sound found)))
       (λ off _. is_in_put (After after) node other 0 (rings_without node old.rings) off ∙ is_in_without node other old.rings off) refl
 
   module _ {Key : Type 0} (same : Key → Key → Bool) (keys : Content → List Key) where
@@ -92,9 +92,9 @@ module _ (old : TableLayout) (shaped : IsShaped old) (find : Id → Option NodeI
   moved_here index there = by_test (λ b. has_node (ring_at old index) after ≡ b → b ≡ true) (has_node (ring_at old index) after)
       (λ on _. refl)
       (λ off _.
-          let gone : has_node (slice_index_or (rings_without node old.rings) index []) after ≡ false = ap (λ nodes. has_node nodes after) (get_without node old.rings index) ∙ (has_without node after (ring_at old index) nodes_apart ∙ off) in
-          let stays : ring_at new index ≡ without node (ring_at old index) = get_put_other (After after) node 0 index (rings_without node old.rings) gone ∙ get_without node old.rings index in
-          not_both there (ap (λ nodes. has_node nodes node) stays ∙ has_without_itself node (ring_at old index))) refl
+      let gone : has_node (slice_index_or (rings_without node old.rings) index []) after ≡ false = ap (λ nodes. has_node nodes after) (get_without node old.rings index) ∙ (has_without node after (ring_at old index) nodes_apart ∙ off) in
+      let stays : ring_at new index ≡ without node (ring_at old index) = get_put_other (After after) node 0 index (rings_without node old.rings) gone ∙ get_without node old.rings index in
+      not_both there (ap (λ nodes. has_node nodes node) stays ∙ has_without_itself node (ring_at old index))) refl
 
   -- the layout is one of a table still
   pub moved_shaped : IsShaped new
@@ -104,12 +104,12 @@ module _ (old : TableLayout) (shaped : IsShaped old) (find : Id → Option NodeI
     begun = λ other there. subst (λ n. IsSection n (content_of old other)) (sym moved_rings) (shaped.begun other (sym (ap (λ nodes. has_node nodes other) (moved_other_ring old shaped find sound id target node after found found_target 1 (not_begun old shaped find id node sound found) (not_begun old shaped find target after sound found_target))) ∙ there));
     placed = λ index other there. by_test (λ b. same_node other node ≡ b → IsEntry (content_of old other) × IsOwned new (suc (suc index))) (same_node other node)
         (λ on _.
-            let is = same_node_is other node on in
-            let here = moved_here (suc (suc index)) (ap (has_node (ring_at new (suc (suc index)))) (sym is) ∙ there) in
-            (subst (λ (found : Option Content). IsEntry found) (sym (ap (content_of old) is ∙ (found_entry old shaped find id node sound found).1)) tt, moved_owned (suc (suc index)) (shaped.placed index after here).1))
+        let is = same_node_is other node on in
+        let here = moved_here (suc (suc index)) (ap (has_node (ring_at new (suc (suc index)))) (sym is) ∙ there) in
+        (subst (λ (found : Option Content). IsEntry found) (sym (ap (content_of old) is ∙ (found_entry old shaped find id node sound found).1)) tt, moved_owned (suc (suc index)) (shaped.placed index after here).1))
         (λ off _.
-            let was = shaped.placed index other (sym (moved_other (suc (suc index)) other off) ∙ there) in
-            (was.0, moved_owned (suc (suc index)) was.1)) refl;
+        let was = shaped.placed index other (sym (moved_other (suc (suc index)) other off) ∙ there) in
+        (was.0, moved_owned (suc (suc index)) was.1)) refl;
     own = λ ring a b. λ p q. shaped.own ring a b (sym (moved_key same_ring rings_in ring a) ∙ p) (sym (moved_key same_ring rings_in ring b) ∙ q);
   }
 

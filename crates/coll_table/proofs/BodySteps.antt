@@ -36,7 +36,7 @@ use Rattle.coll_table.proofs.Sameness.{same_id_decides, same_name_decides}
 pub place_among_rings : (layout : TableLayout) (index : ℕ) (place : Place) → IsPlaceIn layout index place → IsPlaceAmong layout.rings place
 place_among_rings layout index (Head ring) at =
     let here : eqb ring.index index ≡ true = by_test (λ b. (b || list_any (λ node. same_place (Head ring) (After node)) (ring_at layout index)) ≡ true → b ≡ true) (eqb ring.index index)
-        (λ t e. refl) (λ f e. not_both e (head_after ring.index (ring_at layout index))) at.on in
+    (λ t e. refl) (λ f e. not_both e (head_after ring.index (ring_at layout index))) at.on in
     subst (λ k. k < length layout.rings) (sym ((Decides-eqb ring.index index).0 here)) at.ring
 place_among_rings layout index (After node) at = is_in_ring layout.rings index node at.on
 
@@ -130,7 +130,7 @@ module _ (old new : TableLayout) (node : NodeId) (place : Place) (declarations s
       let one = one_ring_more old in
       let two = sound.shaped.two in
       let none : entries_in new ring ≡ [] = entries_read new ring ∙ (ap (flat_map (read_at entry_in new)) (ring_other mid new node (content.Begun name ring) place 1 adds at once ring.index (λ e. absurd (omega (arith, e, last, two)))
-          ∙ (get_push old.rings ring.index ∙ (ap (λ k. ring_at old k) last ∙ get_past old.rings)))) in
+      ∙ (get_push old.rings ring.index ∙ (ap (λ k. ring_at old k) last ∙ get_past old.rings)))) in
       record {
         declarations = sound.declarations;
         begun = sound.begun;
@@ -148,6 +148,7 @@ module _ (old new : TableLayout) (node : NodeId) (place : Place) (declarations s
       } where
         one_key : (own other : RingId) → list_any (same_ring other) (own ∷ []) ≡ true → other.index ≡ own.index
         one_key own other e = (Decides-eqb other.index own.index).0 (sym (or_false (eqb other.index own.index)) ∙ e)
+
         free : (other_ring : RingId) (other : NodeId) → other_ring.index ≡ ring.index → has_key same_ring rings_in (with_empty_ring old) other_ring other ≡ true → ⊥
         free other_ring other e has =
             let had : has_key same_ring rings_in old other_ring other ≡ true = sym (key_push old same_ring rings_in other_ring other) ∙ has in
@@ -188,9 +189,11 @@ nothing_sound declarations sections first second = record {
 } where
   no_more : (index : ℕ) → ring_at (record { rings = [] ∷ [] ∷ []; nodes = [] }) (suc (suc index)) ≡ []
   no_more index = refl
+
   none_with : (id : Id) → node_with no_nodes id ≡ None
   none_with (Char c) = refl
   none_with (Named name) = refl
   none_with Undefined = refl
+
   none_found : {Key : Type 0} (same : Key → Key → Bool) (keys : Content → List Key) (find : Key → Option NodeId) → ((key : Key) → find key ≡ None) → Finds same keys (record { rings = [] ∷ [] ∷ []; nodes = [] }) find
   none_found same keys find none = record { leads = λ key node. λ e. let empty = none key in cc; finds = λ key node. λ has. not_both has refl }

@@ -65,9 +65,11 @@ last_ring layout section name ring shaped is =
 -- the place behind the last entry is that of an entry
 pub entry_place : (layout : TableLayout) (place : Place) → IsShaped layout → IsLastEnd layout place → IsEntryPlace layout place
 entry_place layout place shaped end =
-    let high = last_ring layout end.0 end.1 end.2 shaped end.3 in
-    (end.2.index, end_place layout end.2.index place end.4 high.1,
-    (end.0, ring_key layout end.0 end.1 end.2 (in_rings layout 1 end.0 (last_in layout end.0 end.1 end.2 end.3)) end.3.begun))
+    let high = last_ring layout end.0 end.1 end.2 shaped end.3 in (
+      end.2.index,
+      end_place layout end.2.index place end.4 high.1,
+      (end.0, ring_key layout end.0 end.1 end.2 (in_rings layout 1 end.0 (last_in layout end.0 end.1 end.2 end.3)) end.3.begun),
+    )
 
 -- the place behind the last declaration is one of the declarations' ring
 pub declared_place : (layout : TableLayout) (place : Place) → IsShaped layout → place ≡ end_in layout 0 → IsPlaceIn layout 0 place
@@ -90,12 +92,16 @@ module _ (old new : TableLayout) (node : NodeId) (declared_end sections_end entr
         record {
           declared = sym (end_last old new node (content.Declared declaration) declared_end 0 adds below once shaped sound.declared);
           sections = sound.sections ∙ sym (end_other old new node (content.Declared declaration) declared_end 0 adds below once shaped sound.declared 1 (λ e. absurd (omega (arith, e))));
-          entries = (end.0, end.1, end.2,
-              record {
-                last = (end.3.last.0, lists ∙ end.3.last.1);
-                begun = content_other old new node (content.Declared declaration) declared_end 0 adds at once end.0 (other_in old new node (content.Declared declaration) declared_end 0 adds at once shaped 1 end.0 (last_in old end.0 end.1 end.2 end.3)) ∙ end.3.begun;
-              },
-              end.4 ∙ sym (end_other old new node (content.Declared declaration) declared_end 0 adds below once shaped sound.declared end.2.index (λ e. let low = high.0 in absurd (omega (arith, e, low)))));
+          entries = (
+            end.0,
+            end.1,
+            end.2,
+            record {
+              last = (end.3.last.0, lists ∙ end.3.last.1);
+              begun = content_other old new node (content.Declared declaration) declared_end 0 adds at once end.0 (other_in old new node (content.Declared declaration) declared_end 0 adds at once shaped 1 end.0 (last_in old end.0 end.1 end.2 end.3)) ∙ end.3.begun;
+            },
+            end.4 ∙ sym (end_other old new node (content.Declared declaration) declared_end 0 adds below once shaped sound.declared end.2.index (λ e. let low = high.0 in absurd (omega (arith, e, low)))),
+          );
           unnamed = subst (λ sections. FirstAloneUnnamed sections) (sym (sections_same old new node (content.Declared declaration) declared_end 0 adds at once shaped refl)) sound.unnamed;
         }
 
@@ -128,12 +134,16 @@ module _ (old new : TableLayout) (node : NodeId) (declared_end sections_end entr
         record {
           declared = sound.declared ∙ sym (end_other old new node (content.Placed entry) entries_end index adds high.1 once shaped end.4 0 (λ e. absurd (omega (arith, e, low))));
           sections = sound.sections ∙ sym (end_other old new node (content.Placed entry) entries_end index adds high.1 once shaped end.4 1 (λ e. absurd (omega (arith, e, low))));
-          entries = (end.0, end.1, end.2,
-              record {
-                last = (end.3.last.0, lists ∙ end.3.last.1);
-                begun = content_other old new node (content.Placed entry) entries_end index adds at once end.0 (other_in old new node (content.Placed entry) entries_end index adds at once shaped 1 end.0 (last_in old end.0 end.1 end.2 end.3)) ∙ end.3.begun;
-              },
-              sym (end_last old new node (content.Placed entry) entries_end index adds high.1 once shaped end.4));
+          entries = (
+            end.0,
+            end.1,
+            end.2,
+            record {
+              last = (end.3.last.0, lists ∙ end.3.last.1);
+              begun = content_other old new node (content.Placed entry) entries_end index adds at once end.0 (other_in old new node (content.Placed entry) entries_end index adds at once shaped 1 end.0 (last_in old end.0 end.1 end.2 end.3)) ∙ end.3.begun;
+            },
+            sym (end_last old new node (content.Placed entry) entries_end index adds high.1 once shaped end.4),
+          );
           unnamed = subst (λ sections. FirstAloneUnnamed sections) (sym (sections_placed)) (last_unnamed (sections_at old) entry sound.unnamed);
         }
 
@@ -184,12 +194,16 @@ module _ (old new : TableLayout) (node : NodeId) (name : Option (List ℕ)) (rin
       record {
         declared = declared ∙ (sym (ends 0) ∙ sym (end_other (with_empty_ring old) new node (content.Begun name ring) sections_end 1 adds below once shaped at_end 0 (λ e. absurd (omega (arith, e)))));
         sections = sym (end_last (with_empty_ring old) new node (content.Begun name ring) sections_end 1 adds below once shaped at_end);
-        entries = (node, name, ring,
-            record {
-              last = (ring_at (with_empty_ring old) 1, ring_last (with_empty_ring old) new node (content.Begun name ring) sections_end 1 adds below once shaped at_end);
-              begun = content_itself (with_empty_ring old) new node (content.Begun name ring) sections_end 1 adds at once;
-            },
-            sym (ap (end_of (head_of ring.index)) ring_empty));
+        entries = (
+          node,
+          name,
+          ring,
+          record {
+            last = (ring_at (with_empty_ring old) 1, ring_last (with_empty_ring old) new node (content.Begun name ring) sections_end 1 adds below once shaped at_end);
+            begun = content_itself (with_empty_ring old) new node (content.Begun name ring) sections_end 1 adds at once;
+          },
+          sym (ap (end_of (head_of ring.index)) ring_empty),
+        );
         unnamed = subst (λ sections. FirstAloneUnnamed sections) (sym sections_begun) unnamed;
       }
 

@@ -13,8 +13,9 @@ use Rattle.coll_table.specs.Drafts.{DraftState, Numbered, table_of, refused_if, 
 use Rattle.coll_table.specs.Entries.{ids_named}
 use Rattle.coll_table.specs.Loading.{draft_with}
 use Rattle.coll_table.specs.SoundDrafts.{IsSoundDraft}
-use Rattle.coll_table.specs.Table.{is_known, is_placed_in, joined_entries}
+use Rattle.coll_table.specs.Table.{Section, is_known, is_placed_in, joined_entries}
 use Rattle.coll_table.specs.WellFormed.{HasPlacedWeights, IsWellFormed}
+use Rattle.coll_table.specs.declared.declarations.Declaration.{Declaration}
 use Rattle.coll_table.specs.declared.entries.Entry.{Entry}
 use Rattle.coll_table.specs.declared.load_faults.LoadCause.TheVariants.{NoRules, NotDeclared, WeightNotPlaced, OutsideOrder}
 
@@ -29,17 +30,17 @@ unmapped f None e = refl
 unmapped f (Some x) e = cc
 
 -- an identifier in a weight that isn't refused is placed
-placed_weight : (d : DraftState) (id : Id) → weight_cause d id ≡ None → IsTrue (is_placed_in d.sections id)
-placed_weight d id e =
-    let known = passed (not (is_known d.declared id)) NotDeclared (refused_if (not (is_placed_in d.sections id)) WeightNotPlaced None) e in
-    not_false (is_placed_in d.sections id) (passed (not (is_placed_in d.sections id)) WeightNotPlaced None known.1).0
+placed_weight : (declared : List Declaration) (sections : List Section) (id : Id) → weight_cause declared sections id ≡ None → IsTrue (is_placed_in sections id)
+placed_weight declared sections id e =
+    let known = passed (not (is_known declared id)) NotDeclared (refused_if (not (is_placed_in sections id)) WeightNotPlaced None) e in
+    not_false (is_placed_in sections id) (passed (not (is_placed_in sections id)) WeightNotPlaced None known.1).0
 
 -- so are all of a list
-placed_ids : (d : DraftState) (ids : List Id) → ids_cause d ids ≡ None → All (λ id. IsTrue (is_placed_in d.sections id)) ids
-placed_ids d [] e = All-nil (λ id. IsTrue (is_placed_in d.sections id))
-placed_ids d (id ∷ ids) e =
-    let each = neither_found (weight_cause d id) (ids_cause d ids) e in
-    All-cons (λ id. IsTrue (is_placed_in d.sections id)) id ids (placed_weight d id each.0) (placed_ids d ids each.1)
+placed_ids : (declared : List Declaration) (sections : List Section) (ids : List Id) → ids_cause declared sections ids ≡ None → All (λ id. IsTrue (is_placed_in sections id)) ids
+placed_ids declared sections [] e = All-nil (λ id. IsTrue (is_placed_in sections id))
+placed_ids declared sections (id ∷ ids) e =
+    let each = neither_found (weight_cause declared sections id) (ids_cause declared sections ids) e in
+    All-cons (λ id. IsTrue (is_placed_in sections id)) id ids (placed_weight declared sections id each.0) (placed_ids declared sections ids each.1)
 
 -- and those of all entries
 placed_weights : (d : DraftState) (numbers : List ℕ) (entries : List Entry) → length numbers ≡ length entries → entries_fault d numbers entries ≡ None → All (HasPlacedWeights (table_of d)) entries
@@ -47,9 +48,10 @@ placed_weights d [] [] same e = All-nil (HasPlacedWeights (table_of d))
 placed_weights d [] (entry ∷ entries) same e = absurd (omega arith)
 placed_weights d (number ∷ numbers) [] same e = All-nil (HasPlacedWeights (table_of d))
 placed_weights d (number ∷ numbers) (entry ∷ entries) same e =
-    let each = neither_found (option_map (at_line number) (ids_cause d (ids_named entry))) (entries_fault d numbers entries) e in
+    let cause = ids_cause d.declared d.sections (ids_named entry) in
+    let each = neither_found (option_map (at_line number) cause) (entries_fault d numbers entries) e in
     All-cons (HasPlacedWeights (table_of d)) entry entries
-    (placed_ids d (ids_named entry) (unmapped (at_line number) (ids_cause d (ids_named entry)) each.0))
+    (placed_ids d.declared d.sections (ids_named entry) (unmapped (at_line number) cause each.0))
     (placed_weights d numbers entries (omega arith) each.1)
 
 -- rules that there are are one at least

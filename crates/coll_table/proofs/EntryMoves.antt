@@ -48,14 +48,14 @@ put_read f g target after node entry new start (first ∷ nodes) apart same tell
     ap (λ b. flat_map g (cond b (node ∷ first ∷ nodes) (first ∷ put_after (After after) node (After first) nodes))) apart
     ∙ by_test (λ b. same_node after first ≡ b → g first ++ flat_map g (put_after (After after) node (After first) nodes) ≡ entries_after (f first ++ rest) target entry) (same_node after first)
     (λ on _. let it = told.0.here on in
-        let put : put_after (After after) node (After first) nodes ≡ node ∷ nodes = ap (λ n. put_after (After n) node (After first) nodes) (same_node_is after first on) ∙ put_first (After first) node nodes in
-        ap (λ ns. g first ++ flat_map g ns) put
-        ∙ (ap (λ es. es ++ (g node ++ flat_map g nodes)) (read.0 ∙ it.1)
-        ∙ (ap (λ es. it.0 ∷ (es ++ flat_map g nodes)) new
-        ∙ (ap (λ es. it.0 ∷ entry ∷ es) (all_same nodes read.1)
-        ∙ sym (ap (λ es. entries_after (es ++ rest) target entry) it.1 ∙ ap (λ b. cond b (it.0 ∷ entry ∷ rest) (it.0 ∷ entries_after rest target entry)) it.2)))))
+    let put : put_after (After after) node (After first) nodes ≡ node ∷ nodes = ap (λ n. put_after (After n) node (After first) nodes) (same_node_is after first on) ∙ put_first (After first) node nodes in
+    ap (λ ns. g first ++ flat_map g ns) put
+    ∙ (ap (λ es. es ++ (g node ++ flat_map g nodes)) (read.0 ∙ it.1)
+    ∙ (ap (λ es. it.0 ∷ (es ++ flat_map g nodes)) new
+    ∙ (ap (λ es. it.0 ∷ entry ∷ es) (all_same nodes read.1)
+    ∙ sym (ap (λ es. entries_after (es ++ rest) target entry) it.1 ∙ ap (λ b. cond b (it.0 ∷ entry ∷ rest) (it.0 ∷ entries_after rest target entry)) it.2)))))
     (λ off _. ap (λ es. es ++ flat_map g (put_after (After after) node (After first) nodes)) read.0
-        ∙ (ap (λ es. f first ++ es) (put_read f g target after node entry new (After first) nodes off read.1 told.1)
-        ∙ sym (after_right (f first) rest target entry (told.0.off off)))) refl where
-          all_same : (others : List NodeId) → ((other : NodeId) → has_node others other ≡ true → g other ≡ f other) → flat_map g others ≡ flat_map f others
-          all_same others each = same_read f g others each
+    ∙ (ap (λ es. f first ++ es) (put_read f g target after node entry new (After first) nodes off read.1 told.1)
+    ∙ sym (after_right (f first) rest target entry (told.0.off off)))) refl where
+      all_same : (others : List NodeId) → ((other : NodeId) → has_node others other ≡ true → g other ≡ f other) → flat_map g others ≡ flat_map f others
+      all_same others each = same_read f g others each

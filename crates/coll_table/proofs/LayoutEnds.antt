@@ -103,19 +103,19 @@ module _ (old new : TableLayout) (node : NodeId) (node_content : Content) (place
       let owns = subst (λ k. has_key same_ring rings_in old (record { index = k }) section ≡ true) (sym is) (ring_key old section name ring (in_rings old 1 section in_ring) known) in
       let distinct : AreDistinct (front ++ section ∷ []) = subst AreDistinct lists (distinct_ring old.rings 1 once) in
       let same_front : flat_map (read_at (section_in new) new) front ≡ flat_map (read_at (section_in old) old) front =
-          same_read (read_at (section_in old) old) (read_at (section_in new) new) front (λ other there.
-          let here : has_node (ring_at old 1) other ≡ true = ap (λ nodes. has_node nodes other) lists ∙ in_front front (section ∷ []) other there in
-          section_same old new node node_content place index adds at once shaped other here
-          (other_ring old new node node_content place index adds at once shaped section owns other here (before_last front section distinct other there))) in
+      same_read (read_at (section_in old) old) (read_at (section_in new) new) front (λ other there.
+      let here : has_node (ring_at old 1) other ≡ true = ap (λ nodes. has_node nodes other) lists ∙ in_front front (section ∷ []) other there in
+      section_same old new node node_content place index adds at once shaped other here
+      (other_ring old new node node_content place index adds at once shaped section owns other here (before_last front section distinct other there))) in
       let entries_now : entries_in new ring ≡ entries_in old ring ++ entry ∷ [] =
-          entries_read new ring ∙ (subst (λ k. flat_map (read_at entry_in new) (ring_at new k) ≡ flat_map (read_at entry_in old) (ring_at old k) ++ entry_in node_content) is (reads_last entry_in)
-          ∙ (ap (λ xs. xs ++ entry_in node_content) (sym (entries_read old ring)) ∙ ap (λ c. entries_in old ring ++ entry_in c) placed)) in
+      entries_read new ring ∙ (subst (λ k. flat_map (read_at entry_in new) (ring_at new k) ≡ flat_map (read_at entry_in old) (ring_at old k) ++ entry_in node_content) is (reads_last entry_in)
+      ∙ (ap (λ xs. xs ++ entry_in node_content) (sym (entries_read old ring)) ∙ ap (λ c. entries_in old ring ++ entry_in c) placed)) in
       let still : content_of new section ≡ Some (content.Begun name ring) = content_other old new node node_content place index adds at once section (other_in old new node node_content place index adds at once shaped 1 section in_ring) ∙ known in
       let now : read_at (section_in new) new section ≡ record { name = name; entries = entries_in old ring ++ entry ∷ [] } ∷ [] =
-          read_known (section_in new) new section (content.Begun name ring) still ∙ ap (λ (entries : List Entry). record { name = name; entries = entries } ∷ []) entries_now in
+      read_known (section_in new) new section (content.Begun name ring) still ∙ ap (λ (entries : List Entry). record { name = name; entries = entries } ∷ []) entries_now in
       let was : sections_at old ≡ flat_map (read_at (section_in old) old) front ++ record { name = name; entries = entries_in old ring } ∷ [] =
-          sections_read old ∙ (ap (flat_map (read_at (section_in old) old)) lists ∙ (flat_map-append (read_at (section_in old) old) front (section ∷ [])
-          ∙ ap (λ xs. flat_map (read_at (section_in old) old) front ++ xs) (append-nil (read_at (section_in old) old section) ∙ read_known (section_in old) old section (content.Begun name ring) known))) in
+      sections_read old ∙ (ap (flat_map (read_at (section_in old) old)) lists ∙ (flat_map-append (read_at (section_in old) old) front (section ∷ [])
+      ∙ ap (λ xs. flat_map (read_at (section_in old) old) front ++ xs) (append-nil (read_at (section_in old) old section) ∙ read_known (section_in old) old section (content.Begun name ring) known))) in
       sections_read new ∙ (ap (flat_map (read_at (section_in new) new)) (ring_other old new node node_content place index adds at once 1 differ ∙ lists)
       ∙ (flat_map-append (read_at (section_in new) new) front (section ∷ []) ∙ (ap (λ xs. xs ++ flat_map (read_at (section_in new) new) (section ∷ [])) same_front
       ∙ (ap (λ xs. flat_map (read_at (section_in old) old) front ++ xs) (append-nil (read_at (section_in new) new section) ∙ now)

@@ -12,7 +12,7 @@ use Rattle.coll_order.proofs.RingLemmas.{is_in_put, length_rings_with, length_ri
 use Rattle.coll_order.proofs.Sameness.{by_test, not_both, same_node_is, same_node_itself}
 use Rattle.coll_syntax.specs.Identifier.{same_id, has_id}
 use Rattle.coll_syntax.specs.declared.identifiers.Id.{Id}
-use Rattle.coll_table.proofs.BodyReads.{entry_known}
+use Rattle.coll_table.proofs.BodyReads.{entry_known, some_same}
 use Rattle.coll_table.proofs.EntryMoves.{Tells, take_read, put_read}
 use Rattle.coll_table.proofs.LayoutReads.{declaration_is, read_known, both_true, and_true, in_rings, declared_read, sections_read, entries_read, section_at}
 use Rattle.coll_table.proofs.NodeLists.{map_read, same_read}
@@ -32,10 +32,6 @@ ids_read None = refl
 ids_read (Some (content.Declared declaration)) = refl
 ids_read (Some (content.Begun name ring)) = refl
 ids_read (Some (content.Placed entry)) = refl
-
--- equal answers are of one node
-some_same : {a b : NodeId} → Some a ≡ Some b → a ≡ b
-some_same e = cc
 
 -- no section is an entry
 no_section : (entry : Entry) (name : Option (List ℕ)) (ring : RingId) {X : Type 0} → Some (content.Placed entry) ≡ Some (content.Begun name ring) → X
@@ -66,10 +62,10 @@ sections_changed old new change shaped ring same entries =
     sections_read new
     ∙ (ap (flat_map (read_at (section_in new) new)) ring
     ∙ (same_read (λ other. map altered (read_at (section_in old) old other)) (read_at (section_in new) new) (ring_at old 1) (λ other there.
-        let is = section_at old shaped other there in
-        read_known (section_in new) new other (content.Begun is.0 is.1) (same other there ∙ is.2)
-        ∙ (ap (λ es. record { name = is.0; entries = es } ∷ []) (entries is.1 is.4)
-        ∙ sym (ap (map altered) (read_known (section_in old) old other (content.Begun is.0 is.1) is.2))))
+    let is = section_at old shaped other there in
+    read_known (section_in new) new other (content.Begun is.0 is.1) (same other there ∙ is.2)
+    ∙ (ap (λ es. record { name = is.0; entries = es } ∷ []) (entries is.1 is.4)
+    ∙ sym (ap (map altered) (read_known (section_in old) old other (content.Begun is.0 is.1) is.2))))
     ∙ sym (ap (map altered) (sections_read old) ∙ map_read altered (read_at (section_in old) old) (ring_at old 1))))
 
 -- where the same nodes are declarations, the same is declared
@@ -127,9 +123,9 @@ module _ (layout : TableLayout) (shaped : IsShaped layout) (find : Id → Option
     here = λ on. (found_entry.0, ap (read_at entry_in layout) (sym (same_node_is node other on)) ∙ read_known entry_in layout node (content.Placed found_entry.0) found_entry.1, found_entry.2);
     off = λ apart. by_test (λ b. has_id (ids_of (read_at entry_in layout other)) id ≡ b → b ≡ false) (has_id (ids_of (read_at entry_in layout other)) id)
         (λ on t.
-            let has : list_any (same_id id) (read_at ids_in layout other) ≡ true = sym (ap (λ ids. has_id ids id) (ids_read (content_of layout other))) ∙ t in
-            let same : node ≡ other = some_same (sym found ∙ sound.finds id other (and_true linked has)) in
-            not_both (ap (same_node node) (sym same) ∙ same_node_itself node) apart)
+        let has : list_any (same_id id) (read_at ids_in layout other) ≡ true = sym (ap (λ ids. has_id ids id) (ids_read (content_of layout other))) ∙ t in
+        let same : node ≡ other = some_same (sym found ∙ sound.finds id other (and_true linked has)) in
+        not_both (ap (same_node node) (sym same) ∙ same_node_itself node) apart)
         (λ off t. refl) refl;
   }
 
@@ -150,7 +146,7 @@ module _ (old new : TableLayout) (shaped : IsShaped old) (find : Id → Option N
   placed_others : (ring : ℕ) (other : NodeId) → has_node (ring_at old ring) other ≡ true → content_of new other ≡ content_of old other
   placed_others ring other there =
       let differ : same_node other node ≡ false = by_test (λ b. same_node other node ≡ b → b ≡ false) (same_node other node)
-          (λ on _. not_both (ap (is_in old.rings) (sym (same_node_is other node on)) ∙ in_rings old ring other there) adds.apart) (λ off _. refl) refl in
+      (λ on _. not_both (ap (is_in old.rings) (sym (same_node_is other node on)) ∙ in_rings old ring other there) adds.apart) (λ off _. refl) refl in
       adds.makes.contents other ∙ ap (λ b. cond b (Some (content.Placed entry)) (content_of old other)) differ
 
   -- a ring that hasn't the target's node is as it was
@@ -171,8 +167,8 @@ module _ (old new : TableLayout) (shaped : IsShaped old) (find : Id → Option N
       entries_read new ring
       ∙ (ap (flat_map (read_at entry_in new)) put
       ∙ (put_read (read_at entry_in old) (read_at entry_in new) target after node entry itself start nodes refl
-          (λ other there. ap (λ known. flat_map entry_in (if_any known)) (placed_others ring.index other there))
-          (λ other there. found_tells old shaped find target after sound found other (in_rings old ring.index other there))
+      (λ other there. ap (λ known. flat_map entry_in (if_any known)) (placed_others ring.index other there))
+      (λ other there. found_tells old shaped find target after sound found other (in_rings old ring.index other there))
       ∙ ap (λ es. entries_after es target entry) (sym (entries_read old ring)))))
 
 -- a layout with an entry's node moved directly after another's
@@ -206,13 +202,13 @@ module _ (old : TableLayout) (shaped : IsShaped old) (find : Id → Option NodeI
       let itself : read_at entry_in old node ≡ entry ∷ [] = read_known entry_in old node (content.Placed is.0) is.1 ∙ ap (λ e. e ∷ []) same in
       sections_changed old (relinked old node after) (λ es. entries_after (entries_without es id) target entry) shaped
       (moved_other_ring 1 (not_begun old shaped find id node sound found) (not_begun old shaped find target after sound found_target)) (λ other there. refl) (λ ring below.
-          let nodes = ring_at old ring.index in
-          entries_read (relinked old node after) ring
-          ∙ (ap (flat_map (read_at entry_in old)) (moved_ring ring.index below)
-          ∙ (put_read (read_at entry_in old) (read_at entry_in old) target after node entry itself (head_of (0 + ring.index)) (without node nodes) refl (λ other there. refl)
-              (λ other there. found_tells old shaped find target after sound found_target other (in_rings old ring.index other (had_before nodes other there)))
-          ∙ (ap (λ es. entries_after es target entry) (take_read (read_at entry_in old) id node nodes (λ other there. found_tells old shaped find id node sound found other (in_rings old ring.index other there)))
-          ∙ ap (λ es. entries_after (entries_without es id) target entry) (sym (entries_read old ring))))))
+      let nodes = ring_at old ring.index in
+      entries_read (relinked old node after) ring
+      ∙ (ap (flat_map (read_at entry_in old)) (moved_ring ring.index below)
+      ∙ (put_read (read_at entry_in old) (read_at entry_in old) target after node entry itself (head_of (0 + ring.index)) (without node nodes) refl (λ other there. refl)
+      (λ other there. found_tells old shaped find target after sound found_target other (in_rings old ring.index other (had_before nodes other there)))
+      ∙ (ap (λ es. entries_after es target entry) (take_read (read_at entry_in old) id node nodes (λ other there. found_tells old shaped find id node sound found other (in_rings old ring.index other there)))
+      ∙ ap (λ es. entries_after (entries_without es id) target entry) (sym (entries_read old ring))))))
       ∙ changed_twice (λ es. entries_without es id) (λ es. entries_after es target entry) (sections_at old) where
         some_entry : {a b : Entry} → Some a ≡ Some b → a ≡ b
         some_entry e = cc

@@ -8,7 +8,7 @@ use Rattle.coll_syntax.specs.declared.lines.TableLine.TheVariants as line
 use Rattle.coll_table.specs.declared.declarations.Declaration.{Declaration}
 use Rattle.coll_table.specs.declared.declarations.Declaration.TheVariants as declaration
 use Rattle.coll_table.specs.declared.entries.Entry.{Entry}
-use Rattle.coll_table.specs.Table.{joined_entries}
+use Rattle.coll_table.specs.Table.{Section, joined_entries}
 use Rattle.coll_table.specs.Entries.{ids_named}
 use Rattle.coll_table.specs.Drafts.{Numbered, DraftState, refused_if, declaration_cause, section_cause, section_cause_if, order_cause, cause_after, weight_cause, ids_cause, at_line, entries_fault, fault_at_end, line_fault}
 use Rattle.coll_table.specs.SoundLoaders.{IsLineCause}
@@ -33,15 +33,15 @@ section_if_own : (d : DraftState) (name : Option (List ℕ)) → OwnCause (secti
 section_if_own d None = tt
 section_if_own d (Some name) = section_own d name
 
-declaration_own : (d : DraftState) (new : Declaration) → OwnCause (declaration_cause d new)
-declaration_own d new = search (tested)
+declaration_own : (declared : List Declaration) (new : Declaration) → OwnCause (declaration_cause declared new)
+declaration_own declared new = search (tested)
 
 order_own : (d : DraftState) (order : OrderLine) → OwnCause (order_cause d order)
 order_own d order = search (tested) depth 8
 
 after_own : (d : DraftState) (l : TableLine) → OwnCause (cause_after d l)
-after_own d (line.Symbol name) = declaration_own d (declaration.Symbol name)
-after_own d (line.Element name text) = declaration_own d (declaration.Element name text)
+after_own d (line.Symbol name) = declaration_own d.declared (declaration.Symbol name)
+after_own d (line.Element name text) = declaration_own d.declared (declaration.Element name text)
 after_own d (line.OrderStart section rules) = search (tested, section_if_own)
 after_own d line.OrderEnd = search (tested)
 after_own d (line.Section name) = search (tested, section_own)
@@ -53,12 +53,13 @@ either_cause : (a b : Option LoadCause) → OwnCause a → OwnCause b → OwnCau
 either_cause (Some cause) b h k = h
 either_cause None b h k = k
 
-weight_own : (d : DraftState) (id : Id) → OwnCause (weight_cause d id)
-weight_own d id = search (tested)
+module _ (declared : List Declaration) (sections : List Section) where
+  weight_own : (id : Id) → OwnCause (weight_cause declared sections id)
+  weight_own id = search (tested)
 
-ids_own : (d : DraftState) (ids : List Id) → OwnCause (ids_cause d ids)
-ids_own d [] = tt
-ids_own d (id ∷ ids) = either_cause (weight_cause d id) (ids_cause d ids) (weight_own d id) (ids_own d ids)
+  ids_own : (ids : List Id) → OwnCause (ids_cause declared sections ids)
+  ids_own [] = tt
+  ids_own (id ∷ ids) = either_cause (weight_cause declared sections id) (ids_cause declared sections ids) (weight_own id) (ids_own ids)
 
 either_fault : (number : ℕ) (a : Option LoadCause) (b : Option LoadFault) → OwnCause a → OwnFault b → OwnFault (option_or (option_map (at_line number) a) b)
 either_fault number (Some cause) b h k = h
@@ -67,7 +68,7 @@ either_fault number None b h k = k
 entries_own : (d : DraftState) (numbers : List ℕ) (entries : List Entry) → OwnFault (entries_fault d numbers entries)
 entries_own d [] entries = tt
 entries_own d (number ∷ numbers) [] = tt
-entries_own d (number ∷ numbers) (entry ∷ entries) = either_fault number (ids_cause d (ids_named entry)) (entries_fault d numbers entries) (ids_own d (ids_named entry)) (entries_own d numbers entries)
+entries_own d (number ∷ numbers) (entry ∷ entries) = either_fault number (ids_cause d.declared d.sections (ids_named entry)) (entries_fault d numbers entries) (ids_own d.declared d.sections (ids_named entry)) (entries_own d numbers entries)
 
 end_own : (d : DraftState) (l : TableLine) → OwnFault (fault_at_end d l)
 end_own d line.EndCategory = entries_own d d.numbers (joined_entries d.sections)

@@ -1,9 +1,8 @@
 -- For which lines memory may be taken: none before the category, and in it each that ends a logical line with tokens.
-use Rattle.std.proofs.Common.{◌≡◌, ℕ, Bool, true, false, if◌then◌else◌, IsTrue, List, Option, Some, None, Result, Ok, Err, IfErr, length, ap, subst, ◌∙◌, refl}
+use Rattle.std.proofs.Common.{◌≡◌, ℕ, Bool, true, false, if◌then◌else◌, IsTrue, List, Option, Some, None, Result, Ok, Err, IfErr, ap, subst, ◌∙◌, refl}
 use Rattle.coll_lex.specs.LogicalLines.{LexerState, number_of, dropped, unless_fault, outside_as, outside, fed, needs_memory, takes_memory}
 use Rattle.coll_lex.specs.PhysicalLines.{without_return}
 use Rattle.coll_lex.specs.Directives.{directive}
-use Rattle.coll_lex.specs.Limits.{most_line_bytes, most_lines}
 use Rattle.coll_lex.specs.declared.faults.LexFault.{LexFault}
 use Rattle.coll_lex.specs.declared.faults.LexFault.TheVariants as lex
 use Rattle.coll_lex.specs.declared.tokens.Chars.{Chars}

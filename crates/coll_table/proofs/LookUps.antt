@@ -8,20 +8,20 @@ use Rattle.std.proofs.lemmas.List.{map-append, take_more}
 use Rattle.coll_syntax.proofs.Spellings.{same_spelling}
 use Rattle.coll_table.proofs.Sameness.{same_name_symmetric, distinct_push, distinct_at}
 use Rattle.coll_syntax.specs.Identifier.{same_name, has_name}
-use Rattle.coll_table.specs.LookUps.{text_of, texts_of, AreTexts, AreNames, with_name}
+use Rattle.coll_table.specs.LookUps.{characters_of, all_characters_of, AreTexts, AreNames, with_name}
 
 module _ {Y : Type 0} where
   -- a text is found by its bytes where its characters are found
-  pub found_name : (texts : List (String Y)) (name bytes : List ℕ) → encode_utf8_all name ≡ bytes → chars bytes ≡ name → AreTexts texts → list_any (λ text. bytes_eq bytes (string_bytes text)) texts ≡ has_name (texts_of texts) name
+  pub found_name : (texts : List (String Y)) (name bytes : List ℕ) → encode_utf8_all name ≡ bytes → chars bytes ≡ name → AreTexts texts → list_any (λ text. bytes_eq bytes (string_bytes text)) texts ≡ has_name (all_characters_of texts) name
   found_name [] name bytes p q h = refl
   found_name (text ∷ texts) name bytes p q h =
-      let here : bytes_eq bytes (string_bytes text) ≡ same_name name (text_of text) =
-      sym (same_spelling bytes (string_bytes text) (ap encode_utf8_all q ∙ p) h.0) ∙ ap (λ n. same_name n (text_of text)) q in
+      let here : bytes_eq bytes (string_bytes text) ≡ same_name name (characters_of text) =
+      sym (same_spelling bytes (string_bytes text) (ap encode_utf8_all q ∙ p) h.0) ∙ ap (λ n. same_name n (characters_of text)) q in
       let there = found_name texts name bytes p q h.1 in
-      ap (λ b. b || list_any (λ t. bytes_eq bytes (string_bytes t)) texts) here ∙ ap (λ b. same_name name (text_of text) || b) there
+      ap (λ b. b || list_any (λ t. bytes_eq bytes (string_bytes t)) texts) here ∙ ap (λ b. same_name name (characters_of text) || b) there
 
   -- texts with one more at the end
-  pub texts_push : (texts : List (String Y)) (text : String Y) → AreTexts texts → encode_utf8_all (text_of text) ≡ string_bytes text → AreTexts (texts ++ text ∷ [])
+  pub texts_push : (texts : List (String Y)) (text : String Y) → AreTexts texts → encode_utf8_all (characters_of text) ≡ string_bytes text → AreTexts (texts ++ text ∷ [])
   texts_push [] text h e = (e, tt)
   texts_push (first ∷ texts) text h e = (h.0, texts_push texts text h.1 e)
 
@@ -30,31 +30,31 @@ module _ {Y : Type 0} where
   inserted texts text = cond (list_any (λ t. bytes_eq (string_bytes text) (string_bytes t)) texts) texts (texts ++ text ∷ [])
 
   -- so does a name among names
-  pub inserted_name : (texts : List (String Y)) (text : String Y) (name : List ℕ) → AreNames texts → text_of text ≡ name → encode_utf8_all name ≡ string_bytes text → texts_of (inserted texts text) ≡ with_name (texts_of texts) name
+  pub inserted_name : (texts : List (String Y)) (text : String Y) (name : List ℕ) → AreNames texts → characters_of text ≡ name → encode_utf8_all name ≡ string_bytes text → all_characters_of (inserted texts text) ≡ with_name (all_characters_of texts) name
   inserted_name texts text name h q p =
       let found = found_name texts name (string_bytes text) p q h.texts_are in
-      ap (λ b. texts_of (cond b texts (texts ++ text ∷ []))) found ∙ pushed (has_name (texts_of texts) name) where
-        pushed : (b : Bool) → texts_of (cond b texts (texts ++ text ∷ [])) ≡ cond b (texts_of texts) (texts_of texts ++ name ∷ [])
+      ap (λ b. all_characters_of (cond b texts (texts ++ text ∷ []))) found ∙ pushed (has_name (all_characters_of texts) name) where
+        pushed : (b : Bool) → all_characters_of (cond b texts (texts ++ text ∷ [])) ≡ cond b (all_characters_of texts) (all_characters_of texts ++ name ∷ [])
         pushed true = refl
-        pushed false = map-append text_of texts (text ∷ []) ∙ ap (λ n. texts_of texts ++ n ∷ []) q
+        pushed false = map-append characters_of texts (text ∷ []) ∙ ap (λ n. all_characters_of texts ++ n ∷ []) q
 
   -- and the names stay names, each once
-  pub inserted_are : (texts : List (String Y)) (text : String Y) (name : List ℕ) → AreNames texts → text_of text ≡ name → encode_utf8_all name ≡ string_bytes text → AreNames (inserted texts text)
+  pub inserted_are : (texts : List (String Y)) (text : String Y) (name : List ℕ) → AreNames texts → characters_of text ≡ name → encode_utf8_all name ≡ string_bytes text → AreNames (inserted texts text)
   inserted_are texts text name h q p =
       let found = found_name texts name (string_bytes text) p q h.texts_are in
       kept (list_any (λ t. bytes_eq (string_bytes text) (string_bytes t)) texts) found where
-        kept : (b : Bool) → b ≡ has_name (texts_of texts) name → AreNames (cond b texts (texts ++ text ∷ []))
+        kept : (b : Bool) → b ≡ has_name (all_characters_of texts) name → AreNames (cond b texts (texts ++ text ∷ []))
         kept true e = h
         kept false e = record {
           texts_are = texts_push texts text h.texts_are (ap encode_utf8_all q ∙ p);
-          distinct = rw (map-append text_of texts (text ∷ [])) (distinct_push same_name same_name_symmetric (texts_of texts) (text_of text) h.distinct (rw q (sym e)));
+          distinct = rw (map-append characters_of texts (text ∷ [])) (distinct_push same_name same_name_symmetric (all_characters_of texts) (characters_of text) h.distinct (rw q (sym e)));
         }
 
   -- a copy that has the names before a place, and the name at that place put in, has the names up to it
-  pub copied_more : (texts : List (String Y)) (i : ℕ) (text : String Y) → AreNames texts → i < length texts → text ≡ get_or texts i text → with_name (texts_of (take i texts)) (text_of text) ≡ texts_of (take (i + 1) texts)
+  pub copied_more : (texts : List (String Y)) (i : ℕ) (text : String Y) → AreNames texts → i < length texts → text ≡ get_or texts i text → with_name (all_characters_of (take i texts)) (characters_of text) ≡ all_characters_of (take (i + 1) texts)
   copied_more texts i text h below at =
-      let absent : has_name (texts_of (take i texts)) (text_of text) ≡ false =
-      ap (λ t. has_name (texts_of (take i texts)) (text_of t)) at ∙ distinct_at same_name same_name_symmetric text_of texts i text h.distinct below in
-      let more : texts_of (take (i + 1) texts) ≡ texts_of (take i texts) ++ text_of text ∷ [] =
-      ap texts_of (take_more texts i text below) ∙ (map-append text_of (take i texts) (get_or texts i text ∷ []) ∙ ap (λ t. texts_of (take i texts) ++ text_of t ∷ []) (sym at)) in
-      ap (λ b. cond b (texts_of (take i texts)) (texts_of (take i texts) ++ text_of text ∷ [])) absent ∙ sym more
+      let absent : has_name (all_characters_of (take i texts)) (characters_of text) ≡ false =
+      ap (λ t. has_name (all_characters_of (take i texts)) (characters_of t)) at ∙ distinct_at same_name same_name_symmetric characters_of texts i text h.distinct below in
+      let more : all_characters_of (take (i + 1) texts) ≡ all_characters_of (take i texts) ++ characters_of text ∷ [] =
+      ap all_characters_of (take_more texts i text below) ∙ (map-append characters_of (take i texts) (get_or texts i text ∷ []) ∙ ap (λ t. all_characters_of (take i texts) ++ characters_of t ∷ []) (sym at)) in
+      ap (λ b. cond b (all_characters_of (take i texts)) (all_characters_of (take i texts) ++ characters_of text ∷ [])) absent ∙ sym more

@@ -1,40 +1,32 @@
 -- A table with an entry moved, or newly placed, directly after another: what stands there, and that it is well formed.
-use Rattle.std.proofs.Common.{◌≡◌, ◌≤◌, ◌<◌, ℕ, suc, zero, Bool, true, false, ◌||◌, ◌-◌, List, [], ◌∷◌, ◌++◌, Option, Some, None, IsTrue, is_some, length, map, replicate, All, sym, ap, subst, ◌∙◌, refl, arith}
+use Rattle.std.proofs.Common.{◌≡◌, ◌≤◌, ◌<◌, ℕ, suc, zero, Bool, true, false, ◌||◌, ◌-◌, List, [], Option, Some, None, IsTrue, length, map, replicate, All, sym, ap, subst, ◌∙◌, refl, arith}
 use Rattle.std.specs.List.{flat_map}
 use Rattle.std.proofs.lemmas.Bool.{false≢true}
-use Rattle.std.proofs.lemmas.List.Elements.{All-nil, All-cons, All-head, All-tail}
+use Rattle.std.proofs.lemmas.List.Elements.{All-nil, All-cons}
 use Rattle.coll_order.proofs.Sameness.{by_test}
 use Rattle.coll_lex.specs.Names.{IsName}
-use Rattle.coll_syntax.specs.Identifier.{same_id, same_name, has_id, has_name}
+use Rattle.coll_syntax.specs.Identifier.{same_id, same_name, has_id}
 use Rattle.coll_syntax.specs.Proper.{IsId}
 use Rattle.coll_syntax.specs.declared.identifiers.Id.{Id}
 use Rattle.coll_syntax.specs.declared.identifiers.Id.TheVariants.{Char, Named, Undefined}
-use Rattle.coll_syntax.specs.declared.weights.Weight.{Weight}
 use Rattle.coll_syntax.specs.declared.weights.Weight.TheVariants.{Own}
-use Rattle.coll_table.proofs.EntryLemmas.{absent_without, taken_out, others_without, distinct_without, all_without, none_without, length_without, distinct_after, all_after, length_after, has_after, entry_there, entry_found, found_id, by_ids, to_ids, all_so}
-use Rattle.coll_table.proofs.Sameness.{same_name_decides, same_id_decides, same_id_symmetric, same_id_itself}
+use Rattle.coll_table.proofs.EntryLemmas.{taken_out, others_without, distinct_without, all_without, none_without, length_without, distinct_after, all_after, length_after, has_after, entry_found, found_id, by_ids, to_ids, all_so}
+use Rattle.coll_table.proofs.Sameness.{found_holds, same_name_decides, same_id_decides, same_id_symmetric, same_id_itself}
 use Rattle.coll_table.proofs.SectionLemmas.{joined_moved, names_stay, as_many, first_stays}
 use Rattle.coll_table.specs.Delta.{new_entry, entry_or, block_entry, moved}
 use Rattle.coll_table.specs.Entries.{ids_named, weight_ids, weights_of}
 use Rattle.coll_table.specs.Limits.{most_entries}
-use Rattle.coll_table.specs.Placement.{entry_at, entries_after, entries_without, without, placed_after}
+use Rattle.coll_table.specs.Placement.{entry_at, entries_after, entries_without, without}
 use Rattle.coll_table.specs.Rewriting.{HasCharacter}
 use Rattle.coll_table.specs.Table.{Collation, Section, names_of, entries_of, ids_of, section_names, is_known, is_symbol, is_placed}
-use Rattle.coll_table.specs.WellFormed.{AreDistinct, IsKnown, IsWeighted, HasWeights, IsKeptWeight, HasPlacedWeights, FirstIsUnnamed, IsBuilt, IsWellFormed}
+use Rattle.coll_table.specs.WellFormed.{AreDistinct, IsKnown, IsWeighted, HasWeights, IsKeptWeight, HasPlacedWeights, IsWellFormed}
 use Rattle.coll_table.specs.declared.declarations.Declaration.{Declaration}
 use Rattle.coll_table.specs.declared.entries.Entry.{Entry}
-
--- a name that is declared is a name
-declared_is : (names : List (List ℕ)) (name : List ℕ) → All IsName names → has_name names name ≡ true → IsName name
-declared_is [] name h there = absurd (false≢true there)
-declared_is (first ∷ names) name h there = by_test (λ b. (b || has_name names name) ≡ true → IsName name) (same_name name first)
-    (λ on _. subst IsName (sym ((same_name_decides name first).0 on)) (All-head IsName first names h))
-    (λ off there. declared_is names name (All-tail IsName first names h) there) there
 
 -- what may be used, and is a character if it says so, is an identifier
 known_is : (declared : List Declaration) (id : Id) → All IsName (names_of declared) → HasCharacter id → IsTrue (is_known declared id) → IsId id
 known_is declared (Char c) names is known = is
-known_is declared (Named name) names is known = declared_is (names_of declared) name names known
+known_is declared (Named name) names is known = found_holds same_name same_name_decides IsName (names_of declared) name names known
 known_is declared Undefined names is known = tt
 
 -- its own weight at each level is as many weights, each of which an entry may keep
@@ -175,10 +167,7 @@ module _ (table : Collation) (id : Id) where
 
     -- what holds of each identifier that is placed holds of this one, if it is
     placed_holds : (P : Id → Type 0) → All P (ids_of (entries_of table)) → is_placed table id ≡ true → P id
-    placed_holds P h here = by_entry (entries_of table) (by_ids P (entries_of table) h) (entry_at (entries_of table) id) refl (sym (entry_there (entries_of table) id) ∙ here) where
-      by_entry : (entries : List Entry) → All (λ (entry : Entry). P entry.id) entries → (found : Option Entry) → entry_at entries id ≡ found → is_some found ≡ true → P id
-      by_entry entries h None e there = absurd (false≢true there)
-      by_entry entries h (Some found) e there = let of = entry_found (λ (entry : Entry). P entry.id) entries id found h e in subst P of.1 of.0
+    placed_holds P h here = found_holds same_id same_id_decides P (ids_of (entries_of table)) id h here
 
     -- so is one with an entry moved
     pub moved_stays_well_formed : same_id id target ≡ false → is_placed table target ≡ true → is_placed table id ≡ true → IsWellFormed (moved table target id)

@@ -58,9 +58,9 @@ among_from slots (e ∷ es) node sorted lead =
     let tied : (key : ℕ) → eq_by_cmp nat_cmp key e.0 ≡ eqb key e.0 = λ key. unsigned_tied key e.0 in
     let first : finmap.find nat_cmp e.0 (e ∷ es) ≡ Some e.1 = ap (λ b. cond b (Some e.1) (finmap.find nat_cmp e.0 es)) (tied e.0 ∙ (Decides-eqb e.0 e.0).1 refl) in
     let later : (key tag : ℕ) → finmap.find nat_cmp key es ≡ Some tag → IsSome (slot_of slots tag) = λ key tag at.
-        lead key tag (ap (λ b. cond b (Some e.1) (finmap.find nat_cmp key es)) (tied key) ∙ by_test (λ b. eqb key e.0 ≡ b → cond b (Some e.1) (finmap.find nat_cmp key es) ≡ Some tag) (eqb key e.0)
-        (λ on t. let none : finmap.find nat_cmp key es ≡ None = ap (λ k. finmap.find nat_cmp k es) ((Decides-eqb key e.0).0 on) ∙ later_without e es sorted in cc)
-        (λ off t. at) refl) in
+    lead key tag (ap (λ b. cond b (Some e.1) (finmap.find nat_cmp key es)) (tied key) ∙ by_test (λ b. eqb key e.0 ≡ b → cond b (Some e.1) (finmap.find nat_cmp key es) ≡ Some tag) (eqb key e.0)
+    (λ on t. let none : finmap.find nat_cmp key es ≡ None = ap (λ k. finmap.find nat_cmp k es) ((Decides-eqb key e.0).0 on) ∙ later_without e es sorted in cc)
+    (λ off t. at) refl) in
     let rest = among_from slots es node (both _ _ sorted).1 later in
     elim (slot_of slots e.1) as (λ slot. slot_of slots e.1 ≡ slot → content_among (made_with e.0 slot ++ made_from slots es) node ≡ option_and_then (slot_of slots) (finmap.find nat_cmp node.key (e ∷ es))) [
       | None ↦ λ none. some_not_none (slot_of slots e.1) (lead e.0 e.1 first) none

@@ -68,7 +68,7 @@ module _ {X : Type 0} where
       let same : node ≡ first = same_node_is node first t in
       let here : length (g first) ≡ suc (length (f first)) = subst (λ n. length (g n) ≡ suc (length (f n))) same more in
       let later : flat_map g rest ≡ flat_map f rest = same_read f g rest (λ other is. others other (or_second (same_node other first) _ is)
-          (by_test (λ b. same_node other node ≡ b → b ≡ false) (same_node other node) (λ on e. not_both (subst (λ n. has_node rest n ≡ true) (same_node_is other node e ∙ same) is) distinct.0) (λ off e. refl) refl)) in
+      (by_test (λ b. same_node other node ≡ b → b ≡ false) (same_node other node) (λ on e. not_both (subst (λ n. has_node rest n ≡ true) (same_node_is other node e ∙ same) is) distinct.0) (λ off e. refl) refl)) in
       let sum = length-append (f first) (flat_map f rest) in
       let rest_length : length (flat_map g rest) ≡ length (flat_map f rest) = ap (λ xs. length xs) later in
       length-append (g first) (flat_map g rest) ∙ omega (arith, here, rest_length, sum))

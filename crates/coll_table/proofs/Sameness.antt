@@ -1,11 +1,13 @@
 -- When names and identifiers are the same, and lists in which each stands once.
-use Rattle.std.proofs.Common.{◌≡◌, ℕ, ◌<◌, suc, Bool, true, false, ◌||◌, List, [], ◌∷◌, ◌++◌, length, get_or, take, drop, map, Decides, sym, ap, subst, ◌∙◌, refl}
+use Rattle.std.proofs.Common.{◌≡◌, ℕ, ◌<◌, suc, Bool, true, false, ◌||◌, List, [], ◌∷◌, ◌++◌, length, get_or, take, drop, map, All, Decides, sym, ap, subst, ◌∙◌, refl}
 use Rattle.std.specs.List.{list_any}
 use Rattle.std.proofs.lemmas.List.{map-append}
+use Rattle.std.proofs.lemmas.List.Elements.{All-head, All-tail}
 use Rattle.std.proofs.Math.Seq.{split_at}
 use Rattle.std.proofs.lemmas.Slice.Eq.{bytes_eq-Decides}
 use Rattle.std.proofs.lemmas.Bool.{false≢true}
 use Rattle.std.proofs.lemmas.Bool.Decides.{same_from_decides, Decides-like, Decides-eqb}
+use Rattle.coll_order.proofs.Sameness.{by_test}
 use Rattle.coll_syntax.specs.Identifier.{same_name, same_id}
 use Rattle.coll_table.specs.WellFormed.{AreDistinct}
 use Rattle.coll_syntax.specs.declared.identifiers.Id.{Id}
@@ -51,6 +53,13 @@ neither false b e = (refl, e)
 -- two tests that are false are false together
 pub nor : (a b : Bool) → a ≡ false → b ≡ false → (a || b) ≡ false
 nor a b p q = cc
+
+-- what holds of each of a list holds of one that is found there
+pub found_holds : {X : Type 0} (same : X → X → Bool) → ((a b : X) → Decides (same a b) (a ≡ b)) → (P : X → Type 0) (xs : List X) (x : X) → All P xs → list_any (same x) xs ≡ true → P x
+found_holds same decides P [] x h there = absurd (false≢true there)
+found_holds same decides P (first ∷ xs) x h there = by_test (λ b. (b || list_any (same x) xs) ≡ true → P x) (same x first)
+    (λ on _. subst P (sym ((decides x first).0 on)) (All-head P first xs h))
+    (λ off there. found_holds same decides P xs x (All-tail P first xs h) there) there
 
 module _ {X : Type 0} (same : X → X → Bool) (symmetric : (a b : X) → same a b ≡ same b a) where
   -- what is in no part of a list isn't in the list

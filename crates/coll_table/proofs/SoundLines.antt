@@ -30,7 +30,7 @@ passed true cause later e = cc
 passed false cause later e = (refl, e)
 
 -- with one more declaration
-pub sound_declared : (d : DraftState) (new : Declaration) → IsSoundDraft d → IsProperDeclaration new → declaration_cause d new ≡ None → IsSoundDraft (with_declaration d new)
+pub sound_declared : (d : DraftState) (new : Declaration) → IsSoundDraft d → IsProperDeclaration new → declaration_cause d.declared new ≡ None → IsSoundDraft (with_declaration d new)
 sound_declared d new sound proper accepted =
     let absent = passed (is_declared d.declared (name_of new)) _ _ accepted in
     let no_text = passed (has_text d.declared (text_of new)) StringTwice (refused_if (nat_le most_declarations (length d.declared)) Full None) absent.1 in

@@ -11,6 +11,7 @@ use Rattle.coll_order.specs.declared.places.RingId.{RingId}
 use Rattle.coll_order.proofs.LayoutLemmas.{is_in_ring}
 use Rattle.coll_order.proofs.ListLemmas.{neither}
 use Rattle.coll_order.proofs.Sameness.{by_test, not_both, same_node_is, same_node_itself, other_node_turned}
+use Rattle.coll_table.proofs.RingPlaces.{distinct_ring}
 use Rattle.coll_table.specs.Bodies.{IsLaidOut}
 use Rattle.coll_table.specs.Table.{Section}
 use Rattle.coll_table.specs.TableLayout.{TableLayout, content_of, nodes_in, contents_in, entries_in, sections_ring, declarations_ring, sections_at, declared_at, entry_in, section_in, declaration_in, if_any}
@@ -47,12 +48,6 @@ has_here (first ∷ front) rest node = either (same_node node first) _ (has_here
   either true b e = refl
   either false b e = e
 
--- no node stands twice in a ring
-ring_distinct : (rings : List (List NodeId)) (index : ℕ) → StandOnce rings → AreDistinct (slice_index_or rings index [])
-ring_distinct [] index once = tt
-ring_distinct (nodes ∷ rings) zero once = once.0
-ring_distinct (nodes ∷ rings) (suc index) once = ring_distinct rings index once.2
-
 -- of a whole ring all nodes are left
 pub left_first : (layout : TableLayout) (ring : RingId) → left_of layout ring (first_in (nodes_in layout ring)) ≡ nodes_in layout ring
 left_first layout ring = whole (nodes_in layout ring) where
@@ -80,7 +75,7 @@ module _ (layout : TableLayout) (ring : RingId) (node : NodeId) (next : Option N
         behind front [] e = refl
         behind front (first ∷ rest) e =
             let whole : nodes_in layout ring ≡ (front ++ node ∷ []) ++ first ∷ rest = e ∙ sym (append_assoc front (node ∷ []) (first ∷ rest)) in
-            ap (λ nodes. from_node nodes first) whole ∙ from_here (front ++ node ∷ []) rest first (subst AreDistinct whole (ring_distinct layout.rings ring.index laid.once))
+            ap (λ nodes. from_node nodes first) whole ∙ from_here (front ++ node ∷ []) rest first (subst AreDistinct whole (distinct_ring layout.rings ring.index laid.once))
 
   -- and the next stands there too
   pub stands_next : StandsIfAny layout ring next

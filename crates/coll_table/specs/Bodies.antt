@@ -2,11 +2,10 @@
 use Rattle.std.specs.Prelude.{◌≡◌, ℕ, ◌<◌, true, false, cond, List, [], ◌∷◌, ◌++◌, Option, Some, None, IsSome, length, slice_index_or}
 use Rattle.std.specs.Ordering.{nat_cmp}
 use Rattle.std.specs.FinMap as finmap
-use Rattle.coll_order.specs.Layout.{Layout, head_of, is_in, rings_with, rings_without}
-use Rattle.coll_order.specs.Lists.{same_node, has_node}
+use Rattle.coll_order.specs.Layout.{Layout, is_in, rings_with, rings_without}
+use Rattle.coll_order.specs.Lists.{same_node}
 use Rattle.coll_order.specs.Sound.{StandOnce}
 use Rattle.coll_order.specs.declared.places.NodeId.{NodeId}
-use Rattle.coll_order.specs.declared.places.RingId.{RingId}
 use Rattle.coll_order.specs.declared.places.Place.{Place}
 use Rattle.coll_order.specs.declared.places.Place.TheVariants.{Head, After}
 use Rattle.coll_table.specs.declared.contents.Content.{Content}

@@ -1,5 +1,5 @@
 -- A table that grows, behind what it has: what is declared, and the sections, without the rules.
-use Rattle.std.specs.Prelude.{◌≡◌, List, [], ◌∷◌, ◌++◌, None}
+use Rattle.std.specs.Prelude.{List, [], ◌∷◌, None}
 use Rattle.coll_syntax.specs.declared.rules.Rule.{Rule}
 use Rattle.coll_table.specs.declared.declarations.Declaration.{Declaration}
 use Rattle.coll_table.specs.Table.{Collation, Section}

@@ -1,9 +1,9 @@
 -- What a statement makes of a table: the table rewritten, or the refusal.
 use Rattle.std.specs.Prelude.{if◌then◌else◌, nat_le, not, List, [], ◌∷◌, ◌++◌, Option, Some, None, Result, Ok, Err, length}
 use Rattle.std.specs.Option.{option_or}
-use Rattle.coll_syntax.specs.Identifier.{same_id, has_id}
+use Rattle.coll_syntax.specs.Identifier.{has_id}
 use Rattle.coll_syntax.specs.declared.identifiers.Id.{Id}
-use Rattle.coll_table.specs.Table.{Collation, Section, entries_of, is_known, is_placed}
+use Rattle.coll_table.specs.Table.{Collation, entries_of, is_known, is_placed}
 use Rattle.coll_table.specs.Entries.{entry_of}
 use Rattle.coll_table.specs.Placement.{without, placed_after, entry_at}
 use Rattle.coll_table.specs.declared.entries.Entry.{Entry}

@@ -1,8 +1,8 @@
 -- What the lines of a category say together, and which line may follow them (POSIX.1-2017, 7.3.2).
-use Rattle.std.specs.Prelude.{◌&&◌, ℕ, Bool, true, false, if◌then◌else◌, not, nat_le, nat_lt, is_some, is_none, List, [], ◌∷◌, ◌++◌, length, fold, map, Option, Some, None}
+use Rattle.std.specs.Prelude.{◌&&◌, ℕ, Bool, true, false, if◌then◌else◌, not, nat_le, nat_lt, is_some, is_none, List, [], ◌∷◌, ◌++◌, length, fold, Option, Some, None}
 use Rattle.std.specs.List.{flat_map, list_any}
-use Rattle.std.specs.Option.{option_or, option_map, option_map_or}
-use Rattle.coll_syntax.specs.Identifier.{has_name, has_id}
+use Rattle.std.specs.Option.{option_or, option_map}
+use Rattle.coll_syntax.specs.Identifier.{has_name}
 use Rattle.coll_syntax.specs.declared.identifiers.Id.{Id}
 use Rattle.coll_syntax.specs.declared.rules.Rule.{Rule}
 use Rattle.coll_syntax.specs.declared.statements.OrderLine.{OrderLine}
@@ -11,7 +11,7 @@ use Rattle.coll_syntax.specs.declared.lines.TableLine.TheVariants as line
 use Rattle.coll_table.specs.declared.declarations.Declaration.{Declaration}
 use Rattle.coll_table.specs.declared.declarations.Declaration.TheVariants as declaration
 use Rattle.coll_table.specs.declared.entries.Entry.{Entry}
-use Rattle.coll_table.specs.Table.{Collation, Section, name_of, text_of, texts_of, ids_of, joined_entries, section_names, is_placed_in, is_declared, is_known, is_symbol}
+use Rattle.coll_table.specs.Table.{Collation, Section, name_of, text_of, texts_of, joined_entries, section_names, is_placed_in, is_declared, is_known, is_symbol}
 use Rattle.coll_table.specs.Entries.{entry_of, given_weights, ids_named}
 use Rattle.coll_table.specs.Limits.{most_entries, most_declarations, most_sections}
 use Rattle.coll_table.specs.declared.load_faults.LoadFault.{LoadFault}
@@ -23,7 +23,7 @@ pub record Numbered : Type 0 where
   pub number : ℕ
   pub line : TableLine
 
--- The words of a list of lines.
+-- What lines say together.
 
 -- what a line declares
 abbrev pub declared_by : TableLine → List Declaration
@@ -136,19 +136,19 @@ table_of d = record { rules = given_rules d.rules; declared = d.declared; sectio
 -- Which line may follow.
 
 -- a cause, where a test holds, and else what follows
-abbrev pub refused_if : Bool → LoadCause → Option LoadCause → Option LoadCause
+abbrev pub refused_if : {C : Type 0} → Bool → C → Option C → Option C
 refused_if test cause later = if test then Some cause else later
 
 -- a string is declared
 abbrev pub has_text : List Declaration → List (List ℕ) → Bool
 has_text declared text = list_any (has_name (texts_of declared)) text
 
--- why a declaration is refused
-abbrev pub declaration_cause : DraftState → Declaration → Option LoadCause
-declaration_cause d new =
-    refused_if (is_declared d.declared (name_of new)) DeclaredTwice
-    (refused_if (has_text d.declared (text_of new)) StringTwice
-    (refused_if (nat_le most_declarations (length d.declared)) Full None))
+-- why a declaration is refused behind those before it
+abbrev pub declaration_cause : List Declaration → Declaration → Option LoadCause
+declaration_cause declared new =
+    refused_if (is_declared declared (name_of new)) DeclaredTwice
+    (refused_if (has_text declared (text_of new)) StringTwice
+    (refused_if (nat_le most_declarations (length declared)) Full None))
 
 -- two flags are the same
 abbrev pub same_flag : Bool → Bool → Bool
@@ -194,8 +194,8 @@ order_cause d order =
 
 -- why a line is refused, from what the lines before it say; the causes stand in their order
 abbrev pub cause_after : DraftState → TableLine → Option LoadCause
-cause_after d (line.Symbol name) = declaration_cause d (declaration.Symbol name)
-cause_after d (line.Element name text) = declaration_cause d (declaration.Element name text)
+cause_after d (line.Symbol name) = declaration_cause d.declared (declaration.Symbol name)
+cause_after d (line.Element name text) = declaration_cause d.declared (declaration.Element name text)
 cause_after d (line.OrderStart section rules) = refused_if (rules_differ d.rules rules) RulesDiffer (section_cause_if d section)
 cause_after d line.OrderEnd = refused_if (not d.order_open) OutsideOrder None
 cause_after d (line.Section name) = refused_if (not d.order_open) OutsideOrder (section_cause d name)
@@ -205,16 +205,16 @@ cause_after d (line.Order order) = order_cause d order
 
 -- The weights, which are looked up where the category ends.
 
--- why an identifier in a weight is refused
-abbrev pub weight_cause : DraftState → Id → Option LoadCause
-weight_cause d id =
-    refused_if (not (is_known d.declared id)) NotDeclared
-    (refused_if (not (is_placed_in d.sections id)) WeightNotPlaced None)
+-- why an identifier in a weight is refused, where this is declared and these are the sections
+abbrev pub weight_cause : List Declaration → List Section → Id → Option LoadCause
+weight_cause declared sections id =
+    refused_if (not (is_known declared id)) NotDeclared
+    (refused_if (not (is_placed_in sections id)) WeightNotPlaced None)
 
 -- why the first of these identifiers that is refused is
-abbrev pub ids_cause : DraftState → List Id → Option LoadCause
-ids_cause d [] = None
-ids_cause d (id ∷ ids) = option_or (weight_cause d id) (ids_cause d ids)
+abbrev pub ids_cause : List Declaration → List Section → List Id → Option LoadCause
+ids_cause declared sections [] = None
+ids_cause declared sections (id ∷ ids) = option_or (weight_cause declared sections id) (ids_cause declared sections ids)
 
 -- a fault of a line
 abbrev pub at_line : ℕ → LoadCause → LoadFault
@@ -225,7 +225,7 @@ abbrev pub entries_fault : DraftState → List ℕ → List Entry → Option Loa
 entries_fault d [] entries = None
 entries_fault d (number ∷ numbers) [] = None
 entries_fault d (number ∷ numbers) (entry ∷ entries) =
-    option_or (option_map (at_line number) (ids_cause d (ids_named entry))) (entries_fault d numbers entries)
+    option_or (option_map (at_line number) (ids_cause d.declared d.sections (ids_named entry))) (entries_fault d numbers entries)
 
 -- the fault of the first order line whose weights are refused
 abbrev pub weights_fault : DraftState → Option LoadFault

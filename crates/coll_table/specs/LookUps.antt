@@ -7,22 +7,22 @@ use Rattle.coll_syntax.specs.declared.identifiers.Id.{Id}
 use Rattle.coll_syntax.specs.declared.identifiers.Id.TheVariants.{Char, Named, Undefined}
 
 -- the characters of a text
-abbrev pub text_of : {Y : Type 0} → String Y → List ℕ
-text_of text = chars (string_bytes text)
+abbrev pub characters_of : {Y : Type 0} → String Y → List ℕ
+characters_of text = chars (string_bytes text)
 
 -- the characters of texts
-abbrev pub texts_of : {Y : Type 0} → List (String Y) → List (List ℕ)
-texts_of texts = map text_of texts
+abbrev pub all_characters_of : {Y : Type 0} → List (String Y) → List (List ℕ)
+all_characters_of texts = map characters_of texts
 
 -- the characters of each text are those of its bytes, and no others
 abbrev pub AreTexts : {Y : Type 0} → List (String Y) → Type 0
 AreTexts [] = Unit {0}
-AreTexts (text ∷ texts) = (encode_utf8_all (text_of text) ≡ string_bytes text) × AreTexts texts
+AreTexts (text ∷ texts) = (encode_utf8_all (characters_of text) ≡ string_bytes text) × AreTexts texts
 
 -- the texts of a look-up are texts, each once
 pub record AreNames {Y : Type 0} (texts : List (String Y)) : Type 0 where
   pub texts_are : AreTexts texts
-  pub distinct : AreDistinct same_name (texts_of texts)
+  pub distinct : AreDistinct same_name (all_characters_of texts)
 
 -- names with one more, unless it is there
 abbrev pub with_name : List (List ℕ) → List ℕ → List (List ℕ)

@@ -1,4 +1,4 @@
--- What a line of a delta says, read from its tokens (`reorder-after` as in ISO/IEC 14651).
+-- What a line of a delta says as a table takes it today, without weights (`reorder-after` as in ISO/IEC 14651).
 use Rattle.std.specs.Prelude.{if◌then◌else◌, List, [], ◌∷◌, Option, Some, None, Result, Ok, Err, codes}
 use Rattle.coll_lex.specs.declared.tokens.Token.{Token}
 use Rattle.coll_syntax.specs.Identifier.{is_word}

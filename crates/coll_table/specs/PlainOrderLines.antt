@@ -1,4 +1,4 @@
--- Identifiers and order lines as a table takes them today: without `UNDEFINED`, and without weights.
+-- Identifiers and order lines of a delta as a table takes them today: without `UNDEFINED`, and without weights.
 use Rattle.std.specs.Prelude.{if◌then◌else◌, List, Option, Some, None, Result, Err, codes}
 use Rattle.coll_lex.specs.declared.tokens.Token.{Token}
 use Rattle.coll_syntax.specs.Identifier.{id_of, is_word}

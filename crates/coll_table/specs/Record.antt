@@ -15,6 +15,10 @@ fits table kept = IsWellFormed (collation kept.other)
 unfoldable pub turn : TableValue → TableRecord → TableValue
 turn table kept = kept.other
 
+-- two tables are the same, to whoever has them; today nothing sets them apart
+abbrev pub IsSame : TableValue → TableValue → Type 0
+IsSame table other = table ≡ other
+
 -- a table is another one, and may keep more that stands nowhere in it; today it keeps nothing more
 abbrev pub Extends : TableValue → TableValue → Type 0
 Extends wide table = wide ≡ table

@@ -6,7 +6,7 @@ use Rattle.coll_order.specs.Lists.{same_place, has_node}
 use Rattle.coll_order.specs.declared.places.NodeId.{NodeId}
 use Rattle.coll_order.specs.declared.places.RingId.{RingId}
 use Rattle.coll_order.specs.declared.places.Place.{Place}
-use Rattle.coll_order.specs.declared.places.Place.TheVariants.{Head, After}
+use Rattle.coll_order.specs.declared.places.Place.TheVariants.{After}
 use Rattle.coll_syntax.specs.Identifier.{same_name, same_id}
 use Rattle.coll_syntax.specs.declared.identifiers.Id.{Id}
 use Rattle.coll_table.specs.Bodies.{Makes}

@@ -1,5 +1,5 @@
 -- What a table is: its rules, what it declares, and its sections with their entries in order (POSIX.1-2017, 7.3.2).
-use Rattle.std.specs.Prelude.{ℕ, Bool, true, false, List, [], ◌∷◌, ◌++◌, Option, Some, None, map, length}
+use Rattle.std.specs.Prelude.{ℕ, Bool, true, false, List, [], ◌∷◌, Option, Some, None, map}
 use Rattle.std.specs.List.{flat_map, list_any}
 use Rattle.coll_syntax.specs.Identifier.{same_name, has_name, has_id}
 use Rattle.coll_syntax.specs.declared.identifiers.Id.{Id}

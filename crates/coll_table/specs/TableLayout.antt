@@ -88,6 +88,7 @@ declared_at layout = flat_map declaration_in (contents_in layout declarations_ri
 unfoldable pub sections_at : TableLayout → List Section
 sections_at layout = flat_map (section_in layout) (contents_in layout sections_ring)
 
--- the table that a value stands for: each clause of a public call reads a table through this word
+-- the table that a value stands for: clauses of public calls read a table through this word; those on records and on the
+-- count of steps speak of the whole value
 unfoldable pub collation : TableValue → Collation
 collation table = record { rules = table.rules; declared = declared_at table.layout; sections = sections_at table.layout }

@@ -1,13 +1,12 @@
 -- Where a walk stands: what is left of a ring from a node on, and what has to hold of nodes that are met.
-use Rattle.std.specs.Prelude.{◌≡◌, ◌<◌, ℕ, true, if◌then◌else◌, List, [], ◌∷◌, ◌++◌, Option, Some, None, length, map, chars, slice_index_or}
+use Rattle.std.specs.Prelude.{◌≡◌, ◌<◌, ℕ, true, if◌then◌else◌, List, [], ◌∷◌, ◌++◌, Option, Some, None, length, map, slice_index_or}
 use Rattle.std.specs.List.{flat_map}
 use Rattle.coll_order.specs.Lists.{same_node, has_node, first_in}
 use Rattle.coll_order.specs.declared.places.NodeId.{NodeId}
 use Rattle.coll_order.specs.declared.places.RingId.{RingId}
 use Rattle.coll_table.specs.Bodies.{IsLaidOut}
-use Rattle.coll_table.specs.Table.{Section}
 use Rattle.coll_table.specs.TableLayout.{TableLayout, content_of, nodes_in, if_any, declarations_ring, sections_ring, declaration_in, entry_in, section_in}
-use Rattle.coll_table.specs.Walks.{Met, MetSection, MetEntry, met}
+use Rattle.coll_table.specs.Walks.{Met, MetEntry, met}
 use Rattle.coll_table.specs.declared.declarations.Declaration.{Declaration}
 use Rattle.coll_table.specs.declared.entries.Entry.{Entry}
 use Rattle.coll_table.specs.declared.contents.Content.{Content}

@@ -1,4 +1,4 @@
--- A walk through a table: its sections and entries in order, and its declarations in order.
+-- A walk through the sections of a table: what one meets on it, in order.
 use Rattle.std.specs.Prelude.{ℕ, List, [], ◌∷◌, ◌++◌, Option, Some, None, map}
 use Rattle.std.specs.List.{flat_map}
 use Rattle.coll_table.specs.declared.entries.Entry.{Entry}

@@ -269,7 +269,11 @@ impl Body {
     }
 
     /// Puts a declaration of a collating symbol directly after a place.
-    pub(crate) fn declare_symbol(&mut self, name: TextBuf, place: Place) -> Result<NodeId, AllocError>
+    pub(crate) fn declare_symbol(
+        &mut self,
+        name: TextBuf,
+        place: Place,
+    ) -> Result<NodeId, AllocError>
         requires name { is_declared (declared_at self.old.layout) name ≡ false }
         requires place { IsPlaceIn self.old.layout 0 place }
         ensures ok { IfOk result (λ node. Adds self.old.layout self.new.layout node (content.Declared (Symbol name)) place) }
@@ -279,7 +283,9 @@ impl Body {
         self.nodes.check_layout();
         let more = one_more(self.declared_len)?;
         self.names.reserve(&name)?;
-        let node = self.nodes.make(Content::Declared(Declaration::Symbol(name)))?;
+        let node = self
+            .nodes
+            .make(Content::Declared(Declaration::Symbol(name)))?;
         let Content::Declared(declared) = self.nodes.content(node) else {
             unreachable!();
         };
@@ -293,7 +299,12 @@ impl Body {
     }
 
     /// Puts a declaration of a collating element directly after a place.
-    pub(crate) fn declare_element(&mut self, name: TextBuf, text: TextBuf, place: Place) -> Result<NodeId, AllocError>
+    pub(crate) fn declare_element(
+        &mut self,
+        name: TextBuf,
+        text: TextBuf,
+        place: Place,
+    ) -> Result<NodeId, AllocError>
         requires name { is_declared (declared_at self.old.layout) name ≡ false }
         requires text { has_name (texts_of (declared_at self.old.layout)) text ≡ false }
         requires place { IsPlaceIn self.old.layout 0 place }
@@ -305,7 +316,9 @@ impl Body {
         let more = one_more(self.declared_len)?;
         self.names.reserve(&name)?;
         self.texts.reserve(&text)?;
-        let node = self.nodes.make(Content::Declared(Declaration::Element { name, text }))?;
+        let node = self
+            .nodes
+            .make(Content::Declared(Declaration::Element { name, text }))?;
         let Content::Declared(declared) = self.nodes.content(node) else {
             unreachable!();
         };
@@ -336,7 +349,11 @@ impl Body {
     }
 
     /// Begins a section directly after a place, and answers its node and its ring.
-    pub(crate) fn begin(&mut self, name: TextBuf, place: Place) -> Result<(NodeId, RingId), AllocError>
+    pub(crate) fn begin(
+        &mut self,
+        name: TextBuf,
+        place: Place,
+    ) -> Result<(NodeId, RingId), AllocError>
         requires name { has_name (section_names (sections_at self.old.layout)) name ≡ false }
         requires place { IsPlaceIn self.old.layout 1 place }
         ensures ok { IfOk result (λ begun. Adds (with_empty_ring self.old.layout) self.new.layout begun.0 (content.Begun (Some name) begun.1) place) }

@@ -136,9 +136,9 @@ impl Draft {
     /// `collating-symbol` and `collating-element`.
     fn declare(&mut self, new: Declaration) -> Result<(), LoadCause>
         requires { IsProperDeclaration new }
-        ensures ok { OnOk result (declaration_cause self.old new ≡ None) }
+        ensures ok { OnOk result (declaration_cause self.old.declared new ≡ None) }
         ensures after { OnOk result (self.new ≡ with_declaration self.old new) }
-        ensures err { IfErr result (λ cause. cause ≢ OutOfMemory → declaration_cause self.old new ≡ Some cause) }
+        ensures err { IfErr result (λ cause. cause ≢ OutOfMemory → declaration_cause self.old.declared new ≡ Some cause) }
     {
         if let Some(cause) = self.declaration_cause(&new) {
             return Err(cause);
@@ -149,7 +149,7 @@ impl Draft {
 
     /// Why a declaration is refused, if it is.
     fn declaration_cause(&self, new: &Declaration) -> Option<LoadCause>
-        ensures { result ≡ declaration_cause self.now new.now }
+        ensures { result ≡ declaration_cause self.now.declared new.now }
     {
         if self.builder.declares(declared_name(new)) {
             return Some(LoadCause::DeclaredTwice);
@@ -355,7 +355,7 @@ impl Draft {
     /// Why an identifier in a weight is refused, if it is: what is placed was declared, so a second look is taken only at
     /// what isn't.
     fn weight_cause(&self, id: &Id) -> Option<LoadCause>
-        ensures { result ≡ weight_cause self.now id.now }
+        ensures { result ≡ weight_cause self.now.declared self.now.sections id.now }
     {
         if self.builder.is_placed(id) {
             return None;
@@ -368,7 +368,7 @@ impl Draft {
 
     /// Why the first of these identifiers that is refused in a weight is.
     fn ids_cause(&self, ids: &[Id]) -> Option<LoadCause>
-        ensures { result ≡ ids_cause self.now ids.now }
+        ensures { result ≡ ids_cause self.now.declared self.now.sections ids.now }
     {
         for id in ids {
             if let Some(cause) = self.weight_cause(id) {
@@ -380,7 +380,7 @@ impl Draft {
 
     /// Why a weight is refused, if it is.
     fn named_cause(&self, weight: &Weight) -> Option<LoadCause>
-        ensures { result ≡ ids_cause self.now (weight_ids weight.now) }
+        ensures { result ≡ ids_cause self.now.declared self.now.sections (weight_ids weight.now) }
     {
         match weight {
             Weight::Names(ids) => self.ids_cause(ids.get()),
@@ -390,7 +390,7 @@ impl Draft {
 
     /// Why the first of these weights that is refused is.
     fn weights_cause(&self, weights: &[Weight]) -> Option<LoadCause>
-        ensures { result ≡ ids_cause self.now (flat_map weight_ids weights.now) }
+        ensures { result ≡ ids_cause self.now.declared self.now.sections (flat_map weight_ids weights.now) }
     {
         for weight in weights {
             if let Some(cause) = self.named_cause(weight) {

@@ -5,8 +5,9 @@
 //!
 //! - `declarations`, `entries` and `limits`: what a table is made of (`Table`, `Entries`, `WellFormed`, `Limits`);
 //! - `contents` and `nodes`: rings of nodes, and what each node is (`TableLayout`, `Bodies`);
-//! - `node_names`, `node_ids` and `bodies`: which node has a name or an identifier, and what holds of the whole (`NodeLookUps`, `SoundBodies`);
-//! - `tables` and `walks`: a table, read (`Walks`);
+//! - `node_names` and `node_ids`: which node has a name, and which an identifier (`NodeLookUps`);
+//! - `bodies`, and `bodies/moving`: the whole, with its look-ups, and what is put in and moved (`SoundBodies`);
+//! - `tables`, `walks` and `met_nodes`: a table, read (`Walks`, `WalkStates`, `WalkItems`);
 //! - `building`: a table that grows (`Building`);
 //! - `drafts`: the lines of a category, each judged by those before it (`Drafts`), and in `line_weights` the weights of an entry
 //!   (`Entries`);

@@ -21,11 +21,11 @@ pub struct Names {
 
 impl Model for Names {
     ghost use Rattle.std.specs.Prelude.{List, ℕ};
-    ghost use Rattle.coll_table.specs.LookUps.{texts_of, AreNames};
+    ghost use Rattle.coll_table.specs.LookUps.{all_characters_of, AreNames};
 
     ghost Value = { List (List ℕ) };
 
-    ghost view = { λ n. texts_of n.names.keys };
+    ghost view = { λ n. all_characters_of n.names.keys };
 
     ghost invariant = { λ n. AreNames n.names.keys };
 }

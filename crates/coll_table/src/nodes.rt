@@ -92,7 +92,10 @@ impl Nodes {
     }
 
     /// Makes a loose node that is a section, and a ring for its entries.
-    pub(crate) fn make_section(&mut self, name: Option<TextBuf>) -> Result<(NodeId, RingId), AllocError>
+    pub(crate) fn make_section(
+        &mut self,
+        name: Option<TextBuf>,
+    ) -> Result<(NodeId, RingId), AllocError>
         ensures made { IfOk result (λ made. Makes self.old.layout self.new.layout made.0 (Begun name made.1)) }
         ensures apart { IfOk result (λ made. is_in self.old.layout.rings made.0 ≡ false) }
         ensures ring { IfOk result (λ made. made.1.index ≡ length self.old.layout.rings) }

@@ -18,6 +18,7 @@ use coll_order::{NodeId, RingId};
 use std::marker::Model;
 
 /// What one meets on a walk through a table.
+#[derive(Clone, Copy)]
 pub enum WalkItem<'a> {
     /// A section begins: its name. The first section, which has no name, isn't met.
     Section(&'a str),
@@ -26,6 +27,7 @@ pub enum WalkItem<'a> {
 }
 
 /// What a table declares.
+#[derive(Clone, Copy)]
 pub enum DeclaredItem<'a> {
     /// A collating symbol: its name.
     Symbol(&'a str),

@@ -1,4 +1,4 @@
-//! The lines of a delta.
+//! The lines of a delta, those without weights.
 //!
 //! The grammar is `plain_delta_line` of `specs/PlainDeltaLines.antt`, by cases on the first token and the operands after it.
 //! A new line is a case there and a variant here.

@@ -1,4 +1,4 @@
-//! Order lines without weights, as the plain lines of tables and of deltas share them.
+//! Order lines of a delta, without weights.
 //!
 //! What they spell is `specs/PlainOrderLines.antt`; `UNDEFINED` and weights are cases to come.
 

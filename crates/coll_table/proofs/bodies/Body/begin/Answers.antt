@@ -20,7 +20,7 @@ link-requires-clause-place c =
 name_same : (c : goal.After-self-1) → c.in-Some.name ≡ c.args.name
 name_same c =
     let same : Some (content.Begun (Some c.in-Some.name) c.in-Begun.ring) ≡ Some (content.Begun (Some c.args.name) c.in_ok-node.ring) =
-        ap Some (sym (c.in-Begun.is ∙ ap (λ name. content.Begun name c.in-Begun.ring) c.in-Some.is)) ∙ (sym c.content.ensures ∙ made_is c.self.inside.nodes.layout c.make_section.new.self.layout c.in_ok-node.node (content.Begun (Some c.args.name) c.in_ok-node.ring) c.in_ok-node.ensures.made) in
+    ap Some (sym (c.in-Begun.is ∙ ap (λ name. content.Begun name c.in-Begun.ring) c.in-Some.is)) ∙ (sym c.content.ensures ∙ made_is c.self.inside.nodes.layout c.make_section.new.self.layout c.in_ok-node.node (content.Begun (Some c.args.name) c.in_ok-node.ring) c.in_ok-node.ensures.made) in
     cc
 
 pub invariant_of-self-2 : goal.invariant_of-self-2
@@ -29,7 +29,7 @@ invariant_of-self-2 c =
     let fresh = rw (← c.self.view_is) at c.requires.name in
     let old = c.self.inside.nodes.layout in
     let adds = section_adds old c.make_section.new.self.layout c.link.new.self.layout c.in_ok-node.node (content.Begun (Some c.args.name) c.in_ok-node.ring) c.args.place
-        c.in_ok-node.ensures.made c.in_ok-node.ensures.apart c.in_ok-node.ensures.rings c.link.ensures.layout in
+    c.in_ok-node.ensures.made c.in_ok-node.ensures.apart c.in_ok-node.ensures.rings c.link.ensures.layout in
     begun_sound old c.link.new.self.layout c.in_ok-node.node c.args.place c.self.inside.declarations c.self.inside.sections
     c.self.inside.section_names c.self.inside.placed c.self.inside.declared_len c.self.inside.section_len c.self.inside.entry_len c.in_ok-more.more
     c.self.inside.names c.self.inside.texts c.set.new.self (Some c.args.name) c.in_ok-node.ring c.self.invariant c.check_layout.ensures.once adds at c.in_ok-node.ensures.ring

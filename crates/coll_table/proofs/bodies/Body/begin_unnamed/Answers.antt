@@ -20,7 +20,7 @@ invariant_of-self-2 c =
     let at = rw (← c.self.view_is) at c.requires.place in
     let old = c.self.inside.nodes.layout in
     let adds = section_adds old c.make_section.new.self.layout c.link.new.self.layout c.in_ok-node.node (content.Begun None c.in_ok-node.ring) c.args.place
-        c.in_ok-node.ensures.made c.in_ok-node.ensures.apart c.in_ok-node.ensures.rings c.link.ensures.layout in
+    c.in_ok-node.ensures.made c.in_ok-node.ensures.apart c.in_ok-node.ensures.rings c.link.ensures.layout in
     begun_sound old c.link.new.self.layout c.in_ok-node.node c.args.place c.self.inside.declarations c.self.inside.sections
     c.self.inside.section_names c.self.inside.placed c.self.inside.declared_len c.self.inside.section_len c.self.inside.entry_len c.in_ok-more.more
     c.self.inside.names c.self.inside.texts c.self.inside.section_names None c.in_ok-node.ring c.self.invariant c.check_layout.ensures.once adds at c.in_ok-node.ensures.ring

@@ -20,14 +20,14 @@ link-requires-clause-place c =
 name_same : (c : goal.After-self-1) → c.in-Element.name ≡ c.args.name
 name_same c =
     let same : Some (content.Declared (Element c.in-Element.name c.in-Element.text)) ≡ Some (content.Declared (Element c.args.name c.args.text)) =
-        ap Some (sym (c.in-Declared.is ∙ ap content.Declared c.in-Element.is)) ∙ (sym c.content.ensures ∙ made_is c.self.inside.nodes.layout c.make.new.self.layout c.in_ok-node.node (content.Declared (Element c.args.name c.args.text)) c.in_ok-node.ensures.made) in
+    ap Some (sym (c.in-Declared.is ∙ ap content.Declared c.in-Element.is)) ∙ (sym c.content.ensures ∙ made_is c.self.inside.nodes.layout c.make.new.self.layout c.in_ok-node.node (content.Declared (Element c.args.name c.args.text)) c.in_ok-node.ensures.made) in
     cc
 
 -- what is read is what was made
 text_same : (c : goal.After-self-1) → c.in-Element.text ≡ c.args.text
 text_same c =
     let same : Some (content.Declared (Element c.in-Element.name c.in-Element.text)) ≡ Some (content.Declared (Element c.args.name c.args.text)) =
-        ap Some (sym (c.in-Declared.is ∙ ap content.Declared c.in-Element.is)) ∙ (sym c.content.ensures ∙ made_is c.self.inside.nodes.layout c.make.new.self.layout c.in_ok-node.node (content.Declared (Element c.args.name c.args.text)) c.in_ok-node.ensures.made) in
+    ap Some (sym (c.in-Declared.is ∙ ap content.Declared c.in-Element.is)) ∙ (sym c.content.ensures ∙ made_is c.self.inside.nodes.layout c.make.new.self.layout c.in_ok-node.node (content.Declared (Element c.args.name c.args.text)) c.in_ok-node.ensures.made) in
     cc
 
 pub invariant_of-self-2 : goal.invariant_of-self-2
@@ -35,7 +35,7 @@ invariant_of-self-2 c =
     let at = rw (← c.self.view_is) at c.requires.place in
     let old = c.self.inside.nodes.layout in
     let adds = adds_linked old c.make.new.self.layout c.link.new.self.layout c.in_ok-node.node (content.Declared (Element c.args.name c.args.text)) c.args.place
-        c.in_ok-node.ensures.made c.in_ok-node.ensures.apart c.in_ok-node.ensures.rings c.link.ensures.layout in
+    c.in_ok-node.ensures.made c.in_ok-node.ensures.apart c.in_ok-node.ensures.rings c.link.ensures.layout in
     declared_sound old c.link.new.self.layout c.in_ok-node.node c.args.place c.self.inside.declarations c.self.inside.sections
     c.self.inside.section_names c.self.inside.placed c.self.inside.declared_len c.self.inside.section_len c.self.inside.entry_len c.in_ok-more.more
     c.self.inside.names c.set.new.self c.self.inside.texts c.set-2.new.self (Element c.args.name c.args.text) c.self.invariant c.check_layout.ensures.once adds at

@@ -1,18 +1,16 @@
 -- The body with an entry moved is sound, and is what is said.
-use Rattle.std.proofs.Common.{◌≡◌, true, false, List, Some, is_some, sym, ap, subst, ◌∙◌}
+use Rattle.std.proofs.Common.{◌≡◌, true, is_some, sym, ap, subst, ◌∙◌}
 use Rattle.std.proofs.lemmas.Bool.{false≢true}
 use Rattle.coll_order.specs.Layout.{is_in}
 use Rattle.coll_order.specs.declared.places.Place.TheVariants.{After}
 use Rattle.coll_order.proofs.ListLemmas.{is_in_without}
 use Rattle.coll_syntax.specs.Identifier.{same_id}
-use Rattle.coll_table.specs.Bodies.{BodyValue, with_link, without_link}
+use Rattle.coll_table.specs.Bodies.{BodyValue, with_link}
 use Rattle.coll_table.specs.NodeLookUps.{node_with}
-use Rattle.coll_table.specs.Placement.{entry_at, placed_after, without}
 use Rattle.coll_table.specs.SoundBodies.{IsSoundBody}
 use Rattle.coll_table.specs.Table.{ids_of, is_placed_in, joined_entries}
 use Rattle.coll_table.specs.TableLayout.{TableLayout, declared_at, sections_at}
 use Rattle.coll_table.specs.WellFormed.{AreDistinct}
-use Rattle.coll_table.specs.declared.entries.Entry.{Entry}
 use Rattle.coll_table.proofs.BodyReads.{id_found}
 use Rattle.coll_table.proofs.BodyRelinks.{nodes_apart, relinked_sound}
 use Rattle.coll_table.proofs.LayoutMoves.{relinked, found_linked, moved_declared, moved_sections}

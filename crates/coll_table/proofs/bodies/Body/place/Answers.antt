@@ -14,7 +14,7 @@ link-requires-clause-place c =
 entry_same : (c : goal.After-self-1) → c.in-Placed.entry ≡ c.args.entry
 entry_same c =
     let same : Some (content.Placed c.in-Placed.entry) ≡ Some (content.Placed c.args.entry) =
-        ap Some (sym c.in-Placed.is) ∙ (sym c.content.ensures ∙ made_is c.self.inside.nodes.layout c.make.new.self.layout c.in_ok-node.node (content.Placed c.args.entry) c.in_ok-node.ensures.made) in
+    ap Some (sym c.in-Placed.is) ∙ (sym c.content.ensures ∙ made_is c.self.inside.nodes.layout c.make.new.self.layout c.in_ok-node.node (content.Placed c.args.entry) c.in_ok-node.ensures.made) in
     cc
 
 pub invariant_of-self-2 : goal.invariant_of-self-2
@@ -22,7 +22,7 @@ invariant_of-self-2 c =
     let at = rw (← c.self.view_is) at c.requires.place in
     let fresh = rw (← c.self.view_is) at c.requires.id in
     let adds = adds_linked c.self.inside.nodes.layout c.make.new.self.layout c.link.new.self.layout c.in_ok-node.node (content.Placed c.args.entry) c.args.place
-        c.in_ok-node.ensures.made c.in_ok-node.ensures.apart c.in_ok-node.ensures.rings c.link.ensures.layout in
+    c.in_ok-node.ensures.made c.in_ok-node.ensures.apart c.in_ok-node.ensures.rings c.link.ensures.layout in
     place_sound c.self.inside.nodes.layout c.link.new.self.layout c.in_ok-node.node c.args.entry c.args.place c.self.inside.declarations c.self.inside.sections
     c.self.inside.names c.self.inside.texts c.self.inside.section_names c.self.inside.placed c.reserve.new.self c.set.new.self c.self.inside.declared_len c.self.inside.section_len c.self.inside.entry_len c.in_ok-more.more
     c.self.invariant c.check_layout.ensures.once adds at fresh c.in_ok-reserve.ensures.ok (λ other. rw (← entry_same c) (c.set.ensures.set other)) c.in_ok-more.ensures

@@ -10,4 +10,4 @@ pub invariant_of-self-2 : goal.invariant_of-self-2
 invariant_of-self-2 c =
     let s = c.self.inside in
     subst (λ (b : Parts). IsSoundDraft (record { order_open = s.order_open; rules = s.rules; declared = b.declared; sections = b.sections; numbers = s.numbers.items })) (sym c.in_ok-declare.ensures.ok)
-    (sound_declared _ c.args.new c.self.invariant c.requires (ap (λ (d : DraftState). declaration_cause d c.args.new) c.self.view_is ∙ sym c.in_default.ensures))
+    (sound_declared _ c.args.new c.self.invariant c.requires (ap (λ (d : DraftState). declaration_cause d.declared c.args.new) c.self.view_is ∙ sym c.in_default.ensures))

@@ -3,4 +3,4 @@ use Rattle.coll_table.specs.Drafts.{ids_cause}
 use Rattle.coll_table.proofs.drafts.Draft.ids_cause.Given as goal
 
 abbrev pub invariant-loop-id : goal.invariant-loop-id
-invariant-loop-id l = ids_cause l.self (drop l.id-index l.ids) ≡ ids_cause l.self l.ids
+invariant-loop-id l = ids_cause l.self.declared l.self.sections (drop l.id-index l.ids) ≡ ids_cause l.self.declared l.self.sections l.ids

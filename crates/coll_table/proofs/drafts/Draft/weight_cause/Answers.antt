@@ -6,4 +6,4 @@ use Rattle.coll_table.proofs.drafts.Draft.weight_cause.Goals as goal
 
 pub returns-then-is_placed : goal.returns-then-is_placed
 returns-then-is_placed c =
-    sym (ap (λ (d : DraftState). weight_cause d c.args.id.now) (sym c.self.view_is) ∙ placed_unrefused _ c.args.id.now c.self.invariant (sym c.if-is_placed.ensures))
+    sym (ap (λ (d : DraftState). weight_cause d.declared d.sections c.args.id.now) (sym c.self.view_is) ∙ placed_unrefused _ c.args.id.now c.self.invariant (sym c.if-is_placed.ensures))

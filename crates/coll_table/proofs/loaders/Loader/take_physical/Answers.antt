@@ -1,5 +1,4 @@
 -- Memory may be taken for a line that ends a logical line with tokens.
-use Rattle.std.proofs.Common.{Ok, ap, ◌∙◌}
 use Rattle.coll_table.proofs.LineMemory.{whole_takes}
 use Rattle.coll_table.proofs.loaders.Loader.take_physical.Goals as goal
 

@@ -1,7 +1,7 @@
 -- A text goes last where its name does.
 use Rattle.std.proofs.Common.{sym, ap, ◌∙◌, chars}
 use Rattle.std.proofs.lemmas.Str.{encodes-chars}
-use Rattle.coll_table.specs.LookUps.{texts_of, with_name}
+use Rattle.coll_table.specs.LookUps.{all_characters_of, with_name}
 use Rattle.coll_table.proofs.LookUps.{inserted_name, inserted_are}
 use Rattle.coll_table.proofs.names.Names.insert.Goals as goal
 
@@ -13,6 +13,6 @@ invariant_of-self-2 c =
 pub returns-clause-ok : goal.returns-clause-ok
 returns-clause-ok c =
     let same = c.in_ok-text.ensures.ok in
-    ap texts_of c.in_ok-insert.ensures.keys
+    ap all_characters_of c.in_ok-insert.ensures.keys
     ∙ (inserted_name c.self.inside.names.keys c.in_ok-text.text (chars c.args.name.now) c.self.invariant (ap chars same) (encodes-chars _ c.utf8.name ∙ sym same)
     ∙ ap (λ names. with_name names (chars c.args.name.now)) c.self.view_is)

@@ -1,6 +1,6 @@
 -- The names of a clone lead to where they led.
 use Rattle.std.proofs.Common.{◌∙◌, ap, chars}
-use Rattle.coll_table.specs.LookUps.{text_of}
+use Rattle.coll_table.specs.LookUps.{characters_of}
 use Rattle.coll_table.specs.NodeMaps.{IsText}
 use Rattle.coll_table.proofs.NodeLookUps.{same_if_any, copied_leads, copied_good}
 use Rattle.coll_table.proofs.NameNodes.{same_is_text}
@@ -11,4 +11,4 @@ invariant_of-result c = copied_good _ _ IsText same_is_text c.self.inside.names.
 
 pub returns : goal.returns
 returns c =
-    copied_leads _ _ text_of (same_if_any _ (λ y h. absurd h) (λ x h. absurd h) (λ x y h. h)) (λ a b e. ap chars e) c.self.inside.names.entries c.in_ok-names.names.entries c.in_ok-names.ensures.cases ∙ c.self.view_is
+    copied_leads _ _ characters_of (same_if_any _ (λ y h. absurd h) (λ x h. absurd h) (λ x y h. h)) (λ a b e. ap chars e) c.self.inside.names.entries c.in_ok-names.names.entries c.in_ok-names.ensures.cases ∙ c.self.view_is

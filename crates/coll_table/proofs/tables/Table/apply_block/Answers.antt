@@ -1,5 +1,5 @@
 -- The record keeps the table as it was.
-use Rattle.std.proofs.Common.{◌≡◌, Err, sym, ap, subst, ◌∙◌}
+use Rattle.std.proofs.Common.{sym, ap, subst, ◌∙◌}
 use Rattle.std.proofs.lemmas.Result.{err_from_is_err_and}
 use Rattle.coll_table.specs.Delta.{all_moved, within_limit}
 use Rattle.coll_table.specs.Record.{fits, turn}

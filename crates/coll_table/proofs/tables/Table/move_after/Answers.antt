@@ -1,5 +1,5 @@
 -- The table with an entry moved is well formed.
-use Rattle.std.proofs.Common.{◌≡◌, true, IsTrue, subst, sym, ap, ◌∙◌}
+use Rattle.std.proofs.Common.{◌≡◌, true, subst, sym, ap, ◌∙◌}
 use Rattle.coll_table.specs.Bodies.{value_of}
 use Rattle.coll_table.specs.Delta.{moved}
 use Rattle.coll_table.specs.Table.{is_placed}
