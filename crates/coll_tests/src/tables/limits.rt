@@ -46,7 +46,6 @@ fn hand_in_many(
 }
 
 const BEGIN: &[&str] = &["LC_COLLATE", "order_start"];
-
 const END: &[&str] = &["order_end", "END LC_COLLATE"];
 
 // The table of so many lines of a kind.

@@ -292,12 +292,7 @@ const FAULT: LoadFault = LoadFault {
 // Asserts that a loader answers the fault whatever it is handed then.
 fn assert_stays_faulty(rt: &impl Abort, mut loader: Loader) {
     assert_same(rt, "a blank line", hand_in(&mut loader, &[""]), Err(FAULT));
-    assert_same(
-        rt,
-        "another fault",
-        hand_in(&mut loader, &["<"]),
-        Err(FAULT),
-    );
+    assert_same(rt, "another fault", hand_in(&mut loader, &["<"]), Err(FAULT));
     assert_that(rt, "not finished", !loader.finished());
     assert_same(rt, "the end", loader.finish().err(), Some(FAULT));
 }

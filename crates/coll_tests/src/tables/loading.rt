@@ -2,9 +2,7 @@
 
 use crate::assertions::{assert_same, assert_that};
 use crate::devices::ShortReader;
-use crate::tables::examples::{
-    BASE_TABLE, FIRST_TABLE, assert_order, first_table, loaded, text_of,
-};
+use crate::tables::examples::{BASE_TABLE, FIRST_TABLE, assert_order, first_table, loaded, text_of};
 use coll_lex::{Counted, LexFault, Source};
 use coll_syntax::SyntaxFault;
 use coll_table::{LoadCause, LoadFault, load};
@@ -189,12 +187,7 @@ const CUT_LINES: &[(usize, &str, u32, LoadCause)] = &[
     (2, "LC_COLLAT", 3, LoadCause::NoCategory),
     (2, "LC_COLLATE", 3, LoadCause::NoEnd),
     (18, "E", 19, LoadCause::OutsideOrder),
-    (
-        18,
-        "END",
-        19,
-        LoadCause::Syntax(SyntaxFault::MissingOperand),
-    ),
+    (18, "END", 19, LoadCause::Syntax(SyntaxFault::MissingOperand)),
     (
         18,
         "END LC_COLLAT",

@@ -164,10 +164,7 @@ const OTHER_LINES: &[(usize, &str, u32, LoadCause)] = &[
 // The fault of the table of two sections with one line changed.
 fn with_line(alloc: Global, number: usize, line: &str) -> Result<(), LoadFault> {
     let mut loader = Loader::new(alloc)?;
-    hand_in(
-        &mut loader,
-        &TWO_SECTIONS[..number.saturating_sub(1).min(12)],
-    )?;
+    hand_in(&mut loader, &TWO_SECTIONS[..number.saturating_sub(1).min(12)])?;
     hand_in(&mut loader, &[line])?;
     hand_in(&mut loader, &TWO_SECTIONS[number.min(12)..])
 }
