@@ -5,6 +5,7 @@ use Rattle.std.proofs.lemmas.Bool.{le-leb, lt-leb, ne_eqb}
 use Rattle.std.proofs.lemmas.List.{reverse-append}
 use Rattle.std.proofs.Math.Seq.{take-append_seam, drop-append_seam}
 use Rattle.coll_table.specs.Table.{Collation}
+use Rattle.coll_table.specs.TableLayout.{TableValue, collation}
 use Rattle.coll_table.specs.Delta.{delta}
 use Rattle.coll_table.specs.Record.{fits, turn}
 use Rattle.coll_bench.specs.Replay.{given_or, replay}
@@ -17,34 +18,34 @@ use Rattle.coll_bench.specs.declared.faults.BenchFault.TheVariants.{Table, Nothi
 use Rattle.coll_bench.specs.declared.histories.Kept.{Kept}
 
 -- the last record is turned first
-pub turned_back-push : (table : Collation) (kept : List Kept) (k : Kept) → turned_back table (kept ++ k ∷ []) ≡ turned_back (turn table k.change) kept
+pub turned_back-push : (table : TableValue) (kept : List Kept) (k : Kept) → turned_back table (kept ++ k ∷ []) ≡ turned_back (turn table k.change) kept
 unfolding turned_back
 turned_back-push table [] k = refl
-turned_back-push table (first ∷ kept) k = ap (λ (t : Collation). turn t first.change) (turned_back-push table kept k)
+turned_back-push table (first ∷ kept) k = ap (λ (t : TableValue). turn t first.change) (turned_back-push table kept k)
 
 pub statements_of-push : (kept : List Kept) (k : Kept) → statements_of (kept ++ k ∷ []) ≡ statements_of kept ++ k.statement ∷ []
 statements_of-push [] k = refl
 statements_of-push (first ∷ kept) k = ap (λ (ss : List PlainStatement). first.statement ∷ ss) (statements_of-push kept k)
 
-pub Leads-push : (table : Collation) (kept : List Kept) (k : Kept) → Leads (turn table k.change) kept → delta (turn table k.change) k.statement ≡ Ok table → fits table k.change → Leads table (kept ++ k ∷ [])
+pub Leads-push : (table : TableValue) (kept : List Kept) (k : Kept) → Leads (turn table k.change) kept → delta (collation (turn table k.change)) k.statement ≡ Ok (collation table) → fits table k.change → Leads table (kept ++ k ∷ [])
 unfolding Leads turned_back
 Leads-push table [] k leads accepted fit = (accepted, fit, tt)
 Leads-push table (first ∷ kept) k leads accepted fit =
     let e = sym (turned_back-push table kept k) in (
-      subst (λ (t : Collation). delta (turn t first.change) first.statement ≡ Ok t) e leads.0,
-      subst (λ (t : Collation). fits t first.change) e leads.1,
+      subst (λ (t : TableValue). delta (collation (turn t first.change)) first.statement ≡ Ok (collation t)) e leads.0,
+      subst (λ (t : TableValue). fits t first.change) e leads.1,
       Leads-push table kept k leads.2 accepted fit,
     )
 
-pub Leads-last : (table : Collation) (kept : List Kept) (k : Kept) → Leads table (kept ++ k ∷ []) → Leads (turn table k.change) kept × (delta (turn table k.change) k.statement ≡ Ok table) × fits table k.change
+pub Leads-last : (table : TableValue) (kept : List Kept) (k : Kept) → Leads table (kept ++ k ∷ []) → Leads (turn table k.change) kept × (delta (collation (turn table k.change)) k.statement ≡ Ok (collation table)) × fits table k.change
 unfolding Leads turned_back
 Leads-last table [] k leads = (tt, leads.0, leads.1)
 Leads-last table (first ∷ kept) k leads =
     let e = turned_back-push table kept k in
     let rest = Leads-last table kept k leads.2 in (
       (
-        subst (λ (t : Collation). delta (turn t first.change) first.statement ≡ Ok t) e leads.0,
-        subst (λ (t : Collation). fits t first.change) e leads.1,
+        subst (λ (t : TableValue). delta (collation (turn t first.change)) first.statement ≡ Ok (collation t)) e leads.0,
+        subst (λ (t : TableValue). fits t first.change) e leads.1,
         rest.0,
       ),
       rest.1,
@@ -52,11 +53,11 @@ Leads-last table (first ∷ kept) k leads =
     )
 
 -- the table is the replay of the statements that are kept
-pub replayed : (table : Collation) (kept : List Kept) → Leads table kept → replay (turned_back table kept) (statements_of kept) ≡ table
+pub replayed : (table : TableValue) (kept : List Kept) → Leads table kept → replay (collation (turned_back table kept)) (statements_of kept) ≡ collation table
 unfolding Leads turned_back replay
 replayed table [] leads = refl
 replayed table (k ∷ kept) leads =
-    ap (λ (r : Result Collation Refusal). replay (given_or (turn (turned_back table kept) k.change) r) (statements_of kept)) leads.0 ∙ replayed table kept leads.2
+    ap (λ (r : Result Collation Refusal). replay (given_or (collation (turn (turned_back table kept) k.change)) r) (statements_of kept)) leads.0 ∙ replayed table kept leads.2
 
 -- what becomes of a statement, by what its history and the table say
 pub judged_full : (h : History) (s : PlainStatement) → most_remaining ≤ length h.remaining → judged h s ≡ Err HistoryFull
@@ -78,20 +79,20 @@ made_same : (s t : Collation) (a b u v : List PlainStatement) → s ≡ t → a 
 made_same s t a b u v p q r = ap (λ (x : Collation). made x a u) p ∙ ap (λ (x : List PlainStatement). made t x u) q ∙ ap (λ (x : List PlainStatement). made t b x) r
 
 -- the history with an accepted statement, in which nothing is left to be put again
-pub history_with : (T T2 : Collation) (kept undone kept2 undone2 : List Kept) (k : Kept) → kept2 ≡ kept ++ k ∷ [] → undone2 ≡ [] → turn T2 k.change ≡ T
+pub history_with : (T T2 : TableValue) (kept undone kept2 undone2 : List Kept) (k : Kept) → kept2 ≡ kept ++ k ∷ [] → undone2 ≡ [] → turn T2 k.change ≡ T
     → history_of T2 kept2 undone2 ≡ with_statement (history_of T kept undone) k.statement
 history_with T T2 kept undone kept2 undone2 k grown emptied back =
     made_same _ _ _ _ _ _
-    (ap (turned_back T2) grown ∙ turned_back-push T2 kept k ∙ ap (λ (t : Collation). turned_back t kept) back)
+    (ap collation (ap (turned_back T2) grown ∙ turned_back-push T2 kept k ∙ ap (λ (t : TableValue). turned_back t kept) back))
     (ap statements_of grown ∙ statements_of-push kept k)
     (ap (λ (ks : List Kept). reverse (statements_of ks)) emptied)
 
-pub Leads_with : (T T2 : Collation) (kept kept2 : List Kept) (k : Kept) → kept2 ≡ kept ++ k ∷ [] → turn T2 k.change ≡ T → delta T k.statement ≡ Ok T2 → fits T2 k.change → Leads T kept → Leads T2 kept2
+pub Leads_with : (T T2 : TableValue) (kept kept2 : List Kept) (k : Kept) → kept2 ≡ kept ++ k ∷ [] → turn T2 k.change ≡ T → delta (collation T) k.statement ≡ Ok (collation T2) → fits T2 k.change → Leads T kept → Leads T2 kept2
 Leads_with T T2 kept kept2 k grown back accepted fit leads =
     subst (Leads T2) (sym grown)
-    (Leads-push T2 kept k (subst (λ (t : Collation). Leads t kept) (sym back) leads) (ap (λ (t : Collation). delta t k.statement) back ∙ accepted) fit)
+    (Leads-push T2 kept k (subst (λ (t : TableValue). Leads t kept) (sym back) leads) (ap (λ (t : TableValue). delta (collation t) k.statement) back ∙ accepted) fit)
 
-pub LeadsOn_none : (T : Collation) (undone : List Kept) → undone ≡ [] → LeadsOn T (reverse undone)
+pub LeadsOn_none : (T : TableValue) (undone : List Kept) → undone ≡ [] → LeadsOn T (reverse undone)
 unfolding LeadsOn
 LeadsOn_none T undone emptied = subst (λ (ks : List Kept). LeadsOn T (reverse ks)) (sym emptied) tt
 
@@ -102,10 +103,10 @@ pub judged_refused : (h : History) (s : PlainStatement) (reason : Refusal) → l
 judged_refused h s reason room refused = judged_where_room h s room ∙ ap (judged_by h s) refused
 
 -- the history after an undo
-pub length-remaining : (T : Collation) (kept undone : List Kept) → length (history_of T kept undone).remaining ≡ length kept
+pub length-remaining : (T : TableValue) (kept undone : List Kept) → length (history_of T kept undone).remaining ≡ length kept
 length-remaining T kept undone = length-statements_of kept
 
-pub taken_back_none : (T : Collation) (kept undone : List Kept) → kept ≡ [] → taken_back (history_of T kept undone) ≡ Err NothingToUndo
+pub taken_back_none : (T : TableValue) (kept undone : List Kept) → kept ≡ [] → taken_back (history_of T kept undone) ≡ Err NothingToUndo
 unfolding taken_back
 taken_back_none T kept undone none = ap (λ (ks : List Kept). taken_back (history_of T ks undone)) none
 
@@ -124,36 +125,36 @@ taken_back_push start kept s undone =
     ∙ ap (λ (xs : List PlainStatement). Ok (made start xs (drop (length kept) (kept ++ s ∷ []) ++ undone))) (take-append_seam kept (s ∷ []))
     ∙ ap (λ (xs : List PlainStatement). Ok (made start kept (xs ++ undone))) (drop-append_seam kept (s ∷ []))
 
-pub taken_back_last : (T T1 : Collation) (kept kept1 undone undone1 : List Kept) (k k1 : Kept) → kept ≡ kept1 ++ k ∷ [] → undone1 ≡ undone ++ k1 ∷ [] → k1.statement ≡ k.statement → T1 ≡ turn T k.change
+pub taken_back_last : (T T1 : TableValue) (kept kept1 undone undone1 : List Kept) (k k1 : Kept) → kept ≡ kept1 ++ k ∷ [] → undone1 ≡ undone ++ k1 ∷ [] → k1.statement ≡ k.statement → T1 ≡ turn T k.change
     → taken_back (history_of T kept undone) ≡ Ok (history_of T1 kept1 undone1)
 taken_back_last T T1 kept kept1 undone undone1 k k1 shrunk grown same turned =
     ap taken_back (made_same _ _ _ _ _ _
-    (ap (turned_back T) shrunk ∙ turned_back-push T kept1 k ∙ ap (λ (t : Collation). turned_back t kept1) (sym turned))
+    (ap collation (ap (turned_back T) shrunk ∙ turned_back-push T kept1 k ∙ ap (λ (t : TableValue). turned_back t kept1) (sym turned)))
     (ap statements_of shrunk ∙ statements_of-push kept1 k ∙ ap (λ (s : PlainStatement). statements_of kept1 ++ s ∷ []) (sym same))
     refl)
-    ∙ taken_back_push (turned_back T1 kept1) (statements_of kept1) k1.statement (reverse (statements_of undone))
-    ∙ ap (λ (ss : List PlainStatement). Ok (made (turned_back T1 kept1) (statements_of kept1) ss))
+    ∙ taken_back_push (collation (turned_back T1 kept1)) (statements_of kept1) k1.statement (reverse (statements_of undone))
+    ∙ ap (λ (ss : List PlainStatement). Ok (made (collation (turned_back T1 kept1)) (statements_of kept1) ss))
     (sym (ap (λ (ks : List Kept). reverse (statements_of ks)) grown ∙ ap reverse (statements_of-push undone k1) ∙ reverse-append (statements_of undone) (k1.statement ∷ [])))
 
-pub Leads_shorter : (T T1 : Collation) (kept kept1 : List Kept) (k : Kept) → kept ≡ kept1 ++ k ∷ [] → T1 ≡ turn T k.change → Leads T kept → Leads T1 kept1
+pub Leads_shorter : (T T1 : TableValue) (kept kept1 : List Kept) (k : Kept) → kept ≡ kept1 ++ k ∷ [] → T1 ≡ turn T k.change → Leads T kept → Leads T1 kept1
 Leads_shorter T T1 kept kept1 k shrunk turned leads =
-    subst (λ (t : Collation). Leads t kept1) (sym turned) (Leads-last T kept1 k (subst (Leads T) shrunk leads)).0
+    subst (λ (t : TableValue). Leads t kept1) (sym turned) (Leads-last T kept1 k (subst (Leads T) shrunk leads)).0
 
 -- the record that was turned leads on from the table before
-pub LeadsOn_longer : (T T1 : Collation) (kept kept1 undone undone1 : List Kept) (k k1 : Kept) → kept ≡ kept1 ++ k ∷ [] → undone1 ≡ undone ++ k1 ∷ [] → k1.statement ≡ k.statement
+pub LeadsOn_longer : (T T1 : TableValue) (kept kept1 undone undone1 : List Kept) (k k1 : Kept) → kept ≡ kept1 ++ k ∷ [] → undone1 ≡ undone ++ k1 ∷ [] → k1.statement ≡ k.statement
     → T1 ≡ turn T k.change → fits T1 k1.change → turn T1 k1.change ≡ T → Leads T kept → LeadsOn T (reverse undone) → LeadsOn T1 (reverse undone1)
 unfolding LeadsOn
 LeadsOn_longer T T1 kept kept1 undone undone1 k k1 shrunk grown same turned fit back leads leads_on =
     let last = Leads-last T kept1 k (subst (Leads T) shrunk leads) in
-    let accepted : delta T1 k1.statement ≡ Ok (turn T1 k1.change) = ap (delta T1) same ∙ ap (λ (t : Collation). delta t k.statement) turned ∙ last.1 ∙ ap Ok (sym back) in
+    let accepted : delta (collation T1) k1.statement ≡ Ok (collation (turn T1 k1.change)) = ap (delta (collation T1)) same ∙ ap (λ (t : TableValue). delta (collation t) k.statement) turned ∙ last.1 ∙ ap (λ (t : TableValue). Ok (collation t)) (sym back) in
     let order : reverse undone1 ≡ k1 ∷ reverse undone = ap reverse grown ∙ reverse-append undone (k1 ∷ []) in
-    subst (LeadsOn T1) (sym order) (accepted, fit, subst (λ (t : Collation). LeadsOn t (reverse undone)) (sym back) leads_on)
+    subst (LeadsOn T1) (sym order) (accepted, fit, subst (λ (t : TableValue). LeadsOn t (reverse undone)) (sym back) leads_on)
 
-pub Leads_none : (T : Collation) (kept : List Kept) → kept ≡ [] → Leads T kept
+pub Leads_none : (T : TableValue) (kept : List Kept) → kept ≡ [] → Leads T kept
 unfolding Leads
 Leads_none T kept emptied = subst (Leads T) (sym emptied) tt
 
-pub history_begun : (T : Collation) (kept undone : List Kept) → kept ≡ [] → undone ≡ [] → history_of T kept undone ≡ begun T
+pub history_begun : (T : TableValue) (kept undone : List Kept) → kept ≡ [] → undone ≡ [] → history_of T kept undone ≡ begun (collation T)
 unfolding turned_back
 history_begun T kept undone none nothing = ap (λ (ks : List Kept). history_of T ks undone) none ∙ ap (history_of T []) nothing
 

@@ -5,6 +5,7 @@ pub mod HearingLemmas
 pub mod HistoryLemmas
 pub mod LineNumbers
 pub mod LineStops
+pub mod ListingLemmas
 pub mod ReplyLemmas
 pub mod RunEnds
 pub mod RunExits

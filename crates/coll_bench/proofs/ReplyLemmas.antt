@@ -1,4 +1,4 @@
--- What is written of a listing, entry by entry.
+-- What is written for what a call of the history answered.
 use Rattle.std.proofs.Common.{◌≡◌, ◌≢◌, Bool, true, false, Option, Result, Ok, Err, inl, inr, ⊎_elim, codes, ℕ, ◌+◌, ◌<◌, ◌≤◌, List, [], ◌++◌, length, drop, get_or, suc, refl, sym, ap, ◌∙◌, subst, append-nil, add-one, drop-cons}
 use Rattle.std.proofs.Math.ListN.{drop_of_length-le}
 use Rattle.std.specs.Prelude.{◌⊎◌, IfOk, IfErr, OnErr}
@@ -17,21 +17,6 @@ use Rattle.coll_bench.specs.declared.faults.Fault.TheVariants as fault
 use Rattle.coll_bench.specs.declared.session_lines.Command.{Command}
 use Rattle.coll_bench.specs.declared.units.Request.{Request}
 use Rattle.coll_bench.specs.declared.units.Request.TheVariants as request
-
--- the lines of the entries from a place on begin with the line of the entry there
-pub listed_more : (entries : List Entry) (index : ℕ) (entry : Entry) → index < length entries → entry ≡ get_or entries index entry
-    → listed_lines (index + 1) (drop index entries) ≡ listed_line (index + 1) entry ++ listed_lines (index + 1 + 1) (drop (index + 1) entries)
-unfolding listed_lines
-listed_more entries index entry within is =
-    ap (listed_lines (index + 1)) (drop-cons entries index entry within)
-    ∙ ap (λ (e : Entry). listed_line (index + 1) e ++ listed_lines (suc (index + 1)) (drop (suc index) entries)) (sym is)
-    ∙ ap (λ (n : ℕ). listed_line (index + 1) entry ++ listed_lines n (drop (suc index) entries)) (sym (add-one (index + 1)))
-    ∙ ap (λ (n : ℕ). listed_line (index + 1) entry ++ listed_lines (index + 1 + 1) (drop n entries)) (sym (add-one index))
-
--- past the last entry no line follows
-pub listed_all : (entries : List Entry) (index rank : ℕ) → length entries ≤ index → listed_lines rank (drop index entries) ≡ []
-unfolding listed_lines
-listed_all entries index rank past = ap (listed_lines rank) (drop_of_length-le entries past)
 
 -- what a call of the history answered is what the definition gives
 pub record Outcome (word : List ℕ) (h h2 : History) (r : Result ℕ BenchFault) (given : Result History BenchFault) : Type 0 where

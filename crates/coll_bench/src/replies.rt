@@ -4,13 +4,14 @@
 //! flush fails, the device has taken a front of the reply. A new unit is a new case of `respond`, and of the
 //! definition of replies.
 
-ghost use Rattle.std.specs.Prelude.{◌≡◌, ◌≤◌, ◌++◌, ◌∷◌, [], Bool, length, chars, IfOk};
+ghost use Rattle.std.specs.Prelude.{◌≡◌, ◌≤◌, ◌++◌, ◌∷◌, [], Bool, length, chars, encode_utf8_all, IfOk};
 ghost use Rattle.std.specs.Io.KnownBytes.{Keeps};
 ghost use Rattle.coll_lex.specs.Devices.{CountsErr, Sends};
+ghost use Rattle.coll_lex.specs.Spelling.{spelled_symbol};
 ghost use Rattle.coll_table.specs.TableLayout.{collation};
 ghost use Rattle.coll_table.specs.WalkItems.{met_by};
-ghost use Rattle.coll_bench.specs.Listing.{listed_met, met_line, rank_after};
-ghost use Rattle.coll_bench.specs.Replies.{spelled_id, worded, counted_line, refused_line, section_line, listed_line, listing, outcome_line, command_reply, history_after_command, reply_if, history_after_if};
+ghost use Rattle.coll_bench.specs.Listing.{met_line, rank_after};
+ghost use Rattle.coll_bench.specs.Replies.{spelled_id, worded, counted_line, refused_line, section_line, listed_line, listed_sections, listing, outcome_line, command_reply, history_after_command, reply_if, history_after_if};
 
 use crate::faults::{BenchFault, Fault};
 use crate::histories::Session;
@@ -109,18 +110,18 @@ fn write_listing<W: Sink>(out: &mut W, table: &Table) -> Result<(), WriteStop>
     ensures sent { Sends (W.taken out.old) (W.taken out.new) (listing (collation table.now)) result }
     ensures errors { CountsErr (W.failed out.old) (W.failed out.new) result }
 {
-    write_walk(out, table.walk())?;
+    write_walk(out, table)?;
     write_counted(out, b"listed", table.len() as u64)
 }
 
 // Writes a line for each named section and each entry that one meets.
-fn write_walk<W: Sink>(out: &mut W, walk: Walk<'_>) -> Result<(), WriteStop>
-    requires { length walk ≤ 4_294_967_295 }
-    ensures sent { Sends (W.taken out.old) (W.taken out.new) (listed_met 1 walk) result }
+fn write_walk<W: Sink>(out: &mut W, table: &Table) -> Result<(), WriteStop>
+    ensures sent { Sends (W.taken out.old) (W.taken out.new) (listed_sections 1 (collation table.now).sections) result }
     ensures errors { CountsErr (W.failed out.old) (W.failed out.new) result }
 {
+    table.check();
     let mut rank = 1u64;
-    for item in walk {
+    for item in table.walk() {
         match write_met(out, rank, &item) {
             Ok(next) => rank = next,
             Err(stop) => return Err(stop),
@@ -155,6 +156,14 @@ fn write_section<W: Sink>(out: &mut W, name: &str) -> Result<(), WriteStop>
     ensures errors { CountsErr (W.failed out.old) (W.failed out.new) result }
 {
     write_spaced(out, b"section")?;
+    write_name_ended(out, name)
+}
+
+// Writes a name and the line's end.
+fn write_name_ended<W: Sink>(out: &mut W, name: &str) -> Result<(), WriteStop>
+    ensures sent { Sends (W.taken out.old) (W.taken out.new) (encode_utf8_all (spelled_symbol (chars name.now) []) ++ 10 ∷ []) result }
+    ensures errors { CountsErr (W.failed out.old) (W.failed out.new) result }
+{
     write_symbol(out, name)?;
     write_bytes(out, b"\n")
 }

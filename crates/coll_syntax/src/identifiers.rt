@@ -3,12 +3,11 @@
 //! An `Id` is plain data. Two are the same where `same_id` of `specs/Identifier.antt` says so; how a token spells one
 //! is said there too.
 
-ghost use Rattle.std.specs.Prelude.{◌≡◌, IfOk};
+ghost use Rattle.std.specs.Prelude.{◌≡◌};
 ghost use lib.Utf8.{scalar};
 
-use crate::operands::copied_name;
 use coll_lex::{TextBuf, is_name};
-use std::alloc::{AllocError, Global};
+use std::alloc::AllocError;
 
 /// An identifier of an order (POSIX.1-2017, 7.3.2.4).
 #[derive(Debug, Drop)]
@@ -49,20 +48,6 @@ impl Id {
             (Id::Named(a), Id::Named(b)) => a.get() == b.get(),
             (Id::Undefined, Id::Undefined) => true,
             _ => false,
-        }
-    }
-
-    /// A copy of the identifier, in new memory.
-    pub fn try_copy(&self, alloc: Global) -> Result<Id, AllocError>
-        ensures { IfOk result (λ copy. copy ≡ self.now) }
-    {
-        match self {
-            Id::Char(c) => Ok(Id::Char(*c)),
-            Id::Named(name) => {
-                let name = copied_name(alloc, name)?;
-                Ok(Id::Named(name))
-            }
-            Id::Undefined => Ok(Id::Undefined),
         }
     }
 

@@ -2,13 +2,13 @@
 //!
 //! A `Weight` is plain data; which one a token spells is `weight` of `specs/Weights.antt`.
 
-ghost use Rattle.std.specs.Prelude.{◌≡◌, IfOk};
+ghost use Rattle.std.specs.Prelude.{◌≡◌};
 ghost use Rattle.std.specs.List.{list_all};
 ghost use Rattle.coll_syntax.specs.Proper.{is_weight_id};
 
 use crate::Id;
 use coll_lex::ListBuf;
-use std::alloc::{AllocError, Global};
+use std::alloc::AllocError;
 
 /// Most identifiers of one weight.
 pub const MOST_WEIGHT_IDS: usize = 32;
@@ -44,20 +44,6 @@ impl Clone for Weight {
 impl Weight {
     ghost use Rattle.coll_syntax.specs.Proper.{is_proper_weight};
 
-    /// A copy of the weight, in new memory.
-    pub fn try_copy(&self, alloc: Global) -> Result<Weight, AllocError>
-        ensures { IfOk result (λ copy. copy ≡ self.now) }
-    {
-        match self {
-            Weight::Ignore => Ok(Weight::Ignore),
-            Weight::Own => Ok(Weight::Own),
-            Weight::Names(ids) => {
-                let ids = copied_ids(alloc, ids.get())?;
-                Ok(Weight::Names(ids))
-            }
-        }
-    }
-
     /// Whether a list of identifiers has 1 to 32 of them, without `UNDEFINED`, and its names are names.
     pub(crate) fn is_proper(&self) -> bool
         ensures { result ≡ is_proper_weight self.now }
@@ -80,16 +66,4 @@ fn are_weight_ids(ids: &[Id]) -> bool
     ensures { result ≡ list_all is_weight_id ids.now }
 {
     ids.iter().all(|id| id.is_weight_id())
-}
-
-/// Copies of these identifiers, in new memory.
-fn copied_ids(alloc: Global, ids: &[Id]) -> Result<ListBuf<Id>, AllocError>
-    ensures { IfOk result (λ copies. copies ≡ ids.now) }
-{
-    let mut copies = Vec::with_capacity(alloc, ids.len())?;
-    for id in ids {
-        let copy = id.try_copy(alloc)?;
-        copies.push(copy)?;
-    }
-    Ok(ListBuf::new(copies))
 }

@@ -12,7 +12,7 @@ mod table_lines;
 
 use crate::assertions::assert_same;
 use coll_lex::{Lexer, Line, TextBuf};
-use coll_syntax::{Id, OrderLine, Rule, Rules, SyntaxFault, Weight};
+use coll_syntax::{Id, OrderLine, Rule, SyntaxFault, Weight};
 use std::alloc::{AllocError, Global};
 use std::process::Abort;
 
@@ -140,8 +140,8 @@ fn show_rule(out: &mut String, rule: Rule) -> Result<(), AllocError> {
 }
 
 /// The rules, each after a blank.
-pub fn show_rules(out: &mut String, rules: &Rules) -> Result<(), AllocError> {
-    for rule in rules.get() {
+pub fn show_rules(out: &mut String, rules: &[Rule]) -> Result<(), AllocError> {
+    for rule in rules {
         show_rule(out, *rule)?;
     }
     Ok(())

@@ -22,7 +22,7 @@ fn first_id(rt: &impl Abort, alloc: Global, text: &str) -> Option<Id> {
 #[test]
 fn an_identifier_and_its_copy(rt: HostRuntime) {
     let id = first_id(&rt, rt.alloc(), "<BASE>").expect(&rt, "an identifier");
-    let copy = id.try_copy(rt.alloc()).expect(&rt, "a copy");
+    let copy = id.clone().expect(&rt, "a copy");
     assert_that(&rt, "the copy is the same", copy.is_same(&id));
     let is_name = matches!(&copy, Id::Named(name) if name.get() == "BASE");
     assert_that(&rt, "it is that name", is_name);
@@ -43,7 +43,7 @@ fn a_copied_name(rt: HostRuntime) {
 
 // Asserts how the copy of a weight is shown.
 fn assert_copied(rt: &impl Abort, alloc: Global, weight: &Weight, want: &str) {
-    let copy = weight.try_copy(alloc).expect(rt, want);
+    let copy = weight.clone().expect(rt, want);
     let mut shown = String::new(alloc);
     show_weight(&mut shown, &copy).expect(rt, want);
     assert_same(rt, want, shown.as_str(), want);

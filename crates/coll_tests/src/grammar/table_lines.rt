@@ -47,7 +47,7 @@ fn show_start(
         show_name(out, name.get())?;
     }
     match rules {
-        Some(rules) => show_rules(out, rules),
+        Some(rules) => show_rules(out, rules.get()),
         None => Ok(()),
     }
 }

@@ -3,8 +3,10 @@
 use crate::assertions::assert_same;
 use crate::devices::{Failure, ShortReader, ShortWriter};
 use crate::sessions::run;
-use coll_bench::RunFault;
+use crate::tables::examples::{BASE_TABLE, first_table, loaded_lines};
+use coll_bench::{RunFault, run_session};
 use coll_lex::Counted;
+use coll_table::Table;
 use std::alloc::Global;
 use std::process::Abort;
 
@@ -157,17 +159,40 @@ fn assert_replies(rt: &impl Abort, answer: Result<(), RunFault>, written: &[u8],
     assert_same(rt, replies, written, replies.as_bytes());
 }
 
-// Asserts what a session over this text replies to a device that takes all bytes.
-fn assert_session(rt: &impl Abort, alloc: Global, text: &[u8], replies: &str) {
+// Asserts what a session over a table and this text replies to a device that takes all bytes.
+fn assert_session(rt: &impl Abort, alloc: Global, table: Table, text: &[u8], replies: &str) {
     let mut output = Counted::new(Vec::new(alloc));
-    let answer = run(rt, alloc, &mut Counted::new(text), &mut output);
+    let answer = run_session(alloc, table, &mut Counted::new(text), &mut output);
     assert_replies(rt, answer, output.device(), replies);
 }
 
 #[test]
 fn each_unit_has_its_reply(rt: HostRuntime) {
     for (text, replies) in SESSIONS {
-        assert_session(&rt, rt.alloc(), text, replies);
+        let table = first_table(&rt, rt.alloc());
+        assert_session(&rt, rt.alloc(), table, text, replies);
+    }
+}
+
+// Texts of whole sessions over the base table, and what is written for each: a section but the first is listed by its name.
+const SECTIONED: &[(&[u8], &str)] = &[
+    // An entry is moved into the second section, and back.
+    (
+        b":list\nreorder-after <U002D>\n<U0062>\nreorder-end\n:list\n:undo\n:list\n",
+        "1 <BASE>\n2 <MIN>\n3 <CAP>\n4 <U0061>\n5 <U0041>\n6 <U0062>\n7 <U0063>\n8 <U0064>\nsection <PUNCT>\n9 <U002D>\nlisted 9\nok 1\n1 <BASE>\n2 <MIN>\n3 <CAP>\n4 <U0061>\n5 <U0041>\n6 <U0063>\n7 <U0064>\nsection <PUNCT>\n8 <U002D>\n9 <U0062>\nlisted 9\nundone 0\n1 <BASE>\n2 <MIN>\n3 <CAP>\n4 <U0061>\n5 <U0041>\n6 <U0062>\n7 <U0063>\n8 <U0064>\nsection <PUNCT>\n9 <U002D>\nlisted 9\n",
+    ),
+    // A new entry stands in the section of its target.
+    (
+        b"reorder-after -\n<U007A>\nreorder-end\nreorder-after <U0064>\n<U002D>\nreorder-end\n:list\n",
+        "ok 1\nok 2\n1 <BASE>\n2 <MIN>\n3 <CAP>\n4 <U0061>\n5 <U0041>\n6 <U0062>\n7 <U0063>\n8 <U0064>\n9 <U002D>\nsection <PUNCT>\n10 <U007A>\nlisted 10\n",
+    ),
+];
+
+#[test]
+fn sections_are_listed_by_name(rt: HostRuntime) {
+    for (text, replies) in SECTIONED {
+        let table = loaded_lines(rt.alloc(), BASE_TABLE).expect(&rt, "a table");
+        assert_session(&rt, rt.alloc(), table, text, replies);
     }
 }
 

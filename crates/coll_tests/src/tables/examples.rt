@@ -4,7 +4,7 @@ use crate::assertions::assert_same;
 use crate::tables::shown::shown;
 use coll_lex::{Counted, ListBuf, TextBuf};
 use coll_syntax::Id;
-use coll_table::{LoadFault, Loader, PlainLine, PlainStatement, Table, WalkItem, load};
+use coll_table::{LoadCause, LoadFault, Loader, PlainLine, PlainStatement, Table, WalkItem, load};
 use std::alloc::{AllocError, Global};
 use std::process::Abort;
 
@@ -60,14 +60,67 @@ pub fn loaded_lines(alloc: Global, lines: &[&str]) -> Result<Table, LoadFault> {
     loader.finish()
 }
 
+/// A change of a list of lines: those from a first to a last, counted from 1, and what stands in their place. Where the last
+/// is the one before the first, the others stand between the two.
+pub struct Change {
+    pub first: usize,
+    pub last: usize,
+    pub others: &'static [&'static str],
+}
+
+impl Change {
+    // The lines before those that are changed.
+    fn front<'a>(&self, lines: &'a [&'static str]) -> &'a [&'static str] {
+        &lines[..self.first.saturating_sub(1).min(lines.len())]
+    }
+
+    // The lines behind those that are changed.
+    fn rest<'a>(&self, lines: &'a [&'static str]) -> &'a [&'static str] {
+        &lines[self.last.min(lines.len())..]
+    }
+
+    // Hands the changed lines to a loader.
+    fn hand_in(&self, loader: &mut Loader, lines: &[&'static str]) -> Result<(), LoadFault> {
+        hand_in(loader, self.front(lines))?;
+        hand_in(loader, self.others)?;
+        hand_in(loader, self.rest(lines))
+    }
+
+    /// The table that these lines are once they are changed.
+    pub fn loaded(&self, alloc: Global, lines: &[&'static str]) -> Result<Table, LoadFault> {
+        let mut loader = Loader::new(alloc)?;
+        self.hand_in(&mut loader, lines)?;
+        loader.finish()
+    }
+
+    /// The changed lines as one text.
+    pub fn text(&self, alloc: Global, lines: &[&'static str]) -> Result<Vec<u8>, AllocError> {
+        let mut text = text_of(alloc, self.front(lines))?;
+        push_lines(&mut text, self.others)?;
+        push_lines(&mut text, self.rest(lines))?;
+        Ok(text)
+    }
+}
+
 /// Lines as one text, each with its line feed.
 pub fn text_of(alloc: Global, lines: &[&str]) -> Result<Vec<u8>, AllocError> {
     let mut text = Vec::new(alloc);
+    push_lines(&mut text, lines)?;
+    Ok(text)
+}
+
+fn push_lines(text: &mut Vec<u8>, lines: &[&str]) -> Result<(), AllocError> {
     for line in lines {
         text.extend_from_slice(line.as_bytes())?;
         text.push(b'\n')?;
     }
-    Ok(text)
+    Ok(())
+}
+
+/// Asserts that a text isn't a table, and where its first fault is.
+pub fn assert_fault(rt: &impl Abort, alloc: Global, text: &[u8], line: u32, cause: LoadCause) {
+    let want = LoadFault { line, cause };
+    assert_same(rt, want, loaded(alloc, text).err(), Some(want));
 }
 
 /// Asserts that a table is so, shown in short.

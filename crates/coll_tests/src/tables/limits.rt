@@ -1,6 +1,8 @@
 //! The limits of a table, at their last value and one past it.
+//!
+//! A build with no proof is slow at these: give `rt try --test` a minute and a half for each, by `--seconds 90`.
 
-use crate::assertions::{assert_same, assert_that};
+use crate::assertions::assert_same;
 use crate::tables::examples::{block, hand_in};
 use coll_table::{LoadCause, LoadFault, Loader, Refusal, Table};
 use std::alloc::Global;
@@ -45,23 +47,23 @@ fn hand_in_many(
     Ok(())
 }
 
-const BEGIN: &[&str] = &["LC_COLLATE", "order_start"];
-const END: &[&str] = &["order_end", "END LC_COLLATE"];
-
-// The table of so many lines of a kind.
-fn filled(alloc: Global, kind: Kind, count: usize) -> Result<Table, LoadFault> {
-    let mut loader = Loader::new(alloc)?;
-    hand_in(&mut loader, BEGIN)?;
-    hand_in_many(alloc, &mut loader, kind, count)?;
-    hand_in(&mut loader, END)?;
-    loader.finish()
+// Hands in the lines that begin an order, and so many of a kind.
+fn fill(alloc: Global, loader: &mut Loader, kind: Kind, count: usize) -> Result<(), LoadFault> {
+    hand_in(loader, &["LC_COLLATE", "order_start"])?;
+    hand_in_many(alloc, loader, kind, count)
 }
 
+// Asserts that so many lines of a kind are accepted, and that the next one is refused, which has this number.
 fn assert_limit(rt: &impl Abort, alloc: Global, kind: Kind, most: usize, line: u32) {
-    let fault = LoadFault { line, cause: FULL };
-    assert_that(rt, "the last", filled(alloc, kind, most).is_ok());
-    let past = filled(alloc, kind, most.saturating_add(1)).err();
-    assert_same(rt, "one past it", past, Some(fault));
+    let mut loader = Loader::new(alloc).expect(rt, "a loader");
+    assert_same(rt, "the last", fill(alloc, &mut loader, kind, most), Ok(()));
+    let past = hand_in_one(alloc, &mut loader, kind, most);
+    assert_same(
+        rt,
+        "one past it",
+        past,
+        Err(LoadFault { line, cause: FULL }),
+    );
 }
 
 #[test]
@@ -91,9 +93,22 @@ fn assert_applied(
     assert_same(rt, "the refusal", table.apply(&statement).err(), refusal);
 }
 
+// Fills a loader to the end of a category.
+fn fill_whole(alloc: Global, loader: &mut Loader) -> Result<(), LoadFault> {
+    fill(alloc, loader, Kind::Characters, 262_144)?;
+    hand_in(loader, &["order_end", "END LC_COLLATE"])
+}
+
+// A table of the characters from U+10000 to U+4FFFF.
+fn full_table(alloc: Global) -> Result<Table, LoadFault> {
+    let mut loader = Loader::new(alloc)?;
+    fill_whole(alloc, &mut loader)?;
+    loader.finish()
+}
+
 #[test]
 fn a_full_table_takes_no_new_entry_and_moves_those_it_has(rt: HostRuntime) {
-    let mut table = filled(rt.alloc(), Kind::Characters, 262_144).expect(&rt, "a table");
+    let mut table = full_table(rt.alloc()).expect(&rt, "a table");
     assert_applied(&rt, rt.alloc(), &mut table, &["a"], Some(Refusal::Full));
     assert_applied(&rt, rt.alloc(), &mut table, &["\u{10000}"], None);
 }

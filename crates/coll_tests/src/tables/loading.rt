@@ -2,7 +2,9 @@
 
 use crate::assertions::{assert_same, assert_that};
 use crate::devices::ShortReader;
-use crate::tables::examples::{BASE_TABLE, FIRST_TABLE, assert_order, first_table, loaded, text_of};
+use crate::tables::examples::{
+    BASE_TABLE, assert_fault, assert_order, first_table, loaded, text_of,
+};
 use coll_lex::{Counted, LexFault, Source};
 use coll_syntax::SyntaxFault;
 use coll_table::{LoadCause, LoadFault, load};
@@ -73,6 +75,11 @@ const FAULTS: &[(&[u8], u32, LoadCause)] = &[
         b"LC_COLLATE\norder_start\n<>\n",
         3,
         LoadCause::Lex(LexFault::EmptySymbol),
+    ),
+    (
+        b"\xFF\nLC_COLLATE\n\xFF\n",
+        3,
+        LoadCause::Lex(LexFault::NotUtf8),
     ),
     (
         b"comment_char\nLC_COLLATE\n",
@@ -147,12 +154,6 @@ const FAULTS: &[(&[u8], u32, LoadCause)] = &[
     ),
 ];
 
-// Asserts that a text isn't a table, and where its first fault is.
-fn assert_fault(rt: &impl Abort, alloc: Global, text: &[u8], line: u32, cause: LoadCause) {
-    let want = LoadFault { line, cause };
-    assert_same(rt, want, loaded(alloc, text).err(), Some(want));
-}
-
 #[test]
 fn the_first_line_at_fault_decides(rt: HostRuntime) {
     for (text, line, cause) in FAULTS {
@@ -166,20 +167,52 @@ const READ_FAULT: LoadFault = LoadFault {
 };
 
 // Asserts the fault of a load whose n-th read fails, if it comes so far.
-fn assert_read(rt: &impl Abort, alloc: Global, fails_at: usize, fault: Option<LoadFault>) {
-    let mut input = Counted::new(ShortReader::new(FIRST_TABLE, fails_at));
+fn assert_read(
+    rt: &impl Abort,
+    alloc: Global,
+    text: &[u8],
+    fails_at: usize,
+    fault: Option<LoadFault>,
+) {
+    let mut input = Counted::new(ShortReader::new(text, fails_at));
     assert_same(rt, fails_at, load(alloc, &mut input).err(), fault);
     assert_same(rt, "the errors", input.errors(), u64::from(fault.is_some()));
 }
 
-// The first table has 111 bytes, which 37 reads give; its last line feed is the last of them. A read that fails is the fault
-// unless the lines before it decide, and a read behind the category isn't made.
+// Asserts that each of so many reads, which give a text to its last line feed, is the fault where it fails, and that no
+// further one is made.
+fn assert_reads(rt: &impl Abort, alloc: Global, text: &[u8], reads: usize) {
+    assert_same(rt, "the reads", text.len().div_ceil(3), reads);
+    for fails_at in 1..=reads {
+        assert_read(rt, alloc, text, fails_at, Some(READ_FAULT));
+    }
+    assert_read(rt, alloc, text, reads.saturating_add(1), None);
+}
+
 #[test]
 fn a_read_that_fails_within_the_category_is_the_fault(rt: HostRuntime) {
-    for fails_at in 1..=37 {
-        assert_read(&rt, rt.alloc(), fails_at, Some(READ_FAULT));
-    }
-    assert_read(&rt, rt.alloc(), 38, None);
+    let text = text_of(rt.alloc(), BASE_TABLE).expect(&rt, "a text");
+    assert_reads(&rt, rt.alloc(), text.as_slice(), 147);
+}
+
+// The fault of a line that was read whole is answered before the read behind it, and else the read's. The line feed of line
+// 2 is the 17th byte, which the sixth read gives.
+#[test]
+fn a_line_read_whole_decides_before_a_later_read(rt: HostRuntime) {
+    let text = b"LC_COLLATE\nbogus\nmore\n";
+    let fault = LoadFault {
+        line: 2,
+        cause: LoadCause::Syntax(SyntaxFault::UnknownStatement),
+    };
+    assert_read(&rt, rt.alloc(), text, 6, Some(READ_FAULT));
+    let mut input = Counted::new(ShortReader::new(text, 7));
+    assert_same(
+        &rt,
+        "the line",
+        load(rt.alloc(), &mut input).err(),
+        Some(fault),
+    );
+    assert_same(&rt, "the errors", input.errors(), 0);
 }
 
 // Where a front of the base table ends within a line, and the fault that it then is.
@@ -187,7 +220,12 @@ const CUT_LINES: &[(usize, &str, u32, LoadCause)] = &[
     (2, "LC_COLLAT", 3, LoadCause::NoCategory),
     (2, "LC_COLLATE", 3, LoadCause::NoEnd),
     (18, "E", 19, LoadCause::OutsideOrder),
-    (18, "END", 19, LoadCause::Syntax(SyntaxFault::MissingOperand)),
+    (
+        18,
+        "END",
+        19,
+        LoadCause::Syntax(SyntaxFault::MissingOperand),
+    ),
     (
         18,
         "END LC_COLLAT",

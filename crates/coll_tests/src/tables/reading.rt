@@ -1,9 +1,11 @@
 //! Tables as they are read: rules, declarations, sections, entries and weights, and each entry by its identifier.
 
 use crate::assertions::assert_same;
-use crate::tables::examples::{BASE_TABLE, assert_shown, hand_in, id, loaded, loaded_lines};
+use crate::tables::examples::{
+    BASE_TABLE, Change, assert_fault, assert_shown, id, loaded, loaded_lines,
+};
 use crate::tables::shown::show_entry;
-use coll_table::{LoadCause, LoadFault, Loader, Table};
+use coll_table::{LoadCause, LoadFault, Table};
 use std::alloc::{AllocError, Global};
 use std::process::Abort;
 
@@ -104,12 +106,7 @@ const ENDINGS: &[(&str, u32, LoadCause)] = &[
 fn escaped_digits_make_a_name_or_a_code_point(rt: HostRuntime) {
     for (ending, line, cause) in ENDINGS {
         let text = spelled(rt.alloc(), ending).expect(&rt, "a text");
-        let want = LoadFault {
-            line: *line,
-            cause: *cause,
-        };
-        let fault = loaded(rt.alloc(), text.as_bytes()).err();
-        assert_same(&rt, want, fault, Some(want));
+        assert_fault(&rt, rt.alloc(), text.as_bytes(), *line, *cause);
     }
 }
 
@@ -155,27 +152,36 @@ fn an_entry_is_found_by_its_identifier(rt: HostRuntime) {
     assert_entries(&rt, rt.alloc(), &table);
 }
 
-// The same table with one line changed, and the fault that it then is.
-const OTHER_LINES: &[(usize, &str, u32, LoadCause)] = &[
-    (9, "order_start forward", 9, LoadCause::RulesDiffer),
-    (7, "order_start <L>", 7, LoadCause::SectionTwice),
+// A changed line of the same table, and the fault that it then is.
+const OTHER_LINES: &[(Change, LoadFault)] = &[
+    (
+        Change {
+            first: 9,
+            last: 9,
+            others: &["order_start forward"],
+        },
+        LoadFault {
+            line: 9,
+            cause: LoadCause::RulesDiffer,
+        },
+    ),
+    (
+        Change {
+            first: 7,
+            last: 7,
+            others: &["order_start <L>"],
+        },
+        LoadFault {
+            line: 7,
+            cause: LoadCause::SectionTwice,
+        },
+    ),
 ];
-
-// The fault of the table of two sections with one line changed.
-fn with_line(alloc: Global, number: usize, line: &str) -> Result<(), LoadFault> {
-    let mut loader = Loader::new(alloc)?;
-    hand_in(&mut loader, &TWO_SECTIONS[..number.saturating_sub(1).min(12)])?;
-    hand_in(&mut loader, &[line])?;
-    hand_in(&mut loader, &TWO_SECTIONS[number.min(12)..])
-}
 
 #[test]
 fn rules_are_given_once_and_sections_begin_once(rt: HostRuntime) {
-    for (number, line, at, cause) in OTHER_LINES {
-        let want = LoadFault {
-            line: *at,
-            cause: *cause,
-        };
-        assert_same(&rt, want, with_line(rt.alloc(), *number, line), Err(want));
+    for (change, want) in OTHER_LINES {
+        let given = change.loaded(rt.alloc(), TWO_SECTIONS).err();
+        assert_same(&rt, *want, given, Some(*want));
     }
 }

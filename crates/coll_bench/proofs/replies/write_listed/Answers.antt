@@ -22,4 +22,5 @@ returns-clause-sent g c =
     let rest = spelled_id c.args.entry.now.id ++ 10 ∷ [] in
     let number : c.as_bytes.result.now ≡ decimal c.args.rank = c.as_bytes.ensures.value ∙ c.format.ensures.text in
     let sent = rw number at c.in_ok-write_spaced.ensures.sent in
-    Sends-after (taken c.args.out.now) (taken c.write_spaced.new.out) (taken c.write_id_ended.new.out) first rest c.write_id_ended.result sent c.write_id_ended.ensures.sent
+    let last = rw c.id.ensures at c.write_id_ended.ensures.sent in
+    Sends-after (taken c.args.out.now) (taken c.write_spaced.new.out) (taken c.write_id_ended.new.out) first rest c.write_id_ended.result sent last

@@ -5,6 +5,7 @@ use Rattle.std.specs.Prelude.{◌==◌, if◌then◌else◌}
 use Rattle.coll_lex.specs.Devices.{raised}
 use Rattle.coll_lex.specs.PhysicalLines.{IsInLine}
 use Rattle.coll_lex.specs.LineReading.{ReaderState, Cuts, unread}
+use Rattle.coll_table.specs.TableLayout.{collation}
 use Rattle.coll_bench.specs.Faults.{fault_number}
 use Rattle.coll_bench.proofs.ServingLemmas.{counts_after}
 use Rattle.coll_bench.proofs.RunSteps.{underway_begun, underway_on, unread_begun, gives_line, gives_end, count_at_end, stops_now, reads_kept}
@@ -13,11 +14,11 @@ use Rattle.coll_bench.proofs.runs.run_session.Goals as goal
 
 pub returns-in_default-clause-run : goal.returns-in_default-clause-run
 returns-in_default-clause-run g c text before left_is taken_is =
-    never_begun c.args.table text before (g.R.Source.left c.args.input.now) (g.W.Sink.taken c.args.output.now) c.no_memory.result c.no_memory.ensures left_is taken_is
+    never_begun (collation c.args.table) text before (g.R.Source.left c.args.input.now) (g.W.Sink.taken c.args.output.now) c.no_memory.result c.no_memory.ensures left_is taken_is
 
 pub returns-in_default-new-clause-run : goal.returns-in_default-new-clause-run
 returns-in_default-new-clause-run g c text before left_is taken_is =
-    never_begun c.args.table text before (g.R.Source.left c.args.input.now) (g.W.Sink.taken c.args.output.now) c.no_memory-in_default-new.result c.no_memory-in_default-new.ensures left_is taken_is
+    never_begun (collation c.args.table) text before (g.R.Source.left c.args.input.now) (g.W.Sink.taken c.args.output.now) c.no_memory-in_default-new.result c.no_memory-in_default-new.ensures left_is taken_is
 
 pub lines-init : goal.lines-init
 lines-init g c = record {
@@ -25,7 +26,7 @@ lines-init g c = record {
   reads = refl;
   writes = refl;
   underway = λ text before left_is taken_is.
-      underway_begun c.args.table text before c.in-Ok.reader.ended (unread c.in-Ok.reader (g.R.Source.left c.args.input.now)) (g.W.Sink.taken c.args.output.now) c.in-Ok-new.desk c.in-Ok-new.ensures
+      underway_begun (collation c.args.table) text before c.in-Ok.reader.ended (unread c.in-Ok.reader (g.R.Source.left c.args.input.now)) (g.W.Sink.taken c.args.output.now) c.in-Ok-new.desk c.in-Ok-new.ensures
       (ap (λ (r : ReaderState). r.ended) c.in-Ok.ensures) (unread_begun c.in-Ok.reader (g.R.Source.left c.args.input.now) text c.in-Ok.ensures left_is) taken_is;
 }
 
@@ -34,7 +35,7 @@ returns-in-Err-serve-clause-run g c text before left_is taken_is =
     let left = g.R.Source.left in
     let taken = g.W.Sink.taken in
     let line = gives_line c.lines.reader c.advance.new.self (left c.lines.input) (left c.advance.new.input) (g.R.Source.failed c.lines.input) (g.R.Source.failed c.advance.new.input) c.in-Ok-true.field-0 c.in-Ok-true.ensures c.in-Ok-true.field-0-test in
-    line_ended c.args.table text before (left c.advance.new.input) c.lines.reader.ended c.advance.new.self.ended (unread c.lines.reader (left c.lines.input)) (unread c.advance.new.self (left c.advance.new.input)) (taken c.lines.output) (taken c.serve.new.output)
+    line_ended (collation c.args.table) text before (left c.advance.new.input) c.lines.reader.ended c.advance.new.self.ended (unread c.lines.reader (left c.lines.input)) (unread c.advance.new.self (left c.advance.new.input)) (taken c.lines.output) (taken c.serve.new.output)
     c.lines.desk c.line.result.now c.in-Err-serve.ended (c.lines.invariant.underway text before left_is taken_is) line.not_ended
     (subst (λ (l : List ℕ). Cuts c.advance.new.self.ended (unread c.lines.reader (left c.lines.input)) (unread c.advance.new.self (left c.advance.new.input)) l) (sym c.line.ensures) line.cut)
     (subst (λ (l : List ℕ). IsInLine l) (sym c.line.ensures) line.whole) c.in-Err-serve.ensures.served
@@ -49,7 +50,7 @@ lines-preserved g c =
       reads = line.count ∙ c.lines.invariant.reads;
       writes = c.in_default-serve.ensures.errors ∙ c.lines.invariant.writes;
       underway = λ text before left_is taken_is.
-          underway_on c.args.table text before c.lines.reader.ended c.advance.new.self.ended (unread c.lines.reader (left c.lines.input)) (unread c.advance.new.self (left c.advance.new.input)) (taken c.lines.output) (taken c.serve.new.output) c.lines.desk c.serve.new.self c.line.result.now
+          underway_on (collation c.args.table) text before c.lines.reader.ended c.advance.new.self.ended (unread c.lines.reader (left c.lines.input)) (unread c.advance.new.self (left c.advance.new.input)) (taken c.lines.output) (taken c.serve.new.output) c.lines.desk c.serve.new.self c.line.result.now
           (c.lines.invariant.underway text before left_is taken_is) line.not_ended
           (subst (λ (l : List ℕ). Cuts c.advance.new.self.ended (unread c.lines.reader (left c.lines.input)) (unread c.advance.new.self (left c.advance.new.input)) l) (sym c.line.ensures) line.cut)
           (subst (λ (l : List ℕ). IsInLine l) (sym c.line.ensures) line.whole) c.in_default-serve.ensures.served;
@@ -60,7 +61,7 @@ returns-in-Ok-false-clause-run g c text before left_is taken_is =
     let left = g.R.Source.left in
     let taken = g.W.Sink.taken in
     let end = gives_end c.lines.reader c.advance.new.self (left c.lines.input) (left c.advance.new.input) (g.R.Source.failed c.lines.input) (g.R.Source.failed c.advance.new.input) c.in-Ok-false.field-0 c.in-Ok-false.ensures c.in-Ok-false.field-0-test in
-    text_ended c.args.table text before c.lines.reader c.advance.new.self (left c.lines.input) (left c.advance.new.input) (taken c.lines.output) (taken c.finish.new.output) (g.R.Source.failed c.lines.input) (g.R.Source.failed c.advance.new.input)
+    text_ended (collation c.args.table) text before c.lines.reader c.advance.new.self (left c.lines.input) (left c.advance.new.input) (taken c.lines.output) (taken c.finish.new.output) (g.R.Source.failed c.lines.input) (g.R.Source.failed c.advance.new.input)
     c.lines.desk c.finish.result (c.lines.invariant.underway text before left_is taken_is) end c.finish.ensures.ended
 
 pub returns-in-Ok-false-clause-reads : goal.returns-in-Ok-false-clause-reads
@@ -76,7 +77,7 @@ returns-in-Err-clause-run g c text before left_is taken_is =
     let taken = g.W.Sink.taken in
     let failed = g.R.Source.failed in
     let stop = stops_now c.lines.reader c.advance.new.self (left c.lines.input) (left c.advance.new.input) (failed c.lines.input) (failed c.advance.new.input) c.in-Err.stop c.in-Err.ensures c.lines.invariant.going in
-    cut_off_ended c.args.table text before c.lines.reader c.advance.new.self (left c.lines.input) (left c.advance.new.input) (taken c.lines.output) (taken c.cut_off.new.output) (failed c.lines.input) (failed c.advance.new.input)
+    cut_off_ended (collation c.args.table) text before c.lines.reader c.advance.new.self (left c.lines.input) (left c.advance.new.input) (taken c.lines.output) (taken c.cut_off.new.output) (failed c.lines.input) (failed c.advance.new.input)
     c.lines.desk c.in-Err.stop c.cut_off.result stop (c.lines.invariant.underway text before left_is taken_is) c.cut_off.ensures.ended
 
 pub returns-in-Err-clause-reads : goal.returns-in-Err-clause-reads

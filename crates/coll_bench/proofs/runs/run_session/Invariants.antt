@@ -1,6 +1,7 @@
 use Rattle.std.proofs.Common.{◌≡◌, ℕ, ◌-◌, List, Some, None}
 use Rattle.coll_lex.specs.LineReading.{unread}
 use Rattle.coll_lex.specs.Limits.{most_lines}
+use Rattle.coll_table.specs.TableLayout.{collation}
 use Rattle.coll_bench.specs.Underway.{Underway}
 use Rattle.coll_bench.proofs.runs.run_session.Given as goal
 
@@ -14,5 +15,5 @@ invariant-lines g l =
       reads : g.R.Source.failed l.input ≡ g.R.Source.failed l.fn.input;
       writes : g.W.Sink.failed l.output ≡ g.W.Sink.failed l.fn.output;
       underway : (text before : List ℕ) → g.R.Source.left l.fn.input ≡ Some text → g.W.Sink.taken l.fn.output ≡ Some before
-          → Underway l.fn.table text before l.reader.ended (unread l.reader (g.R.Source.left l.input)) (g.W.Sink.taken l.output) l.desk;
+          → Underway (collation l.fn.table) text before l.reader.ended (unread l.reader (g.R.Source.left l.input)) (g.W.Sink.taken l.output) l.desk;
     }
