@@ -6,5 +6,6 @@ mod limits;
 mod line_by_line;
 mod loading;
 mod plain_lines;
+mod printing;
 mod reading;
 mod shown;

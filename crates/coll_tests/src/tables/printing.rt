@@ -1,0 +1,62 @@
+//! The canonical text of a table: what is written, and that it is read back.
+
+use crate::assertions::assert_same;
+use crate::tables::examples::{BASE_TABLE, loaded_lines, text_of};
+use coll_lex::Counted;
+use coll_table::Table;
+use std::alloc::Global;
+use std::process::Abort;
+
+/// A text that spells what it may in other ways than the canonical ones.
+const SPELLED_OTHERWISE: &[&str] = &[
+    "LC_COLLATE            # the defaults stand",
+    "collating-symbol \\",
+    "  <S>",
+    "collating-symbol <a\\>b>",
+    "order_start forward;\\",
+    "forward",
+    "<S>",
+    "<a\\>b>",
+    "a  ;<S>   # trailing",
+    "b \"<S>a\";IGNORE",
+    "<U\\0041> \"<U0041>\";<a\\>b>",
+    "order_end",
+    "END LC_COLLATE",
+];
+
+/// The same table, printed.
+const PRINTED: &[&str] = &[
+    "comment_char %",
+    "escape_char /",
+    "LC_COLLATE",
+    "collating-symbol <S>",
+    "collating-symbol <a/>b>",
+    "order_start forward;forward",
+    "<S>",
+    "<a/>b>",
+    "<U0061> <U0061>;<S>",
+    "<U0062> \"<S><U0061>\";IGNORE",
+    "<U0041> <U0041>;<a/>b>",
+    "order_end",
+    "END LC_COLLATE",
+];
+
+// Asserts that a table is printed as these lines.
+fn assert_printed(rt: &impl Abort, alloc: Global, table: &mut Table, lines: &[&str]) {
+    let mut out = Counted::new(Vec::new(alloc));
+    table.print(&mut out).expect(rt, "the text");
+    let wanted = text_of(alloc, lines).expect(rt, "the lines");
+    assert_same(rt, "the text", out.device().as_slice(), wanted.as_slice());
+}
+
+#[test]
+fn canonical_text_is_printed_as_it_was(rt: HostRuntime) {
+    let mut table = loaded_lines(rt.alloc(), BASE_TABLE).expect(&rt, "the base table");
+    assert_printed(&rt, rt.alloc(), &mut table, BASE_TABLE);
+}
+
+#[test]
+fn other_spellings_are_printed_canonically(rt: HostRuntime) {
+    let mut table = loaded_lines(rt.alloc(), SPELLED_OTHERWISE).expect(&rt, "the table");
+    assert_printed(&rt, rt.alloc(), &mut table, PRINTED);
+}
