@@ -26,10 +26,10 @@ alone_goes_on c (argument ∷ rest) = refl
 
 command_goes_on : (first : Token) (arguments : List Token) → stop_of (command_heard first arguments) ≡ None
 command_goes_on first arguments =
-    let unknown : Heard = Misasks fault.UnknownCommand in
-    let list : Heard = alone command.List arguments in
-    neither_stops (is_word first (codes ":undo")) (alone command.Undo arguments) (if is_word first (codes ":list") then list else unknown) (alone_goes_on command.Undo arguments)
-    (neither_stops (is_word first (codes ":list")) list unknown (alone_goes_on command.List arguments) refl)
+    neither_stops (is_word first (codes ":undo")) _ _ (alone_goes_on command.Undo arguments)
+    (neither_stops (is_word first (codes ":list")) _ _ (alone_goes_on command.List arguments)
+    (neither_stops (is_word first (codes ":print")) _ _ (alone_goes_on command.Print arguments)
+    (neither_stops (is_word first (codes ":check")) (alone command.Check arguments) (Misasks fault.UnknownCommand) (alone_goes_on command.Check arguments) refl)))
 
 delta_goes_on : (o : Opening) (r : Result PlainDeltaLine SyntaxFault) → stop_of (delta_heard o r) ≡ None
 delta_goes_on o (Ok (delta_lines.ReorderAfter target)) = refl
