@@ -186,6 +186,15 @@ const SECTIONED: &[(&[u8], &str)] = &[
         b"reorder-after -\n<U007A>\nreorder-end\nreorder-after <U0064>\n<U002D>\nreorder-end\n:list\n",
         "ok 1\nok 2\n1 <BASE>\n2 <MIN>\n3 <CAP>\n4 <U0061>\n5 <U0041>\n6 <U0062>\n7 <U0063>\n8 <U0064>\n9 <U002D>\nsection <PUNCT>\n10 <U007A>\nlisted 10\n",
     ),
+    // The table is printed as it is now, and counted; both are refused in a block and with arguments.
+    (
+        b"reorder-after <U0064>\n<U002D>\nreorder-end\n:print\n:undo\n:print\n",
+        "ok 1\ncomment_char %\nescape_char /\nLC_COLLATE\ncollating-symbol <BASE>\ncollating-symbol <MIN>\ncollating-symbol <CAP>\norder_start forward;backward;forward;forward,position\n<BASE>\n<MIN>\n<CAP>\n<U0061> <U0061>;<BASE>;<MIN>;IGNORE\n<U0041> <U0061>;<BASE>;<CAP>;IGNORE\n<U0062> <U0062>;<BASE>;<MIN>;IGNORE\n<U0063> <U0063>;<BASE>;<MIN>;IGNORE\n<U0064> <U0064>;<BASE>;<MIN>;IGNORE\n<U002D> IGNORE;IGNORE;IGNORE;<U002D>\nsection <PUNCT>\norder_end\nEND LC_COLLATE\nundone 0\ncomment_char %\nescape_char /\nLC_COLLATE\ncollating-symbol <BASE>\ncollating-symbol <MIN>\ncollating-symbol <CAP>\norder_start forward;backward;forward;forward,position\n<BASE>\n<MIN>\n<CAP>\n<U0061> <U0061>;<BASE>;<MIN>;IGNORE\n<U0041> <U0061>;<BASE>;<CAP>;IGNORE\n<U0062> <U0062>;<BASE>;<MIN>;IGNORE\n<U0063> <U0063>;<BASE>;<MIN>;IGNORE\n<U0064> <U0064>;<BASE>;<MIN>;IGNORE\nsection <PUNCT>\n<U002D> IGNORE;IGNORE;IGNORE;<U002D>\norder_end\nEND LC_COLLATE\n",
+    ),
+    (
+        b":check\n:check <U0061>\n:print \"a\"\nreorder-after -\n:print\n:check\nreorder-end\n",
+        "table entries 9 declared 3 sections 2 levels 4\nrefused 22 ExtraOperand\nrefused 22 ExtraOperand\nrefused 62 BlockOpen\nrefused 62 BlockOpen\nok 1\n",
+    ),
 ];
 
 #[test]

@@ -2,6 +2,7 @@
 
 use crate::assertions::assert_same;
 use crate::tables::examples::{BASE_TABLE, loaded_lines, text_of};
+use crate::tables::reading::TWO_SECTIONS;
 use coll_lex::Counted;
 use coll_table::Table;
 use std::alloc::Global;
@@ -59,4 +60,28 @@ fn canonical_text_is_printed_as_it_was(rt: HostRuntime) {
 fn other_spellings_are_printed_canonically(rt: HostRuntime) {
     let mut table = loaded_lines(rt.alloc(), SPELLED_OTHERWISE).expect(&rt, "the table");
     assert_printed(&rt, rt.alloc(), &mut table, PRINTED);
+}
+
+/// The table of two sections, printed.
+const TWO_SECTIONS_PRINTED: &[&str] = &[
+    "comment_char %",
+    "escape_char /",
+    "LC_COLLATE",
+    "collating-element <ch> from \"<U0063><U0068>\"",
+    "order_start forward;forward,position",
+    "section <L>",
+    "<U0061>",
+    "section <M>",
+    "<ch>",
+    "UNDEFINED IGNORE;",
+    "order_end",
+    "END LC_COLLATE",
+];
+
+#[test]
+fn sections_and_rules_are_printed_in_one_form(rt: HostRuntime) {
+    let mut table = loaded_lines(rt.alloc(), TWO_SECTIONS).expect(&rt, "the table");
+    assert_printed(&rt, rt.alloc(), &mut table, TWO_SECTIONS_PRINTED);
+    let mut again = loaded_lines(rt.alloc(), TWO_SECTIONS_PRINTED).expect(&rt, "again");
+    assert_printed(&rt, rt.alloc(), &mut again, TWO_SECTIONS_PRINTED);
 }

@@ -9,9 +9,9 @@ use coll_table::{LoadCause, LoadFault, Table};
 use std::alloc::{AllocError, Global};
 use std::process::Abort;
 
-// Sections by `order_start`, one that is empty, rules that are given twice and once left out, weights that are left out or
-// name the entry alone, and UNDEFINED.
-const TWO_SECTIONS: &[&str] = &[
+/// Sections by `order_start`, one that is empty, rules that are given twice and once left out, weights that are left out or
+/// name the entry alone, and UNDEFINED.
+pub const TWO_SECTIONS: &[&str] = &[
     "LC_COLLATE",
     "script <Latn>",
     "order_start <L>;forward;position",
