@@ -81,7 +81,7 @@ const REWRITTEN: &[(&str, &[&str], &str)] = &[
 ];
 
 // Asserts that a table has these sections behind the declarations.
-fn assert_sections(rt: &impl Abort, alloc: Global, table: &mut Table, sections: &str) {
+fn assert_sections(rt: &impl Abort, alloc: Global, table: &Table, sections: &str) {
     let want = format!(in alloc; "{DECLARED_SHOWN}{sections}").expect(rt, sections);
     assert_shown(rt, alloc, table, want.as_str());
 }

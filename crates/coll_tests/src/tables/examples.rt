@@ -124,7 +124,7 @@ pub fn assert_fault(rt: &impl Abort, alloc: Global, text: &[u8], line: u32, caus
 }
 
 /// Asserts that a table is so, shown in short.
-pub fn assert_shown(rt: &impl Abort, alloc: Global, table: &mut Table, want: &str) {
+pub fn assert_shown(rt: &impl Abort, alloc: Global, table: &Table, want: &str) {
     let given = shown(alloc, table).expect(rt, want);
     assert_same(rt, "the table", given.as_str(), want);
 }

@@ -60,14 +60,14 @@ fn with_returns(alloc: Global, text: &str) -> Result<String, AllocError> {
 
 // Asserts that these lines are a table, and which.
 fn assert_loaded(rt: &impl Abort, alloc: Global, lines: &[&str], want: &str) {
-    let mut table = loaded_lines(alloc, lines).expect(rt, want);
-    assert_shown(rt, alloc, &mut table, want);
+    let table = loaded_lines(alloc, lines).expect(rt, want);
+    assert_shown(rt, alloc, &table, want);
 }
 
 // Asserts that a text is a table, and which.
 fn assert_read(rt: &impl Abort, alloc: Global, text: &str, want: &str) {
-    let mut table = loaded(alloc, text.as_bytes()).expect(rt, want);
-    assert_shown(rt, alloc, &mut table, want);
+    let table = loaded(alloc, text.as_bytes()).expect(rt, want);
+    assert_shown(rt, alloc, &table, want);
 }
 
 #[test]
