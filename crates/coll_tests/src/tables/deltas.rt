@@ -17,35 +17,30 @@ const BLOCKS: &[(&str, &[&str], &str)] = &[
     ("a", &[], "<abc"),
 ];
 
-// Asserts that the first table, rewritten by a statement, has this order, and the first one turned back.
+// Asserts that the first table, rewritten by a statement, has this order, and the first one turned back, once and again.
 fn assert_turns(rt: &impl Abort, table: &mut Table, statement: &PlainStatement, after: &str) {
     let mut record = table.apply(statement).expect(rt, after);
     assert_order(rt, table, after);
     assert_same(rt, "the steps back", table.flip(&mut record), 0);
     assert_order(rt, table, "<abc");
     assert_same(rt, "the steps", table.flip(&mut record), 0);
-    table.forget(record);
     assert_order(rt, table, after);
+    assert_same(rt, "the steps back", table.flip(&mut record), 0);
+    table.forget(record);
+    assert_order(rt, table, "<abc");
 }
 
-fn assert_block_turns(
-    rt: &impl Abort,
-    alloc: Global,
-    table: &mut Table,
-    target: &str,
-    lines: &[&str],
-    after: &str,
-) {
-    let statement = block(alloc, target, lines).expect(rt, "a block");
-    assert_turns(rt, table, &statement, after);
+fn assert_blocks_turn(rt: &impl Abort, alloc: Global, table: &mut Table) {
+    for (target, lines, after) in BLOCKS {
+        let statement = block(alloc, target, lines).expect(rt, "a block");
+        assert_turns(rt, table, &statement, after);
+    }
 }
 
 #[test]
 fn a_block_is_applied_turned_back_and_applied_again(rt: HostRuntime) {
-    for (target, lines, after) in BLOCKS {
-        let mut table = first_table(&rt, rt.alloc());
-        assert_block_turns(&rt, rt.alloc(), &mut table, target, lines, after);
-    }
+    let mut table = first_table(&rt, rt.alloc());
+    assert_blocks_turn(&rt, rt.alloc(), &mut table);
 }
 
 // The base table with a symbol and an element that have no entry.

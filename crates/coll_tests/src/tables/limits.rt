@@ -53,17 +53,25 @@ fn fill(alloc: Global, loader: &mut Loader, kind: Kind, count: usize) -> Result<
     hand_in_many(alloc, loader, kind, count)
 }
 
-// Asserts that so many lines of a kind are accepted, and that the next one is refused, which has this number.
-fn assert_limit(rt: &impl Abort, alloc: Global, kind: Kind, most: usize, line: u32) {
-    let mut loader = Loader::new(alloc).expect(rt, "a loader");
+// Asserts that a loader accepts so many lines of a kind, and refuses the next one, which has this number.
+fn assert_filled(
+    rt: &impl Abort,
+    alloc: Global,
+    mut loader: Loader,
+    kind: Kind,
+    most: usize,
+    line: u32,
+) {
+    let fault = LoadFault { line, cause: FULL };
     assert_same(rt, "the last", fill(alloc, &mut loader, kind, most), Ok(()));
     let past = hand_in_one(alloc, &mut loader, kind, most);
-    assert_same(
-        rt,
-        "one past it",
-        past,
-        Err(LoadFault { line, cause: FULL }),
-    );
+    assert_same(rt, "one past it", past, Err(fault));
+    assert_same(rt, "the end", loader.finish().err(), Some(fault));
+}
+
+fn assert_limit(rt: &impl Abort, alloc: Global, kind: Kind, most: usize, line: u32) {
+    let loader = Loader::new(alloc).expect(rt, "a loader");
+    assert_filled(rt, alloc, loader, kind, most, line);
 }
 
 #[test]
@@ -106,9 +114,13 @@ fn full_table(alloc: Global) -> Result<Table, LoadFault> {
     loader.finish()
 }
 
+fn assert_full(rt: &impl Abort, alloc: Global, table: &mut Table) {
+    assert_applied(rt, alloc, table, &["a"], Some(Refusal::Full));
+    assert_applied(rt, alloc, table, &["\u{10000}"], None);
+}
+
 #[test]
 fn a_full_table_takes_no_new_entry_and_moves_those_it_has(rt: HostRuntime) {
     let mut table = full_table(rt.alloc()).expect(&rt, "a table");
-    assert_applied(&rt, rt.alloc(), &mut table, &["a"], Some(Refusal::Full));
-    assert_applied(&rt, rt.alloc(), &mut table, &["\u{10000}"], None);
+    assert_full(&rt, rt.alloc(), &mut table);
 }

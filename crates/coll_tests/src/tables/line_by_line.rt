@@ -359,13 +359,18 @@ fn a_fault_is_answered_again(rt: HostRuntime) {
     assert_stays_faulty(&rt, loader);
 }
 
+// Asserts that a loader takes the base table, and looks at nothing behind it.
+fn assert_finished(rt: &impl Abort, mut loader: Loader) {
+    assert_same(rt, "the table", hand_in(&mut loader, BASE_TABLE), Ok(()));
+    assert_that(rt, "finished", loader.finished());
+    assert_same(rt, "more", hand_in(&mut loader, &["<", "bogus"]), Ok(()));
+    assert_same(rt, "the end", loader.finish().err(), None);
+}
+
 #[test]
 fn nothing_behind_the_end_is_looked_at(rt: HostRuntime) {
-    let mut loader = Loader::new(rt.alloc()).expect(&rt, "a loader");
-    assert_same(&rt, "the table", hand_in(&mut loader, BASE_TABLE), Ok(()));
-    assert_that(&rt, "finished", loader.finished());
-    assert_same(&rt, "more", hand_in(&mut loader, &["<", "bogus"]), Ok(()));
-    assert_that(&rt, "the end", loader.finish().is_ok());
+    let loader = Loader::new(rt.alloc()).expect(&rt, "a loader");
+    assert_finished(&rt, loader);
 }
 
 // Lines that are handed in, and the number that a fault of the next one carries after each of them.
@@ -378,16 +383,22 @@ const NUMBERED: &[(&str, u32)] = &[
     ("# a comment \\", 7),
 ];
 
-fn assert_numbers(rt: &impl Abort, loader: &mut Loader) {
+const NO_END: LoadFault = LoadFault {
+    line: 6,
+    cause: LoadCause::NoEnd,
+};
+
+fn assert_numbers(rt: &impl Abort, mut loader: Loader) {
     assert_same(rt, "the first number", loader.next_number(), 1);
     for (line, number) in NUMBERED {
-        assert_same(rt, *line, hand_in(loader, &[*line]), Ok(()));
+        assert_same(rt, *line, hand_in(&mut loader, &[*line]), Ok(()));
         assert_same(rt, *line, loader.next_number(), *number);
     }
+    assert_same(rt, "the end", loader.finish().err(), Some(NO_END));
 }
 
 #[test]
 fn a_line_that_is_continued_keeps_its_number(rt: HostRuntime) {
-    let mut loader = Loader::new(rt.alloc()).expect(&rt, "a loader");
-    assert_numbers(&rt, &mut loader);
+    let loader = Loader::new(rt.alloc()).expect(&rt, "a loader");
+    assert_numbers(&rt, loader);
 }

@@ -80,12 +80,22 @@ fn sections_and_weights_may_be_left_out(rt: HostRuntime) {
     assert_loaded(&rt, rt.alloc(), TWO_SECTIONS, TWO_SECTIONS_SHOWN);
 }
 
+// Asserts that a copy is the table of two sections, and has taken so many steps.
+fn assert_copy(rt: &impl Abort, alloc: Global, copy: &mut Table, steps: u64) {
+    assert_same(rt, "the steps", copy.steps(), steps);
+    assert_shown(rt, alloc, copy, TWO_SECTIONS_SHOWN);
+}
+
+fn assert_copied(rt: &impl Abort, alloc: Global, table: &mut Table) {
+    let steps = table.steps();
+    let mut copy = table.try_copy(alloc).expect(rt, "a copy");
+    assert_copy(rt, alloc, &mut copy, steps);
+}
+
 #[test]
 fn a_copy_is_the_same_table(rt: HostRuntime) {
-    let table = loaded_lines(rt.alloc(), TWO_SECTIONS).expect(&rt, "a table");
-    let copy = table.try_copy(rt.alloc()).expect(&rt, "a copy");
-    assert_shown(&rt, rt.alloc(), &copy, TWO_SECTIONS_SHOWN);
-    assert_same(&rt, "the steps", copy.steps(), table.steps());
+    let mut table = loaded_lines(rt.alloc(), TWO_SECTIONS).expect(&rt, "a table");
+    assert_copied(&rt, rt.alloc(), &mut table);
 }
 
 // What follows the spellings, and the fault of the whole: an escaped digit makes a name of it, or none.
@@ -139,7 +149,7 @@ fn entry_shown(alloc: Global, table: &Table, text: &str) -> Result<String, Alloc
     Ok(out)
 }
 
-fn assert_entries(rt: &impl Abort, alloc: Global, table: &Table) {
+fn assert_entries(rt: &impl Abort, alloc: Global, table: &mut Table) {
     for (text, want) in ENTRIES {
         let given = entry_shown(alloc, table, text).expect(rt, text);
         assert_same(rt, *text, given.as_str(), *want);
@@ -148,8 +158,8 @@ fn assert_entries(rt: &impl Abort, alloc: Global, table: &Table) {
 
 #[test]
 fn an_entry_is_found_by_its_identifier(rt: HostRuntime) {
-    let table = loaded_lines(rt.alloc(), TWO_SECTIONS).expect(&rt, "a table");
-    assert_entries(&rt, rt.alloc(), &table);
+    let mut table = loaded_lines(rt.alloc(), TWO_SECTIONS).expect(&rt, "a table");
+    assert_entries(&rt, rt.alloc(), &mut table);
 }
 
 // A changed line of the same table, and the fault that it then is.
