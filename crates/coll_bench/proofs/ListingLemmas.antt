@@ -1,10 +1,9 @@
 -- The lines of all that a walk meets are the listing by sections.
-use Rattle.std.proofs.Common.{◌≡◌, ℕ, ◌+◌, ◌≤◌, List, [], ◌∷◌, ◌++◌, Option, Some, None, length, map, suc, refl, sym, ap, ◌∙◌, subst, append_assoc, append-nil, length-append, arith}
-use Rattle.std.specs.List.{flat_map}
+use Rattle.std.proofs.Common.{◌≡◌, ℕ, ◌+◌, ◌≤◌, List, [], ◌∷◌, ◌++◌, Option, Some, None, length, map, suc, refl, sym, ap, ◌∙◌, append_assoc, length-append, arith}
 use Rattle.coll_table.specs.declared.entries.Entry.{Entry}
 use Rattle.coll_table.specs.Table.{Section, joined_entries}
-use Rattle.coll_table.specs.Walks.{Met, MetSection, MetEntry, met, met_in, met_name}
-use Rattle.coll_bench.specs.Replies.{header, section_line, listed_line, listed_lines, listed_sections}
+use Rattle.coll_table.specs.Walks.{Met, MetSection, MetEntry, met, met_name}
+use Rattle.coll_bench.specs.Replies.{header, listed_line, listed_lines, listed_sections}
 use Rattle.coll_bench.specs.Listing.{listed_met, met_line, rank_after}
 
 entries_listed : (rank : ℕ) (entries : List Entry) (rest : List Met) → listed_met rank (map MetEntry entries ++ rest) ≡ listed_lines rank entries ++ listed_met (rank + length entries) rest

@@ -1,14 +1,12 @@
 -- What is written for what a call of the history answered.
-use Rattle.std.proofs.Common.{◌≡◌, ◌≢◌, Bool, true, false, Option, Result, Ok, Err, inl, inr, ⊎_elim, codes, ℕ, ◌+◌, ◌<◌, ◌≤◌, List, [], ◌++◌, length, drop, get_or, suc, refl, sym, ap, ◌∙◌, subst, append-nil, add-one, drop-cons}
-use Rattle.std.proofs.Math.ListN.{drop_of_length-le}
+use Rattle.std.proofs.Common.{◌≡◌, ◌≢◌, Bool, true, false, Option, Result, Ok, Err, inl, inr, ⊎_elim, codes, ℕ, List, [], length, refl, sym, ap, ◌∙◌, subst, append-nil}
 use Rattle.std.specs.Prelude.{◌⊎◌, IfOk, IfErr, OnErr}
 use Rattle.std.specs.Io.KnownBytes.{Appends, Keeps}
 use Rattle.std.proofs.KnownBytes.{Appends-kept}
 use Rattle.coll_lex.specs.Devices.{Sends}
 use Rattle.coll_bench.specs.Histories.{History, judged, taken_back, RefusesStatement}
-use Rattle.coll_bench.specs.Replies.{counted_line, refused_line, listed_line, listed_lines, count_reply, outcome_line, history_or, command_reply, history_after_command, reply, history_after, reply_if, history_after_if}
+use Rattle.coll_bench.specs.Replies.{counted_line, refused_line, count_reply, outcome_line, history_or, command_reply, history_after_command, reply, history_after, reply_if, history_after_if}
 use Rattle.coll_table.specs.declared.plain.statements.PlainStatement.{PlainStatement}
-use Rattle.coll_table.specs.declared.entries.Entry.{Entry}
 use Rattle.coll_table.specs.declared.refusals.Refusal.TheVariants as refusal
 use Rattle.coll_bench.specs.declared.faults.BenchFault.{BenchFault}
 use Rattle.coll_bench.specs.declared.faults.BenchFault.TheVariants as bench

@@ -1,5 +1,5 @@
 -- What the look-ups of a body answer is what its lists have.
-use Rattle.std.proofs.Common.{◌≡◌, ℕ, Bool, true, false, ◌++◌, ◌&&◌, ◌||◌, cond, is_some, IsSome, List, [], ◌∷◌, Option, Some, None, length, map, flat_map, option_and_then, sym, ap, subst, ◌∙◌, refl}
+use Rattle.std.proofs.Common.{◌≡◌, ℕ, Bool, true, false, ◌++◌, ◌||◌, cond, is_some, IsSome, List, [], ◌∷◌, Option, Some, None, flat_map, sym, ap, subst, ◌∙◌, refl}
 use Rattle.std.specs.List.{list_any}
 use Rattle.coll_order.specs.Layout.{is_in}
 use Rattle.coll_order.specs.Lists.{same_node, has_node}
@@ -11,17 +11,15 @@ use Rattle.coll_syntax.specs.Identifier.{same_name, same_id, has_name, has_id}
 use Rattle.coll_syntax.specs.declared.identifiers.Id.{Id}
 use Rattle.coll_table.specs.Placement.{entry_at}
 use Rattle.coll_table.specs.Bodies.{IsLaidOut}
-use Rattle.coll_table.specs.SoundBodies.{declares_a_symbol, entry_if, read_at, ring_at, has_key, ids_in, names_in, texts_in, section_names_in, IsShaped, Finds}
+use Rattle.coll_table.specs.SoundBodies.{declares_a_symbol, entry_if, read_at, ring_at, ids_in, names_in, texts_in, section_names_in, IsShaped, Finds}
 use Rattle.coll_table.specs.Table.{is_declared, is_placed_in, texts_of, section_names, ids_of, joined_entries, declares_symbol}
 use Rattle.coll_table.specs.TableLayout.{TableLayout, content_of, if_any, declaration_in, entry_in, declared_at, sections_at}
 use Rattle.coll_table.specs.declared.contents.Content.{Content}
 use Rattle.coll_table.specs.declared.contents.Content.TheVariants as content
-use Rattle.coll_table.specs.declared.declarations.Declaration.{Declaration}
 use Rattle.coll_table.specs.declared.declarations.Declaration.TheVariants.{Symbol, Element}
 use Rattle.coll_table.specs.declared.entries.Entry.{Entry}
 use Rattle.coll_table.proofs.LayoutReads.{read_known, both_true, and_true, in_rings, names_read, texts_read, section_names_read, declared_read, declared_covers, begun_covers, found_in, joined_at, joined_read, joined_known, entries_read, section_at, placed_from, placed_to}
 use Rattle.coll_table.proofs.NodeLists.{any_map, any_from, any_to}
-use Rattle.coll_table.proofs.Sameness.{same_id_decides}
 
 -- equal answers are of one node
 pub some_same : {a b : NodeId} → Some a ≡ Some b → a ≡ b

@@ -1,15 +1,15 @@
 -- A body with an entry moved is sound.
-use Rattle.std.proofs.Common.{◌≡◌, ℕ, zero, suc, ◌+◌, ◌<◌, ◌≤◌, Bool, true, false, ◌&&◌, ◌||◌, List, [], ◌∷◌, Option, Some, None, is_some, length, get_or, slice_index_or, sym, ap, subst, ◌∙◌, refl, arith}
+use Rattle.std.proofs.Common.{◌≡◌, ℕ, zero, suc, ◌≤◌, Bool, true, false, ◌&&◌, List, [], ◌∷◌, Option, Some, is_some, length, get_or, slice_index_or, sym, ap, subst, ◌∙◌, refl}
 use Rattle.std.specs.List.{list_any}
 use Rattle.coll_order.specs.Layout.{head_of, is_in, rings_with, rings_without}
-use Rattle.coll_order.specs.Lists.{same_node, has_node, without, put_after}
+use Rattle.coll_order.specs.Lists.{same_node, has_node, without}
 use Rattle.coll_order.specs.declared.places.NodeId.{NodeId}
 use Rattle.coll_order.specs.declared.places.RingId.{RingId}
 use Rattle.coll_order.specs.declared.places.Place.{Place}
 use Rattle.coll_order.specs.declared.places.Place.TheVariants.{After}
 use Rattle.coll_order.proofs.ListLemmas.{is_in_without, has_without, has_without_itself, has_put}
 use Rattle.coll_order.proofs.RingLemmas.{among_after, is_in_put, is_in_put_itself, length_rings_with, length_rings_without}
-use Rattle.coll_order.proofs.Sameness.{by_test, not_both, same_node_is, same_node_itself, other_node_turned}
+use Rattle.coll_order.proofs.Sameness.{by_test, not_both, same_node_is}
 use Rattle.coll_syntax.specs.Identifier.{same_name, same_id, has_id}
 use Rattle.coll_syntax.specs.declared.identifiers.Id.{Id}
 use Rattle.coll_table.proofs.BodyReads.{entry_known}
@@ -20,9 +20,9 @@ use Rattle.coll_table.proofs.Sameness.{same_id_decides, same_id_itself}
 use Rattle.coll_table.proofs.SectionLemmas.{as_many, joined_moved}
 use Rattle.coll_table.specs.NodeLookUps.{Leading, NodesById, node_named, node_with}
 use Rattle.coll_table.specs.Placement.{entry_at, entries_after, entries_without, without as sections_without}
-use Rattle.coll_table.specs.SoundBodies.{read_at, ring_at, has_key, ids_in, names_in, texts_in, section_names_in, rings_in, same_ring, IsDeclaration, IsSection, IsEntry, IsShaped, IsOwned, IsSoundBody, Finds}
+use Rattle.coll_table.specs.SoundBodies.{read_at, ring_at, has_key, ids_in, names_in, texts_in, section_names_in, rings_in, same_ring, IsSection, IsEntry, IsShaped, IsOwned, IsSoundBody, Finds}
 use Rattle.coll_table.specs.Table.{ids_of, joined_entries}
-use Rattle.coll_table.specs.TableLayout.{TableLayout, content_of, declared_at, sections_at}
+use Rattle.coll_table.specs.TableLayout.{TableLayout, content_of, sections_at}
 use Rattle.coll_table.specs.WellFormed.{AreDistinct}
 use Rattle.coll_table.specs.declared.contents.Content.{Content}
 use Rattle.coll_table.specs.declared.contents.Content.TheVariants as content

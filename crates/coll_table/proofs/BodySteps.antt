@@ -1,8 +1,8 @@
 -- A body with a node more is sound.
-use Rattle.std.proofs.Common.{◌≡◌, ℕ, zero, suc, ◌+◌, ◌<◌, ◌≤◌, ◌++◌, Bool, true, false, ◌&&◌, ◌||◌, cond, eqb, is_some, IsSome, List, [], ◌∷◌, Option, Some, None, Decides, length, flat_map, sym, ap, subst, ◌∙◌, refl, arith}
+use Rattle.std.proofs.Common.{◌≡◌, ℕ, suc, ◌+◌, ◌<◌, ◌++◌, Bool, true, false, ◌||◌, cond, eqb, is_some, List, [], ◌∷◌, Option, Some, None, Decides, length, flat_map, sym, ap, subst, ◌∙◌, refl, arith}
 use Rattle.std.specs.List.{list_any}
 use Rattle.std.proofs.lemmas.Bool.Decides.{Decides-eqb}
-use Rattle.coll_order.specs.Layout.{head_of, is_in, rings_with}
+use Rattle.coll_order.specs.Layout.{is_in, rings_with}
 use Rattle.coll_order.specs.Lists.{same_place, has_node}
 use Rattle.coll_order.specs.Sound.{StandOnce}
 use Rattle.coll_order.specs.declared.places.NodeId.{NodeId}
@@ -15,9 +15,9 @@ use Rattle.coll_order.proofs.Sameness.{by_test, not_both, same_node_itself}
 use Rattle.coll_syntax.specs.Identifier.{same_name, same_id}
 use Rattle.coll_syntax.specs.declared.identifiers.Id.{Id}
 use Rattle.coll_syntax.specs.declared.identifiers.Id.TheVariants.{Char, Named, Undefined}
-use Rattle.coll_table.specs.Bodies.{Makes, IsLooseNode, IsPlaceAmong, with_link}
-use Rattle.coll_table.specs.NodeLookUps.{Leading, NodesById, node_named, node_with, no_nodes, LeadAlike, SetsId, LeadNamesAlike, SetsName}
-use Rattle.coll_table.specs.SoundBodies.{read_at, ring_at, has_key, rings_in, same_ring, ids_in, names_in, texts_in, section_names_in, is_place_of, IsDeclaration, IsSection, IsShaped, IsOwned, IsPlaceIn, IsEntryPlace, IsSoundBody, Finds, Adds, with_empty_ring}
+use Rattle.coll_table.specs.Bodies.{Makes, IsPlaceAmong, with_link}
+use Rattle.coll_table.specs.NodeLookUps.{Leading, NodesById, node_named, node_with, no_nodes, LeadAlike, SetsId}
+use Rattle.coll_table.specs.SoundBodies.{read_at, ring_at, has_key, rings_in, same_ring, ids_in, names_in, texts_in, section_names_in, IsOwned, IsPlaceIn, IsEntryPlace, IsSoundBody, Finds, Adds, with_empty_ring}
 use Rattle.coll_table.specs.Table.{Section, is_placed_in, joined_entries}
 use Rattle.coll_table.specs.TableLayout.{TableLayout, content_of, entry_in, declared_at, sections_at, entries_in}
 use Rattle.coll_table.specs.declared.contents.Content.{Content}
@@ -30,7 +30,7 @@ use Rattle.coll_table.proofs.LayoutLists.{declared_same, sections_same, declared
 use Rattle.coll_table.proofs.LayoutReads.{owned_high, owned_low, entries_read}
 use Rattle.coll_table.proofs.LayoutSteps.{finds_more, finds_still, shaped_more, ring_other}
 use Rattle.coll_table.proofs.RingPlaces.{get_push, head_after}
-use Rattle.coll_table.proofs.Sameness.{same_id_decides, same_name_decides}
+use Rattle.coll_table.proofs.Sameness.{same_id_decides}
 
 -- a place of a ring is one among the rings
 pub place_among_rings : (layout : TableLayout) (index : ℕ) (place : Place) → IsPlaceIn layout index place → IsPlaceAmong layout.rings place

@@ -1,5 +1,5 @@
 -- A builder with one more behind all others: its places, and its parts.
-use Rattle.std.proofs.Common.{◌≡◌, true, ℕ, zero, suc, ◌+◌, ◌<◌, ◌≤◌, ◌++◌, List, [], ◌∷◌, Option, Some, None, length, flat_map, sym, ap, subst, ◌∙◌, refl, arith}
+use Rattle.std.proofs.Common.{◌≡◌, true, ℕ, ◌<◌, ◌≤◌, ◌++◌, List, [], ◌∷◌, Option, Some, None, length, flat_map, sym, ap, subst, ◌∙◌, refl, arith}
 use Rattle.coll_order.specs.Layout.{head_of}
 use Rattle.coll_order.specs.Lists.{has_node}
 use Rattle.coll_order.specs.Sound.{StandOnce}
@@ -7,19 +7,18 @@ use Rattle.coll_order.specs.declared.places.NodeId.{NodeId}
 use Rattle.coll_order.specs.declared.places.RingId.{RingId}
 use Rattle.coll_order.specs.declared.places.Place.{Place}
 use Rattle.coll_order.specs.declared.places.Place.TheVariants.{Head, After}
-use Rattle.coll_table.specs.Bodies.{IsLaidOut}
-use Rattle.coll_table.specs.Building.{Parts, parts_at}
+use Rattle.coll_table.specs.Building.{parts_at}
 use Rattle.coll_table.specs.Loading.{with_last}
 use Rattle.coll_table.specs.SoundBodies.{read_at, ring_at, IsShaped, IsPlaceIn, IsEntryPlace, IsLastSection, IsLastEnd, IsSoundBuilder, HaveNames, FirstAloneUnnamed, Adds, end_in, end_of, with_empty_ring}
 use Rattle.coll_table.specs.Table.{Section}
-use Rattle.coll_table.specs.TableLayout.{TableLayout, content_of, entry_in, entries_in, declared_at, sections_at}
+use Rattle.coll_table.specs.TableLayout.{TableLayout, entry_in, entries_in, declared_at, sections_at}
 use Rattle.coll_table.specs.declared.contents.Content.{Content}
 use Rattle.coll_table.specs.declared.contents.Content.TheVariants as content
 use Rattle.coll_table.specs.declared.declarations.Declaration.{Declaration}
 use Rattle.coll_table.specs.declared.entries.Entry.{Entry}
 use Rattle.coll_table.proofs.EmptyRings.{once_push, get_past, one_ring_more, shaped_push, declared_push, sections_push}
 use Rattle.coll_table.proofs.LayoutEnds.{end_place, ring_last, end_last, end_other, declared_last, sections_last, entries_last, in_back}
-use Rattle.coll_table.proofs.LayoutLists.{ring_key, other_in, past_two, declared_same, sections_same}
+use Rattle.coll_table.proofs.LayoutLists.{ring_key, other_in, declared_same, sections_same}
 use Rattle.coll_table.proofs.LayoutReads.{entries_read, in_rings, section_at}
 use Rattle.coll_table.proofs.LayoutSteps.{content_itself, content_other, ring_other}
 use Rattle.coll_table.proofs.RingPlaces.{get_push}

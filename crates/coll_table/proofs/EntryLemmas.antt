@@ -1,5 +1,5 @@
 -- Entries taken out of a list and put in: what stands there afterwards.
-use Rattle.std.proofs.Common.{◌≡◌, ℕ, suc, Bool, true, false, ◌||◌, not, cond, List, [], ◌∷◌, Option, Some, None, IsTrue, is_some, length, All, sym, ap, subst, ◌∙◌, refl}
+use Rattle.std.proofs.Common.{◌≡◌, suc, Bool, true, false, ◌||◌, not, cond, List, [], ◌∷◌, Some, None, is_some, length, All, sym, ap, subst, ◌∙◌, refl}
 use Rattle.std.proofs.lemmas.Bool.{false≢true}
 use Rattle.std.proofs.lemmas.List.Elements.{All-nil, All-cons, All-head, All-tail}
 use Rattle.coll_order.proofs.Sameness.{by_test}

@@ -1,5 +1,5 @@
 -- Entries that are read of nodes: a node taken out, and a node put directly after another.
-use Rattle.std.proofs.Common.{◌≡◌, Bool, true, false, not, cond, List, [], ◌∷◌, ◌++◌, flat_map, sym, ap, subst, ◌∙◌, refl}
+use Rattle.std.proofs.Common.{◌≡◌, true, false, not, cond, List, [], ◌∷◌, ◌++◌, flat_map, sym, ap, ◌∙◌, refl}
 use Rattle.std.proofs.lemmas.List.Elements.{filter-append}
 use Rattle.coll_order.specs.Lists.{same_node, same_place, has_node, without, put_after}
 use Rattle.coll_order.specs.declared.places.NodeId.{NodeId}

@@ -1,14 +1,14 @@
 -- A node put behind all others of its ring: the table with one more at the end.
-use Rattle.std.proofs.Common.{◌≡◌, ℕ, suc, ◌<◌, ◌≤◌, ◌++◌, false, true, ◌||◌, List, [], ◌∷◌, Option, Some, None, length, flat_map, sym, ap, subst, ◌∙◌, refl, arith}
+use Rattle.std.proofs.Common.{◌≡◌, ℕ, ◌<◌, ◌++◌, false, true, ◌||◌, List, [], ◌∷◌, Option, Some, length, flat_map, sym, ap, subst, ◌∙◌, refl, arith}
 use Rattle.std.proofs.lemmas.List.{append-nil}
 use Rattle.std.proofs.lemmas.Grind.{flat_map-append}
-use Rattle.coll_order.specs.Layout.{head_of, is_in}
+use Rattle.coll_order.specs.Layout.{head_of}
 use Rattle.coll_order.specs.Lists.{same_node, has_node, put_after}
 use Rattle.coll_order.specs.Sound.{StandOnce, AreDistinct}
 use Rattle.coll_order.specs.declared.places.NodeId.{NodeId}
 use Rattle.coll_order.specs.declared.places.RingId.{RingId}
 use Rattle.coll_order.specs.declared.places.Place.{Place}
-use Rattle.coll_order.specs.declared.places.Place.TheVariants.{Head, After}
+use Rattle.coll_order.specs.declared.places.Place.TheVariants.{After}
 use Rattle.coll_order.proofs.Sameness.{by_test, not_both, same_node_is, same_node_itself}
 use Rattle.coll_order.proofs.ListLemmas.{or_first, or_second}
 use Rattle.coll_table.specs.Loading.{with_last}
@@ -17,7 +17,6 @@ use Rattle.coll_table.specs.Table.{Section}
 use Rattle.coll_table.specs.TableLayout.{TableLayout, content_of, declaration_in, entry_in, section_in, entries_in, declared_at, sections_at}
 use Rattle.coll_table.specs.declared.contents.Content.{Content}
 use Rattle.coll_table.specs.declared.contents.Content.TheVariants as content
-use Rattle.coll_table.specs.declared.declarations.Declaration.{Declaration}
 use Rattle.coll_table.specs.declared.entries.Entry.{Entry}
 use Rattle.coll_table.proofs.LayoutLists.{reads_in, section_same, past_two, other_ring, ring_key, other_in}
 use Rattle.coll_table.proofs.LayoutReads.{read_known, declared_read, sections_read, entries_read, in_rings}

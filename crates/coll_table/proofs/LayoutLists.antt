@@ -1,19 +1,16 @@
 -- A node more in a layout: what the lists of the table are then.
-use Rattle.std.proofs.Common.{◌≡◌, ℕ, zero, suc, ◌<◌, ◌≤◌, ◌++◌, Bool, true, false, ◌&&◌, cond, List, [], ◌∷◌, Option, Some, None, length, eqb, flat_map, sym, ap, subst, ◌∙◌, refl, arith}
+use Rattle.std.proofs.Common.{◌≡◌, ℕ, suc, ◌<◌, ◌≤◌, true, false, List, [], ◌∷◌, Option, Some, length, eqb, flat_map, sym, ap, subst, ◌∙◌, refl, arith}
 use Rattle.std.specs.List.{list_any}
-use Rattle.std.proofs.lemmas.List.{append-nil}
-use Rattle.std.proofs.lemmas.Grind.{flat_map-append}
 use Rattle.coll_order.specs.Layout.{head_of, is_in}
 use Rattle.coll_order.specs.Lists.{same_node, has_node, put_after}
 use Rattle.coll_order.specs.Sound.{StandOnce}
 use Rattle.coll_order.specs.declared.places.NodeId.{NodeId}
 use Rattle.coll_order.specs.declared.places.RingId.{RingId}
 use Rattle.coll_order.specs.declared.places.Place.{Place}
-use Rattle.coll_order.specs.declared.places.Place.TheVariants.{Head, After}
 use Rattle.std.proofs.lemmas.Bool.Decides.{Decides-eqb}
 use Rattle.coll_order.proofs.ListLemmas.{or_first}
-use Rattle.coll_order.proofs.Sameness.{by_test, not_both, same_node_itself, same_node_is}
-use Rattle.coll_table.specs.SoundBodies.{read_at, ring_at, has_key, rings_in, same_ring, IsShaped, IsPlaceIn, IsOwned, Adds, end_in, end_of}
+use Rattle.coll_order.proofs.Sameness.{not_both, same_node_itself}
+use Rattle.coll_table.specs.SoundBodies.{read_at, ring_at, has_key, rings_in, same_ring, IsShaped, IsPlaceIn, Adds}
 use Rattle.coll_table.specs.Table.{Section, joined_entries}
 use Rattle.coll_table.specs.TableLayout.{TableLayout, content_of, declaration_in, entry_in, section_in, entries_in, declared_at, sections_at}
 use Rattle.coll_table.specs.declared.contents.Content.{Content}
@@ -23,7 +20,7 @@ use Rattle.coll_table.specs.declared.entries.Entry.{Entry}
 use Rattle.coll_table.proofs.LayoutReads.{read_known, declared_read, sections_read, entries_read, joined_at, joined_read, joined_known, section_at, owner_at, in_rings, and_true}
 use Rattle.coll_table.proofs.LayoutSteps.{member_differs, content_itself, content_other, ring_put, ring_other, absent, read_other, read_itself}
 use Rattle.coll_table.proofs.NodeLists.{same_read, longer, longer_put, same_put, same_length}
-use Rattle.coll_table.proofs.RingPlaces.{distinct_ring, put_last, end_push}
+use Rattle.coll_table.proofs.RingPlaces.{distinct_ring}
 
 -- a section's node has the section's ring as its key
 pub ring_key : (layout : TableLayout) (node : NodeId) (name : Option (List ℕ)) (ring : RingId) → is_in layout.rings node ≡ true → content_of layout node ≡ Some (content.Begun name ring)

@@ -1,14 +1,13 @@
 -- Layouts in which an entry's node is moved, or put in, directly after another: what the table is then.
-use Rattle.std.proofs.Common.{◌≡◌, ℕ, zero, suc, ◌+◌, ◌<◌, ◌≤◌, Bool, true, false, ◌&&◌, ◌||◌, cond, List, [], ◌∷◌, ◌++◌, Option, Some, None, length, map, flat_map, slice_index_or, get_or, sym, ap, subst, ◌∙◌, refl, arith}
+use Rattle.std.proofs.Common.{◌≡◌, ℕ, zero, suc, ◌+◌, ◌<◌, ◌≤◌, Bool, true, false, ◌||◌, cond, List, [], ◌∷◌, Option, Some, None, length, map, flat_map, slice_index_or, get_or, sym, ap, subst, ◌∙◌, refl, arith}
 use Rattle.std.specs.List.{list_any}
-use Rattle.coll_order.specs.Layout.{head_of, is_in, rings_with, rings_without}
+use Rattle.coll_order.specs.Layout.{head_of, is_in, rings_without}
 use Rattle.coll_order.specs.Lists.{same_node, has_node, without, put_after}
-use Rattle.coll_order.specs.Sound.{StandOnce}
 use Rattle.coll_order.specs.declared.places.NodeId.{NodeId}
 use Rattle.coll_order.specs.declared.places.RingId.{RingId}
 use Rattle.coll_order.specs.declared.places.Place.TheVariants.{After}
-use Rattle.coll_order.proofs.ListLemmas.{without_absent, is_in_without, has_without, has_without_itself, has_put}
-use Rattle.coll_order.proofs.RingLemmas.{is_in_put, length_rings_with, length_rings_without}
+use Rattle.coll_order.proofs.ListLemmas.{without_absent, has_without, has_without_itself}
+use Rattle.coll_order.proofs.RingLemmas.{length_rings_without}
 use Rattle.coll_order.proofs.Sameness.{by_test, not_both, same_node_is, same_node_itself}
 use Rattle.coll_syntax.specs.Identifier.{same_id, has_id}
 use Rattle.coll_syntax.specs.declared.identifiers.Id.{Id}
@@ -19,7 +18,7 @@ use Rattle.coll_table.proofs.NodeLists.{map_read, same_read}
 use Rattle.coll_table.proofs.RingPlaces.{get_put, get_put_other, in_some}
 use Rattle.coll_table.specs.Bodies.{with_link, without_link}
 use Rattle.coll_table.specs.Placement.{entry_at, entries_after, entries_without, placed_after, without as sections_without}
-use Rattle.coll_table.specs.SoundBodies.{Adds, read_at, ring_at, has_key, ids_in, rings_in, same_ring, is_place_of, IsShaped, IsOwned, Finds}
+use Rattle.coll_table.specs.SoundBodies.{Adds, read_at, ring_at, ids_in, is_place_of, IsShaped, IsOwned, Finds}
 use Rattle.coll_table.specs.Table.{Section, ids_of, joined_entries}
 use Rattle.coll_table.specs.TableLayout.{TableLayout, content_of, if_any, declaration_in, entry_in, section_in, entries_in, declared_at, sections_at}
 use Rattle.coll_table.specs.declared.contents.Content.{Content}

@@ -1,20 +1,17 @@
 -- A table read from a layout: its lists, one node after the other, and where the nodes with a key stand.
-use Rattle.std.proofs.Common.{◌≡◌, ℕ, zero, suc, ◌<◌, ◌≤◌, ◌++◌, Bool, true, false, ◌&&◌, ◌||◌, cond, is_some, List, [], ◌∷◌, Option, Some, None, length, map, flat_map, sym, ap, subst, ◌∙◌, refl}
+use Rattle.std.proofs.Common.{◌≡◌, ℕ, zero, suc, ◌<◌, ◌≤◌, Bool, true, false, ◌&&◌, ◌||◌, is_some, List, [], ◌∷◌, Option, Some, None, length, map, flat_map, sym, ap, subst, ◌∙◌, refl}
 use Rattle.std.specs.List.{list_any}
 use Rattle.std.proofs.lemmas.List.{append-nil}
 use Rattle.std.proofs.lemmas.Bool.Decides.{Decides-eqb}
 use Rattle.coll_order.specs.Layout.{is_in}
-use Rattle.coll_order.specs.Lists.{same_node, has_node}
-use Rattle.coll_order.specs.Sound.{StandOnce}
+use Rattle.coll_order.specs.Lists.{has_node}
 use Rattle.coll_order.specs.declared.places.NodeId.{NodeId}
 use Rattle.coll_order.specs.declared.places.RingId.{RingId}
 use Rattle.coll_order.proofs.LayoutLemmas.{is_in_ring}
-use Rattle.coll_order.proofs.Sameness.{by_test, not_both, same_node_is}
-use Rattle.coll_syntax.specs.Identifier.{same_id, has_id}
-use Rattle.coll_syntax.specs.declared.identifiers.Id.{Id}
-use Rattle.coll_table.specs.SoundBodies.{read_at, ring_at, has_key, rings_in, same_ring, ids_in, names_in, texts_in, section_names_in, IsDeclaration, IsSection, IsEntry, IsOwned, IsShaped, Finds}
-use Rattle.coll_table.specs.Table.{Section, ids_of, names_of, texts_of, section_names, joined_entries, name_of, text_of, named}
-use Rattle.coll_table.specs.TableLayout.{TableLayout, content_of, contents_in, if_any, declaration_in, entry_in, section_in, entries_in, declared_at, sections_at, declarations_ring, sections_ring}
+use Rattle.coll_order.proofs.Sameness.{by_test, not_both}
+use Rattle.coll_table.specs.SoundBodies.{read_at, ring_at, has_key, rings_in, same_ring, names_in, texts_in, section_names_in, IsDeclaration, IsSection, IsEntry, IsOwned, IsShaped, Finds}
+use Rattle.coll_table.specs.Table.{Section, names_of, texts_of, section_names, joined_entries, name_of, text_of, named}
+use Rattle.coll_table.specs.TableLayout.{TableLayout, content_of, if_any, declaration_in, entry_in, section_in, entries_in, declared_at, sections_at}
 use Rattle.coll_table.specs.declared.contents.Content.{Content}
 use Rattle.coll_table.specs.declared.contents.Content.TheVariants as content
 use Rattle.coll_table.specs.declared.declarations.Declaration.{Declaration}

@@ -1,8 +1,8 @@
 -- A node more in a layout: what the look-ups find then, and that the layout is one of a table still.
-use Rattle.std.proofs.Common.{◌≡◌, ℕ, zero, suc, ◌<◌, ◌≤◌, ◌++◌, Bool, true, false, ◌&&◌, cond, List, [], ◌∷◌, Option, Some, None, length, eqb, flat_map, slice_index_or, ◌+◌, sym, ap, subst, ◌∙◌, refl, arith}
+use Rattle.std.proofs.Common.{◌≡◌, ℕ, zero, suc, ◌<◌, ◌≤◌, Bool, true, false, ◌&&◌, cond, List, [], ◌∷◌, Option, Some, None, length, eqb, flat_map, slice_index_or, ◌+◌, sym, ap, subst, ◌∙◌, refl, arith}
 use Rattle.std.specs.List.{list_any}
 use Rattle.std.proofs.lemmas.Bool.Decides.{Decides-eqb}
-use Rattle.coll_order.specs.Layout.{head_of, is_in, rings_with}
+use Rattle.coll_order.specs.Layout.{head_of, is_in}
 use Rattle.coll_order.specs.Lists.{same_node, has_node, put_after}
 use Rattle.coll_order.specs.Sound.{StandOnce}
 use Rattle.coll_order.specs.declared.places.NodeId.{NodeId}
@@ -14,7 +14,7 @@ use Rattle.coll_order.proofs.Sameness.{by_test, not_both, same_node_is, same_nod
 use Rattle.coll_table.specs.SoundBodies.{read_at, ring_at, has_key, rings_in, same_ring, is_place_of, IsDeclaration, IsSection, IsEntry, IsOwned, IsShaped, Finds, IsPlaceIn, Adds}
 use Rattle.coll_table.specs.TableLayout.{TableLayout, content_of, if_any}
 use Rattle.coll_table.specs.declared.contents.Content.{Content}
-use Rattle.coll_table.proofs.LayoutReads.{read_known, both_true, and_true, in_rings}
+use Rattle.coll_table.proofs.LayoutReads.{read_known, both_true, in_rings}
 use Rattle.coll_table.proofs.RingPlaces.{get_put, get_put_other, place_off}
 
 -- a number counted from 0 is itself

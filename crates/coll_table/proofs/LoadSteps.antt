@@ -9,7 +9,6 @@ use Rattle.coll_lex.proofs.LineSteps.{logical_lines-none, logical_lines-whole, l
 use Rattle.coll_lex.proofs.LineEnds.{fed-count, fed-room}
 use Rattle.coll_syntax.specs.TableLines.{table_line}
 use Rattle.coll_syntax.specs.declared.lines.TableLine.{TableLine}
-use Rattle.coll_syntax.specs.declared.lines.TableLine.TheVariants as line
 use Rattle.coll_syntax.specs.declared.syntax_faults.SyntaxFault.{SyntaxFault}
 use Rattle.coll_table.specs.Drafts.{Numbered, draft_of, table_of, line_fault, is_end}
 use Rattle.coll_table.specs.Loading.{LoaderState, first_loader, draft_after, by_outside, by_fed, by_read, taken_line, by_where, unless_faulty, loaded_line}

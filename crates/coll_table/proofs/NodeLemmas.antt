@@ -8,15 +8,13 @@ use Rattle.std.specs.Cmp.{unsigned_tied}
 use Rattle.std.specs.FinMap as finmap
 use Rattle.std.proofs.lemmas.Bool.Decides.{Decides-eqb}
 use Rattle.coll_order.specs.Changes.{with_node}
-use Rattle.coll_order.specs.Layout.{Layout, tag_of, is_in, IsLoose, IsPlace}
+use Rattle.coll_order.specs.Layout.{Layout, tag_of, IsLoose}
 use Rattle.coll_order.specs.Lists.{same_node}
 use Rattle.coll_order.specs.Sound.{IsSound}
 use Rattle.coll_order.specs.declared.places.NodeId.{NodeId}
-use Rattle.coll_order.specs.declared.places.Place.{Place}
-use Rattle.coll_order.specs.declared.places.Place.TheVariants.{Head, After}
 use Rattle.coll_order.proofs.LayoutLemmas.{tag_with_node}
 use Rattle.coll_order.proofs.Sameness.{by_test, not_both}
-use Rattle.coll_table.specs.Bodies.{slot_of, made_with, made_from, layout_with, AreMade, IsLooseNode, IsPlaceAmong, IsLaidOut, Makes}
+use Rattle.coll_table.specs.Bodies.{slot_of, made_with, made_from, layout_with, AreMade, IsLooseNode, IsLaidOut, Makes}
 use Rattle.coll_table.specs.TableLayout.{content_of, content_among}
 use Rattle.coll_table.specs.declared.contents.Content.{Content}
 

@@ -1,5 +1,5 @@
 -- Lists that are read from nodes, one node after the other.
-use Rattle.std.proofs.Common.{◌≡◌, ℕ, suc, ◌+◌, ◌++◌, Bool, true, false, ◌||◌, cond, List, [], ◌∷◌, length, map, flat_map, sym, ap, subst, ◌∙◌, refl, arith}
+use Rattle.std.proofs.Common.{◌≡◌, suc, ◌++◌, Bool, true, false, ◌||◌, cond, List, [], ◌∷◌, length, map, flat_map, sym, ap, subst, ◌∙◌, refl, arith}
 use Rattle.std.specs.List.{list_any}
 use Rattle.std.proofs.lemmas.List.{length-append}
 use Rattle.std.proofs.lemmas.List.Folds.{list_any-append}

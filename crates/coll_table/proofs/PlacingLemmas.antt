@@ -1,5 +1,5 @@
 -- The lines of a block, judged and placed one after another.
-use Rattle.std.proofs.Common.{◌≡◌, ℕ, suc, ◌+◌, ◌<◌, ◌≤◌, true, false, ◌||◌, cond, IsTrue, List, [], ◌∷◌, ◌++◌, Some, None, Ok, Err, length, get_or, take, drop, map, sym, ap, subst, ◌∙◌, refl, arith, add-one}
+use Rattle.std.proofs.Common.{◌≡◌, ℕ, suc, ◌+◌, ◌<◌, ◌≤◌, true, false, ◌||◌, cond, IsTrue, List, [], ◌∷◌, ◌++◌, Some, None, Ok, Err, length, get_or, take, drop, map, sym, ap, ◌∙◌, refl, arith, add-one}
 use Rattle.std.proofs.lemmas.Bool.{le-leb, lt-leb}
 use Rattle.std.proofs.lemmas.List.{map-append, take_more}
 use Rattle.std.proofs.Math.Seq.{drop-cons}

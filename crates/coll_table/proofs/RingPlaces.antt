@@ -8,9 +8,9 @@ use Rattle.coll_order.specs.Sound.{AreDistinct, StandOnce}
 use Rattle.coll_order.specs.declared.places.NodeId.{NodeId}
 use Rattle.coll_order.specs.declared.places.Place.{Place}
 use Rattle.coll_order.specs.declared.places.Place.TheVariants.{Head, After}
-use Rattle.coll_order.proofs.Sameness.{by_test, not_both, same_place_itself, other_place, same_node_itself, same_place_is}
+use Rattle.coll_order.proofs.Sameness.{by_test, not_both, same_place_itself, other_place, same_node_itself}
 use Rattle.coll_order.proofs.LayoutLemmas.{is_in_ring}
-use Rattle.coll_order.proofs.ListLemmas.{neither, nor, or_first, or_second, put_nowhere}
+use Rattle.coll_order.proofs.ListLemmas.{nor, or_first, or_second, put_nowhere}
 use Rattle.coll_table.specs.SoundBodies.{is_place_of, end_of}
 
 -- a ring with a node put in

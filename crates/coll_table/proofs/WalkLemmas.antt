@@ -1,11 +1,11 @@
 -- Walks: what is left of a ring from a node on, and what a step leaves.
-use Rattle.std.proofs.Common.{◌≡◌, ◌<◌, ℕ, zero, suc, Bool, true, false, ◌||◌, cond, List, [], ◌∷◌, ◌++◌, Option, Some, None, length, map, slice_index_or, sym, ap, subst, ◌∙◌, refl, arith}
+use Rattle.std.proofs.Common.{◌≡◌, ◌<◌, ℕ, Bool, true, false, ◌||◌, cond, List, [], ◌∷◌, ◌++◌, Option, Some, None, length, map, sym, ap, subst, ◌∙◌, refl, arith}
 use Rattle.std.specs.List.{flat_map}
 use Rattle.std.specs.Iterator.{MakesProgress, item_count}
 use Rattle.std.proofs.lemmas.List.{append_assoc}
 use Rattle.coll_order.specs.Lists.{same_node, has_node, first_in}
 use Rattle.coll_order.specs.Layout.{is_in}
-use Rattle.coll_order.specs.Sound.{AreDistinct, StandOnce}
+use Rattle.coll_order.specs.Sound.{AreDistinct}
 use Rattle.coll_order.specs.declared.places.NodeId.{NodeId}
 use Rattle.coll_order.specs.declared.places.RingId.{RingId}
 use Rattle.coll_order.proofs.LayoutLemmas.{is_in_ring}
@@ -13,13 +13,11 @@ use Rattle.coll_order.proofs.ListLemmas.{neither}
 use Rattle.coll_order.proofs.Sameness.{by_test, not_both, same_node_is, same_node_itself, other_node_turned}
 use Rattle.coll_table.proofs.RingPlaces.{distinct_ring}
 use Rattle.coll_table.specs.Bodies.{IsLaidOut}
-use Rattle.coll_table.specs.Table.{Section}
-use Rattle.coll_table.specs.TableLayout.{TableLayout, content_of, nodes_in, contents_in, entries_in, sections_ring, declarations_ring, sections_at, declared_at, entry_in, section_in, declaration_in, if_any}
-use Rattle.coll_table.specs.Walks.{Met, MetSection, MetEntry, met}
+use Rattle.coll_table.specs.TableLayout.{TableLayout, content_of, nodes_in, entries_in, sections_ring, declarations_ring, sections_at, declared_at, entry_in, section_in, declaration_in, if_any}
+use Rattle.coll_table.specs.Walks.{MetSection, MetEntry, met}
 use Rattle.coll_table.specs.WalkStates.{ComesNext, from_node, left_of, StandsIfAny, AreDeclared, ArePlaced, AreNamed, AreSections, IsSectionNode, HasSections, HasDeclarations, contents_of, met_left, IsOnWay, declared_left, IsOnWayDeclared}
 use Rattle.coll_table.specs.declared.declarations.Declaration.{Declaration}
 use Rattle.coll_table.specs.declared.entries.Entry.{Entry}
-use Rattle.coll_table.specs.declared.contents.Content.{Content}
 use Rattle.coll_table.specs.declared.contents.Content.TheVariants.{Declared, Begun, Placed}
 
 -- a list is cut at a node of it

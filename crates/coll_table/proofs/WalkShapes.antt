@@ -1,5 +1,5 @@
 -- What stands in the rings of a table's body is what walks meet there.
-use Rattle.std.proofs.Common.{◌≡◌, ◌≤◌, ◌<◌, ◌-◌, ◌∙◌, ◌++◌, ℕ, suc, true, List, [], ◌∷◌, Option, Some, None, length, All, ap, subst, refl, arith}
+use Rattle.std.proofs.Common.{◌≡◌, ◌≤◌, ◌<◌, ◌-◌, ◌∙◌, ◌++◌, ℕ, suc, true, List, [], ◌∷◌, Option, Some, length, All, ap, subst, arith}
 use Rattle.std.specs.List.{flat_map}
 use Rattle.std.proofs.lemmas.List.Elements.{All-head, All-tail}
 use Rattle.coll_order.specs.Lists.{has_node}
@@ -10,10 +10,9 @@ use Rattle.coll_order.proofs.Sameness.{same_node_itself}
 use Rattle.coll_table.specs.SoundBodies.{IsShaped, IsDeclaration, IsSection, IsEntry, HaveNames, FirstAloneUnnamed, ring_at}
 use Rattle.coll_table.specs.Table.{Section}
 use Rattle.coll_table.specs.TableLayout.{TableLayout, content_of, nodes_in, entries_in, section_in, if_any, sections_at}
-use Rattle.coll_table.specs.WellFormed.{IsNamed, IsUnnamed, FirstIsUnnamed}
-use Rattle.coll_table.specs.WalkStates.{AreDeclared, ArePlaced, AreNamed, AreSections, IsSectionNode, HasSections, HasDeclarations, contents_of}
-use Rattle.coll_table.specs.declared.contents.Content.{Content}
-use Rattle.coll_table.specs.declared.contents.Content.TheVariants.{Declared, Begun, Placed}
+use Rattle.coll_table.specs.WellFormed.{IsNamed, FirstIsUnnamed}
+use Rattle.coll_table.specs.WalkStates.{AreDeclared, ArePlaced, AreNamed, AreSections, HasSections, HasDeclarations, contents_of}
+use Rattle.coll_table.specs.declared.contents.Content.TheVariants.{Begun}
 use Rattle.coll_table.proofs.LayoutReads.{declaration_is, entry_is, section_is}
 
 -- each node of a list, one after another
