@@ -33,7 +33,7 @@ PROGRAM = """#![tactic(auto)]
 
 use anyhow::{Context, Result};
 use coll_lex::{Counted, Sink};
-use coll_table::load;
+use coll_table::{Table, load};
 use std::env;
 use std::fs::File;
 use std::io::BufWriter;
@@ -42,13 +42,23 @@ fn main(rt: HostRuntime) -> Result<()> {
     let path = env::args(&rt)?.nth(1).context("a file is wanted")?;
     let mut input = Counted::new(File::open(&rt, path.as_str())?);
     let table = load(rt.alloc(), &mut input)?;
+    tell(&rt, &table)
+}
+
+// Tells how many entries a table has, and prints it to a file if one is named.
+fn tell(rt: &HostRuntime, table: &Table) -> Result<()> {
     println!(rt; "{} entries", table.len())?;
-    if let Some(printed) = env::args(&rt)?.nth(2) {
-        let file = File::create(&rt, printed.as_str())?;
-        let mut out = Counted::new(BufWriter::new(rt.alloc(), file)?);
-        table.print(&mut out)?;
-        out.flush()?;
+    match env::args(rt)?.nth(2) {
+        Some(path) => print_to(rt, table, path.as_str()),
+        None => Ok(()),
     }
+}
+
+fn print_to(rt: &HostRuntime, table: &Table, path: &str) -> Result<()> {
+    let file = File::create(rt, path)?;
+    let mut out = Counted::new(BufWriter::new(rt.alloc(), file)?);
+    table.print(&mut out)?;
+    out.flush()?;
     Ok(())
 }
 """
