@@ -89,8 +89,8 @@ fn element_text(alloc: Global, pieces: &[Piece]) -> Result<TextBuf, SyntaxFault>
     Ok(text)
 }
 
-/// The characters of a string; a name among them is `BadOperand`.
-fn characters(alloc: Global, pieces: &[Piece]) -> Result<TextBuf, SyntaxFault>
+/// The characters of a string, in new memory. A name among them is `BadOperand`, and memory that is refused `OutOfMemory`.
+pub fn characters(alloc: Global, pieces: &[Piece]) -> Result<TextBuf, SyntaxFault>
     ensures ok { IfOk result (λ text. wanted (characters_of pieces.now) ≡ Ok text) }
     ensures err { IfErr result (λ fault. fault ≢ OutOfMemory → wanted (characters_of pieces.now) ≡ Err fault) }
 {

@@ -1,0 +1,117 @@
+-- The unit of a block, by its lines: its statement where nothing spoils it, and else the fault that decides.
+use Rattle.std.proofs.Common.{◌≡◌, ℕ, ◌+◌, ◌≤◌, Bool, true, false, List, [], ◌∷◌, ◌++◌, length, Option, Some, None, Ok, Err, refl, sym, ap, ◌∙◌, arith, append-nil, append_assoc, length-append}
+use Rattle.std.specs.Prelude.{◌&&◌, if◌then◌else◌}
+use Rattle.std.specs.List.{list_all}
+use Rattle.std.proofs.lemmas.Bool.{lt-leb}
+use Rattle.std.proofs.lemmas.Grind.{flat_map-append}
+use Rattle.coll_syntax.specs.declared.syntax_faults.SyntaxFault.TheVariants as syntax
+use Rattle.coll_syntax.specs.declared.statements.OrderLine.{OrderLine}
+use Rattle.coll_units.specs.Limits.{most_block_lines}
+use Rattle.coll_units.specs.Units.{fault_at, order_by, orders_in, or_else, want_by, first_want, spoils_by, spoils, first_spoiler, stated_unless, unit_of, unless_starved, block_unit}
+use Rattle.coll_units.specs.Laws.{is_taken, BlockStates, BlockStarves, BlockBegunRefused, BlockSpoiled}
+use Rattle.coll_units.specs.declared.unit_faults.UnitFault.TheVariants as fault
+use Rattle.coll_units.specs.declared.session_lines.Heard.{Heard}
+use Rattle.coll_units.specs.declared.session_lines.Heard.TheVariants as heard
+use Rattle.coll_units.specs.declared.session_lines.HeardLine.{HeardLine}
+use Rattle.coll_units.specs.declared.units.FaultAt.{FaultAt}
+
+abbrev all_taken : List HeardLine → Bool
+all_taken lines = list_all (λ (line : HeardLine). is_taken line.heard) lines
+
+both_first : (a b : Bool) → (a && b) ≡ true → a ≡ true
+both_first true b e = refl
+both_first false b e = e
+
+both_second : (a b : Bool) → (a && b) ≡ true → b ≡ true
+both_second true b e = e
+both_second false b e = absurd cc
+
+taken_wants_none : (n : ℕ) (h : Heard) → is_taken h ≡ true → want_by n h ≡ None
+taken_wants_none n (heard.Stops f) taken = refl
+taken_wants_none n (heard.Refused o f) taken = absurd cc
+taken_wants_none n (heard.Asks c) taken = refl
+taken_wants_none n (heard.Misasks f) taken = refl
+taken_wants_none n (heard.Opens target) taken = refl
+taken_wants_none n heard.Ends taken = refl
+taken_wants_none n (heard.Orders order) taken = refl
+taken_wants_none n (heard.Apart a) taken = absurd cc
+
+no_want : (lines : List HeardLine) → all_taken lines ≡ true → first_want lines ≡ None
+unfolding first_want
+no_want [] all = refl
+no_want (line ∷ lines) all =
+    ap (λ (w : Option ℕ). or_else w (first_want lines)) (taken_wants_none line.number line.heard (both_first (is_taken line.heard) (all_taken lines) all))
+    ∙ no_want lines (both_second (is_taken line.heard) (all_taken lines) all)
+
+-- a line that isn't refused spoils nothing where there is room for it
+taken_spoils_none : (orders n : ℕ) (h : Heard) → is_taken h ≡ true → orders + length (order_by h) ≤ most_block_lines → spoils_by orders n h ≡ None
+taken_spoils_none orders n (heard.Stops f) taken few = refl
+taken_spoils_none orders n (heard.Refused o f) taken few = absurd cc
+taken_spoils_none orders n (heard.Asks c) taken few = refl
+taken_spoils_none orders n (heard.Misasks f) taken few = refl
+taken_spoils_none orders n (heard.Opens target) taken few = refl
+taken_spoils_none orders n heard.Ends taken few = refl
+taken_spoils_none orders n (heard.Orders order) taken few =
+    ap (λ (b : Bool). if b then Some (fault_at n (fault.Syntax syntax.BlockTooLong)) else None) (lt-leb most_block_lines orders (omega (arith, few)))
+taken_spoils_none orders n (heard.Apart a) taken few = absurd cc
+
+abbrev order_of : HeardLine → List OrderLine
+order_of line = order_by line.heard
+
+orders-append : (xs ys : List HeardLine) → length (orders_in (xs ++ ys)) ≡ length (orders_in xs) + length (orders_in ys)
+orders-append xs ys = ap length (flat_map-append order_of xs ys) ∙ length-append (orders_in xs) (orders_in ys)
+
+orders-cons : (line : HeardLine) (lines : List HeardLine) → length (orders_in (line ∷ lines)) ≡ length (order_by line.heard) + length (orders_in lines)
+orders-cons line lines = length-append (order_by line.heard) (orders_in lines)
+
+no_spoiler : (before lines : List HeardLine) → all_taken lines ≡ true → length (orders_in before) + length (orders_in lines) ≤ most_block_lines → first_spoiler before lines ≡ None
+unfolding first_spoiler
+no_spoiler before [] all few = refl
+no_spoiler before (line ∷ lines) all few =
+    let own = length (order_by line.heard) in
+    let rest = length (orders_in lines) in
+    let split : length (orders_in (line ∷ lines)) ≡ own + rest = orders-cons line lines in
+    let one : length (orders_in (line ∷ [])) ≡ own + 0 = orders-cons line [] in
+    let more : length (orders_in (before ++ line ∷ [])) ≡ length (orders_in before) + length (orders_in (line ∷ [])) = orders-append before (line ∷ []) in
+    let here : length (orders_in before) + own ≤ most_block_lines = omega (arith, few, split) in
+    let next : length (orders_in (before ++ line ∷ [])) + rest ≤ most_block_lines = omega (arith, few, split, more, one) in
+    ap (λ (s : Option FaultAt). or_else s (first_spoiler (before ++ line ∷ []) lines)) (taken_spoils_none (length (orders_in before)) line.number line.heard (both_first (is_taken line.heard) (all_taken lines) all) here)
+    ∙ no_spoiler (before ++ line ∷ []) lines (both_second (is_taken line.heard) (all_taken lines) all) next
+
+pub block_states : BlockStates
+unfolding block_unit
+block_states n target body all few =
+    ap (λ (w : Option ℕ). unless_starved w (unit_of n (Ok target) body)) (no_want body all)
+    ∙ ap (λ (s : Option FaultAt). stated_unless s n target (orders_in body)) (no_spoiler [] body all (omega (arith, few)))
+
+pub block_starves : BlockStarves
+unfolding block_unit
+block_starves block line want = ap (λ (w : Option ℕ). unless_starved w (unit_of block.line block.target block.lines)) want
+
+pub block_begun_refused : BlockBegunRefused
+unfolding block_unit
+block_begun_refused n f body none = ap (λ (w : Option ℕ). unless_starved w (unit_of n (Err f) body)) none
+
+or_none_first : (a b : Option FaultAt) → or_else a b ≡ None → a ≡ None
+or_none_first (Some x) b e = cc
+or_none_first None b e = refl
+
+or_none_second : (a b : Option FaultAt) → or_else a b ≡ None → b ≡ None
+or_none_second (Some x) b e = absurd cc
+or_none_second None b e = e
+
+-- the first line that spoils the block is the first of all lines that does
+spoiler-within : (before front lines : List HeardLine) (line : HeardLine) (at : FaultAt) → first_spoiler before front ≡ None → spoils (before ++ front) line ≡ Some at → first_spoiler before (front ++ line ∷ lines) ≡ Some at
+unfolding first_spoiler
+spoiler-within before [] lines line at none spoiled =
+    ap (λ (s : Option FaultAt). or_else s (first_spoiler (before ++ line ∷ []) lines)) (ap (λ (ls : List HeardLine). spoils ls line) (sym (append-nil before)) ∙ spoiled)
+spoiler-within before (first ∷ front) lines line at none spoiled =
+    ap (λ (s : Option FaultAt). or_else s (first_spoiler (before ++ first ∷ []) (front ++ line ∷ lines))) (or_none_first (spoils before first) (first_spoiler (before ++ first ∷ []) front) none)
+    ∙ spoiler-within (before ++ first ∷ []) front lines line at (or_none_second (spoils before first) (first_spoiler (before ++ first ∷ []) front) none)
+    (ap (λ (ls : List HeardLine). spoils ls line) (append_assoc before (first ∷ []) front) ∙ spoiled)
+
+pub block_spoiled : BlockSpoiled
+unfolding block_unit
+block_spoiled n target before later line at none first spoiled =
+    ap (λ (w : Option ℕ). unless_starved w (unit_of n (Ok target) (before ++ line ∷ later))) none
+    ∙ ap (λ (s : Option FaultAt). stated_unless s n target (orders_in (before ++ line ∷ later))) (spoiler-within [] before later line at first spoiled)

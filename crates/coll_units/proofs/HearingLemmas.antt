@@ -1,0 +1,153 @@
+-- What is heard of a line, by its characters and by the lexer's answer.
+use Rattle.std.proofs.Common.{◌≡◌, ℕ, Bool, true, false, List, length, Some, None, Option, Ok, Err, refl, sym, ap, ◌∙◌}
+use Rattle.std.specs.Bool.{IsTrue}
+use Rattle.std.proofs.lemmas.Bool.{false≢true}
+use Rattle.std.proofs.Common.{◌≢◌, inl, inr, ⊎_elim}
+use Rattle.std.specs.Prelude.{◌⊎◌, IfOk, OnErr, Result, if◌then◌else◌, option_map, is_some}
+use Rattle.coll_lex.specs.PhysicalLines.{without_return}
+use Rattle.coll_lex.specs.LogicalLines.{OpenLine, LexerState, pending, number_of, extended, first_line, dropped, fed, outside, outside_as, unless_fault, line_fault, needs_memory, takes_memory, served, state_by}
+use Rattle.coll_lex.specs.Directives.{directive}
+use Rattle.coll_lex.specs.declared.tokens.Chars.{Chars}
+use Rattle.coll_lex.specs.declared.tokens.Line.{Line}
+use Rattle.coll_lex.specs.declared.faults.LexFault.{LexFault}
+use Rattle.coll_lex.specs.declared.faults.LexFault.TheVariants as lex
+use Rattle.coll_lex.proofs.LineSteps.{first_line-fresh, first_line-continued, fed-open}
+use Rattle.coll_lex.proofs.LineEnds.{fed-whole}
+use Rattle.coll_units.specs.SessionLines.{opening_of, tokens_heard, fault_heard}
+use Rattle.coll_units.specs.Hearing.{OpensAs, heard_by, heard_in, Hears, no_memory, HearsTokens}
+use Rattle.coll_units.proofs.LineNumbers.{fed_number}
+use Rattle.coll_units.specs.declared.session_lines.Opening.{Opening}
+use Rattle.coll_units.specs.declared.session_lines.Heard.{Heard}
+use Rattle.coll_units.specs.declared.session_lines.HeardLine.{HeardLine}
+
+-- what is kept of the open logical line's first physical line
+pub opens_as_none : (s : LexerState) (opening : Opening) → s.line ≡ None → OpensAs s opening
+unfolding OpensAs
+opens_as_none s opening none some = absurd (false≢true (sym (ap is_some none) ∙ some))
+
+pub opens_as_next : (s after : LexerState) (line : List ℕ) (answer : Option Line) (opening : Opening) → fed s line ≡ Ok (answer, after) → opening ≡ opening_of (first_line s line) → OpensAs after opening
+unfolding OpensAs
+opens_as_next s after line answer opening e is some =
+    ⊎_elim (λ (none : after.line ≡ None). absurd (false≢true (sym (ap is_some none) ∙ some)))
+    (λ (kept : after.line ≡ Some (extended s line)) (next : List ℕ). ap opening_of (first_line-continued s after line next kept) ∙ sym is)
+    (fed-open s line answer after e)
+
+is_open : (o : Option OpenLine) (number : ℕ) → option_map (λ (o : OpenLine). o.number) o ≡ Some number → is_some o ≡ true
+is_open None number e = absurd (cc)
+is_open (Some o) number e = refl
+
+-- the opening that is kept is that of the next line's logical line
+pub opening_kept : (s : LexerState) (opening : Opening) (line : List ℕ) (number : ℕ) → pending s ≡ Some number → OpensAs s opening → opening ≡ opening_of (first_line s line)
+unfolding OpensAs
+opening_kept s opening line number open_line kept = sym (kept (is_open s.line number open_line) line)
+
+none_pending : (o : Option OpenLine) → None ≡ option_map (λ (o : OpenLine). o.number) o → o ≡ None
+none_pending None e = refl
+none_pending (Some o) e = absurd (cc)
+
+pub opening_fresh : (s : LexerState) (line text : List ℕ) (opening : Opening) → None ≡ pending s → text ≡ without_return line → opening ≡ opening_of text → opening ≡ opening_of (first_line s line)
+opening_fresh s line text opening none cut is = is ∙ ap opening_of (cut ∙ sym (first_line-fresh s line (none_pending s.line none)))
+
+-- want of memory, or another fault
+want_or_not : (f : LexFault) → (f ≡ lex.OutOfMemory) ⊎ (f ≢ lex.OutOfMemory)
+want_or_not lex.NotUtf8 = inr (λ e. cc)
+want_or_not lex.OpenSymbol = inr (λ e. cc)
+want_or_not lex.EmptySymbol = inr (λ e. cc)
+want_or_not lex.BadName = inr (λ e. cc)
+want_or_not lex.BadCodePoint = inr (λ e. cc)
+want_or_not lex.OpenString = inr (λ e. cc)
+want_or_not lex.CharacterConstant = inr (λ e. cc)
+want_or_not lex.DanglingEscape = inr (λ e. cc)
+want_or_not lex.LineTooLong = inr (λ e. cc)
+want_or_not lex.BadCharDirective = inr (λ e. cc)
+want_or_not lex.TooManyLines = inr (λ e. cc)
+want_or_not lex.OutOfMemory = inl refl
+
+-- the answer to a line for which memory was refused
+pub served_starved : (s : LexerState) (line : List ℕ) → takes_memory s line ≡ true → served true s line ≡ Err lex.OutOfMemory
+unfolding served
+served_starved s line takes = ap (λ (b : Bool). if b then Err lex.OutOfMemory else fed s line) takes
+
+-- a line of a session, by its number
+abbrev pub numbered : ℕ → Heard → HeardLine
+numbered n h = record { number = n; heard = h }
+
+pub heard_starved : (commands : Bool) (s after : LexerState) (line : List ℕ) (opening : Opening) (heard : HeardLine) → opening ≡ opening_of (first_line s line) → after ≡ dropped s → heard ≡ numbered (number_of s) (no_memory opening) → takes_memory s line ≡ true → Hears commands true s after line (Some heard)
+unfolding heard_in
+heard_starved commands s after line opening heard is stands was takes =
+    let e = served_starved s line takes in
+    record {
+      heard_is = ap Some was ∙ ap (λ (o : Opening). Some (numbered (number_of s) (no_memory o))) is ∙ ap (heard_by commands (number_of s) (opening_of (first_line s line))) (sym e);
+      stands = stands ∙ ap (state_by s) (sym e);
+    }
+
+heard_fault : (commands : Bool) (s after : LexerState) (line : List ℕ) (opening : Opening) (f : LexFault) (heard : HeardLine) → opening ≡ opening_of (first_line s line) → after ≡ dropped s → fed s line ≡ Err f → heard ≡ numbered (number_of s) (fault_heard opening f) → Hears commands false s after line (Some heard)
+unfolding served heard_in
+heard_fault commands s after line opening f heard is stands e was = record {
+  heard_is = ap Some was ∙ ap (λ (o : Opening). Some (numbered (number_of s) (fault_heard o f))) is ∙ ap (heard_by commands (number_of s) (opening_of (first_line s line))) (sym e);
+  stands = stands ∙ ap (state_by s) (sym e);
+}
+
+-- a line at fault
+pub hears_fault : (commands : Bool) (s after : LexerState) (line : List ℕ) (opening : Opening) (f : LexFault) (heard : HeardLine) (number : ℕ) → opening ≡ opening_of (first_line s line) → number ≡ number_of s → after ≡ dropped s
+    → (f ≢ lex.OutOfMemory → fed s line ≡ Err f) → (f ≡ lex.OutOfMemory → IsTrue (takes_memory s line)) → heard ≡ numbered number (fault_heard opening f) → (starved : Bool) × Hears commands starved s after line (Some heard)
+hears_fault commands s after line opening f heard number is number_is stands e memory was =
+    let at : heard ≡ numbered (number_of s) (fault_heard opening f) = was ∙ ap (λ (n : ℕ). numbered n (fault_heard opening f)) number_is in
+    ⊎_elim
+    (λ (want : f ≡ lex.OutOfMemory).
+    (true, heard_starved commands s after line opening heard is stands (at ∙ ap (λ (g : LexFault). numbered (number_of s) (fault_heard opening g)) want) (memory want)))
+    (λ (not_want : f ≢ lex.OutOfMemory). (false, heard_fault commands s after line opening f heard is stands (e not_want) at))
+    (want_or_not f)
+
+-- a line that ends no logical line with a token
+pub hears_none : (commands : Bool) (s after : LexerState) (line : List ℕ) → fed s line ≡ Ok (None, after) → (starved : Bool) × Hears commands starved s after line None
+unfolding served heard_in
+hears_none commands s after line e =
+    (false, record { heard_is = ap (heard_by commands (number_of s) (opening_of (first_line s line))) (sym e); stands = ap (state_by s) (sym e) })
+
+heard_whole : (commands : Bool) (s after : LexerState) (line : List ℕ) (opening : Opening) (given : Line) (heard : HeardLine) → opening ≡ opening_of (first_line s line) → fed s line ≡ Ok (Some given, after) → heard ≡ numbered (number_of s) (tokens_heard commands opening given.tokens) → Hears commands false s after line (Some heard)
+unfolding served heard_in
+heard_whole commands s after line opening given heard is e was = record {
+  heard_is = ap Some was ∙ ap (λ (n : ℕ). Some (numbered n (tokens_heard commands opening given.tokens))) (sym (fed_number s line given after e))
+      ∙ ap (λ (o : Opening). Some (numbered given.number (tokens_heard commands o given.tokens))) is ∙ ap (heard_by commands (number_of s) (opening_of (first_line s line))) (sym e);
+  stands = ap (state_by s) (sym e);
+}
+
+-- memory may be taken for a line with a token
+pub whole_takes : (s after : LexerState) (line : List ℕ) (given : Line) → fed s line ≡ Ok (Some given, after) → takes_memory s line ≡ true
+unfolding takes_memory
+whole_takes s after line given e = ap needs_memory e
+
+-- a line that ends a logical line, where memory may be refused for what it says
+pub hears_whole : (commands : Bool) (s after : LexerState) (line : List ℕ) (opening : Opening) (given : Line) (h : Heard) (number : ℕ) → opening ≡ opening_of (first_line s line) → number ≡ number_of s → fed s line ≡ Ok (Some given, after)
+    → HearsTokens commands opening given.tokens h → (memory : Bool) × Hears commands memory s after line (Some (numbered number h))
+hears_whole commands s after line opening given h number is number_is e was = by_choice was.0 was.1
+  where
+    at : numbered number h ≡ numbered (number_of s) h
+    at = ap (λ (n : ℕ). numbered n h) number_is
+
+    by_choice : (starved : Bool) → h ≡ (if starved then no_memory opening else tokens_heard commands opening given.tokens) → (memory : Bool) × Hears commands memory s after line (Some (numbered number h))
+    by_choice true was =
+        (true, heard_starved commands s after line opening (numbered number h) is (fed-whole s line given after e) (at ∙ ap (numbered (number_of s)) was) (whole_takes s after line given e))
+    by_choice false was = (false, heard_whole commands s after line opening given (numbered number h) is e (at ∙ ap (numbered (number_of s)) was))
+
+-- the logical line that is open after an answer
+abbrev open_after : Result (Bool × LexerState) LexFault → Option OpenLine
+open_after (Ok answer) = answer.1.line
+open_after (Err fault) = None
+
+outside_as-none : (next : LexerState) (line : List ℕ) (asked : Option (Result Chars LexFault)) → next.line ≡ None → open_after (outside_as next line asked) ≡ None
+outside_as-none next line (Some (Ok special)) none = none
+outside_as-none next line (Some (Err fault)) none = refl
+outside_as-none next line None none = none
+
+unless_none : (fault : Option LexFault) (answer : Result (Bool × LexerState) LexFault) → open_after answer ≡ None → open_after (unless_fault fault answer) ≡ None
+unless_none None answer none = none
+unless_none (Some fault) answer none = refl
+
+-- a line before the category leaves no logical line open
+pub outside_drops : (s after : LexerState) (line : List ℕ) (r : Result Bool LexFault) → IfOk r (λ begins. outside s line ≡ Ok (begins, after)) → OnErr r (after ≡ dropped s) → after.line ≡ None
+unfolding outside
+outside_drops s after line (Ok begins) ok err =
+    sym (ap open_after ok) ∙ unless_none (line_fault s.count (length line)) (outside_as (dropped s) (without_return line) (directive s.special (without_return line))) (outside_as-none (dropped s) (without_return line) (directive s.special (without_return line)) refl)
+outside_drops s after line (Err fault) ok err = ap (λ (t : LexerState). t.line) err

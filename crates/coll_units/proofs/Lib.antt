@@ -1,0 +1,13 @@
+pub mod BlockLaws
+pub mod BlockLemmas
+pub mod BlockUnits
+pub mod CommandLemmas
+pub mod DeltaBlocks
+pub mod DeltaLinesRead
+pub mod DeltaOutside
+pub mod DeltaSteps
+pub mod DeltaTaking
+pub mod HearingLemmas
+pub mod LineNumbers
+pub mod PhysicalTaking
+pub mod TakingLemmas

@@ -1,0 +1,14 @@
+pub mod Commands
+pub mod DeltaFaults
+pub mod DeltaFiles
+pub mod DeltaReading
+pub mod Gathered
+pub mod Hearing
+pub mod Laws
+pub mod Limits
+pub mod OpenBlocks
+pub mod ProperLines
+pub mod SessionLines
+pub mod Taking
+pub mod UnitFaults
+pub mod Units

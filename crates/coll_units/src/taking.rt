@@ -1,0 +1,44 @@
+//! One physical line of a session: it is heard, and the block takes it.
+//!
+//! A statement that a line completes is proper, whatever lines came before: the tokens of the lexer are as the grammar asks
+//! for, what the grammar gives is proper, and a block that is open keeps a proper statement. So this is a clause of
+//! `Listener::take`, which asks its callers for nothing.
+
+ghost use Rattle.std.specs.Prelude.{Bool, IfOk, IfSome};
+ghost use Rattle.coll_units.specs.ProperLines.{IsProperRequest};
+ghost use Rattle.coll_units.specs.Taking.{TakesPhysical};
+
+use crate::hearing::Listener;
+use crate::open_blocks::{OpenBlock, take_line};
+use crate::units::SessionUnit;
+use coll_lex::LexFault;
+use std::alloc::Global;
+
+impl Listener {
+    /// Takes one more physical line of a session, without its line feed, with the block that is open, and answers the unit
+    /// that it completes, if it completes one; or the fault at which the session ends, and then the block that is open stays.
+    ///
+    /// Memory is taken for the line's tokens, for a line that is continued, for what a line says, and for the room of a block.
+    /// Where it is refused, the line is a refused one.
+    pub fn take(
+        &mut self,
+        alloc: Global,
+        block: &mut Option<OpenBlock>,
+        line: &[u8],
+    ) -> Result<Option<SessionUnit>, LexFault>
+        ensures taken { (starved : Bool) × TakesPhysical starved self.old self.new line.now block.old block.new result }
+        ensures proper { IfOk result (λ unit. IfSome unit (λ completed. IsProperRequest completed.request)) }
+    {
+        let Some(hearing) = self.hear(alloc, true, line) else {
+            return Ok(None);
+        };
+        match hearing.stop() {
+            Some(fault) => Err(fault),
+            None => {
+                let (next, unit) = take_line(alloc, block.take(), hearing);
+                *block = next;
+                Ok(unit)
+            }
+        }
+    }
+}
