@@ -42,7 +42,7 @@ module _ (layout : TableLayout) (shaped : IsShaped layout) where
       ∙ found_in layout same_name section_names_in find (ring_at layout 1) sound (in_rings layout 1) (begun_covers layout same_name section_names_in shaped (λ _. refl) (λ _. refl)) name
 
   -- the entries of a node have an identifier where the node has it as its key
-  ids_of_node : (id : Id) (found : Option Content) → list_any (same_id id) (flat_map ids_in (if_any found)) ≡ list_any (λ (entry : Entry). same_id id entry.id) (flat_map entry_in (if_any found))
+  pub ids_of_node : (id : Id) (found : Option Content) → list_any (same_id id) (flat_map ids_in (if_any found)) ≡ list_any (λ (entry : Entry). same_id id entry.id) (flat_map entry_in (if_any found))
   ids_of_node id None = refl
   ids_of_node id (Some (content.Declared declaration)) = refl
   ids_of_node id (Some (content.Begun name ring)) = refl

@@ -78,19 +78,18 @@ declared_place layout place shaped last = end_place layout 0 place last (let two
 pub section_place : (layout : TableLayout) (place : Place) → IsShaped layout → place ≡ end_in layout 1 → IsPlaceIn layout 1 place
 section_place layout place shaped last = end_place layout 1 place last (let two = shaped.two in omega (arith, two))
 
-module _ (old new : TableLayout) (node : NodeId) (declared_end sections_end entries_end : Place) (once : StandOnce old.rings) (shaped : IsShaped old) (sound : IsSoundBuilder old declared_end sections_end entries_end) where
-  module _ (declaration : Declaration) (adds : Adds old new node (content.Declared declaration) declared_end) where
+module _ (old new : TableLayout) (node : NodeId) (sections_end entries_end : Place) (once : StandOnce old.rings) (shaped : IsShaped old) (sound : IsSoundBuilder old sections_end entries_end) where
+  module _ (declaration : Declaration) (declared_end : Place) (ends : declared_end ≡ end_in old 0) (adds : Adds old new node (content.Declared declaration) declared_end) where
     -- a declaration more
-    pub declared_builder : IsSoundBuilder new (After node) sections_end entries_end
+    pub declared_builder : IsSoundBuilder new sections_end entries_end
     declared_builder =
         let below : 0 < length old.rings = (let two = shaped.two in omega (arith, two)) in
-        let at = declared_place old declared_end shaped sound.declared in
+        let at = declared_place old declared_end shaped ends in
         let end = sound.entries in
         let high = last_ring old end.0 end.1 end.2 shaped end.3 in
         let lists : ring_at new 1 ≡ ring_at old 1 = ring_other old new node (content.Declared declaration) declared_end 0 adds at once 1 (λ e. absurd (omega (arith, e))) in
         record {
-          declared = sym (end_last old new node (content.Declared declaration) declared_end 0 adds below once shaped sound.declared);
-          sections = sound.sections ∙ sym (end_other old new node (content.Declared declaration) declared_end 0 adds below once shaped sound.declared 1 (λ e. absurd (omega (arith, e))));
+          sections = sound.sections ∙ sym (end_other old new node (content.Declared declaration) declared_end 0 adds below once shaped ends 1 (λ e. absurd (omega (arith, e))));
           entries = (
             end.0,
             end.1,
@@ -99,7 +98,7 @@ module _ (old new : TableLayout) (node : NodeId) (declared_end sections_end entr
               last = (end.3.last.0, lists ∙ end.3.last.1);
               begun = content_other old new node (content.Declared declaration) declared_end 0 adds at once end.0 (other_in old new node (content.Declared declaration) declared_end 0 adds at once shaped 1 end.0 (last_in old end.0 end.1 end.2 end.3)) ∙ end.3.begun;
             },
-            end.4 ∙ sym (end_other old new node (content.Declared declaration) declared_end 0 adds below once shaped sound.declared end.2.index (λ e. let low = high.0 in absurd (omega (arith, e, low)))),
+            end.4 ∙ sym (end_other old new node (content.Declared declaration) declared_end 0 adds below once shaped ends end.2.index (λ e. let low = high.0 in absurd (omega (arith, e, low)))),
           );
           unnamed = subst (λ sections. FirstAloneUnnamed sections) (sym (sections_same old new node (content.Declared declaration) declared_end 0 adds at once shaped refl)) sound.unnamed;
         }
@@ -108,8 +107,8 @@ module _ (old new : TableLayout) (node : NodeId) (declared_end sections_end entr
     pub declared_parts : parts_at new ≡ record (parts_at old) { declared = declared_at old ++ declaration ∷ [] }
     declared_parts =
         let below : 0 < length old.rings = (let two = shaped.two in omega (arith, two)) in
-        let at = declared_place old declared_end shaped sound.declared in
-        ap (λ (declared : List Declaration). record { declared = declared; sections = sections_at new }) (declared_last old new node (content.Declared declaration) declared_end 0 adds below once shaped sound.declared refl)
+        let at = declared_place old declared_end shaped ends in
+        ap (λ (declared : List Declaration). record { declared = declared; sections = sections_at new }) (declared_last old new node (content.Declared declaration) declared_end 0 adds below once shaped ends refl)
         ∙ ap (λ (sections : List Section). record { declared = declared_at old ++ declaration ∷ []; sections = sections }) (sections_same old new node (content.Declared declaration) declared_end 0 adds at once shaped refl)
 
   module _ (entry : Entry) (adds : Adds old new node (content.Placed entry) entries_end) where
@@ -122,7 +121,7 @@ module _ (old new : TableLayout) (node : NodeId) (declared_end sections_end entr
         entries_last old new node (content.Placed entry) entries_end end.2.index adds high.1 once shaped end.4 end.3.last.0 end.0 end.1 end.2 entry end.3.last.1 end.3.begun refl refl (λ e. absurd (omega (arith, e, low)))
 
     -- an entry more
-    pub placed_builder : IsSoundBuilder new declared_end sections_end (After node)
+    pub placed_builder : IsSoundBuilder new sections_end (After node)
     placed_builder =
         let end = sound.entries in
         let high = last_ring old end.0 end.1 end.2 shaped end.3 in
@@ -131,7 +130,6 @@ module _ (old new : TableLayout) (node : NodeId) (declared_end sections_end entr
         let at = end_place old index entries_end end.4 high.1 in
         let lists : ring_at new 1 ≡ ring_at old 1 = ring_other old new node (content.Placed entry) entries_end index adds at once 1 (λ e. absurd (omega (arith, e, low))) in
         record {
-          declared = sound.declared ∙ sym (end_other old new node (content.Placed entry) entries_end index adds high.1 once shaped end.4 0 (λ e. absurd (omega (arith, e, low))));
           sections = sound.sections ∙ sym (end_other old new node (content.Placed entry) entries_end index adds high.1 once shaped end.4 1 (λ e. absurd (omega (arith, e, low))));
           entries = (
             end.0,
@@ -157,9 +155,9 @@ module _ (old new : TableLayout) (node : NodeId) (declared_end sections_end entr
         ap (λ (declared : List Declaration). record { declared = declared; sections = sections_at new }) (declared_same old new node (content.Placed entry) entries_end index adds at once shaped (λ e. absurd (omega (arith, e, low))))
         ∙ ap (λ (sections : List Section). record { declared = declared_at old; sections = sections }) sections_placed
 
-module _ (old new : TableLayout) (node : NodeId) (name : Option (List ℕ)) (ring : RingId) (declared_end sections_end : Place) (once_old : StandOnce old.rings) (shaped_old : IsShaped old)
+module _ (old new : TableLayout) (node : NodeId) (name : Option (List ℕ)) (ring : RingId) (sections_end : Place) (once_old : StandOnce old.rings) (shaped_old : IsShaped old)
     (adds : Adds (with_empty_ring old) new node (content.Begun name ring) sections_end) (last : ring.index ≡ length old.rings)
-    (declared : declared_end ≡ end_in old 0) (sections : sections_end ≡ end_in old 1) where
+    (sections : sections_end ≡ end_in old 1) where
   -- there is a ring of the sections
   below : 1 < length (with_empty_ring old).rings
   below = let more = one_ring_more old in let two = shaped_old.two in omega (arith, more, two)
@@ -184,14 +182,13 @@ module _ (old new : TableLayout) (node : NodeId) (name : Option (List ℕ)) (rin
       sections_last (with_empty_ring old) new node (content.Begun name ring) sections_end 1 adds below once shaped (sections ∙ sym (ends 1)) refl name ring refl none ∙ ap (λ sections. sections ++ record { name = name; entries = [] } ∷ []) (sections_push old)
 
   -- a section more
-  pub begun_builder : FirstAloneUnnamed (sections_at old ++ record { name = name; entries = [] } ∷ []) → IsSoundBuilder new declared_end (After node) (Head ring)
+  pub begun_builder : FirstAloneUnnamed (sections_at old ++ record { name = name; entries = [] } ∷ []) → IsSoundBuilder new (After node) (Head ring)
   begun_builder unnamed =
       let once = once_push old.rings once_old in
       let shaped = shaped_push old shaped_old in
       let at_end = sections ∙ sym (ends 1) in
       let at = end_place (with_empty_ring old) 1 sections_end at_end below in
       record {
-        declared = declared ∙ (sym (ends 0) ∙ sym (end_other (with_empty_ring old) new node (content.Begun name ring) sections_end 1 adds below once shaped at_end 0 (λ e. absurd (omega (arith, e)))));
         sections = sym (end_last (with_empty_ring old) new node (content.Begun name ring) sections_end 1 adds below once shaped at_end);
         entries = (
           node,

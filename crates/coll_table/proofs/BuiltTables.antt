@@ -107,6 +107,38 @@ built_declared table new built proper absent no_text room = record {
   few_sections = built.few_sections;
 }
 
+-- Other sections.
+
+-- what has to hold of sections, so that a table holds together with them
+pub record MayHave (table : Collation) (sections : List Section) : Type 0 where
+  pub first_unnamed : FirstIsUnnamed sections
+  pub ids : All IsId (ids_of (joined_entries sections))
+  pub distinct_sections : AreDistinct same_name (section_names sections)
+  pub distinct_entries : AreDistinct same_id (ids_of (joined_entries sections))
+  pub known : All (IsKnown table.declared) (ids_of (joined_entries sections))
+  pub weighted : All (IsWeighted (length table.rules) table.declared) (joined_entries sections)
+  pub few_entries : length (joined_entries sections) ≤ most_entries
+  pub few_sections : length sections ≤ most_sections
+
+-- a table with other sections
+pub built_with : (table : Collation) (sections : List Section) → IsBuilt table → MayHave table sections → IsBuilt (record table { sections = sections })
+built_with table sections built may = record {
+  few_levels = built.few_levels;
+  names = built.names;
+  texts = built.texts;
+  distinct_names = built.distinct_names;
+  distinct_texts = built.distinct_texts;
+  first_unnamed = may.first_unnamed;
+  ids = may.ids;
+  distinct_sections = may.distinct_sections;
+  distinct_entries = may.distinct_entries;
+  known = may.known;
+  weighted = may.weighted;
+  few_entries = may.few_entries;
+  few_declarations = built.few_declarations;
+  few_sections = may.few_sections;
+}
+
 -- A section.
 
 -- a section without entries
@@ -130,12 +162,7 @@ unnamed_with_section (first ∷ others) name is h = (h.0, All-push IsNamed other
 pub built_section : (table : Collation) (name : List ℕ) → IsBuilt table → IsName name → has_name (section_names table.sections) name ≡ false → length table.sections < most_sections → IsBuilt (record table { sections = with_section table.sections name })
 built_section table name built is absent room =
     let same = sym (entries_with_section table.sections name) in
-    record {
-      few_levels = built.few_levels;
-      names = built.names;
-      texts = built.texts;
-      distinct_names = built.distinct_names;
-      distinct_texts = built.distinct_texts;
+    built_with table (with_section table.sections name) built (record {
       first_unnamed = unnamed_with_section table.sections name is built.first_unnamed;
       ids = subst (λ entries. All IsId (ids_of entries)) same built.ids;
       distinct_sections = subst (AreDistinct same_name) (sym (names_with_section table.sections name)) (distinct_push same_name same_name_symmetric (section_names table.sections) name built.distinct_sections absent);
@@ -143,9 +170,8 @@ built_section table name built is absent room =
       known = subst (λ entries. All (IsKnown table.declared) (ids_of entries)) same built.known;
       weighted = subst (All (IsWeighted (length table.rules) table.declared)) same built.weighted;
       few_entries = subst (λ (entries : List Entry). length entries ≤ most_entries) same built.few_entries;
-      few_declarations = built.few_declarations;
       few_sections = omega (arith, length-append table.sections (empty_section name ∷ []));
-    }
+    })
 
 -- An entry.
 
@@ -195,12 +221,7 @@ pub built_entry : (table : Collation) (entry : Entry) → IsBuilt table → IsId
 built_entry table entry built is absent known weighted room =
     let entries = joined_entries table.sections in
     let more = sym (entries_with_last table.sections entry built.first_unnamed) in
-    record {
-      few_levels = built.few_levels;
-      names = built.names;
-      texts = built.texts;
-      distinct_names = built.distinct_names;
-      distinct_texts = built.distinct_texts;
+    built_with table (with_last table.sections entry) built (record {
       first_unnamed = unnamed_with_last table.sections entry built.first_unnamed;
       ids = subst (λ es. All IsId (ids_of es)) more (subst (All IsId) (sym (ids_push entries entry)) (All-push IsId (ids_of entries) entry.id built.ids is));
       distinct_sections = subst (AreDistinct same_name) (sym (names_with_last table.sections entry)) built.distinct_sections;
@@ -208,6 +229,5 @@ built_entry table entry built is absent known weighted room =
       known = subst (λ es. All (IsKnown table.declared) (ids_of es)) more (subst (All (IsKnown table.declared)) (sym (ids_push entries entry)) (All-push (IsKnown table.declared) (ids_of entries) entry.id built.known known));
       weighted = subst (All (IsWeighted (length table.rules) table.declared)) more (All-push (IsWeighted (length table.rules) table.declared) entries entry built.weighted weighted);
       few_entries = subst (λ (es : List Entry). length es ≤ most_entries) more (omega (arith, length-append (joined_entries table.sections) (entry ∷ [])));
-      few_declarations = built.few_declarations;
       few_sections = subst (λ n. n ≤ most_sections) (sym (length_with_last table.sections entry)) built.few_sections;
-    }
+    })

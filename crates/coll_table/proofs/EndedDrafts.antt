@@ -20,7 +20,7 @@ use Rattle.coll_table.specs.declared.entries.Entry.{Entry}
 use Rattle.coll_table.specs.declared.load_faults.LoadCause.TheVariants.{NoRules, NotDeclared, WeightNotPlaced, OutsideOrder}
 
 -- of two options of which the first found is none both are none
-neither_found : {X : Type 0} (a b : Option X) → option_or a b ≡ None → (a ≡ None) × (b ≡ None)
+pub neither_found : {X : Type 0} (a b : Option X) → option_or a b ≡ None → (a ≡ None) × (b ≡ None)
 neither_found None b e = (refl, e)
 neither_found (Some x) b e = cc
 

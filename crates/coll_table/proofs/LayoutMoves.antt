@@ -1,32 +1,27 @@
--- Layouts in which an entry's node is moved, or put in, directly after another: what the table is then.
-use Rattle.std.proofs.Common.{◌≡◌, ℕ, zero, suc, ◌+◌, ◌<◌, ◌≤◌, Bool, true, false, ◌||◌, cond, List, [], ◌∷◌, Option, Some, None, length, map, flat_map, slice_index_or, get_or, sym, ap, subst, ◌∙◌, refl, arith}
+-- Layouts of the same nodes in other rings, or with other entries: what the table is then; and the node that is found by an identifier.
+use Rattle.std.proofs.Common.{◌≡◌, ℕ, zero, suc, ◌<◌, Bool, true, false, ◌||◌, List, [], ◌∷◌, Option, Some, None, length, map, flat_map, get_or, sym, ap, ◌∙◌, refl}
 use Rattle.std.specs.List.{list_any}
-use Rattle.coll_order.specs.Layout.{head_of, is_in, rings_without}
-use Rattle.coll_order.specs.Lists.{same_node, has_node, without, put_after}
+use Rattle.coll_order.specs.Layout.{is_in, rings_without}
+use Rattle.coll_order.specs.Lists.{same_node, has_node, without}
 use Rattle.coll_order.specs.declared.places.NodeId.{NodeId}
 use Rattle.coll_order.specs.declared.places.RingId.{RingId}
-use Rattle.coll_order.specs.declared.places.Place.TheVariants.{After}
-use Rattle.coll_order.proofs.ListLemmas.{without_absent, has_without, has_without_itself}
-use Rattle.coll_order.proofs.RingLemmas.{length_rings_without}
 use Rattle.coll_order.proofs.Sameness.{by_test, not_both, same_node_is, same_node_itself}
 use Rattle.coll_syntax.specs.Identifier.{same_id, has_id}
 use Rattle.coll_syntax.specs.declared.identifiers.Id.{Id}
-use Rattle.coll_table.proofs.BodyReads.{entry_known, some_same}
-use Rattle.coll_table.proofs.EntryMoves.{Tells, take_read, put_read}
-use Rattle.coll_table.proofs.LayoutReads.{declaration_is, read_known, both_true, and_true, in_rings, declared_read, sections_read, entries_read, section_at}
+use Rattle.coll_table.proofs.BodyReads.{some_same}
+use Rattle.coll_table.proofs.EntryMoves.{Tells}
+use Rattle.coll_table.proofs.LayoutReads.{declaration_is, read_known, both_true, and_true, declared_read, sections_read, section_at}
 use Rattle.coll_table.proofs.NodeLists.{map_read, same_read}
-use Rattle.coll_table.proofs.RingPlaces.{get_put, get_put_other, in_some}
-use Rattle.coll_table.specs.Bodies.{with_link, without_link}
-use Rattle.coll_table.specs.Placement.{entry_at, entries_after, entries_without, placed_after, without as sections_without}
-use Rattle.coll_table.specs.SoundBodies.{Adds, read_at, ring_at, ids_in, is_place_of, IsShaped, IsOwned, Finds}
-use Rattle.coll_table.specs.Table.{Section, ids_of, joined_entries}
+use Rattle.coll_table.proofs.RingPlaces.{in_some}
+use Rattle.coll_table.specs.SoundBodies.{read_at, ring_at, ids_in, IsShaped, IsOwned, Finds}
+use Rattle.coll_table.specs.Table.{Section, ids_of}
 use Rattle.coll_table.specs.TableLayout.{TableLayout, content_of, if_any, declaration_in, entry_in, section_in, entries_in, declared_at, sections_at}
 use Rattle.coll_table.specs.declared.contents.Content.{Content}
 use Rattle.coll_table.specs.declared.contents.Content.TheVariants as content
 use Rattle.coll_table.specs.declared.entries.Entry.{Entry}
 
 -- the identifiers of the entries of a node are its keys
-ids_read : (found : Option Content) → ids_of (flat_map entry_in (if_any found)) ≡ flat_map ids_in (if_any found)
+pub ids_read : (found : Option Content) → ids_of (flat_map entry_in (if_any found)) ≡ flat_map ids_in (if_any found)
 ids_read None = refl
 ids_read (Some (content.Declared declaration)) = refl
 ids_read (Some (content.Begun name ring)) = refl
@@ -45,7 +40,7 @@ no_declaration entry declaration e = absurd (differ e) where
   differ e = cc
 
 -- sections with other entries, changed once more
-changed_twice : (first second : List Entry → List Entry) (sections : List Section)
+pub changed_twice : (first second : List Entry → List Entry) (sections : List Section)
     → map (λ (section : Section). record section { entries = second (first section.entries) }) sections
     ≡ map (λ (section : Section). record section { entries = second section.entries }) (map (λ (section : Section). record section { entries = first section.entries }) sections)
 changed_twice first second [] = refl
@@ -127,92 +122,3 @@ module _ (layout : TableLayout) (shaped : IsShaped layout) (find : Id → Option
         not_both (ap (same_node node) (sym same) ∙ same_node_itself node) apart)
         (λ off t. refl) refl;
   }
-
--- a place after a node is in no ring that hasn't the node
-place_out : (nodes : List NodeId) (index : ℕ) (after : NodeId) → has_node nodes after ≡ false → is_place_of (After after) (head_of index) nodes ≡ false
-place_out nodes index after absent = absent
-
--- a ring behind the last has no nodes
-past_all : (rings : List (List NodeId)) (index : ℕ) → length rings ≤ index → get_or rings index [] ≡ []
-past_all [] index far = refl
-past_all (nodes ∷ rings) zero far = absurd (omega arith)
-past_all (nodes ∷ rings) (suc index) far = past_all rings index (omega arith)
-
--- an entry's node put in directly after another's
-module _ (old new : TableLayout) (shaped : IsShaped old) (find : Id → Option NodeId) (sound : Finds same_id ids_in old find) (target : Id) (after node : NodeId) (entry : Entry)
-    (found : find target ≡ Some after) (adds : Adds old new node (content.Placed entry) (After after)) where
-  -- the nodes that stood are what they were
-  placed_others : (ring : ℕ) (other : NodeId) → has_node (ring_at old ring) other ≡ true → content_of new other ≡ content_of old other
-  placed_others ring other there =
-      let differ : same_node other node ≡ false = by_test (λ b. same_node other node ≡ b → b ≡ false) (same_node other node)
-      (λ on _. not_both (ap (is_in old.rings) (sym (same_node_is other node on)) ∙ in_rings old ring other there) adds.apart) (λ off _. refl) refl in
-      adds.makes.contents other ∙ ap (λ b. cond b (Some (content.Placed entry)) (content_of old other)) differ
-
-  -- a ring that hasn't the target's node is as it was
-  placed_other_ring : (index : ℕ) → has_node (ring_at old index) after ≡ false → ring_at new index ≡ ring_at old index
-  placed_other_ring index absent = ap (λ rings. slice_index_or rings index []) adds.rings ∙ get_put_other (After after) node 0 index old.rings (place_out (ring_at old index) (0 + index) after absent)
-
-  -- the same is declared
-  pub placed_declared : declared_at new ≡ declared_at old
-  placed_declared = declared_stays old new (placed_other_ring 0 (not_declared old shaped find target after sound found)) (placed_others 0)
-
-  -- and the entry stands directly after the target's
-  pub placed_sections : sections_at new ≡ placed_after (sections_at old) target entry
-  placed_sections = sections_changed old new (λ es. entries_after es target entry) shaped (placed_other_ring 1 (not_begun old shaped find target after sound found)) (placed_others 1) (λ ring below.
-      let start = head_of (0 + ring.index) in
-      let nodes = ring_at old ring.index in
-      let put : ring_at new ring.index ≡ put_after (After after) node start nodes = ap (λ rings. slice_index_or rings ring.index []) adds.rings ∙ get_put (After after) node 0 ring.index old.rings below in
-      let itself : read_at entry_in new node ≡ entry ∷ [] = read_known entry_in new node (content.Placed entry) (adds.makes.contents node ∙ ap (λ b. cond b (Some (content.Placed entry)) (content_of old node)) (same_node_itself node)) in
-      entries_read new ring
-      ∙ (ap (flat_map (read_at entry_in new)) put
-      ∙ (put_read (read_at entry_in old) (read_at entry_in new) target after node entry itself start nodes refl
-      (λ other there. ap (λ known. flat_map entry_in (if_any known)) (placed_others ring.index other there))
-      (λ other there. found_tells old shaped find target after sound found other (in_rings old ring.index other there))
-      ∙ ap (λ es. entries_after es target entry) (sym (entries_read old ring)))))
-
--- a layout with an entry's node moved directly after another's
-abbrev pub relinked : TableLayout → (node after : NodeId) → TableLayout
-relinked layout node after = with_link (without_link layout node) node (After after)
-
--- an entry's node moved directly after another's
-module _ (old : TableLayout) (shaped : IsShaped old) (find : Id → Option NodeId) (sound : Finds same_id ids_in old find) (id target : Id) (node after : NodeId)
-    (found : find id ≡ Some node) (found_target : find target ≡ Some after) where
-  -- a ring that has neither is as it was
-  pub moved_other_ring : (index : ℕ) → has_node (ring_at old index) node ≡ false → has_node (ring_at old index) after ≡ false → ring_at (relinked old node after) index ≡ ring_at old index
-  moved_other_ring index absent absent_target =
-      let stays : slice_index_or (rings_without node old.rings) index [] ≡ ring_at old index = get_without node old.rings index ∙ without_absent node (ring_at old index) absent in
-      get_put_other (After after) node 0 index (rings_without node old.rings) (ap (λ nodes. has_node nodes after) stays ∙ absent_target) ∙ stays
-
-  -- the same is declared
-  pub moved_declared : declared_at (relinked old node after) ≡ declared_at old
-  moved_declared = declared_stays old (relinked old node after) (moved_other_ring 0 (not_declared old shaped find id node sound found) (not_declared old shaped find target after sound found_target)) (λ other there. refl)
-
-  -- a ring then
-  moved_ring : (index : ℕ) → index < length old.rings → ring_at (relinked old node after) index ≡ put_after (After after) node (head_of (0 + index)) (without node (ring_at old index))
-  moved_ring index below =
-      get_put (After after) node 0 index (rings_without node old.rings) (subst (λ n. index < n) (sym (length_rings_without node old.rings)) below)
-      ∙ ap (put_after (After after) node (head_of (0 + index))) (get_without node old.rings index)
-
-  -- and the entry stands directly after the target's
-  pub moved_sections : (entry : Entry) → entry_at (joined_entries (sections_at old)) id ≡ Some entry → sections_at (relinked old node after) ≡ placed_after (sections_without (sections_at old) id) target entry
-  moved_sections entry at =
-      let is = found_entry old shaped find id node sound found in
-      let same : is.0 ≡ entry = some_entry (entry_known old shaped find id node (content.Placed is.0) sound found is.1 ∙ at) in
-      let itself : read_at entry_in old node ≡ entry ∷ [] = read_known entry_in old node (content.Placed is.0) is.1 ∙ ap (λ e. e ∷ []) same in
-      sections_changed old (relinked old node after) (λ es. entries_after (entries_without es id) target entry) shaped
-      (moved_other_ring 1 (not_begun old shaped find id node sound found) (not_begun old shaped find target after sound found_target)) (λ other there. refl) (λ ring below.
-      let nodes = ring_at old ring.index in
-      entries_read (relinked old node after) ring
-      ∙ (ap (flat_map (read_at entry_in old)) (moved_ring ring.index below)
-      ∙ (put_read (read_at entry_in old) (read_at entry_in old) target after node entry itself (head_of (0 + ring.index)) (without node nodes) refl (λ other there. refl)
-      (λ other there. found_tells old shaped find target after sound found_target other (in_rings old ring.index other (had_before nodes other there)))
-      ∙ (ap (λ es. entries_after es target entry) (take_read (read_at entry_in old) id node nodes (λ other there. found_tells old shaped find id node sound found other (in_rings old ring.index other there)))
-      ∙ ap (λ es. entries_after (entries_without es id) target entry) (sym (entries_read old ring))))))
-      ∙ changed_twice (λ es. entries_without es id) (λ es. entries_after es target entry) (sections_at old) where
-        some_entry : {a b : Entry} → Some a ≡ Some b → a ≡ b
-        some_entry e = cc
-
-        had_before : (nodes : List NodeId) (other : NodeId) → has_node (without node nodes) other ≡ true → has_node nodes other ≡ true
-        had_before nodes other there = by_test (λ b. same_node other node ≡ b → has_node nodes other ≡ true) (same_node other node)
-            (λ on _. not_both (ap (has_node (without node nodes)) (sym (same_node_is other node on)) ∙ there) (has_without_itself node nodes))
-            (λ off _. sym (has_without node other nodes off) ∙ there) refl

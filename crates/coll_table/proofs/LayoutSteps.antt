@@ -18,7 +18,7 @@ use Rattle.coll_table.proofs.LayoutReads.{read_known, both_true, in_rings}
 use Rattle.coll_table.proofs.RingPlaces.{get_put, get_put_other, place_off}
 
 -- a number counted from 0 is itself
-from_zero : (index : ℕ) → 0 + index ≡ index
+pub from_zero : (index : ℕ) → 0 + index ≡ index
 from_zero index = omega arith
 
 -- a place that is in a ring is in the rings
@@ -122,10 +122,6 @@ module _ (old new : TableLayout) (node : NodeId) (node_content : Content) (place
           sets key ∙ by_test (λ b. list_any (same key) (keys node_content) ≡ b → cond b (Some node) (find key) ≡ Some other) (list_any (same key) (keys node_content))
           (λ on e. let none = fresh key e in cc) (λ off e. found) refl) refl;
     }
-
-    -- a look-up of keys that the node hasn't is sound as it is
-    pub finds_still : (find : Key → Option NodeId) → Finds same keys old find → keys node_content ≡ [] → Finds same keys new find
-    finds_still find sound none = finds_more find find sound (λ key. sym (ap (λ xs. cond (list_any (same key) xs) (Some node) (find key)) none)) (λ key has. not_both (sym (ap (list_any (same key)) none) ∙ has) refl)
 
   -- a ring that had a section has it still
   pub owned_still : (ring : ℕ) → IsOwned old ring → IsOwned new ring

@@ -1,14 +1,13 @@
 -- Names and identifiers in look-ups by hash: what is found there, and what one more does.
-use Rattle.std.proofs.Common.{◌≡◌, ℕ, Bool, true, false, ◌||◌, cond, List, [], ◌∷◌, ◌++◌, ◌+◌, ◌<◌, length, get_or, take, sym, ap, ◌∙◌, refl}
+use Rattle.std.proofs.Common.{◌≡◌, ℕ, Bool, true, false, ◌||◌, cond, List, [], ◌∷◌, ◌++◌, sym, ap, ◌∙◌, refl}
 use Rattle.std.specs.Prelude.{chars, string_bytes, encode_utf8_all}
 use Rattle.std.specs.Str.{bytes_eq}
 use Rattle.std.specs.List.{list_any}
 use Rattle.std.specs.declared.string.String.{String}
-use Rattle.std.proofs.lemmas.List.{map-append, take_more}
+use Rattle.std.proofs.lemmas.List.{map-append}
 use Rattle.coll_syntax.proofs.Spellings.{same_spelling}
-use Rattle.coll_table.proofs.Sameness.{same_name_symmetric, distinct_push, distinct_at}
 use Rattle.coll_syntax.specs.Identifier.{same_name, has_name}
-use Rattle.coll_table.specs.LookUps.{characters_of, all_characters_of, AreTexts, AreNames, with_name}
+use Rattle.coll_table.specs.LookUps.{characters_of, all_characters_of, AreTexts, with_name}
 
 module _ {Y : Type 0} where
   -- a text is found by its bytes where its characters are found
@@ -30,31 +29,17 @@ module _ {Y : Type 0} where
   inserted texts text = cond (list_any (λ t. bytes_eq (string_bytes text) (string_bytes t)) texts) texts (texts ++ text ∷ [])
 
   -- so does a name among names
-  pub inserted_name : (texts : List (String Y)) (text : String Y) (name : List ℕ) → AreNames texts → characters_of text ≡ name → encode_utf8_all name ≡ string_bytes text → all_characters_of (inserted texts text) ≡ with_name (all_characters_of texts) name
+  pub inserted_name : (texts : List (String Y)) (text : String Y) (name : List ℕ) → AreTexts texts → characters_of text ≡ name → encode_utf8_all name ≡ string_bytes text → all_characters_of (inserted texts text) ≡ with_name (all_characters_of texts) name
   inserted_name texts text name h q p =
-      let found = found_name texts name (string_bytes text) p q h.texts_are in
+      let found = found_name texts name (string_bytes text) p q h in
       ap (λ b. all_characters_of (cond b texts (texts ++ text ∷ []))) found ∙ pushed (has_name (all_characters_of texts) name) where
         pushed : (b : Bool) → all_characters_of (cond b texts (texts ++ text ∷ [])) ≡ cond b (all_characters_of texts) (all_characters_of texts ++ name ∷ [])
         pushed true = refl
         pushed false = map-append characters_of texts (text ∷ []) ∙ ap (λ n. all_characters_of texts ++ n ∷ []) q
 
-  -- and the names stay names, each once
-  pub inserted_are : (texts : List (String Y)) (text : String Y) (name : List ℕ) → AreNames texts → characters_of text ≡ name → encode_utf8_all name ≡ string_bytes text → AreNames (inserted texts text)
-  inserted_are texts text name h q p =
-      let found = found_name texts name (string_bytes text) p q h.texts_are in
-      kept (list_any (λ t. bytes_eq (string_bytes text) (string_bytes t)) texts) found where
-        kept : (b : Bool) → b ≡ has_name (all_characters_of texts) name → AreNames (cond b texts (texts ++ text ∷ []))
-        kept true e = h
-        kept false e = record {
-          texts_are = texts_push texts text h.texts_are (ap encode_utf8_all q ∙ p);
-          distinct = rw (map-append characters_of texts (text ∷ [])) (distinct_push same_name same_name_symmetric (all_characters_of texts) (characters_of text) h.distinct (rw q (sym e)));
-        }
-
-  -- a copy that has the names before a place, and the name at that place put in, has the names up to it
-  pub copied_more : (texts : List (String Y)) (i : ℕ) (text : String Y) → AreNames texts → i < length texts → text ≡ get_or texts i text → with_name (all_characters_of (take i texts)) (characters_of text) ≡ all_characters_of (take (i + 1) texts)
-  copied_more texts i text h below at =
-      let absent : has_name (all_characters_of (take i texts)) (characters_of text) ≡ false =
-      ap (λ t. has_name (all_characters_of (take i texts)) (characters_of t)) at ∙ distinct_at same_name same_name_symmetric characters_of texts i text h.distinct below in
-      let more : all_characters_of (take (i + 1) texts) ≡ all_characters_of (take i texts) ++ characters_of text ∷ [] =
-      ap all_characters_of (take_more texts i text below) ∙ (map-append characters_of (take i texts) (get_or texts i text ∷ []) ∙ ap (λ t. all_characters_of (take i texts) ++ characters_of t ∷ []) (sym at)) in
-      ap (λ b. cond b (all_characters_of (take i texts)) (all_characters_of (take i texts) ++ characters_of text ∷ [])) absent ∙ sym more
+  -- and the texts stay texts
+  pub inserted_are : (texts : List (String Y)) (text : String Y) (name : List ℕ) → AreTexts texts → characters_of text ≡ name → encode_utf8_all name ≡ string_bytes text → AreTexts (inserted texts text)
+  inserted_are texts text name h q p = kept (list_any (λ t. bytes_eq (string_bytes text) (string_bytes t)) texts) where
+    kept : (b : Bool) → AreTexts (cond b texts (texts ++ text ∷ []))
+    kept true = h
+    kept false = texts_push texts text h (ap encode_utf8_all q ∙ p)

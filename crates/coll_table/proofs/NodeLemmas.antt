@@ -1,7 +1,7 @@
 -- Nodes and their contents: what a node is by its tag, and what a node more does.
 use Rattle.std.proofs.Common.{◌≡◌, ◌≢◌, ℕ, Bool, true, false, ◌&&◌, cond, eqb, T, IsSome, is_some, List, [], ◌∷◌, ◌++◌, Option, Some, None, length, sym, ap, subst, ◌∙◌, refl, arith}
 use Rattle.std.specs.Option.{option_and_then}
-use Rattle.std.specs.Ordering.{nat_cmp, is_lt, is_eq, eq_by_cmp}
+use Rattle.std.specs.Ordering.{nat_cmp, is_lt, is_eq}
 use Rattle.std.specs.declared.cmp.Ordering.{Ordering}
 use Rattle.std.specs.declared.cmp.Ordering.TheVariants.{Less, Equal, Greater}
 use Rattle.std.specs.Cmp.{unsigned_tied}
@@ -13,18 +13,18 @@ use Rattle.coll_order.specs.Lists.{same_node}
 use Rattle.coll_order.specs.Sound.{IsSound}
 use Rattle.coll_order.specs.declared.places.NodeId.{NodeId}
 use Rattle.coll_order.proofs.LayoutLemmas.{tag_with_node}
-use Rattle.coll_order.proofs.Sameness.{by_test, not_both}
+use Rattle.coll_order.proofs.Sameness.{by_test, not_both, same_node_itself}
 use Rattle.coll_table.specs.Bodies.{slot_of, made_with, made_from, layout_with, AreMade, IsLooseNode, IsLaidOut, Makes}
 use Rattle.coll_table.specs.TableLayout.{content_of, content_among}
 use Rattle.coll_table.specs.declared.contents.Content.{Content}
 
 -- each of two tests that are true together is true
-both : (a b : Bool) → T (a && b) → T a × T b
+pub both : (a b : Bool) → T (a && b) → T a × T b
 both true b h = (tt, h)
 both false b h = absurd h
 
 -- tests that hold each hold together
-together : (a b : Bool) → T a → T b → T (a && b)
+pub together : (a b : Bool) → T a → T b → T (a && b)
 together true b p q = q
 together false b p q = absurd p
 
@@ -35,7 +35,7 @@ less_differs Equal h = absurd h
 less_differs Greater h = absurd h
 
 -- the key of a first entry isn't one of the later
-later_without : (e : ℕ × ℕ) (es : List (ℕ × ℕ)) → T (finmap.is_sorted nat_cmp (e ∷ es)) → finmap.find nat_cmp e.0 es ≡ None
+pub later_without : (e : ℕ × ℕ) (es : List (ℕ × ℕ)) → T (finmap.is_sorted nat_cmp (e ∷ es)) → finmap.find nat_cmp e.0 es ≡ None
 later_without e [] sorted = refl
 later_without e (x ∷ es) sorted =
     let parts = both _ _ sorted in
@@ -44,8 +44,23 @@ later_without e (x ∷ es) sorted =
     ap (λ b. cond b (Some x.1) (finmap.find nat_cmp e.0 es)) (less_differs (nat_cmp e.0 x.0) below.0) ∙ later_without e es (together _ _ below.1 after.1)
 
 -- what has a content isn't without one
-some_not_none : {X : Type 0} (x : Option X) {Y : Type 0} → IsSome x → x ≡ None → Y
+pub some_not_none : {X : Type 0} (x : Option X) {Y : Type 0} → IsSome x → x ≡ None → Y
 some_not_none x there e = not_both there (ap is_some e)
+
+-- the later entries are in order
+pub later_sorted : (e : ℕ × ℕ) (es : List (ℕ × ℕ)) → T (finmap.is_sorted nat_cmp (e ∷ es)) → T (finmap.is_sorted nat_cmp es)
+later_sorted e es sorted = (both _ _ sorted).1
+
+-- the first entry is found by its key
+pub found_first : (e : ℕ × ℕ) (es : List (ℕ × ℕ)) → finmap.find nat_cmp e.0 (e ∷ es) ≡ Some e.1
+found_first e es = ap (λ b. cond b (Some e.1) (finmap.find nat_cmp e.0 es)) (unsigned_tied e.0 e.0 ∙ (Decides-eqb e.0 e.0).1 refl)
+
+-- what is found among the later entries is found
+pub found_later : (e : ℕ × ℕ) (es : List (ℕ × ℕ)) → T (finmap.is_sorted nat_cmp (e ∷ es)) → (key tag : ℕ) → finmap.find nat_cmp key es ≡ Some tag → finmap.find nat_cmp key (e ∷ es) ≡ Some tag
+found_later e es sorted key tag at =
+    ap (λ b. cond b (Some e.1) (finmap.find nat_cmp key es)) (unsigned_tied key e.0) ∙ by_test (λ b. eqb key e.0 ≡ b → cond b (Some e.1) (finmap.find nat_cmp key es) ≡ Some tag) (eqb key e.0)
+    (λ on t. let none : finmap.find nat_cmp key es ≡ None = ap (λ k. finmap.find nat_cmp k es) ((Decides-eqb key e.0).0 on) ∙ later_without e es sorted in cc)
+    (λ off t. at) refl
 
 -- what a node is, among those of tags
 among_from : (slots : List (Option Content)) (es : List (ℕ × ℕ)) (node : NodeId) → T (finmap.is_sorted nat_cmp es)
@@ -53,19 +68,15 @@ among_from : (slots : List (Option Content)) (es : List (ℕ × ℕ)) (node : No
     → content_among (made_from slots es) node ≡ option_and_then (slot_of slots) (finmap.find nat_cmp node.key es)
 among_from slots [] node sorted lead = refl
 among_from slots (e ∷ es) node sorted lead =
-    let tied : (key : ℕ) → eq_by_cmp nat_cmp key e.0 ≡ eqb key e.0 = λ key. unsigned_tied key e.0 in
-    let first : finmap.find nat_cmp e.0 (e ∷ es) ≡ Some e.1 = ap (λ b. cond b (Some e.1) (finmap.find nat_cmp e.0 es)) (tied e.0 ∙ (Decides-eqb e.0 e.0).1 refl) in
-    let later : (key tag : ℕ) → finmap.find nat_cmp key es ≡ Some tag → IsSome (slot_of slots tag) = λ key tag at.
-    lead key tag (ap (λ b. cond b (Some e.1) (finmap.find nat_cmp key es)) (tied key) ∙ by_test (λ b. eqb key e.0 ≡ b → cond b (Some e.1) (finmap.find nat_cmp key es) ≡ Some tag) (eqb key e.0)
-    (λ on t. let none : finmap.find nat_cmp key es ≡ None = ap (λ k. finmap.find nat_cmp k es) ((Decides-eqb key e.0).0 on) ∙ later_without e es sorted in cc)
-    (λ off t. at) refl) in
-    let rest = among_from slots es node (both _ _ sorted).1 later in
+    let first = found_first e es in
+    let later : (key tag : ℕ) → finmap.find nat_cmp key es ≡ Some tag → IsSome (slot_of slots tag) = λ key tag at. lead key tag (found_later e es sorted key tag at) in
+    let rest = among_from slots es node (later_sorted e es sorted) later in
     elim (slot_of slots e.1) as (λ slot. slot_of slots e.1 ≡ slot → content_among (made_with e.0 slot ++ made_from slots es) node ≡ option_and_then (slot_of slots) (finmap.find nat_cmp node.key (e ∷ es))) [
       | None ↦ λ none. some_not_none (slot_of slots e.1) (lead e.0 e.1 first) none
       | Some content ↦ λ is.
           by_test (λ b. cond b (Some content) (content_among (made_from slots es) node) ≡ option_and_then (slot_of slots) (cond b (Some e.1) (finmap.find nat_cmp node.key es))) (eqb node.key e.0)
           (λ on. sym is) (λ off. rest)
-          ∙ ap (λ b. option_and_then (slot_of slots) (cond b (Some e.1) (finmap.find nat_cmp node.key es))) (sym (tied node.key))
+          ∙ ap (λ b. option_and_then (slot_of slots) (cond b (Some e.1) (finmap.find nat_cmp node.key es))) (sym (unsigned_tied node.key e.0))
     ] refl
 
 -- what a node is, by its tag
@@ -128,6 +139,16 @@ module _ (layout : Layout) (old new : List (Option Content)) (node : NodeId) (ta
         (λ off t e. by_test (λ s. eqb b node.key ≡ s → cond s (Some tag) (finmap.get layout.tags b) ≡ Some at → a ≡ b) (eqb b node.key)
         (λ on2 t2 e2. some_not_none (slot_of old at) (made.lead a at e) (ap (slot_of old) (cc) ∙ free))
         (λ off2 t2 e2. made.once a b at e e2) refl (sym (tag_with_node layout node (record { key = b }) tag) ∙ q)) refl (sym (tag_with_node layout node (record { key = a }) tag) ∙ p);
+    owned = λ at there. by_test (λ b. eqb at tag ≡ b → (key : ℕ) × (finmap.get (with_node layout node tag).tags key ≡ Some at)) (eqb at tag)
+        (λ on t.
+        let same : tag ≡ at = sym ((Decides-eqb at tag).0 t) in
+        (node.key, tag_with_node layout node node tag ∙ (ap (λ b. cond b (Some tag) (tag_of layout node)) (same_node_itself node) ∙ ap Some same)))
+        (λ off t.
+        let was : slot_of new at ≡ slot_of old at = others at (λ same. not_both ((Decides-eqb at tag).1 same) t) in
+        let own = made.owned at (subst (λ (found : Option Content). IsSome found) was there) in
+        let differ : eqb own.0 node.key ≡ false = by_test (λ b. eqb own.0 node.key ≡ b → b ≡ false) (eqb own.0 node.key)
+        (λ is e. let none : finmap.get layout.tags own.0 ≡ None = ap (finmap.get layout.tags) ((Decides-eqb own.0 node.key).0 e) ∙ fresh in some_not_none (finmap.get layout.tags own.0) (ap is_some own.1) none) (λ isnt e. refl) refl in
+        (own.0, tag_with_node layout node (record { key = own.0 }) tag ∙ (ap (λ b. cond b (Some tag) (finmap.get layout.tags own.0)) differ ∙ own.1))) refl;
   }
 
   -- the new node has its content, and the others have theirs
@@ -150,9 +171,10 @@ none_made slots = ap (made_from slots) (no_entries (finmap.entries finmap.empty)
   no_entries [] e = refl
   no_entries (x ∷ es) e = absurd (omega arith)
 
--- no tag leads nowhere
-pub empty_made : (slots : List (Option Content)) → AreMade finmap.empty slots
-empty_made slots = record {
+-- no tag leads nowhere, and no content is nobody's
+pub empty_made : (slots : List (Option Content)) → slots ≡ [] → AreMade finmap.empty slots
+empty_made slots none = record {
   lead = λ key tag. λ e. let none = finmap.get-empty {X = ℕ} nat_cmp key in cc;
   once = λ a b tag. λ e f. let none = finmap.get-empty {X = ℕ} nat_cmp a in cc;
+  owned = λ tag there. not_both there (ap (λ slots. is_some (slot_of slots tag)) none);
 }

@@ -77,7 +77,7 @@ get_push (nodes ∷ rings) zero = refl
 get_push (nodes ∷ rings) (suc index) = get_push rings index
 
 -- the place behind a list's nodes is after one of them
-end_after : (first : NodeId) (rest : List NodeId) → (y : NodeId) × (end_of (After first) rest ≡ After y) × (has_node (first ∷ rest) y ≡ true)
+pub end_after : (first : NodeId) (rest : List NodeId) → (y : NodeId) × (end_of (After first) rest ≡ After y) × (has_node (first ∷ rest) y ≡ true)
 end_after first [] = (first, refl, or_first (same_node first first) false (same_node_itself first))
 end_after first (second ∷ rest) = let later = end_after second rest in (later.0, later.1, or_second (same_node later.0 first) _ later.2)
 

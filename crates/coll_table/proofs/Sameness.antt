@@ -1,9 +1,7 @@
 -- When names and identifiers are the same, and lists in which each stands once.
-use Rattle.std.proofs.Common.{◌≡◌, ℕ, ◌<◌, suc, Bool, true, false, ◌||◌, List, [], ◌∷◌, ◌++◌, length, get_or, take, drop, map, All, Decides, sym, ap, subst, ◌∙◌, refl}
+use Rattle.std.proofs.Common.{◌≡◌, ℕ, Bool, true, false, ◌||◌, List, [], ◌∷◌, ◌++◌, All, Decides, sym, ap, subst, ◌∙◌, refl}
 use Rattle.std.specs.List.{list_any}
-use Rattle.std.proofs.lemmas.List.{map-append}
 use Rattle.std.proofs.lemmas.List.Elements.{All-head, All-tail}
-use Rattle.std.proofs.Math.Seq.{split_at}
 use Rattle.std.proofs.lemmas.Slice.Eq.{bytes_eq-Decides}
 use Rattle.std.proofs.lemmas.Bool.{false≢true}
 use Rattle.std.proofs.lemmas.Bool.Decides.{same_from_decides, Decides-like, Decides-eqb}
@@ -87,10 +85,3 @@ module _ {X : Type 0} (same : X → X → Bool) (symmetric : (a b : X) → same 
   pub absent_front : (x : X) (xs ys : List X) → list_any (same x) (xs ++ ys) ≡ false → list_any (same x) xs ≡ false
   absent_front x [] ys e = refl
   absent_front x (y ∷ xs) ys e = let h = neither _ _ e in nor _ _ h.0 (absent_front x xs ys h.1)
-
-  -- in a list of which each stands once, what stands at a place is none of those before
-  pub distinct_at : {A : Type 0} (f : A → X) (xs : List A) (i : ℕ) (d : A) → AreDistinct same (map f xs) → i < length xs → list_any (same (f (get_or xs i d))) (map f (take i xs)) ≡ false
-  distinct_at f xs i d h below =
-      let cut : map f xs ≡ map f (take i xs) ++ f (get_or xs i d) ∷ map f (drop (suc i) xs) =
-      ap (map f) (split_at xs i d below) ∙ map-append f (take i xs) (get_or xs i d ∷ drop (suc i) xs) in
-      distinct_before (map f (take i xs)) (f (get_or xs i d)) (map f (drop (suc i) xs)) (subst (AreDistinct same) cut h)

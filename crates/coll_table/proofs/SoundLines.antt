@@ -21,11 +21,10 @@ use Rattle.coll_table.specs.Table.{name_of, text_of, joined_entries, section_nam
 use Rattle.coll_table.specs.WellFormed.{IsKeptWeight, HasWeights}
 use Rattle.coll_table.specs.declared.declarations.Declaration.{Declaration}
 use Rattle.coll_table.specs.declared.entries.Entry.{Entry}
-use Rattle.coll_table.specs.declared.load_faults.LoadCause.{LoadCause}
 use Rattle.coll_table.specs.declared.load_faults.LoadCause.TheVariants.{NotDeclared, PlacedTwice, SymbolWithWeights, TooManyWeights, StringTwice, Full}
 
 -- where nothing is refused the test doesn't hold, and what follows doesn't refuse either
-pub passed : (test : Bool) (cause : LoadCause) (later : Option LoadCause) → refused_if test cause later ≡ None → (test ≡ false) × (later ≡ None)
+pub passed : {C : Type 0} (test : Bool) (cause : C) (later : Option C) → refused_if test cause later ≡ None → (test ≡ false) × (later ≡ None)
 passed true cause later e = cc
 passed false cause later e = (refl, e)
 
@@ -93,7 +92,7 @@ given_are None h = All-nil IsProperWeight
 given_are (Some weights) h = h.1
 
 -- the entry of a line has the weights that it is to have
-weights_are : (levels : ℕ) (symbol : Bool) (line : OrderLine) → IsProperLine line → length (given_weights line.weights) ≤ levels → HasWeights levels symbol (record { id = line.id; weights = weights_of levels symbol line })
+pub weights_are : (levels : ℕ) (symbol : Bool) (line : OrderLine) → IsProperLine line → length (given_weights line.weights) ≤ levels → HasWeights levels symbol (record { id = line.id; weights = weights_of levels symbol line })
 weights_are levels true line proper few = refl
 weights_are levels false line proper few =
     (length-kept levels line.id (given_weights line.weights) few, kept_are levels line.id (given_weights line.weights) (given_are line.weights proper.1))

@@ -6,9 +6,11 @@ use Rattle.coll_order.specs.Layout.{Layout, is_in, rings_with, rings_without}
 use Rattle.coll_order.specs.Lists.{same_node}
 use Rattle.coll_order.specs.Sound.{StandOnce}
 use Rattle.coll_order.specs.declared.places.NodeId.{NodeId}
+use Rattle.coll_order.specs.declared.places.RingId.{RingId}
 use Rattle.coll_order.specs.declared.places.Place.{Place}
 use Rattle.coll_order.specs.declared.places.Place.TheVariants.{Head, After}
 use Rattle.coll_table.specs.declared.contents.Content.{Content}
+use Rattle.coll_table.specs.declared.contents.Content.TheVariants as content
 use Rattle.coll_syntax.specs.declared.rules.Rule.{Rule}
 use Rattle.coll_table.specs.TableLayout.{TableLayout, TableValue, MadeNode, content_of}
 
@@ -39,10 +41,11 @@ made_from slots (tag ∷ tags) = made_with tag.0 (slot_of slots tag.1) ++ made_f
 abbrev pub layout_with : Layout → List (Option Content) → TableLayout
 layout_with layout slots = record { rings = layout.rings; nodes = made_from slots (finmap.entries layout.tags) }
 
--- each node's tag has a content, and no tag is that of two nodes
+-- each node's tag has a content, no tag is that of two nodes, and each content is that of a node
 pub record AreMade (tags : finmap.FinMap nat_cmp ℕ) (slots : List (Option Content)) : Type 0 where
   pub lead : (key tag : ℕ) → finmap.get tags key ≡ Some tag → IsSome (slot_of slots tag)
   pub once : (a b tag : ℕ) → finmap.get tags a ≡ Some tag → finmap.get tags b ≡ Some tag → a ≡ b
+  pub owned : (tag : ℕ) → IsSome (slot_of slots tag) → (key : ℕ) × (finmap.get tags key ≡ Some tag)
 
 -- a node is there, and stands in no ring
 pub record IsLooseNode (layout : TableLayout) (node : NodeId) : Type 0 where
@@ -63,6 +66,13 @@ pub record IsLaidOut (layout : TableLayout) : Type 0 where
 pub record Makes (old new : TableLayout) (node : NodeId) (content : Content) : Type 0 where
   pub fresh : content_of old node ≡ None
   pub contents : (other : NodeId) → content_of new other ≡ cond (same_node other node) (Some content) (content_of old other)
+
+-- a section's node that was not there is made, and a ring of no nodes for its entries
+pub record MakesSection (old new : TableLayout) (name : Option (List ℕ)) (made : NodeId × RingId) : Type 0 where
+  pub node : Makes old new made.0 (content.Begun name made.1)
+  pub apart : is_in old.rings made.0 ≡ false
+  pub ring : made.1.index ≡ length old.rings
+  pub rings : new.rings ≡ old.rings ++ [] ∷ []
 
 -- a layout with a node put directly after a place
 abbrev pub with_link : TableLayout → NodeId → Place → TableLayout

@@ -1,8 +1,7 @@
--- The look-ups of a table: which names it declares, and which identifiers stand in it.
+-- The look-ups of a block: which identifiers it has had, the names among them apart.
 use Rattle.std.specs.Prelude.{◌≡◌, ℕ, Bool, if◌then◌else◌, ◌||◌, List, [], ◌∷◌, ◌++◌, map, chars, string_bytes, encode_utf8_all}
 use Rattle.std.specs.declared.string.String.{String}
-use Rattle.coll_syntax.specs.Identifier.{same_name, same_id, has_name, has_id}
-use Rattle.coll_table.specs.WellFormed.{AreDistinct}
+use Rattle.coll_syntax.specs.Identifier.{same_id, has_name, has_id}
 use Rattle.coll_syntax.specs.declared.identifiers.Id.{Id}
 use Rattle.coll_syntax.specs.declared.identifiers.Id.TheVariants.{Char, Named, Undefined}
 
@@ -18,11 +17,6 @@ all_characters_of texts = map characters_of texts
 abbrev pub AreTexts : {Y : Type 0} → List (String Y) → Type 0
 AreTexts [] = Unit {0}
 AreTexts (text ∷ texts) = (encode_utf8_all (characters_of text) ≡ string_bytes text) × AreTexts texts
-
--- the texts of a look-up are texts, each once
-pub record AreNames {Y : Type 0} (texts : List (String Y)) : Type 0 where
-  pub texts_are : AreTexts texts
-  pub distinct : AreDistinct same_name (all_characters_of texts)
 
 -- names with one more, unless it is there
 abbrev pub with_name : List (List ℕ) → List ℕ → List (List ℕ)

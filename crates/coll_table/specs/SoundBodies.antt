@@ -7,12 +7,10 @@ use Rattle.coll_order.specs.declared.places.NodeId.{NodeId}
 use Rattle.coll_order.specs.declared.places.RingId.{RingId}
 use Rattle.coll_order.specs.declared.places.Place.{Place}
 use Rattle.coll_order.specs.declared.places.Place.TheVariants.{After}
-use Rattle.coll_syntax.specs.Identifier.{same_name, same_id}
 use Rattle.coll_syntax.specs.declared.identifiers.Id.{Id}
 use Rattle.coll_table.specs.Bodies.{Makes}
-use Rattle.coll_table.specs.NodeLookUps.{Leading, NodesById, node_named, node_with}
-use Rattle.coll_table.specs.Table.{Section, name_of, text_of, named, ids_of, joined_entries}
-use Rattle.coll_table.specs.TableLayout.{TableLayout, content_of, if_any, declaration_in, entry_in, declared_at, sections_at, declarations_ring, sections_ring}
+use Rattle.coll_table.specs.Table.{Section, name_of, text_of, named, ids_of}
+use Rattle.coll_table.specs.TableLayout.{TableLayout, content_of, if_any, declaration_in, entry_in, sections_at}
 use Rattle.coll_table.specs.declared.contents.Content.{Content}
 use Rattle.coll_table.specs.declared.contents.Content.TheVariants as content
 use Rattle.coll_table.specs.declared.declarations.Declaration.TheVariants.{Symbol, Element}
@@ -109,20 +107,6 @@ pub record IsShaped (layout : TableLayout) : Type 0 where
   pub placed : (index : ℕ) (node : NodeId) → has_node (ring_at layout (suc (suc index))) node ≡ true → IsEntry (content_of layout node) × IsOwned layout (suc (suc index))
   pub own : (ring : RingId) (a b : NodeId) → has_key same_ring rings_in layout ring a ≡ true → has_key same_ring rings_in layout ring b ≡ true → a ≡ b
 
--- the rings are those of the declarations and the sections, the layout is one of a table, the look-ups find what stands in
--- it, and the counts are the lengths of its lists
-pub record IsSoundBody (layout : TableLayout) (declarations_is sections_is : RingId) (names texts sections : List (Leading (List ℕ))) (placed : NodesById) (declared_len section_len entry_len : ℕ) : Type 0 where
-  pub declarations : declarations_is ≡ declarations_ring
-  pub begun : sections_is ≡ sections_ring
-  pub shaped : IsShaped layout
-  pub names_found : Finds same_name names_in layout (node_named names)
-  pub texts_found : Finds same_name texts_in layout (node_named texts)
-  pub sections_found : Finds same_name section_names_in layout (node_named sections)
-  pub ids_found : Finds same_id ids_in layout (node_with placed)
-  pub declared_count : declared_len ≡ length (declared_at layout)
-  pub section_count : section_len ≡ length (sections_at layout)
-  pub entry_count : entry_len ≡ length (joined_entries (sections_at layout))
-
 -- a place is in a list that begins after another: it is the beginning, or after one of the nodes
 abbrev pub is_place_of : Place → Place → List NodeId → Bool
 is_place_of place start nodes = same_place place start || list_any (λ node. same_place place (After node)) nodes
@@ -174,9 +158,8 @@ abbrev pub FirstAloneUnnamed : List Section → Type 0
 FirstAloneUnnamed [] = ⊥
 FirstAloneUnnamed (first ∷ later) = (first.name ≡ None) × HaveNames later
 
--- places behind the last declaration, the last section, and the last entry of that
-pub record IsSoundBuilder (layout : TableLayout) (declared_end sections_end entries_end : Place) : Type 0 where
-  pub declared : declared_end ≡ end_in layout 0
+-- places behind the last section, and the last entry of that
+pub record IsSoundBuilder (layout : TableLayout) (sections_end entries_end : Place) : Type 0 where
   pub sections : sections_end ≡ end_in layout 1
   pub entries : IsLastEnd layout entries_end
   pub unnamed : FirstAloneUnnamed (sections_at layout)

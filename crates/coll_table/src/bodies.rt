@@ -2,18 +2,19 @@
 //!
 //! A `Body` has the nodes, look-ups by hash, and counts. Contracts see its layout (`specs/Bodies.antt`), from which
 //! `declared_at` and `sections_at` of `specs/TableLayout.antt` read the table. What stands in which ring, and that the look-ups
-//! find just the nodes that stand in a ring, is said in `specs/SoundBodies.antt`: whoever links a node or takes one out sets the
-//! look-ups with it. A new kind of node is a new ring, and a look-up where it has a key.
+//! find just the nodes that stand in a ring, is said in `specs/SoundBodies.antt` and `specs/BodyInvariant.antt`. Here it is read,
+//! and gets declarations, sections and entries; what is done with one node is in `linking`. A new kind of node is a new ring, and
+//! a look-up where it has a key.
 
 ghost use Rattle.std.specs.Prelude.{◌≡◌, ◌∷◌, ◌++◌, [], Some, None, false, length, ◌+◌, IfOk, OnOk, OnErr, option_copied};
 ghost use Rattle.coll_syntax.specs.Identifier.{has_name};
 ghost use Rattle.coll_table.specs.SoundBodies.{declares_a_symbol, entry_if};
 
-mod moving;
+mod linking;
 
 use crate::contents::Content;
-use crate::node_ids::NodeIds;
-use crate::node_names::NodeNames;
+use crate::counts::Counts;
+use crate::node_keys::NodeKeys;
 use crate::nodes::Nodes;
 use crate::{Declaration, Entry};
 use coll_lex::TextBuf;
@@ -30,38 +31,22 @@ pub(crate) struct Body {
     declarations: RingId,
     /// The ring of the sections.
     sections: RingId,
-    /// The declarations by their names.
-    names: NodeNames,
-    /// The collating elements by their strings.
-    texts: NodeNames,
-    /// The sections by their names.
-    section_names: NodeNames,
-    /// The entries by their identifiers.
-    placed: NodeIds,
-    declared_len: usize,
-    section_len: usize,
-    entry_len: usize,
+    /// The nodes by their keys.
+    keys: NodeKeys,
+    /// The place behind the last declaration.
+    declared_end: Place,
+    counts: Counts,
 }
 
 impl Model for Body {
     ghost use Rattle.coll_table.specs.Bodies.{BodyValue};
-    ghost use Rattle.coll_table.specs.SoundBodies.{IsSoundBody};
+    ghost use Rattle.coll_table.specs.BodyInvariant.{IsSoundBody};
 
     ghost Value = { BodyValue };
 
     ghost view = { λ b. b.nodes };
 
-    ghost invariant = { λ b. IsSoundBody b.nodes.layout b.declarations b.sections b.names b.texts b.section_names b.placed b.declared_len b.section_len b.entry_len };
-}
-
-// One more. A count that no number has is refused, as want of memory.
-fn one_more(count: usize) -> Result<usize, AllocError>
-    ensures { IfOk result (λ more. more ≡ count + 1) }
-{
-    if count == usize::MAX {
-        return Err(AllocError);
-    }
-    Ok(count + 1)
+    ghost invariant = { λ b. IsSoundBody b.nodes.layout b.declarations b.sections b.keys b.declared_end b.counts };
 }
 
 // Whether a node declares a collating symbol.
@@ -89,6 +74,7 @@ impl Body {
     ghost use Rattle.coll_table.specs.Bodies.{IsLaidOut};
     ghost use Rattle.coll_table.specs.Drafts.{has_text};
     ghost use Rattle.coll_table.specs.Placement.{entry_at};
+    ghost use Rattle.coll_table.specs.SoundLayouts.{IsSoundLayout};
     ghost use Rattle.coll_table.specs.SoundBodies.{IsShaped, IsPlaceIn, IsEntryPlace, Adds, with_empty_ring};
     ghost use Rattle.std.specs.List.{list_any};
     ghost use Rattle.coll_table.specs.declared.declarations.Declaration.TheVariants.{Symbol, Element};
@@ -108,13 +94,9 @@ impl Body {
             nodes,
             declarations,
             sections,
-            names: NodeNames::new(alloc),
-            texts: NodeNames::new(alloc),
-            section_names: NodeNames::new(alloc),
-            placed: NodeIds::new(alloc),
-            declared_len: 0,
-            section_len: 0,
-            entry_len: 0,
+            keys: NodeKeys::new(alloc),
+            declared_end: Place::Head(declarations),
+            counts: Counts::new(),
         })
     }
 
@@ -123,27 +105,20 @@ impl Body {
         ensures { IfOk result (λ copy. copy ≡ self.now) }
     {
         let nodes = self.nodes.try_copy(alloc)?;
-        let names = self.names.try_copy(alloc)?;
-        let texts = self.texts.try_copy(alloc)?;
-        let section_names = self.section_names.try_copy(alloc)?;
-        let placed = self.placed.try_copy(alloc)?;
+        let keys = self.keys.try_copy(alloc)?;
         Ok(Body {
             nodes,
             declarations: self.declarations,
             sections: self.sections,
-            names,
-            texts,
-            section_names,
-            placed,
-            declared_len: self.declared_len,
-            section_len: self.section_len,
-            entry_len: self.entry_len,
+            keys,
+            declared_end: self.declared_end,
+            counts: self.counts,
         })
     }
 
     /// Where it takes memory.
     pub(crate) fn alloc(&self) -> Global {
-        self.names.alloc()
+        self.keys.names.alloc()
     }
 
     /// The nodes.
@@ -173,7 +148,9 @@ impl Body {
     pub(crate) fn check_layout(&self)
         ensures laid { IsLaidOut self.now.layout }
         ensures shaped { IsShaped self.now.layout }
+        ensures sound { IsSoundLayout self.now.layout }
     {
+        self.nodes.check_named();
         self.nodes.check_layout();
     }
 
@@ -181,28 +158,28 @@ impl Body {
     pub(crate) fn declares(&self, name: &TextBuf) -> bool
         ensures { result ≡ is_declared (declared_at self.now.layout) name.now }
     {
-        self.names.find(name).is_some()
+        self.keys.names.find(name).is_some()
     }
 
     /// Whether a collating element has this string.
     pub(crate) fn has_text(&self, text: &TextBuf) -> bool
         ensures { result ≡ has_name (texts_of (declared_at self.now.layout)) text.now }
     {
-        self.texts.find(text).is_some()
+        self.keys.texts.find(text).is_some()
     }
 
     /// Whether a section has this name.
     pub(crate) fn has_section(&self, name: &TextBuf) -> bool
         ensures { result ≡ has_name (section_names (sections_at self.now.layout)) name.now }
     {
-        self.section_names.find(name).is_some()
+        self.keys.sections.find(name).is_some()
     }
 
     /// Whether an identifier stands in a section.
     pub(crate) fn is_placed(&self, id: &Id) -> bool
         ensures { result ≡ is_placed_in (sections_at self.now.layout) id.now }
     {
-        self.placed.find(id).is_some()
+        self.keys.placed.find(id).is_some()
     }
 
     /// Whether an identifier may be used: a name has to be declared.
@@ -230,7 +207,7 @@ impl Body {
         ensures { result ≡ list_any (declares_symbol name.now) (declared_at self.now.layout) }
     {
         self.nodes.check_layout();
-        match self.names.find(name) {
+        match self.keys.names.find(name) {
             Some(node) => is_symbol_node(self.nodes.content(node)),
             None => false,
         }
@@ -241,7 +218,7 @@ impl Body {
         ensures { option_copied result ≡ entry_at (joined_entries (sections_at self.now.layout)) id.now }
     {
         self.nodes.check_layout();
-        match self.placed.find(id) {
+        match self.keys.placed.find(id) {
             Some(node) => entry_of(self.nodes.content(node)),
             None => None,
         }
@@ -251,21 +228,21 @@ impl Body {
     pub(crate) fn declared_len(&self) -> usize
         ensures { result ≡ length (declared_at self.now.layout) }
     {
-        self.declared_len
+        self.counts.declarations
     }
 
     /// The number of sections.
     pub(crate) fn section_len(&self) -> usize
         ensures { result ≡ length (sections_at self.now.layout) }
     {
-        self.section_len
+        self.counts.sections
     }
 
     /// The number of entries, in all sections together.
     pub(crate) fn entry_len(&self) -> usize
         ensures { result ≡ length (joined_entries (sections_at self.now.layout)) }
     {
-        self.entry_len
+        self.counts.entries
     }
 
     /// Puts a declaration of a collating symbol directly after a place.
@@ -280,21 +257,9 @@ impl Body {
         ensures steps { OnOk result (self.new.steps ≡ one_step_more self.old.steps) }
         ensures err { OnErr result (self.new ≡ self.old) }
     {
-        self.nodes.check_layout();
-        let more = one_more(self.declared_len)?;
-        self.names.reserve(&name)?;
-        let node = self
-            .nodes
-            .make(Content::Declared(Declaration::Symbol(name)))?;
-        let Content::Declared(declared) = self.nodes.content(node) else {
-            unreachable!();
-        };
-        let Declaration::Symbol(name) = declared else {
-            unreachable!();
-        };
-        self.names.set(name, Some(node));
-        self.nodes.link(node, place);
-        self.declared_len = more;
+        self.check_layout();
+        let node = self.make(Content::Declared(Declaration::Symbol(name)))?;
+        self.put_in(node, place);
         Ok(node)
     }
 
@@ -312,23 +277,9 @@ impl Body {
         ensures steps { OnOk result (self.new.steps ≡ one_step_more self.old.steps) }
         ensures err { OnErr result (self.new ≡ self.old) }
     {
-        self.nodes.check_layout();
-        let more = one_more(self.declared_len)?;
-        self.names.reserve(&name)?;
-        self.texts.reserve(&text)?;
-        let node = self
-            .nodes
-            .make(Content::Declared(Declaration::Element { name, text }))?;
-        let Content::Declared(declared) = self.nodes.content(node) else {
-            unreachable!();
-        };
-        let Declaration::Element { name, text } = declared else {
-            unreachable!();
-        };
-        self.names.set(name, Some(node));
-        self.texts.set(text, Some(node));
-        self.nodes.link(node, place);
-        self.declared_len = more;
+        self.check_layout();
+        let node = self.make(Content::Declared(Declaration::Element { name, text }))?;
+        self.put_in(node, place);
         Ok(node)
     }
 
@@ -340,11 +291,9 @@ impl Body {
         ensures steps { OnOk result (self.new.steps ≡ one_step_more self.old.steps) }
         ensures err { OnErr result (self.new ≡ self.old) }
     {
-        self.nodes.check_layout();
-        let more = one_more(self.section_len)?;
-        let (node, ring) = self.nodes.make_section(None)?;
-        self.nodes.link(node, place);
-        self.section_len = more;
+        self.check_layout();
+        let (node, ring) = self.make_section(None)?;
+        self.put_in(node, place);
         Ok((node, ring))
     }
 
@@ -361,19 +310,9 @@ impl Body {
         ensures steps { OnOk result (self.new.steps ≡ one_step_more self.old.steps) }
         ensures err { OnErr result (self.new ≡ self.old) }
     {
-        self.nodes.check_layout();
-        let more = one_more(self.section_len)?;
-        self.section_names.reserve(&name)?;
-        let (node, ring) = self.nodes.make_section(Some(name))?;
-        let Content::Begun { name: begun, .. } = self.nodes.content(node) else {
-            unreachable!();
-        };
-        let Some(name) = begun else {
-            unreachable!();
-        };
-        self.section_names.set(name, Some(node));
-        self.nodes.link(node, place);
-        self.section_len = more;
+        self.check_layout();
+        let (node, ring) = self.make_section(Some(name))?;
+        self.put_in(node, place);
         Ok((node, ring))
     }
 
@@ -385,16 +324,9 @@ impl Body {
         ensures steps { OnOk result (self.new.steps ≡ one_step_more self.old.steps) }
         ensures err { OnErr result (self.new ≡ self.old) }
     {
-        self.nodes.check_layout();
-        let more = one_more(self.entry_len)?;
-        self.placed.reserve(&entry.id)?;
-        let node = self.nodes.make(Content::Placed(entry))?;
-        let Content::Placed(entry) = self.nodes.content(node) else {
-            unreachable!();
-        };
-        self.placed.set(&entry.id, Some(node));
-        self.nodes.link(node, place);
-        self.entry_len = more;
+        self.check_layout();
+        let node = self.make(Content::Placed(entry))?;
+        self.put_in(node, place);
         Ok(node)
     }
 }

@@ -2,8 +2,8 @@
 //!
 //! A `Builder` puts declarations, sections and entries behind those that are there, and answers what is there by look-ups. What
 //! contracts see of it are the two lists (`Parts` of `specs/Building.antt`); `finish` makes the table of them. It judges
-//! nothing: what may be put where is for its caller to know. Beside the body it keeps the places where each list ends
-//! (`IsSoundBuilder` of `specs/SoundBodies.antt`), so that no call walks.
+//! nothing: what may be put where is for its caller to know. Beside the body, which knows where its declarations end, it keeps the
+//! places where the sections and the last of them end (`IsSoundBuilder` of `specs/SoundBodies.antt`), so that no call walks.
 
 ghost use Rattle.std.specs.Prelude.{◌≡◌, ◌∷◌, ◌++◌, [], ◌<◌, Some, false, IfOk, OnOk, OnErr, length};
 ghost use Rattle.coll_syntax.specs.Identifier.{has_name};
@@ -20,8 +20,6 @@ use std::marker::Model;
 #[derive(Debug, Drop)]
 pub(crate) struct Builder {
     body: Body,
-    /// The place behind the last declaration.
-    declared_end: Place,
     /// The place behind the last section.
     sections_end: Place,
     /// The place behind the last entry of the last section.
@@ -38,7 +36,7 @@ impl Model for Builder {
 
     ghost view = { λ b. parts_at b.body.layout };
 
-    ghost invariant = { λ b. IsSoundBuilder b.body.layout b.declared_end b.sections_end b.entries_end };
+    ghost invariant = { λ b. IsSoundBuilder b.body.layout b.sections_end b.entries_end };
 }
 
 impl Builder {
@@ -59,10 +57,8 @@ impl Builder {
         body.check_layout();
         let sections = body.sections();
         let (section, ring) = body.begin_unnamed(Place::Head(sections))?;
-        let declarations = body.declarations();
         Ok(Builder {
             body,
-            declared_end: Place::Head(declarations),
             sections_end: Place::After(section),
             entries_end: Place::Head(ring),
         })
@@ -151,8 +147,7 @@ impl Builder {
         ensures err { OnErr result (self.new ≡ self.old) }
     {
         self.body.check_layout();
-        let node = self.body.declare_symbol(name, self.declared_end)?;
-        self.declared_end = Place::After(node);
+        self.body.declare_symbol(name, self.body.declared_end())?;
         Ok(())
     }
 
@@ -164,8 +159,8 @@ impl Builder {
         ensures err { OnErr result (self.new ≡ self.old) }
     {
         self.body.check_layout();
-        let node = self.body.declare_element(name, text, self.declared_end)?;
-        self.declared_end = Place::After(node);
+        self.body
+            .declare_element(name, text, self.body.declared_end())?;
         Ok(())
     }
 

@@ -3,12 +3,15 @@
 //! A `Content` is plain data, which `specs/TableLayout.antt` reads a table from. A new kind of node is a new variant, and a
 //! ring that holds it.
 
-ghost use Rattle.std.specs.Prelude.{◌≡◌, IfOk};
+ghost use Rattle.std.specs.Prelude.{◌≡◌, Some, IfOk};
+ghost use Rattle.coll_table.specs.Turning.{exchanged, weighed};
 
 use crate::{Declaration, Entry};
-use coll_lex::TextBuf;
+use coll_lex::{ListBuf, TextBuf};
 use coll_order::RingId;
+use coll_syntax::Weight;
 use std::alloc::AllocError;
+use std::mem;
 
 /// What a node of a table is.
 #[derive(Debug, Drop)]
@@ -24,6 +27,18 @@ pub(crate) enum Content {
     },
     /// An entry, in the ring of its section.
     Placed(Entry),
+}
+
+impl Content {
+    /// Exchanges the weights of an entry with these. What isn't an entry, and the weights, then stay.
+    pub(crate) fn exchange(&mut self, weights: &mut ListBuf<Weight>)
+        ensures content { self.new ≡ weighed (Some weights.old) self.old }
+        ensures weights { Some weights.new ≡ exchanged (Some weights.old) (Some self.old) }
+    {
+        if let Content::Placed(entry) = self {
+            mem::swap(&mut entry.weights, weights);
+        }
+    }
 }
 
 impl Clone for Content {

@@ -5,8 +5,9 @@
 //!
 //! - `declarations`, `entries` and `limits`: what a table is made of (`Table`, `Entries`, `WellFormed`, `Limits`);
 //! - `contents` and `nodes`: rings of nodes, and what each node is (`TableLayout`, `Bodies`);
-//! - `node_names` and `node_ids`: which node has a name, and which an identifier (`NodeLookUps`);
-//! - `bodies`, and `bodies/moving`: the whole, with its look-ups, and what is put in and moved (`SoundBodies`);
+//! - `node_names`, `node_ids` and `node_keys`: which node has a name, and which an identifier (`NodeLookUps`, `KeyedNodes`);
+//! - `bodies`, and `bodies/linking`: the whole, with its look-ups and `counts`, and what is put in, moved and taken out
+//!   (`SoundBodies`, `BodyInvariant`, `Linking`);
 //! - `tables`, `walks` and `met_nodes`: a table, read (`Walks`, `WalkStates`, `WalkItems`);
 //! - `building`: a table that grows (`Building`);
 //! - `drafts`: the lines of a category, each judged by those before it (`Drafts`), and in `line_weights` the weights of an entry
@@ -14,14 +15,15 @@
 //! - `loaders` and `loading`: a text, read line by line (`Reading`, `Loading`, `SoundLoaders`, `Loads`), with its `load_faults` (`LoadFaults`);
 //! - `printing`, and for its lines `spelled_lines` and `spelled_entries`: the canonical text of a table, written, and that it is
 //!   read back (`CanonicalText`, `PrintedParts`);
-//! - `plain/`: what a line of a delta says (`PlainDeltaLines`, `PlainOrderLines`);
-//! - `names`, `places`, `deltas` and `refusals`: a statement, applied (`LookUps`, `Delta`, `Placement`, `Refusals`);
-//! - `records`: a statement, taken back (`Record`).
+//! - `deltas`, with `deltas/judging` and `deltas/preparing`, `names`, `places` and `refusals`: a statement, judged, prepared and
+//!   applied (`Delta`, `Placement`, `LookUps`, `Prepared`, `Growth`, `Applied`, `Refusals`);
+//! - `records` and `turning`: a statement, taken back and done again (`Turning`, `Record`).
 #![tactic(auto)]
 
 mod bodies;
 mod building;
 mod contents;
+mod counts;
 mod declarations;
 mod deltas;
 mod drafts;
@@ -34,16 +36,18 @@ mod loading;
 mod met_nodes;
 mod names;
 mod node_ids;
+mod node_keys;
 mod node_names;
 mod nodes;
 mod places;
-mod plain;
 mod printing;
+mod record_laws;
 mod records;
 mod refusals;
 mod spelled_entries;
 mod spelled_lines;
 mod tables;
+mod turning;
 mod walks;
 
 pub use declarations::Declaration;
@@ -52,9 +56,12 @@ pub use limits::{MOST_DECLARATIONS, MOST_ENTRIES, MOST_SECTIONS, limits_are_stat
 pub use load_faults::{LoadCause, LoadFault};
 pub use loaders::{Loader, lines_are_read};
 pub use loading::{load, texts_are_well_formed};
-pub use plain::{PlainDeltaLine, PlainLine, PlainStatement, parse_plain_delta_line};
 pub use printing::printed_tables_are_read_back;
-pub use records::Record;
+pub use record_laws::{
+    records_fit_narrower, records_fit_wider, records_turn_back, undone_records_put_in,
+    wider_tables_read_alike,
+};
+pub use records::{Item, Record};
 pub use refusals::Refusal;
 pub use spelled_entries::write_id;
 pub use tables::Table;

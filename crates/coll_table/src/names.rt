@@ -3,9 +3,8 @@
 //! A `Names` is the list of its names in the order in which they came, each once. How a name is found may change.
 //! `Places` keeps in it which names a block has had; the names that a table declares stand in `node_names`.
 
-ghost use Rattle.std.specs.Prelude.{◌≡◌, [], IfOk, OnOk, OnErr, chars, length};
-ghost use Rattle.coll_syntax.specs.Identifier.{same_name, has_name};
-ghost use Rattle.coll_table.specs.WellFormed.{AreDistinct};
+ghost use Rattle.std.specs.Prelude.{◌≡◌, [], OnOk, OnErr, chars};
+ghost use Rattle.coll_syntax.specs.Identifier.{has_name};
 
 use coll_lex::TextBuf;
 use indexmap::IndexSet;
@@ -21,13 +20,13 @@ pub struct Names {
 
 impl Model for Names {
     ghost use Rattle.std.specs.Prelude.{List, ℕ};
-    ghost use Rattle.coll_table.specs.LookUps.{all_characters_of, AreNames};
+    ghost use Rattle.coll_table.specs.LookUps.{all_characters_of, AreTexts};
 
     ghost Value = { List (List ℕ) };
 
     ghost view = { λ n. all_characters_of n.names.keys };
 
-    ghost invariant = { λ n. AreNames n.names.keys };
+    ghost invariant = { λ n. AreTexts n.names.keys };
 }
 
 impl Names {
@@ -41,14 +40,6 @@ impl Names {
             names: IndexSet::new(alloc),
             alloc,
         }
-    }
-
-    /// The number of names.
-    pub fn len(&self) -> usize
-        ensures len { result ≡ length self.now }
-        ensures distinct { AreDistinct same_name self.now }
-    {
-        self.names.len()
     }
 
     /// Whether a name is there.
@@ -66,16 +57,5 @@ impl Names {
         let text = String::from_str(self.alloc, name)?;
         self.names.insert(text)?;
         Ok(())
-    }
-
-    /// A copy, in new memory.
-    pub fn try_copy(&self, alloc: Global) -> Result<Names, AllocError>
-        ensures { IfOk result (λ copy. copy ≡ self.now) }
-    {
-        let mut copy = Names::new(alloc);
-        for name in self.names.as_slice() {
-            copy.insert(name.as_str())?;
-        }
-        Ok(copy)
     }
 }

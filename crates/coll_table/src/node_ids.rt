@@ -57,33 +57,6 @@ impl NodeIds {
         }
     }
 
-    /// Whether an identifier is a key.
-    pub(crate) fn has_key(&self, id: &Id) -> bool
-        ensures { result ≡ is_id_key self.now id.now }
-    {
-        match id {
-            Id::Char(c) => self.characters.contains_key(c),
-            Id::Named(name) => self.names.has_key(name),
-            Id::Undefined => true,
-        }
-    }
-
-    /// Makes an identifier lead to a node.
-    pub(crate) fn insert(&mut self, id: &Id, node: NodeId) -> Result<(), AllocError>
-        ensures ok { OnOk result (SetsId self.old self.new id.now (Some node)) }
-        ensures keys { OnOk result (AddsIdKey self.old self.new id.now) }
-        ensures err { OnErr result (self.new ≡ self.old) }
-    {
-        match id {
-            Id::Char(c) => {
-                self.characters.insert(*c, Some(node))?;
-            }
-            Id::Named(name) => self.names.insert(name, node)?,
-            Id::Undefined => self.undefined = Some(node),
-        }
-        Ok(())
-    }
-
     /// Makes an identifier a key, so that it can be `set`. It leads to where it led.
     pub(crate) fn reserve(&mut self, id: &Id) -> Result<(), AllocError>
         ensures ok { OnOk result (LeadAlike self.old self.new) }

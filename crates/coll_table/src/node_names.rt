@@ -58,22 +58,6 @@ impl NodeNames {
         }
     }
 
-    /// Whether a name is a key.
-    pub(crate) fn has_key(&self, name: &TextBuf) -> bool
-        ensures { result ≡ is_name_key self.now name.now }
-    {
-        self.names.contains_key(name.get())
-    }
-
-    /// Makes a name lead to a node.
-    pub(crate) fn insert(&mut self, name: &TextBuf, node: NodeId) -> Result<(), AllocError>
-        ensures ok { OnOk result (SetsName self.old self.new name.now (Some node)) }
-        ensures keys { OnOk result (AddsNameKey self.old self.new name.now) }
-        ensures err { OnErr result (self.new ≡ self.old) }
-    {
-        self.put(name, Some(node))
-    }
-
     /// Makes a name a key, so that it can be `set`. It leads to where it led.
     pub(crate) fn reserve(&mut self, name: &TextBuf) -> Result<(), AllocError>
         ensures ok { OnOk result (LeadNamesAlike self.old self.new) }

@@ -3,14 +3,15 @@
 //! A `Nodes` has the rings, and the content of each node that is there, found by the node's tag. Contracts see the layout that
 //! they make (`specs/Bodies.antt`); what may stand in which ring is for `bodies` to know. The way to a content may change.
 
-ghost use Rattle.std.specs.Prelude.{◌≡◌, ◌∷◌, ◌++◌, [], Some, None, IsSome, false, true, length, ◌<◌, IfOk, OnOk, OnErr};
+ghost use Rattle.std.specs.Prelude.{map, ◌≡◌, ◌∷◌, ◌++◌, [], Some, None, IsSome, false, true, length, ◌<◌, IfOk, OnOk, OnErr};
 ghost use Rattle.coll_order.specs.Changes.{one_step_more, next_ring, with_node, with_ring};
 ghost use Rattle.coll_order.specs.Layout.{is_in, place_from, tag_of};
 ghost use Rattle.coll_order.specs.Lists.{first_in};
 
 use crate::contents::Content;
-use coll_lex::TextBuf;
+use coll_lex::{ListBuf, TextBuf};
 use coll_order::{NodeId, Place, RingId, Rings};
+use coll_syntax::Weight;
 use slab::Slab;
 use std::alloc::{AllocError, Global};
 use std::marker::Model;
@@ -52,10 +53,13 @@ fn new_node_and_ring(rings: &mut Rings, tag: usize) -> Result<(NodeId, RingId), 
 }
 
 impl Nodes {
-    ghost use Rattle.coll_table.specs.Bodies.{empty_body, Makes, IsLooseNode, IsPlaceAmong, IsLaidOut, with_link, without_link};
-    ghost use Rattle.coll_table.specs.TableLayout.{content_of, nodes_in};
+    ghost use Rattle.coll_table.specs.Bodies.{empty_body, Makes, MakesSection, IsLooseNode, IsPlaceAmong, IsLaidOut, with_link, without_link};
+    ghost use Rattle.coll_order.specs.Sound.{AreDistinct};
+    ghost use Rattle.coll_table.specs.TableLayout.{MadeNode, content_of, nodes_in};
+    ghost use Rattle.coll_table.specs.Counting.{AreFew};
+    ghost use Rattle.coll_table.specs.Linking.{nodes_without};
+    ghost use Rattle.coll_table.specs.Turning.{exchanged, weighed_nodes};
     ghost use Rattle.coll_table.specs.WalkStates.{ComesNext};
-    ghost use Rattle.coll_table.specs.declared.contents.Content.TheVariants.{Begun};
 
     /// No rings and no nodes. It takes no memory.
     pub(crate) fn new(alloc: Global) -> Nodes
@@ -81,6 +85,7 @@ impl Nodes {
     pub(crate) fn make(&mut self, content: Content) -> Result<NodeId, AllocError>
         ensures made { IfOk result (λ node. Makes self.old.layout self.new.layout node content) }
         ensures apart { IfOk result (λ node. is_in self.old.layout.rings node ≡ false) }
+        ensures dropped { IfOk result (λ node. nodes_without (node ∷ []) self.new.layout.nodes ≡ self.old.layout.nodes) }
         ensures rings { self.new.layout.rings ≡ self.old.layout.rings }
         ensures steps { self.new.steps ≡ self.old.steps }
         ensures err { OnErr result (self.new ≡ self.old) }
@@ -96,10 +101,7 @@ impl Nodes {
         &mut self,
         name: Option<TextBuf>,
     ) -> Result<(NodeId, RingId), AllocError>
-        ensures made { IfOk result (λ made. Makes self.old.layout self.new.layout made.0 (Begun name made.1)) }
-        ensures apart { IfOk result (λ made. is_in self.old.layout.rings made.0 ≡ false) }
-        ensures ring { IfOk result (λ made. made.1.index ≡ length self.old.layout.rings) }
-        ensures rings { OnOk result (self.new.layout.rings ≡ self.old.layout.rings ++ [] ∷ []) }
+        ensures made { IfOk result (λ made. MakesSection self.old.layout self.new.layout name made) }
         ensures steps { self.new.steps ≡ self.old.steps }
         ensures err { OnErr result (self.new ≡ self.old) }
     {
@@ -141,6 +143,31 @@ impl Nodes {
         &self.contents[tag]
     }
 
+    /// Exchanges the weights of an entry with these. What isn't an entry, and the weights, then stay.
+    pub(crate) fn exchange(&mut self, node: NodeId, weights: &mut ListBuf<Weight>)
+        requires made { IsSome (content_of self.old.layout node) }
+        ensures nodes { self.new.layout ≡ record self.old.layout { nodes = weighed_nodes node (Some weights.old) self.old.layout.nodes } }
+        ensures weights { Some weights.new ≡ exchanged (Some weights.old) (content_of self.old.layout node) }
+        ensures steps { self.new.steps ≡ self.old.steps }
+    {
+        let tag = self.rings.tag(node);
+        let Some(content) = self.contents.get_mut(tag) else {
+            unreachable!();
+        };
+        content.exchange(weights);
+    }
+
+    /// Drops a loose node and its content. A later node may get its name.
+    pub(crate) fn drop_loose(&mut self, node: NodeId)
+        requires loose { IsLooseNode self.old.layout node }
+        ensures layout { self.new.layout ≡ record self.old.layout { nodes = nodes_without (node ∷ []) self.old.layout.nodes } }
+        ensures steps { self.new.steps ≡ self.old.steps }
+    {
+        let tag = self.rings.tag(node);
+        self.rings.drop_node(node);
+        self.contents.remove(tag);
+    }
+
     /// The first node of a ring, if it has one.
     pub(crate) fn first(&self, ring: RingId) -> Option<NodeId>
         requires { ring.index < length self.now.layout.rings }
@@ -174,6 +201,15 @@ impl Nodes {
         Ok(Nodes { rings, contents })
     }
 
+    /// What holds of the nodes of every layout: none has two contents.
+    ///
+    /// It does nothing; its contract hands the fact to callers.
+    pub(crate) fn check_named(&self)
+        ensures { AreDistinct (map (λ (made : MadeNode). made.node) self.now.layout.nodes) }
+    {
+        let _ = &self.contents;
+    }
+
     /// What holds of every layout: no node stands twice, and each that stands in a ring is there.
     ///
     /// It does nothing; its contract hands the fact to callers.
@@ -181,5 +217,14 @@ impl Nodes {
         ensures { IsLaidOut self.now.layout }
     {
         self.rings.check_layout();
+    }
+
+    /// There are fewer nodes than a `usize` has numbers.
+    ///
+    /// It does nothing; its contract hands the fact to callers.
+    pub(crate) fn check_few(&self)
+        ensures { AreFew self.now.layout }
+    {
+        let _ = self.contents.capacity();
     }
 }

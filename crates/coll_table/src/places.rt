@@ -1,7 +1,7 @@
-//! The identifiers that stand in a table, with a look-up by hash.
+//! The identifiers of a block, with a look-up by hash.
 //!
 //! A `Places` is a list of identifiers in no stated order: what a contract says of it is which identifiers it has, and all
-//! else may change. A new kind of identifier is a look-up more.
+//! else may change. It takes memory for them, and for no others. A new kind of identifier is a look-up more.
 
 ghost use Rattle.std.specs.Prelude.{◌≡◌, [], OnOk, OnErr};
 ghost use Rattle.coll_syntax.specs.Identifier.{has_id};

@@ -14,14 +14,28 @@ use thiserror::Error;
 #[derive(Clone, Copy, Debug, PartialEq, Eq, Error)]
 #[error("{} {}", self.number(), self.name())]
 pub enum Refusal {
-    /// A line names what the table doesn't declare.
+    /// A name is declared already.
+    DeclaredTwice,
+    /// A line or a weight names what the table doesn't declare.
     NotDeclared,
-    /// The table would have more entries than `MOST_ENTRIES`.
+    /// A line gives weights to a collating symbol, which has none.
+    SymbolWithWeights,
+    /// A line gives more weights than the table has levels.
+    TooManyWeights,
+    /// A weight names what has no entry in the table that would result.
+    WeightNotPlaced,
+    /// Another collating element has the string.
+    StringTwice,
+    /// The table would have more entries than `MOST_ENTRIES`, or more declarations than `MOST_DECLARATIONS`.
     Full,
     /// The target of a block has no entry.
     TargetNotPlaced,
     /// A line of a block has the identifier of the target, or of a line before it.
     TwiceInBlock,
+    /// A section that is to be moved, or to be moved after, isn't there.
+    NoSuchSection,
+    /// A section is to be moved after itself.
+    SectionAfterItself,
     /// An order line outside a block has an identifier without an entry.
     NotPlaced,
     /// An order line outside a block gives no weights.
@@ -36,10 +50,17 @@ impl Refusal {
         ensures { result ≡ refusal_number self }
     {
         match self {
+            Refusal::DeclaredTwice => 33,
             Refusal::NotDeclared => 34,
+            Refusal::SymbolWithWeights => 36,
+            Refusal::TooManyWeights => 37,
+            Refusal::WeightNotPlaced => 38,
+            Refusal::StringTwice => 39,
             Refusal::Full => 42,
             Refusal::TargetNotPlaced => 50,
             Refusal::TwiceInBlock => 51,
+            Refusal::NoSuchSection => 52,
+            Refusal::SectionAfterItself => 53,
             Refusal::NotPlaced => 54,
             Refusal::NoWeights => 55,
             Refusal::OutOfMemory => 70,
@@ -51,10 +72,17 @@ impl Refusal {
         ensures { result.now ≡ refusal_name self }
     {
         match self {
+            Refusal::DeclaredTwice => "DeclaredTwice",
             Refusal::NotDeclared => "NotDeclared",
+            Refusal::SymbolWithWeights => "SymbolWithWeights",
+            Refusal::TooManyWeights => "TooManyWeights",
+            Refusal::WeightNotPlaced => "WeightNotPlaced",
+            Refusal::StringTwice => "StringTwice",
             Refusal::Full => "Full",
             Refusal::TargetNotPlaced => "TargetNotPlaced",
             Refusal::TwiceInBlock => "TwiceInBlock",
+            Refusal::NoSuchSection => "NoSuchSection",
+            Refusal::SectionAfterItself => "SectionAfterItself",
             Refusal::NotPlaced => "NotPlaced",
             Refusal::NoWeights => "NoWeights",
             Refusal::OutOfMemory => "OutOfMemory",

@@ -33,6 +33,7 @@ impl Model for Table {
 
 impl Table {
     ghost use Rattle.coll_table.specs.Placement.{entry_at};
+    ghost use Rattle.coll_table.specs.SoundLayouts.{IsTable};
     ghost use Rattle.coll_table.specs.Table.{entries_of, is_known, is_placed, is_symbol};
     ghost use Rattle.coll_table.specs.TableLayout.{collation};
     ghost use Rattle.coll_table.specs.WellFormed.{IsWellFormed};
@@ -95,13 +96,14 @@ impl Table {
         })
     }
 
-    /// What holds of every table: it is well formed.
+    /// What holds of every table: its layout is sound, and it is well formed.
     ///
-    /// It does nothing; its contract hands the fact to callers.
+    /// It does nothing; its contract hands the facts to callers.
     pub fn check_table(&self)
-        ensures { IsWellFormed (collation self.now) }
+        ensures table { IsTable self.now }
+        ensures well_formed { IsWellFormed (collation self.now) }
     {
-        let _ = &self.rules;
+        self.body.check_layout();
     }
 
     /// Where it takes memory.

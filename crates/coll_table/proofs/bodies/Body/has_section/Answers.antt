@@ -7,4 +7,4 @@ use Rattle.coll_table.proofs.bodies.Body.has_section.Goals as goal
 pub returns : goal.returns
 returns c = rw (← c.self.view_is)
     (c.is_some.ensures ∙ (ap (λ found. is_some found) c.find.ensures
-    ∙ sym (section_found c.self.inside.nodes.layout c.self.invariant.shaped (node_named c.self.inside.section_names) c.args.name.now c.self.invariant.sections_found)))
+    ∙ sym (section_found c.self.inside.nodes.layout c.self.invariant.shaped (node_named c.self.inside.keys.sections) c.args.name.now c.self.invariant.found.sections)))

@@ -7,4 +7,4 @@ use Rattle.coll_table.proofs.bodies.Body.has_text.Goals as goal
 pub returns : goal.returns
 returns c = rw (← c.self.view_is)
     (c.is_some.ensures ∙ (ap (λ found. is_some found) c.find.ensures
-    ∙ sym (text_found c.self.inside.nodes.layout c.self.invariant.shaped (node_named c.self.inside.texts) c.args.text.now c.self.invariant.texts_found)))
+    ∙ sym (text_found c.self.inside.nodes.layout c.self.invariant.shaped (node_named c.self.inside.keys.texts) c.args.text.now c.self.invariant.found.texts)))

@@ -7,4 +7,4 @@ use Rattle.coll_table.proofs.bodies.Body.is_placed.Goals as goal
 pub returns : goal.returns
 returns c = rw (← c.self.view_is)
     (c.is_some.ensures ∙ (ap (λ found. is_some found) c.find.ensures
-    ∙ sym (id_found c.self.inside.nodes.layout c.self.invariant.shaped (node_with c.self.inside.placed) c.args.id.now c.self.invariant.ids_found)))
+    ∙ sym (id_found c.self.inside.nodes.layout c.self.invariant.shaped (node_with c.self.inside.keys.placed) c.args.id.now c.self.invariant.found.ids)))

@@ -7,10 +7,10 @@ use Rattle.coll_table.proofs.BodyReads.{symbol_known, no_symbol, found_made}
 use Rattle.coll_table.proofs.bodies.Body.is_symbol_name.Goals as goal
 
 pub content-requires : goal.content-requires
-content-requires c = found_made c.self.inside.nodes.layout c.self.invariant.shaped same_name names_in (node_named c.self.inside.names) c.args.name.now c.in-Some.node c.self.invariant.names_found (sym c.find.ensures ∙ c.in-Some.is) c.check_layout.ensures
+content-requires c = found_made c.self.inside.nodes.layout c.self.invariant.shaped same_name names_in (node_named c.self.inside.keys.names) c.args.name.now c.in-Some.node c.self.invariant.found.names (sym c.find.ensures ∙ c.in-Some.is) c.check_layout.ensures
 
 pub returns-in-Some : goal.returns-in-Some
-returns-in-Some c = rw (← c.self.view_is) (c.is_symbol_node.ensures ∙ symbol_known c.self.inside.nodes.layout c.self.invariant.shaped (node_named c.self.inside.names) c.args.name.now c.in-Some.node c.content.result.now c.self.invariant.names_found (sym c.find.ensures ∙ c.in-Some.is) c.content.ensures)
+returns-in-Some c = rw (← c.self.view_is) (c.is_symbol_node.ensures ∙ symbol_known c.self.inside.nodes.layout c.self.invariant.shaped (node_named c.self.inside.keys.names) c.args.name.now c.in-Some.node c.content.result.now c.self.invariant.found.names (sym c.find.ensures ∙ c.in-Some.is) c.content.ensures)
 
 pub returns-in-None : goal.returns-in-None
-returns-in-None c = rw (← c.self.view_is) (no_symbol c.self.inside.nodes.layout c.self.invariant.shaped (node_named c.self.inside.names) c.args.name.now c.self.invariant.names_found (sym c.find.ensures ∙ c.in-None.is))
+returns-in-None c = rw (← c.self.view_is) (no_symbol c.self.inside.nodes.layout c.self.invariant.shaped (node_named c.self.inside.keys.names) c.args.name.now c.self.invariant.found.names (sym c.find.ensures ∙ c.in-None.is))

@@ -1,11 +1,16 @@
 -- Each turn of the loop leaves the first cause among what is left, or finds it.
-use Rattle.coll_table.proofs.WeightCauses.{cause_found, cause_left}
+use Rattle.std.proofs.Common.{refl}
+use Rattle.coll_table.specs.Drafts.{weight_cause, ids_cause}
+use Rattle.coll_table.specs.Entries.{weight_ids}
+use Rattle.coll_table.proofs.FirstCauses.{first_found, first_left}
 use Rattle.coll_table.proofs.drafts.Draft.weights_cause.Goals as goal
 
 pub returns-in-Some : goal.returns-in-Some
 returns-in-Some c =
-    cause_found c.args.self.now.declared c.args.self.now.sections c.args.weights.now c.loop-weight.weight-index c.weight-item.result c.in-Some.cause _ c.loop-weight.invariant c.loop-weight-test.true c.weight-item.is c.in-Some.ensures
+    let d = c.args.self.now in
+    first_found (weight_cause d.declared d.sections) (ids_cause d.declared d.sections) refl (λ _ _. refl) weight_ids c.args.weights.now c.loop-weight.weight-index c.weight-item.result _ c.loop-weight.invariant c.loop-weight-test.true c.weight-item.is c.in-Some.cause c.in-Some.ensures
 
 pub loop-weight-preserved : goal.loop-weight-preserved
 loop-weight-preserved c =
-    cause_left c.args.self.now.declared c.args.self.now.sections c.args.weights.now c.loop-weight.weight-index c.weight-item.result _ c.loop-weight.invariant c.loop-weight-test.true c.weight-item.is c.in_default.ensures
+    let d = c.args.self.now in
+    first_left (weight_cause d.declared d.sections) (ids_cause d.declared d.sections) refl (λ _ _. refl) weight_ids c.args.weights.now c.loop-weight.weight-index c.weight-item.result _ c.loop-weight.invariant c.loop-weight-test.true c.weight-item.is c.in_default.ensures

@@ -5,4 +5,4 @@ use Rattle.coll_table.proofs.names.Names.contains.Goals as goal
 
 pub returns : goal.returns
 returns c =
-    rw (← c.self.view_is) (c.contains.ensures ∙ found_name c.self.inside.names.keys _ _ c.get.ensures.bytes c.get.ensures.characters c.self.invariant.texts_are)
+    rw (← c.self.view_is) (c.contains.ensures ∙ found_name c.self.inside.names.keys _ _ c.get.ensures.bytes c.get.ensures.characters c.self.invariant)

@@ -3,6 +3,7 @@ use Rattle.std.proofs.Common.{◌≡◌, ◌≢◌, ℕ, Some, None, ap, ◌∙�
 use Rattle.slab.specs.Slab.{Slab}
 use Rattle.coll_table.specs.Bodies.{slot_of}
 use Rattle.coll_table.specs.declared.contents.Content.{Content}
+use Rattle.coll_table.proofs.MadeNodes.{made_dropped}
 use Rattle.coll_table.proofs.NodeLemmas.{made_more, made_contents}
 use Rattle.coll_table.proofs.nodes.Nodes.make.Goals as goal
 
@@ -31,4 +32,9 @@ invariant_of-self-2 c = rw (c.in_ok-node.ensures.ok)
 pub returns-clause-made : goal.returns-clause-made
 returns-clause-made c = rw (← c.self.view_is, c.in_ok-node.ensures.ok)
     (made_contents c.self.inside.rings.layout c.self.inside.contents.slots c.insert_reserved.new.self.slots c.in_ok-node.node c.vacant_key.result c.args.content
+    c.self.invariant c.in_ok-node.ensures.fresh (free c) (filled c) (others c))
+
+pub returns-clause-dropped : goal.returns-clause-dropped
+returns-clause-dropped c = rw (← c.self.view_is, c.in_ok-node.ensures.ok)
+    (made_dropped c.self.inside.rings.layout c.self.inside.contents.slots c.insert_reserved.new.self.slots c.in_ok-node.node c.vacant_key.result c.args.content
     c.self.invariant c.in_ok-node.ensures.fresh (free c) (filled c) (others c))

@@ -1,5 +1,6 @@
 -- A section's node more, under a tag that was free.
-use Rattle.std.proofs.Common.{◌≡◌, ◌≢◌, ℕ, Some, None, ap, ◌∙◌, sym}
+use Rattle.std.proofs.Common.{◌≡◌, ◌≢◌, ℕ, Some, None, ap, ◌∙◌, sym, refl}
+use Rattle.coll_order.specs.declared.places.RingId.{RingId}
 use Rattle.coll_order.specs.Changes.{with_node}
 use Rattle.slab.specs.Slab.{Slab}
 use Rattle.coll_table.specs.Bodies.{Makes, layout_with, slot_of}
@@ -36,5 +37,9 @@ invariant_of-self-2 c = rw (c.in_ok-node.ensures.ok)
     c.self.invariant c.in_ok-node.ensures.fresh (free c) (filled c) (others c))
 
 pub returns-clause-made : goal.returns-clause-made
-returns-clause-made c = rw (← c.self.view_is, c.in_ok-node.ensures.ok)
-    (record { fresh = (made c).fresh; contents = (made c).contents })
+returns-clause-made c = rw (← c.self.view_is, c.in_ok-node.ensures.ok) (record {
+  node = record { fresh = (made c).fresh; contents = (made c).contents };
+  apart = c.in_ok-node.ensures.apart;
+  ring = ap (λ (ring : RingId). ring.index) c.in_ok-node.ensures.ring;
+  rings = refl;
+})

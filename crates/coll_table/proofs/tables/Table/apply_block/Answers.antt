@@ -1,23 +1,29 @@
--- The record keeps the table as it was.
-use Rattle.std.proofs.Common.{sym, ap, subst, ◌∙◌}
-use Rattle.std.proofs.lemmas.Result.{err_from_is_err_and}
-use Rattle.coll_table.specs.Delta.{all_moved, within_limit}
-use Rattle.coll_table.specs.Record.{fits, turn}
-use Rattle.coll_table.specs.TableLayout.{TableValue, collation}
-use Rattle.coll_table.specs.WellFormed.{IsWellFormed}
-use Rattle.coll_table.proofs.PlacingLemmas.{block_goes_on}
+-- A block is prepared, and carried out.
+use Rattle.coll_syntax.specs.declared.statements.Statement.TheVariants as statement
+use Rattle.coll_table.specs.Delta.{delta}
+use Rattle.coll_table.specs.TableLayout.{collation}
+use Rattle.coll_table.proofs.AcceptedStatements.{block_accepted}
+use Rattle.coll_table.proofs.AppliedStatements.{IsReady, applied, block_ready, ready_well_formed}
 use Rattle.coll_table.proofs.tables.Table.apply_block.Goals as goal
 
-pub returns-in_err-rewrite-clause-err : goal.returns-in_err-rewrite-clause-err
-returns-in_err-rewrite-clause-err c =
-    let p = err_from_is_err_and c.from_residual-in_err-rewrite.result c.from_residual-in_err-rewrite.ensures.1 in
-    rw (p.1, p.2) (λ known. block_goes_on (collation c.args.self.now) c.args.target.now c.args.lines.now (sym c.is_placed.ensures ∙ c.if-not-is_placed.false) c.in_ok-judge_lines.ensures.ok
-    ∙ (ap (λ (t : TableValue). within_limit (all_moved (collation t) c.args.target.now c.args.lines.now)) (sym c.in_ok-other.ensures) ∙ c.in_err-rewrite.ensures.err known))
+pub prepare_block-requires : goal.prepare_block-requires
+unfolding delta
+prepare_block-requires c = record { placed = (block_accepted (collation c.args.self.now) c.args.target.now c.args.lines.now c.requires.accepted).placed }
 
-pub returns-clause-fits : goal.returns-clause-fits
-unfolding fits
-returns-clause-fits c = subst (λ (t : TableValue). IsWellFormed (collation t)) (sym (c.of_table.ensures ∙ c.swap.ensures.y_after)) c.check_table.ensures
+ready : (c : goal.After-carry_out-arg-1) → IsReady c.prepare_block.new.self (statement.Block c.args.target.now c.args.lines.now) c.in_ok-items.items.items
+ready c = block_ready c.args.self.now c.prepare_block.new.self c.args.target.now c.args.lines.now c.in_ok-items.items.items c.check_table.ensures.table c.in_ok-items.ensures.added c.requires.proper c.requires.accepted c.in_ok-items.ensures.prepared
 
-pub returns-clause-back : goal.returns-clause-back
-unfolding turn
-returns-clause-back c = c.of_table.ensures ∙ c.swap.ensures.y_after
+pub carry_out-requires-clause-goes : goal.carry_out-requires-clause-goes
+carry_out-requires-clause-goes c = (ready c).done.goes
+
+pub carry_out-requires-clause-few : goal.carry_out-requires-clause-few
+carry_out-requires-clause-few c = (ready c).few
+
+pub carry_out-requires-clause-well_formed : goal.carry_out-requires-clause-well_formed
+carry_out-requires-clause-well_formed c = ready_well_formed c.prepare_block.new.self (statement.Block c.args.target.now c.args.lines.now) c.in_ok-items.items.items (ready c)
+
+pub returns-clause-applied : goal.returns-clause-applied
+returns-clause-applied c =
+    applied c.args.self.now c.prepare_block.new.self c.carry_out.new.self (statement.Block c.args.target.now c.args.lines.now) c.in_ok-items.items.items c.carry_out.result c.check_table.ensures.table c.in_ok-items.ensures.added
+    (block_ready c.args.self.now c.prepare_block.new.self c.args.target.now c.args.lines.now c.in_ok-items.items.items c.check_table.ensures.table c.in_ok-items.ensures.added c.requires.proper c.requires.accepted c.in_ok-items.ensures.prepared)
+    c.carry_out.ensures.rules c.carry_out.ensures.layout c.carry_out.ensures.record

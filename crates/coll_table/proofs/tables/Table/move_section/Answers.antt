@@ -1,0 +1,33 @@
+-- A section move is prepared, and carried out.
+use Rattle.coll_syntax.specs.declared.statements.Statement.TheVariants as statement
+use Rattle.coll_table.specs.Delta.{delta}
+use Rattle.coll_table.specs.TableLayout.{collation}
+use Rattle.coll_table.proofs.AcceptedStatements.{section_accepted}
+use Rattle.coll_table.proofs.AppliedStatements.{IsReady, applied, ready_well_formed, section_adds, section_ready}
+use Rattle.coll_table.proofs.tables.Table.move_section.Goals as goal
+
+pub prepare_section-requires-clause-moved : goal.prepare_section-requires-clause-moved
+unfolding delta
+prepare_section-requires-clause-moved c = (section_accepted (collation c.args.self.now) c.args.moved.now c.args.after.now c.requires.accepted).moved
+
+pub prepare_section-requires-clause-after : goal.prepare_section-requires-clause-after
+unfolding delta
+prepare_section-requires-clause-after c = (section_accepted (collation c.args.self.now) c.args.moved.now c.args.after.now c.requires.accepted).target
+
+ready : (c : goal.After-carry_out-arg-1) → IsReady c.args.self.now (statement.SectionAfter c.args.moved.now c.args.after.now) c.in_ok-items.items.items
+ready c = section_ready c.args.self.now c.args.moved.now c.args.after.now c.in_ok-items.items.items c.check_table.ensures.table c.requires.proper c.requires.accepted c.in_ok-items.ensures
+
+pub carry_out-requires-clause-goes : goal.carry_out-requires-clause-goes
+carry_out-requires-clause-goes c = (ready c).done.goes
+
+pub carry_out-requires-clause-few : goal.carry_out-requires-clause-few
+carry_out-requires-clause-few c = (ready c).few
+
+pub carry_out-requires-clause-well_formed : goal.carry_out-requires-clause-well_formed
+carry_out-requires-clause-well_formed c = ready_well_formed c.args.self.now (statement.SectionAfter c.args.moved.now c.args.after.now) c.in_ok-items.items.items (ready c)
+
+pub returns-clause-applied : goal.returns-clause-applied
+returns-clause-applied c =
+    applied c.args.self.now c.args.self.now c.carry_out.new.self (statement.SectionAfter c.args.moved.now c.args.after.now) c.in_ok-items.items.items c.carry_out.result c.check_table.ensures.table (section_adds c.args.self.now c.args.moved.now c.args.after.now c.in_ok-items.items.items c.in_ok-items.ensures)
+    (section_ready c.args.self.now c.args.moved.now c.args.after.now c.in_ok-items.items.items c.check_table.ensures.table c.requires.proper c.requires.accepted c.in_ok-items.ensures)
+    c.carry_out.ensures.rules c.carry_out.ensures.layout c.carry_out.ensures.record

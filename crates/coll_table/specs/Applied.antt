@@ -1,0 +1,26 @@
+-- What a table that accepts a statement is afterwards, and the record of it.
+use Rattle.std.specs.Prelude.{◌≡◌, false, Ok}
+use Rattle.coll_syntax.specs.declared.statements.Statement.{Statement}
+use Rattle.coll_syntax.specs.declared.statements.Statement.TheVariants as statement
+use Rattle.coll_table.specs.Delta.{delta}
+use Rattle.coll_table.specs.Record.{Extends, Fits, KeepsLoose, statement_steps, turn}
+use Rattle.coll_table.specs.TableLayout.{TableValue, collation}
+use Rattle.coll_table.specs.Turning.{steps_of}
+use Rattle.coll_table.specs.declared.declarations.Declaration.{Declaration}
+use Rattle.coll_table.specs.declared.declarations.Declaration.TheVariants.{Symbol, Element}
+use Rattle.coll_table.specs.declared.records.Record.{Record}
+
+-- a table was rewritten by a statement: it is the statement's delta; the record is in force, fits, and turns it back, but for
+-- loose nodes that were added; it takes the steps of the statement; and what was loose stays so
+pub record Applied (old new : TableValue) (statement : Statement) (kept : Record) : Type 0 where
+  pub ok : delta (collation old) statement ≡ Ok (collation new)
+  pub in_force : kept.undone ≡ false
+  pub fits : Fits new kept
+  pub back : Extends (turn new kept) old
+  pub steps : steps_of kept.items ≡ statement_steps (collation old) statement
+  pub loose : KeepsLoose old.layout new.layout
+
+-- the statement that declares this
+abbrev pub declaring : Declaration → Statement
+declaring (Symbol name) = statement.Symbol name
+declaring (Element name text) = statement.Element name text

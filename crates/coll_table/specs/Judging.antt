@@ -1,0 +1,33 @@
+-- What is counted and looked up of a block while it is judged, before any of its lines is placed (the project's own).
+use Rattle.std.specs.Prelude.{◌≡◌, ℕ, ◌||◌, not, List, [], ◌∷◌, Option, None, map, filter, length}
+use Rattle.std.specs.Option.{option_or}
+use Rattle.coll_syntax.specs.Identifier.{has_id}
+use Rattle.coll_syntax.specs.declared.identifiers.Id.{Id}
+use Rattle.coll_syntax.specs.declared.statements.OrderLine.{OrderLine}
+use Rattle.coll_table.specs.Drafts.{refused_if}
+use Rattle.coll_table.specs.Table.{Collation, is_known, is_placed}
+use Rattle.coll_table.specs.declared.refusals.Refusal.{Refusal}
+use Rattle.coll_table.specs.declared.refusals.Refusal.TheVariants.{NotDeclared, WeightNotPlaced}
+
+-- the number of lines that place an entry which isn't placed yet
+abbrev pub entries_added : Collation → List OrderLine → ℕ
+entries_added table lines = length (filter (λ (line : OrderLine). not (is_placed table line.id)) lines)
+
+-- the identifiers of lines, in order
+abbrev pub line_ids : List OrderLine → List Id
+line_ids lines = map (λ (line : OrderLine). line.id) lines
+
+-- two lists have the same identifiers
+abbrev pub HaveSame : List Id → List Id → Type 0
+HaveSame ids others = (id : Id) → has_id ids id ≡ has_id others id
+
+-- why an identifier may not stand in a weight of a table, where these are placed, too
+abbrev pub id_refusal : Collation → (more : List Id) → Id → Option Refusal
+id_refusal table more id =
+    refused_if (not (is_known table.declared id)) NotDeclared
+    (refused_if (not (is_placed table id || has_id more id)) WeightNotPlaced None)
+
+-- why the first of identifiers that may not stand in a weight may not
+abbrev pub ids_refusal : Collation → (more : List Id) → List Id → Option Refusal
+ids_refusal table more [] = None
+ids_refusal table more (id ∷ ids) = option_or (id_refusal table more id) (ids_refusal table more ids)

@@ -1,0 +1,51 @@
+-- The laws of records: what a history of statements rests on that are taken back by their nodes' neighbours alone.
+use Rattle.std.specs.Prelude.{◌≡◌, true, false}
+use Rattle.coll_order.specs.Layout.{is_in}
+use Rattle.coll_order.specs.Lists.{has_node}
+use Rattle.coll_order.specs.declared.places.NodeId.{NodeId}
+use Rattle.coll_table.specs.Bodies.{IsLooseNode}
+use Rattle.coll_table.specs.Record.{AreLoose, Extends, Fits, added_nodes, turn, turned}
+use Rattle.coll_table.specs.SoundLayouts.{IsTable}
+use Rattle.coll_table.specs.TableLayout.{TableValue, collation}
+use Rattle.coll_table.specs.Turning.{steps_of}
+use Rattle.coll_table.specs.declared.records.Record.{Record}
+
+-- what turning a record that fits makes of a table is a table, which the turned record fits, and turning it again gives back the
+-- first; both turns take the same ring steps
+pub record TurnsBack (table : TableValue) (kept : Record) : Type 0 where
+  pub stands : IsTable (turn table kept)
+  pub fits : Fits (turn table kept) (turned table kept)
+  pub back : turn (turn table kept) (turned table kept) ≡ table
+  pub steps : steps_of (turned table kept).items ≡ steps_of kept.items
+
+-- each record that fits turns back
+abbrev pub RecordsTurnBack : Type 0
+RecordsTurnBack = (table : TableValue) (kept : Record) → IsTable table → Fits table kept → TurnsBack table kept
+
+-- a record fits another table too, and what it makes of the wider one extends what it makes of the other
+pub record TurnsAlike (wide table : TableValue) (kept : Record) (own : TableValue) : Type 0 where
+  pub fits : Fits own kept
+  pub extends : Extends (turn wide kept) (turn table kept)
+
+-- a record that fits a table fits each table that extends it
+abbrev pub RecordsFitWider : Type 0
+RecordsFitWider = (wide table : TableValue) (kept : Record) → IsTable wide → IsTable table → Extends wide table → Fits table kept → TurnsAlike wide table kept wide
+
+-- a record in force that fits a table fits each table that this extends: it names none of the loose nodes that are missing there
+abbrev pub RecordsFitNarrower : Type 0
+RecordsFitNarrower = (wide table : TableValue) (kept : Record) → IsTable wide → IsTable table → Extends wide table → kept.undone ≡ false → Fits wide kept → TurnsAlike wide table kept table
+
+-- loose nodes more make no other table of rules, declarations and sections
+abbrev pub WiderReadsAlike : Type 0
+WiderReadsAlike = (wide table : TableValue) → IsTable table → Extends wide table → collation wide ≡ collation table
+
+-- what an undone record would put in is loose, and each node of it is named once; turned, the record puts it in, and what is
+-- loose then was loose before
+pub record PutsIn (table : TableValue) (kept : Record) : Type 0 where
+  pub loose : AreLoose table.layout (added_nodes kept.items)
+  pub linked : (node : NodeId) → has_node (added_nodes kept.items) node ≡ true → is_in (turn table kept).layout.rings node ≡ true
+  pub others : (node : NodeId) → IsLooseNode (turn table kept).layout node → IsLooseNode table.layout node
+
+-- each undone record that fits puts its nodes in
+abbrev pub UndonePutIn : Type 0
+UndonePutIn = (table : TableValue) (kept : Record) → IsTable table → kept.undone ≡ true → Fits table kept → PutsIn table kept

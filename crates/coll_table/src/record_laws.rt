@@ -1,0 +1,30 @@
+//! The laws of records, as contracts of functions that do nothing.
+//!
+//! They are what a history of statements rests on, each of which is taken back by its nodes' neighbours alone.
+
+ghost use Rattle.coll_table.specs.RecordLaws.{RecordsTurnBack, RecordsFitWider, RecordsFitNarrower, WiderReadsAlike, UndonePutIn};
+
+/// Turning a record that fits gives a table, and turning it again gives back the first.
+pub fn records_turn_back()
+    ensures { RecordsTurnBack }
+{}
+
+/// A record that fits a table fits each table that extends it.
+pub fn records_fit_wider()
+    ensures { RecordsFitWider }
+{}
+
+/// A record in force that fits a table fits each table that this one extends.
+pub fn records_fit_narrower()
+    ensures { RecordsFitNarrower }
+{}
+
+/// A table that extends another one reads as that.
+pub fn wider_tables_read_alike()
+    ensures { WiderReadsAlike }
+{}
+
+/// An undone record puts in nodes that are loose, each once.
+pub fn undone_records_put_in()
+    ensures { UndonePutIn }
+{}
