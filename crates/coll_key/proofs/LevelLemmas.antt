@@ -1,0 +1,46 @@
+-- The lists of levels depend on the numbers of the parts alone, so those of a text are those of its parts.
+use Rattle.std.proofs.Common.{◌≡◌, ℕ, suc, ◌+◌, ◌<◌, ◌≤◌, false, List, [], ◌∷◌, ◌++◌, length, map, nat_lt, refl, sym, ap, ◌∙◌, arith, zero, Option}
+use Rattle.std.specs.List.{flat_map}
+use Rattle.std.proofs.lemmas.Bool.{ltb-false}
+use Rattle.coll_syntax.specs.declared.rules.Rule.{Rule}
+use Rattle.coll_table.specs.Table.{Collation}
+use Rattle.coll_table.specs.WellFormed.{IsWellFormed}
+use Rattle.coll_key.specs.Elements.{elements_of, split, longest, beyond_first}
+use Rattle.coll_key.specs.LevelList.{items_of, items, directed, listed, level_list, level_lists_from, numbers_at}
+use Rattle.coll_key.specs.Ranks.{RanksValue, AreRanksOf, parts_of, part_numbers, part_with, ranked_text}
+use Rattle.coll_key.specs.TextOrder.{level_lists}
+use Rattle.coll_key.proofs.PartNumbers.{numbers_are}
+
+-- items are those of the numbers
+items_by_map : {P : Type 0} (f : P → List ℕ) (ps : List P) → items f ps ≡ flat_map items_of (map f ps)
+items_by_map f [] = refl
+items_by_map f (p ∷ ps) = ap (λ xs. items_of (f p) ++ xs) (items_by_map f ps)
+
+-- with the same numbers a level has the same list
+level_list_same : {P Q : Type 0} (rule : Rule) (f : P → List ℕ) (g : Q → List ℕ) (ps : List P) (qs : List Q) → map f ps ≡ map g qs → level_list rule f ps ≡ level_list rule g qs
+level_list_same rule f g ps qs same =
+    ap (λ xs. listed rule.position 0 (directed rule.backward xs)) (items_by_map f ps ∙ ap (flat_map items_of) same ∙ sym (items_by_map g qs))
+
+-- with the same numbers at each level all levels have the same lists
+pub level_lists_same : {P Q : Type 0} (rules : List Rule) (from : ℕ) (f : ℕ → P → List ℕ) (g : ℕ → Q → List ℕ) (ps : List P) (qs : List Q) → ((level : ℕ) → from ≤ level → level < from + length rules → map (f level) ps ≡ map (g level) qs) → level_lists_from rules from f ps ≡ level_lists_from rules from g qs
+level_lists_same [] from f g ps qs same = refl
+level_lists_same (rule ∷ rules) from f g ps qs same =
+    ap (λ xs. xs ∷ level_lists_from rules (suc from) f ps) (level_list_same rule (f from) (g from) ps qs (same from (omega arith) (omega arith)))
+    ∙ ap (λ xs. level_list rule (g from) qs ∷ xs) (level_lists_same rules (suc from) f g ps qs (λ level low high. same level (omega arith) (omega arith)))
+
+-- the lists of a text are those of its parts
+pub level_lists_by_parts : (ranks : RanksValue) (table : Collation) → AreRanksOf ranks table → IsWellFormed table → (text : List ℕ) → level_lists table text ≡ level_lists_from table.rules 0 (part_numbers ranks) (parts_of ranks text)
+unfolding level_lists
+level_lists_by_parts ranks table are well text =
+    sym (level_lists_same table.rules 0 (part_numbers ranks) (numbers_at table) (parts_of ranks text) (elements_of table text) (λ level low high. numbers_are ranks table are well level (omega arith) text))
+
+-- a text has no more parts than characters
+few_split : {X P : Type 0} (string_of : X → List ℕ) (xs : List X) (part : Option X → ℕ → P) (skipped : ℕ) (text : List ℕ) → length (split string_of xs part skipped text) ≤ length text
+few_split string_of xs part skipped [] = omega arith
+few_split string_of xs part (suc skipped) (c ∷ text) = omega (arith, few_split string_of xs part skipped text)
+few_split string_of xs part zero (c ∷ text) = omega (arith, few_split string_of xs part (beyond_first string_of (longest string_of xs (c ∷ text))) text)
+
+-- a text that isn't too long has few parts
+pub few_parts : (ranks : RanksValue) (text : List ℕ) → nat_lt 65_536 (length text) ≡ false → length (parts_of ranks text) ≤ 65_536
+unfolding parts_of
+few_parts ranks text short = omega (arith, few_split ranked_text ranks.elements (part_with ranks.ids) 0 text, ltb-false 65_536 (length text) short)

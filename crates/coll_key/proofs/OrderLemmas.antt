@@ -1,0 +1,64 @@
+-- The order of two texts, and the key of a text, by the levels that are done and those that are left.
+use Rattle.std.proofs.Common.{◌≡◌, ℕ, suc, ◌+◌, ◌<◌, ◌≤◌, true, List, ◌++◌, length, get_or, drop, Ordering, Less, Equal, Greater, refl, sym, ap, ◌∙◌, append-nil}
+use Rattle.std.specs.List.{flat_map}
+use Rattle.std.specs.Ordering.{is_ne, ordering_then}
+use Rattle.std.proofs.lemmas.List.{at_drop_more, at_drop_all}
+use Rattle.coll_syntax.specs.declared.rules.Rule.{Rule}
+use Rattle.coll_key.specs.declared.parts.Part.{Part}
+use Rattle.coll_table.specs.Table.{Collation}
+use Rattle.coll_table.specs.WellFormed.{IsWellFormed}
+use Rattle.coll_key.specs.LevelList.{level_list, level_lists_from}
+use Rattle.coll_key.specs.Ranks.{RanksValue, AreRanksOf, parts_of, part_numbers}
+use Rattle.coll_key.specs.SortKey.{ended, key_of}
+use Rattle.coll_key.specs.TextOrder.{list_order, first_difference, order_of, level_lists}
+use Rattle.coll_key.proofs.LevelLemmas.{level_lists_by_parts}
+
+-- an order that isn't `Equal` decides
+ne_decides : (order later : Ordering) → true ≡ is_ne order → ordering_then order later ≡ order
+ne_decides Less later ne = refl
+ne_decides Equal later ne = absurd cc
+ne_decides Greater later ne = refl
+
+module _ {P : Type 0} (f : ℕ → P → List ℕ) (ps qs : List P) where
+  -- the order by the levels of these rules, from a level on
+  abbrev pub order_from : (level : ℕ) → List Rule → Ordering
+  order_from level rules = first_difference (level_lists_from rules level f ps) (level_lists_from rules level f qs)
+
+  -- the level at hand decides
+  pub order_decided : (level : ℕ) (items rules : List Rule) (rule : Rule) (order : Ordering) → items ≡ rules → level < length items → true ≡ is_ne order → order ≡ list_order (level_list (get_or items level rule) (f level) ps) (level_list (get_or items level rule) (f level) qs) → order_from level (drop level rules) ≡ order
+  order_decided level items rules rule order same within ne decides =
+      ap (λ rs. order_from level (drop level rs)) (sym same)
+      ∙ at_drop_more (order_from level) items level rule within
+      ∙ ap (λ o. ordering_then o (order_from (suc level) (drop (level + 1) items))) (sym decides)
+      ∙ ne_decides order (order_from (suc level) (drop (level + 1) items)) ne
+
+  -- no level is left
+  pub order_undecided : (level : ℕ) (items rules : List Rule) → items ≡ rules → length items ≤ level → order_from level (drop level rules) ≡ Equal
+  order_undecided level items rules same past = ap (λ rs. order_from level (drop level rs)) (sym same) ∙ at_drop_all (order_from level) items level past
+
+-- the order of two texts is that of their parts
+pub order_by_parts : (ranks : RanksValue) (table : Collation) → AreRanksOf ranks table → IsWellFormed table → (text other : List ℕ) → order_of table text other ≡ order_from (part_numbers ranks) (parts_of ranks text) (parts_of ranks other) 0 table.rules
+unfolding order_of
+order_by_parts ranks table are well text other =
+    ap (λ lists. first_difference lists (level_lists table other)) (level_lists_by_parts ranks table are well text)
+    ∙ ap (first_difference (level_lists_from table.rules 0 (part_numbers ranks) (parts_of ranks text))) (level_lists_by_parts ranks table are well other)
+
+-- the key of a text is that of its parts
+key_by_parts : (ranks : RanksValue) (table : Collation) → AreRanksOf ranks table → IsWellFormed table → (text : List ℕ) → key_of table text ≡ flat_map ended (level_lists_from table.rules 0 (part_numbers ranks) (parts_of ranks text))
+unfolding key_of
+key_by_parts ranks table are well text = ap (flat_map ended) (level_lists_by_parts ranks table are well text)
+
+-- a key is whole where no level is left
+key_is_whole : {P : Type 0} (f : ℕ → P → List ℕ) (ps : List P) (level : ℕ) (items rules : List Rule) (key : List ℕ) → items ≡ rules → length items ≤ level → key ++ flat_map ended (level_lists_from (drop level rules) level f ps) ≡ key
+key_is_whole f ps level items rules key same past =
+    ap (λ rs. key ++ flat_map ended (level_lists_from (drop level rs) level f ps)) (sym same)
+    ∙ ap (λ lists. key ++ lists) (at_drop_all (λ rs. flat_map ended (level_lists_from rs level f ps)) items level past)
+    ∙ append-nil key
+
+-- a key is that of a text where no level is left
+pub key_is_made : (ranks : RanksValue) (table : Collation) → AreRanksOf ranks table → IsWellFormed table → (text : List ℕ) (parts : List Part) (level : ℕ) (items : List Rule) (key : List ℕ) → parts ≡ parts_of ranks text → items ≡ table.rules → length items ≤ level → flat_map ended (level_lists_from table.rules 0 (part_numbers ranks) parts) ≡ key ++ flat_map ended (level_lists_from (drop level table.rules) level (part_numbers ranks) parts) → key ≡ key_of table text
+key_is_made ranks table are well text parts level items key kept same past made =
+    sym (key_is_whole (part_numbers ranks) parts level items table.rules key same past)
+    ∙ sym made
+    ∙ ap (λ ps. flat_map ended (level_lists_from table.rules 0 (part_numbers ranks) ps)) kept
+    ∙ sym (key_by_parts ranks table are well text)

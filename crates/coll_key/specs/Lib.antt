@@ -1,0 +1,16 @@
+pub mod CompiledListing
+pub mod Cursors
+pub mod ElementChains
+pub mod Elements
+pub mod KeyFaults
+pub mod KeyLimits
+pub mod LevelList
+pub mod ListingParts
+pub mod NameMaps
+pub mod Rank
+pub mod RankLists
+pub mod Ranking
+pub mod Ranks
+pub mod SortKey
+pub mod TextOrder
+pub mod WrittenKey

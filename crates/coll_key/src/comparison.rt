@@ -1,0 +1,151 @@
+//! Comparison of texts.
+//!
+//! Two texts are compared level by level, number by number, up to the first difference, and no key is formed. A forward level goes
+//! over the texts themselves; for a backward one the parts of both are kept.
+
+ghost use Rattle.std.specs.Prelude.{◌≡◌, ◌≢◌, ◌<◌, ◌≤◌, ◌||◌, ℕ, List, chars, length, true, false, All, IfOk, IfErr, IsOk};
+ghost use Rattle.std.specs.Ordering.{ordering_then};
+ghost use Rattle.coll_table.specs.TableLayout.{collation};
+ghost use Rattle.coll_key.specs.Cursors.{before};
+ghost use Rattle.coll_key.specs.KeyLimits.{is_too_long};
+ghost use Rattle.coll_key.specs.LevelList.{level_list, listed};
+ghost use Rattle.coll_key.specs.Ranks.{AreRanksOf, parts_of, part_numbers};
+ghost use Rattle.coll_key.specs.TextOrder.{list_order, order_of, IsForward};
+ghost use Rattle.coll_key.specs.declared.key_faults.KeyFault.TheVariants.{TextTooLong, OutOfMemory};
+
+use crate::cursors::{Cursor, Step};
+use crate::key_faults::KeyFault;
+use crate::limits::is_too_long;
+use crate::part_sources::kept_parts;
+use crate::ranks::Ranks;
+use coll_syntax::Rule;
+use coll_table::Table;
+use std::alloc::{AllocError, Global};
+use std::cmp::Ordering;
+
+/// The order of two texts by a table.
+///
+/// Where either has more than `MOST_TEXT_CHARACTERS` characters there is none, also where an earlier character decides. Where no
+/// level is `backward` it takes no memory.
+pub fn compare(
+    alloc: Global,
+    table: &Table,
+    ranks: &Ranks,
+    text: &str,
+    other: &str,
+) -> Result<Ordering, KeyFault>
+    requires { AreRanksOf ranks.now (collation table.now) }
+    ensures ok { IfOk result (λ order. order ≡ order_of (collation table.now) (chars text.now) (chars other.now)) }
+    ensures short { IfOk result (λ _. (is_too_long (chars text.now) || is_too_long (chars other.now)) ≡ false) }
+    ensures err { IfErr result (λ fault. fault ≢ OutOfMemory → (is_too_long (chars text.now) || is_too_long (chars other.now)) ≡ true) }
+    ensures memory { All IsForward (collation table.now).rules → IfErr result (λ fault. fault ≡ TextTooLong) }
+{
+    if is_too_long(text) {
+        return Err(KeyFault::TextTooLong);
+    }
+    if is_too_long(other) {
+        return Err(KeyFault::TextTooLong);
+    }
+    table.check_table();
+    for (level, rule) in table.rules().iter().enumerate() {
+        let order = level_order(alloc, ranks, level, *rule, text, other)?;
+        if order.is_ne() {
+            return Ok(order);
+        }
+    }
+    Ok(Ordering::Equal)
+}
+
+// The order of two texts at a level. A forward level takes no memory.
+fn level_order(
+    alloc: Global,
+    ranks: &Ranks,
+    level: usize,
+    rule: Rule,
+    text: &str,
+    other: &str,
+) -> Result<Ordering, AllocError>
+    requires level { level < ranks.now.levels }
+    requires few { length (parts_of ranks.now (chars text.now)) ≤ 65_536 }
+    requires few_others { length (parts_of ranks.now (chars other.now)) ≤ 65_536 }
+    ensures ok { IfOk result (λ order. order ≡ list_order (level_list rule (part_numbers ranks.now level) (parts_of ranks.now (chars text.now))) (level_list rule (part_numbers ranks.now level) (parts_of ranks.now (chars other.now)))) }
+    ensures memory { rule.backward ≡ false → IsOk result }
+{
+    if rule.backward {
+        backward_order(alloc, ranks, level, rule.position, text, other)
+    } else {
+        Ok(forward_order(ranks, level, rule.position, text, other))
+    }
+}
+
+// The order of two texts at a forward level. It takes no memory.
+fn forward_order(ranks: &Ranks, level: usize, position: bool, text: &str, other: &str) -> Ordering
+    requires level { level < ranks.now.levels }
+    requires few { length (parts_of ranks.now (chars text.now)) ≤ 65_536 }
+    requires few_others { length (parts_of ranks.now (chars other.now)) ≤ 65_536 }
+    ensures { result ≡ list_order (level_list (record { backward = false; position = position }) (part_numbers ranks.now level) (parts_of ranks.now (chars text.now))) (level_list (record { backward = false; position = position }) (part_numbers ranks.now level) (parts_of ranks.now (chars other.now))) }
+{
+    order_along(
+        position,
+        Cursor::along_text(ranks, level, text),
+        Cursor::along_text(ranks, level, other),
+    )
+}
+
+// The order of two texts at a backward level.
+fn backward_order(
+    alloc: Global,
+    ranks: &Ranks,
+    level: usize,
+    position: bool,
+    text: &str,
+    other: &str,
+) -> Result<Ordering, AllocError>
+    requires level { level < ranks.now.levels }
+    requires few { length (parts_of ranks.now (chars text.now)) ≤ 65_536 }
+    requires few_others { length (parts_of ranks.now (chars other.now)) ≤ 65_536 }
+    ensures { IfOk result (λ order. order ≡ list_order (level_list (record { backward = true; position = position }) (part_numbers ranks.now level) (parts_of ranks.now (chars text.now))) (level_list (record { backward = true; position = position }) (part_numbers ranks.now level) (parts_of ranks.now (chars other.now)))) }
+{
+    let parts = kept_parts(alloc, ranks, text)?;
+    let others = kept_parts(alloc, ranks, other)?;
+    Ok(order_along(
+        position,
+        Cursor::along_parts(ranks, level, true, &parts),
+        Cursor::along_parts(ranks, level, true, &others),
+    ))
+}
+
+// The order of the numbers on two ways.
+#[inline(always)]
+fn order_along(position: bool, left: Cursor<'_>, right: Cursor<'_>) -> Ordering
+    ensures { result ≡ list_order (listed position 0 left.entry) (listed position 0 right.entry) }
+{
+    let mut left = left;
+    let mut right = right;
+    'steps: while let Some(step) = left.next() {
+        let Some(other) = right.next() else {
+            return Ordering::Greater;
+        };
+        let order = step_order(position, step, other);
+        if order.is_ne() {
+            return order;
+        }
+    }
+    match right.next() {
+        Some(_) => Ordering::Less,
+        None => Ordering::Equal,
+    }
+}
+
+// The order of two steps: with `position` that of their positions, and then that of their numbers.
+fn step_order(position: bool, step: Step, other: Step) -> Ordering
+    ensures { (list later : List ℕ) → list_order (before position step list) (before position other later) ≡ ordering_then result (list_order list later) }
+{
+    if position {
+        step.position
+            .cmp(&other.position)
+            .then(step.number.cmp(&other.number))
+    } else {
+        step.number.cmp(&other.number)
+    }
+}

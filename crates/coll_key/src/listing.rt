@@ -1,0 +1,373 @@
+//! The compiled listing of a table.
+//!
+//! The text is `compiled_listing` of `specs/CompiledListing.antt`. Each function writes one part of it, and a line is one part
+//! behind another (`specs/ListingParts.antt`). The ranks of weights are read from the compiled ones. None of this takes memory.
+
+ghost use Rattle.std.specs.Prelude.{◌≡◌, ◌<◌, ◌≤◌, ◌+◌, ◌++◌, ◌∷◌, [], All, chars, codes, decimal, encode_utf8_all, length, IfOk};
+ghost use Rattle.std.specs.List.{flat_map};
+ghost use Rattle.coll_lex.specs.Devices.{CountsErr, Sends};
+ghost use Rattle.coll_lex.specs.PhysicalLines.{line_feed};
+ghost use Rattle.coll_table.specs.CanonicalText.{spelled_rule};
+ghost use Rattle.coll_table.specs.PrintedParts.{char_bytes};
+ghost use Rattle.coll_table.specs.Table.{is_placed};
+ghost use Rattle.coll_table.specs.TableLayout.{collation};
+ghost use Rattle.coll_table.specs.WalkItems.{met_by};
+ghost use Rattle.coll_table.specs.Walks.{entry_met, entries_met};
+ghost use Rattle.coll_syntax.specs.declared.identifiers.Id.TheVariants.{Named, Undefined};
+ghost use Rattle.coll_key.specs.CompiledListing.{compiled_listing, listing_head, listed_rule, listed_undefined};
+ghost use Rattle.coll_key.specs.ListingParts.{spaced, spaced_number, weight_bytes, level_bytes, levels_ended, is_star, spelled_with, ranked_id, ranked_line, line_if_weighted, met_line, ranked_lines, HasFewWeights, count_bytes, counts_bytes, entries_part};
+ghost use Rattle.coll_key.specs.Ranks.{AreRanksOf};
+
+use crate::ranks::Ranks;
+use coll_lex::{Sink, WriteStop, write_bytes, write_char};
+use coll_syntax::{Id, Rule, Weight};
+use coll_table::{Entry, Table, Walk, WalkItem};
+use itoa::Buffer;
+
+/// Writes the compiled listing of a table: its levels, its rules, and for each entry its rank and the ranks of its weights.
+///
+/// Where it stops, the device has taken a front of the listing.
+pub fn write_compiled<W: Sink>(table: &Table, ranks: &Ranks, out: &mut W) -> Result<(), WriteStop>
+    requires { AreRanksOf ranks.now (collation table.now) }
+    ensures sent { Sends (W.taken out.old) (W.taken out.new) (compiled_listing (collation table.now)) result }
+    ensures errors { CountsErr (W.failed out.old) (W.failed out.new) result }
+{
+    write_head(out, table)?;
+    write_body(out, table, ranks)
+}
+
+// Writes the lines behind the first.
+fn write_body<W: Sink>(out: &mut W, table: &Table, ranks: &Ranks) -> Result<(), WriteStop>
+    requires { AreRanksOf ranks.now (collation table.now) }
+    ensures sent { Sends (W.taken out.old) (W.taken out.new) (flat_map listed_rule (collation table.now).rules ++ entries_part (collation table.now)) result }
+    ensures errors { CountsErr (W.failed out.old) (W.failed out.new) result }
+{
+    write_rules(out, table.rules())?;
+    write_entries(out, table, ranks)
+}
+
+// Writes the lines behind the rules.
+fn write_entries<W: Sink>(out: &mut W, table: &Table, ranks: &Ranks) -> Result<(), WriteStop>
+    requires { AreRanksOf ranks.now (collation table.now) }
+    ensures sent { Sends (W.taken out.old) (W.taken out.new) (entries_part (collation table.now)) result }
+    ensures errors { CountsErr (W.failed out.old) (W.failed out.new) result }
+{
+    table.check_table();
+    write_walk(out, ranks, table.walk())?;
+    write_end(out, table, ranks)
+}
+
+// Writes the line of `UNDEFINED` where it isn't placed, and the last line.
+fn write_end<W: Sink>(out: &mut W, table: &Table, ranks: &Ranks) -> Result<(), WriteStop>
+    requires { AreRanksOf ranks.now (collation table.now) }
+    ensures sent { Sends (W.taken out.old) (W.taken out.new) (listed_undefined (collation table.now) ++ codes "end\n") result }
+    ensures errors { CountsErr (W.failed out.old) (W.failed out.new) result }
+{
+    write_unplaced(out, table, ranks)?;
+    write_bytes(out, b"end\n")
+}
+
+// Writes the line of `UNDEFINED`, where it isn't placed: it stands for itself at each level.
+fn write_unplaced<W: Sink>(out: &mut W, table: &Table, ranks: &Ranks) -> Result<(), WriteStop>
+    requires { AreRanksOf ranks.now (collation table.now) }
+    ensures sent { Sends (W.taken out.old) (W.taken out.new) (listed_undefined (collation table.now)) result }
+    ensures errors { CountsErr (W.failed out.old) (W.failed out.new) result }
+{
+    table.check_table();
+    if is_undefined_placed(table) {
+        return Ok(());
+    }
+    let rank = ranks.rank(&Id::Undefined).unwrap_or(0);
+    let own = [Weight::Own, Weight::Own, Weight::Own, Weight::Own];
+    write_line(
+        out,
+        ranks,
+        rank,
+        &Id::Undefined,
+        &own[..table.rules().len()],
+    )
+}
+
+// Whether `UNDEFINED` is placed.
+#[tactic(auto, using(crate::proofs::ListedLines::placed_if_lent))]
+fn is_undefined_placed(table: &Table) -> bool
+    ensures { result ≡ is_placed (collation table.now) Undefined }
+{
+    table.entry(&Id::Undefined).is_some()
+}
+
+// Writes a line for each entry on a walk that isn't a symbol.
+fn write_walk<W: Sink>(out: &mut W, ranks: &Ranks, walk: Walk<'_>) -> Result<(), WriteStop>
+    requires fit { All (HasFewWeights ranks.now.levels) (entries_met walk) }
+    requires few { length (entries_met walk) < 1_000_000 }
+    ensures sent { Sends (W.taken out.old) (W.taken out.new) (ranked_lines ranks.now 1 (entries_met walk.entry)) result }
+    ensures errors { CountsErr (W.failed out.old) (W.failed out.new) result }
+{
+    let mut left = walk;
+    let mut rank = 1;
+    'walk: while let Some(item) = left.next() {
+        rank = write_met(out, ranks, rank, item)?;
+    }
+    Ok(())
+}
+
+// Writes the line of what one meets, if it is an entry with this rank, and gives the rank of the next one.
+fn write_met<W: Sink>(
+    out: &mut W,
+    ranks: &Ranks,
+    rank: u32,
+    item: WalkItem<'_>,
+) -> Result<u32, WriteStop>
+    requires fit { All (HasFewWeights ranks.now.levels) (entry_met (met_by item)) }
+    requires few { rank ≤ 1_000_000 }
+    ensures sent { Sends (W.taken out.old) (W.taken out.new) (met_line ranks.now rank (met_by item.entry)) result }
+    ensures errors { CountsErr (W.failed out.old) (W.failed out.new) result }
+    ensures next { IfOk result (λ next. next ≡ rank + length (entry_met (met_by item.entry))) }
+{
+    match item {
+        WalkItem::Section(_) => Ok(rank),
+        WalkItem::Entry(entry) => {
+            write_entry(out, ranks, rank, entry)?;
+            Ok(rank + 1)
+        }
+    }
+}
+
+// Writes the line of an entry; a symbol, which alone has no weights, has none.
+fn write_entry<W: Sink>(
+    out: &mut W,
+    ranks: &Ranks,
+    rank: u32,
+    entry: &Entry,
+) -> Result<(), WriteStop>
+    requires fit { HasFewWeights ranks.now.levels entry.now }
+    ensures sent { Sends (W.taken out.old) (W.taken out.new) (line_if_weighted ranks.now rank entry.now.id entry.now.weights) result }
+    ensures errors { CountsErr (W.failed out.old) (W.failed out.new) result }
+{
+    if entry.weights().is_empty() {
+        return Ok(());
+    }
+    write_line(out, ranks, rank, entry.id(), entry.weights())
+}
+
+// Writes the line of an identifier with this rank and these weights.
+fn write_line<W: Sink>(
+    out: &mut W,
+    ranks: &Ranks,
+    rank: u32,
+    id: &Id,
+    weights: &[Weight],
+) -> Result<(), WriteStop>
+    requires fit { length weights.now ≤ ranks.now.levels }
+    ensures sent { Sends (W.taken out.old) (W.taken out.new) (ranked_line ranks.now rank id.now weights.now) result }
+    ensures errors { CountsErr (W.failed out.old) (W.failed out.new) result }
+{
+    write_ranked_id(out, ranks, rank, id)?;
+    write_levels(out, ranks, rank, id, weights)
+}
+
+// Writes a rank, and the spelling of its identifier.
+fn write_ranked_id<W: Sink>(out: &mut W, ranks: &Ranks, rank: u32, id: &Id) -> Result<(), WriteStop>
+    ensures sent { Sends (W.taken out.old) (W.taken out.new) (ranked_id ranks.now rank id.now) result }
+    ensures errors { CountsErr (W.failed out.old) (W.failed out.new) result }
+{
+    write_number(out, u64::from(rank))?;
+    write_spaced_id(out, ranks, id)
+}
+
+// Writes a space, and the spelling of an identifier.
+fn write_spaced_id<W: Sink>(out: &mut W, ranks: &Ranks, id: &Id) -> Result<(), WriteStop>
+    ensures sent { Sends (W.taken out.old) (W.taken out.new) (spaced (spelled_with ranks.now id.now)) result }
+    ensures errors { CountsErr (W.failed out.old) (W.failed out.new) result }
+{
+    write_bytes(out, b" ")?;
+    write_id(out, ranks, id)
+}
+
+// Writes the words of all weights, and the line's end.
+fn write_levels<W: Sink>(
+    out: &mut W,
+    ranks: &Ranks,
+    rank: u32,
+    owner: &Id,
+    weights: &[Weight],
+) -> Result<(), WriteStop>
+    requires fit { length weights.now ≤ ranks.now.levels }
+    ensures sent { Sends (W.taken out.old) (W.taken out.new) (levels_ended ranks.now rank owner.now weights.now) result }
+    ensures errors { CountsErr (W.failed out.old) (W.failed out.new) result }
+{
+    for (level, weight) in weights.iter().enumerate() {
+        if let Err(stop) = write_level(out, owner, weight, ranks.compiled(rank, level)) {
+            return Err(stop);
+        }
+    }
+    write_bytes(out, b"\n")
+}
+
+// Writes the spelling of an identifier: a character by its code point, an element by those of its string.
+fn write_id<W: Sink>(out: &mut W, ranks: &Ranks, id: &Id) -> Result<(), WriteStop>
+    ensures sent { Sends (W.taken out.old) (W.taken out.new) (spelled_with ranks.now id.now) result }
+    ensures errors { CountsErr (W.failed out.old) (W.failed out.new) result }
+{
+    match id {
+        Id::Char(c) => write_char(out, *c),
+        Id::Named(name) => write_string(out, ranks, name.get()),
+        Id::Undefined => write_bytes(out, b"UNDEFINED"),
+    }
+}
+
+// Writes the string of the element of a name, each character by its code point.
+fn write_string<W: Sink>(out: &mut W, ranks: &Ranks, name: &str) -> Result<(), WriteStop>
+    ensures sent { Sends (W.taken out.old) (W.taken out.new) (spelled_with ranks.now (Named (chars name.now))) result }
+    ensures errors { CountsErr (W.failed out.old) (W.failed out.new) result }
+{
+    match ranks.string(name) {
+        Some(text) => write_characters(out, text.get()),
+        None => Ok(()),
+    }
+}
+
+// Writes the first line.
+fn write_head<W: Sink>(out: &mut W, table: &Table) -> Result<(), WriteStop>
+    ensures sent { Sends (W.taken out.old) (W.taken out.new) (listing_head (collation table.now)) result }
+    ensures errors { CountsErr (W.failed out.old) (W.failed out.new) result }
+{
+    write_bytes(out, b"compiled 1")?;
+    write_counts(out, table)
+}
+
+// Writes the number of levels and that of entries, and the line's end.
+fn write_counts<W: Sink>(out: &mut W, table: &Table) -> Result<(), WriteStop>
+    ensures sent { Sends (W.taken out.old) (W.taken out.new) (counts_bytes (collation table.now)) result }
+    ensures errors { CountsErr (W.failed out.old) (W.failed out.new) result }
+{
+    write_spaced_number(out, table.rules().len() as u64)?;
+    write_count_ended(out, table)
+}
+
+// Writes the number of entries, and the line's end.
+fn write_count_ended<W: Sink>(out: &mut W, table: &Table) -> Result<(), WriteStop>
+    ensures sent { Sends (W.taken out.old) (W.taken out.new) (count_bytes (collation table.now)) result }
+    ensures errors { CountsErr (W.failed out.old) (W.failed out.new) result }
+{
+    write_spaced_number(out, table.len() as u64)?;
+    write_bytes(out, b"\n")
+}
+
+// Writes a line for each rule.
+fn write_rules<W: Sink>(out: &mut W, rules: &[Rule]) -> Result<(), WriteStop>
+    ensures sent { Sends (W.taken out.old) (W.taken out.new) (flat_map listed_rule rules.now) result }
+    ensures errors { CountsErr (W.failed out.old) (W.failed out.new) result }
+{
+    for rule in rules {
+        if let Err(stop) = write_rule_line(out, *rule) {
+            return Err(stop);
+        }
+    }
+    Ok(())
+}
+
+// Writes the line of a rule.
+fn write_rule_line<W: Sink>(out: &mut W, rule: Rule) -> Result<(), WriteStop>
+    ensures sent { Sends (W.taken out.old) (W.taken out.new) (listed_rule rule) result }
+    ensures errors { CountsErr (W.failed out.old) (W.failed out.new) result }
+{
+    write_bytes(out, b"rule ")?;
+    write_rule_ended(out, rule)
+}
+
+// Writes a rule, and the line's end.
+fn write_rule_ended<W: Sink>(out: &mut W, rule: Rule) -> Result<(), WriteStop>
+    ensures sent { Sends (W.taken out.old) (W.taken out.new) (encode_utf8_all (spelled_rule rule []) ++ line_feed ∷ []) result }
+    ensures errors { CountsErr (W.failed out.old) (W.failed out.new) result }
+{
+    write_rule(out, rule)?;
+    write_bytes(out, b"\n")
+}
+
+// Writes a rule.
+fn write_rule<W: Sink>(out: &mut W, rule: Rule) -> Result<(), WriteStop>
+    ensures sent { Sends (W.taken out.old) (W.taken out.new) (encode_utf8_all (spelled_rule rule [])) result }
+    ensures errors { CountsErr (W.failed out.old) (W.failed out.new) result }
+{
+    match (rule.backward, rule.position) {
+        (false, false) => write_bytes(out, b"forward"),
+        (false, true) => write_bytes(out, b"forward,position"),
+        (true, false) => write_bytes(out, b"backward"),
+        (true, true) => write_bytes(out, b"backward,position"),
+    }
+}
+
+// Writes the words of a weight and the end of its level.
+fn write_level<W: Sink>(
+    out: &mut W,
+    owner: &Id,
+    weight: &Weight,
+    compiled: &[u32],
+) -> Result<(), WriteStop>
+    ensures sent { Sends (W.taken out.old) (W.taken out.new) (level_bytes (is_star owner.now weight.now) compiled.now) result }
+    ensures errors { CountsErr (W.failed out.old) (W.failed out.new) result }
+{
+    write_weight(out, owner, weight, compiled)?;
+    write_bytes(out, b" |")
+}
+
+// Writes the words of a weight.
+fn write_weight<W: Sink>(
+    out: &mut W,
+    owner: &Id,
+    weight: &Weight,
+    compiled: &[u32],
+) -> Result<(), WriteStop>
+    ensures sent { Sends (W.taken out.old) (W.taken out.new) (weight_bytes (is_star owner.now weight.now) compiled.now) result }
+    ensures errors { CountsErr (W.failed out.old) (W.failed out.new) result }
+{
+    match (owner, weight) {
+        (Id::Undefined, Weight::Own) => write_bytes(out, b" *"),
+        _ => write_numbers(out, compiled),
+    }
+}
+
+// Writes numbers, each with a space before it.
+fn write_numbers<W: Sink>(out: &mut W, numbers: &[u32]) -> Result<(), WriteStop>
+    ensures sent { Sends (W.taken out.old) (W.taken out.new) (flat_map spaced_number numbers.now) result }
+    ensures errors { CountsErr (W.failed out.old) (W.failed out.new) result }
+{
+    for number in numbers {
+        if let Err(stop) = write_spaced_number(out, u64::from(*number)) {
+            return Err(stop);
+        }
+    }
+    Ok(())
+}
+
+// Writes a space and a number.
+fn write_spaced_number<W: Sink>(out: &mut W, number: u64) -> Result<(), WriteStop>
+    ensures sent { Sends (W.taken out.old) (W.taken out.new) (spaced_number number) result }
+    ensures errors { CountsErr (W.failed out.old) (W.failed out.new) result }
+{
+    write_bytes(out, b" ")?;
+    write_number(out, number)
+}
+
+// Writes a number.
+fn write_number<W: Sink>(out: &mut W, number: u64) -> Result<(), WriteStop>
+    ensures sent { Sends (W.taken out.old) (W.taken out.new) (decimal number) result }
+    ensures errors { CountsErr (W.failed out.old) (W.failed out.new) result }
+{
+    let mut digits = Buffer::new();
+    write_bytes(out, digits.format(number).as_bytes())
+}
+
+// Writes each character by its code point.
+fn write_characters<W: Sink>(out: &mut W, text: &str) -> Result<(), WriteStop>
+    ensures sent { Sends (W.taken out.old) (W.taken out.new) (flat_map char_bytes (chars text.now)) result }
+    ensures errors { CountsErr (W.failed out.old) (W.failed out.new) result }
+{
+    for c in text.chars() {
+        if let Err(stop) = write_char(out, c) {
+            return Err(stop);
+        }
+    }
+    Ok(())
+}

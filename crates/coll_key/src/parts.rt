@@ -1,0 +1,25 @@
+//! The parts of a text, and what a part weighs at a level.
+//!
+//! A part is small and plain, so that a list of them can be kept. What a part is and weighs is found in `Ranks`.
+
+ghost use Rattle.std.specs.Prelude.{◌≡◌, ℕ, map};
+
+use std::marker::Model;
+
+/// A part of a text: a collating element, or a character.
+#[derive(Clone, Copy)]
+pub(crate) enum Part {
+    /// What has an entry: its rank.
+    Placed(u32),
+    /// A character without an entry.
+    Absent(char),
+}
+
+/// What a part weighs at a level: ranks, and what is added to the number of each.
+#[derive(Clone, Copy)]
+pub(crate) struct PartWeight<'a> {
+    /// The ranks of its weight.
+    pub(crate) ranks: &'a [u32],
+    /// What is added to the number of each.
+    pub(crate) added: u32,
+}

@@ -1,0 +1,122 @@
+//! The ranks of a table, with its weights compiled.
+//!
+//! A `Ranks` is made of a table in two passes, one for the rank of each identifier and one for the weights, which then stand as
+//! ranks in one list. It keeps nothing of the table itself, so it is true of each table with the same rules, declarations and
+//! sections (`AreRanksOf` of `specs/Ranks.antt`), and of a changed table it isn't.
+
+ghost use Rattle.std.specs.Prelude.{◌≡◌, ◌<◌, ◌≤◌, ◌∷◌, ℕ, [], chars, length, map, option_copied, Option, IfOk, MatchOption};
+ghost use Rattle.coll_table.specs.TableLayout.{collation};
+
+use crate::compiled_weights::CompiledWeights;
+use crate::id_ranks::IdRanks;
+use crate::parts::{Part, PartWeight};
+use crate::placed_elements::PlacedElements;
+use crate::ranking::{compiled, ranked_elements, ranked_ids};
+use coll_lex::TextBuf;
+use coll_syntax::Id;
+use coll_table::Table;
+use std::alloc::{AllocError, Global};
+use std::marker::Model;
+
+/// The ranks of a table's identifiers, and its weights as ranks.
+#[derive(Debug, Drop)]
+pub struct Ranks {
+    ids: IdRanks,
+    elements: PlacedElements,
+    weights: CompiledWeights,
+}
+
+impl Model for Ranks {
+    ghost use Rattle.coll_key.specs.Ranks.{RanksValue};
+
+    ghost Value = { RanksValue };
+
+    ghost view = { λ r. record { ids = r.ids; elements = r.elements; levels = r.weights.levels; weights = r.weights.lists; own = r.weights.own } };
+}
+
+impl Ranks {
+    ghost use Rattle.coll_table.specs.Table.{Collation};
+    ghost use Rattle.coll_key.specs.Rank.{rank_of};
+    ghost use Rattle.coll_key.specs.Ranks.{AreRanksOf, rank_with, parts_of, part_numbers, added_to, added_at, compiled_weight, last_string};
+
+    /// The ranks of a table, in new memory.
+    pub fn new(alloc: Global, table: &Table) -> Result<Ranks, AllocError>
+        ensures { IfOk result (λ ranks. AreRanksOf ranks (collation table.now)) }
+    {
+        let ids = ranked_ids(alloc, table)?;
+        let elements = ranked_elements(alloc, table, &ids)?;
+        let weights = compiled(alloc, table, &ids)?;
+        Ok(Ranks {
+            ids,
+            elements,
+            weights,
+        })
+    }
+
+    /// The rank of an identifier: its place in the table, from 1. `UNDEFINED` always has one, which is the last where the table
+    /// doesn't place it. It takes no memory.
+    pub fn rank(&self, id: &Id) -> Option<u32>
+        ensures found { result ≡ rank_with self.now.ids id.now }
+        ensures place { (table : Collation) → AreRanksOf self.now table → result ≡ rank_of table id.now }
+    {
+        self.ids.rank(id)
+    }
+
+    /// The part that stands at the beginning of a text, and the text behind it.
+    #[inline(always)]
+    pub(crate) fn first_part<'a>(&self, text: &'a str) -> Option<(Part, &'a str)>
+        ensures parts { MatchOption result (parts_of self.now (chars text.now) ≡ []) (λ found. parts_of self.now (chars text.now) ≡ found.0 ∷ parts_of self.now (chars found.1.now)) }
+        ensures shorter { MatchOption result (chars text.now ≡ []) (λ found. length (chars found.1.now) < length (chars text.now)) }
+    {
+        let mut letters = text.chars();
+        let first = letters.next()?;
+        match self.elements.longest(text, first) {
+            Some(found) => Some((Part::Placed(found.rank), found.rest)),
+            None => Some((self.ids.part(first), letters.as_str())),
+        }
+    }
+
+    /// The string of the placed element of a name, if there is one.
+    pub(crate) fn string(&self, name: &str) -> Option<&TextBuf>
+        ensures { option_copied result ≡ last_string self.now.elements (chars name.now) }
+    {
+        self.elements.string(name)
+    }
+
+    /// The compiled weight at a level of what has this rank.
+    pub(crate) fn compiled(&self, rank: u32, level: usize) -> &[u32]
+        requires { level < self.now.levels }
+        ensures { result.now ≡ compiled_weight self.now rank level }
+    {
+        self.weights.weight(rank, level)
+    }
+
+    /// What a part weighs at a level.
+    #[inline(always)]
+    pub(crate) fn weight(&self, part: Part, level: usize) -> PartWeight<'_>
+        requires { level < self.now.levels }
+        ensures { map (added_to result.added) result.ranks.now ≡ part_numbers self.now level part }
+    {
+        match part {
+            Part::Placed(rank) => PartWeight {
+                ranks: self.weights.weight(rank, level),
+                added: 0,
+            },
+            Part::Absent(c) => PartWeight {
+                ranks: self.weights.weight(0, level),
+                added: self.added(c, level),
+            },
+        }
+    }
+
+    // What is added to the number of a character without an entry.
+    fn added(&self, c: char, level: usize) -> u32
+        ensures { result ≡ added_at self.now level c }
+    {
+        if self.weights.is_own(level) {
+            c as u32
+        } else {
+            0
+        }
+    }
+}
