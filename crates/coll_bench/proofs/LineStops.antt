@@ -1,43 +1,42 @@
 -- A line with tokens ends no session.
-use Rattle.std.proofs.Common.{◌≡◌, codes, Bool, true, false, List, [], ◌∷◌, None, Result, Ok, Err, refl}
-use Rattle.std.specs.Prelude.{if◌then◌else◌}
+use Rattle.std.proofs.Common.{◌≡◌, Bool, true, false, List, [], ◌∷◌, None, Result, Ok, Err, refl}
+use Rattle.std.specs.Prelude.{◌&&◌, if◌then◌else◌}
 use Rattle.coll_lex.specs.declared.tokens.Token.{Token}
-use Rattle.coll_syntax.specs.Identifier.{is_word}
+use Rattle.coll_syntax.specs.DeltaLines.{delta_line}
+use Rattle.coll_syntax.specs.declared.lines.DeltaLine.{DeltaLine}
+use Rattle.coll_syntax.specs.declared.lines.DeltaLine.TheVariants as delta
 use Rattle.coll_syntax.specs.declared.syntax_faults.SyntaxFault.{SyntaxFault}
-use Rattle.coll_table.specs.PlainDeltaLines.{plain_delta_line}
-use Rattle.coll_table.specs.declared.plain.delta_lines.PlainDeltaLine.{PlainDeltaLine}
-use Rattle.coll_table.specs.declared.plain.delta_lines.PlainDeltaLine.TheVariants as delta_lines
-use Rattle.coll_bench.specs.SessionLines.{alone, is_command, command_heard, delta_heard, tokens_heard}
-use Rattle.coll_bench.specs.Units.{stop_of}
-use Rattle.coll_bench.specs.declared.faults.Fault.TheVariants as fault
-use Rattle.coll_bench.specs.declared.session_lines.Command.{Command}
-use Rattle.coll_bench.specs.declared.session_lines.Command.TheVariants as command
-use Rattle.coll_bench.specs.declared.session_lines.Opening.{Opening}
-use Rattle.coll_bench.specs.declared.session_lines.Heard.{Heard}
-use Rattle.coll_bench.specs.declared.session_lines.Heard.TheVariants.{Misasks}
+use Rattle.coll_units.specs.Commands.{is_command, command_of}
+use Rattle.coll_units.specs.SessionLines.{command_heard, delta_heard, tokens_heard}
+use Rattle.coll_units.specs.Units.{stop_of}
+use Rattle.coll_units.specs.declared.unit_faults.UnitFault.{UnitFault}
+use Rattle.coll_units.specs.declared.session_lines.Command.{Command}
+use Rattle.coll_units.specs.declared.session_lines.Opening.{Opening}
+use Rattle.coll_units.specs.declared.session_lines.Heard.{Heard}
 
 neither_stops : (b : Bool) (x y : Heard) → stop_of x ≡ None → stop_of y ≡ None → stop_of (if b then x else y) ≡ None
 neither_stops true x y p q = p
 neither_stops false x y p q = q
 
-alone_goes_on : (c : Command) (arguments : List Token) → stop_of (alone c arguments) ≡ None
-alone_goes_on c [] = refl
-alone_goes_on c (argument ∷ rest) = refl
+command_goes_on : (r : Result Command UnitFault) → stop_of (command_heard r) ≡ None
+command_goes_on (Ok command) = refl
+command_goes_on (Err f) = refl
 
-command_goes_on : (first : Token) (arguments : List Token) → stop_of (command_heard first arguments) ≡ None
-command_goes_on first arguments =
-    neither_stops (is_word first (codes ":undo")) _ _ (alone_goes_on command.Undo arguments)
-    (neither_stops (is_word first (codes ":list")) _ _ (alone_goes_on command.List arguments)
-    (neither_stops (is_word first (codes ":print")) _ _ (alone_goes_on command.Print arguments)
-    (neither_stops (is_word first (codes ":check")) (alone command.Check arguments) (Misasks fault.UnknownCommand) (alone_goes_on command.Check arguments) refl)))
-
-delta_goes_on : (o : Opening) (r : Result PlainDeltaLine SyntaxFault) → stop_of (delta_heard o r) ≡ None
-delta_goes_on o (Ok (delta_lines.ReorderAfter target)) = refl
-delta_goes_on o (Ok delta_lines.ReorderEnd) = refl
-delta_goes_on o (Ok (delta_lines.Order line)) = refl
+delta_goes_on : (o : Opening) (r : Result DeltaLine SyntaxFault) → stop_of (delta_heard o r) ≡ None
+delta_goes_on o (Ok (delta.Symbol name)) = refl
+delta_goes_on o (Ok (delta.Element name text)) = refl
+delta_goes_on o (Ok delta.Script) = refl
+delta_goes_on o (Ok delta.Category) = refl
+delta_goes_on o (Ok delta.EndCategory) = refl
+delta_goes_on o (Ok delta.Copy) = refl
+delta_goes_on o (Ok (delta.ReorderAfter target)) = refl
+delta_goes_on o (Ok delta.ReorderEnd) = refl
+delta_goes_on o (Ok (delta.SectionAfter moved after)) = refl
+delta_goes_on o (Ok (delta.Order line)) = refl
 delta_goes_on o (Err f) = refl
 
-pub tokens_go_on : (o : Opening) (tokens : List Token) → stop_of (tokens_heard o tokens) ≡ None
+pub tokens_go_on : (commands : Bool) (o : Opening) (tokens : List Token) → stop_of (tokens_heard commands o tokens) ≡ None
 unfolding tokens_heard
-tokens_go_on o [] = delta_goes_on o (plain_delta_line [])
-tokens_go_on o (first ∷ rest) = neither_stops (is_command first) _ _ (command_goes_on first rest) (delta_goes_on o (plain_delta_line (first ∷ rest)))
+tokens_go_on commands o [] = delta_goes_on o (delta_line [])
+tokens_go_on commands o (first ∷ rest) =
+    neither_stops (commands && is_command first) (command_heard (command_of first rest)) (delta_heard o (delta_line (first ∷ rest))) (command_goes_on (command_of first rest)) (delta_goes_on o (delta_line (first ∷ rest)))

@@ -9,18 +9,19 @@ use Rattle.coll_lex.specs.declared.faults.LexFault.{LexFault}
 use Rattle.coll_lex.specs.declared.faults.LexFault.TheVariants as lex
 use Rattle.coll_lex.proofs.LineFaults.{fed-not_dangling}
 use Rattle.coll_bench.specs.Histories.{History}
+use Rattle.coll_bench.specs.Faults.{fault_of}
 use Rattle.coll_lex.specs.Faults.{ends_text}
-use Rattle.coll_bench.specs.SessionLines.{opening_of, fault_heard, heard}
-use Rattle.coll_bench.specs.Hearing.{heard_by, heard_at}
-use Rattle.coll_bench.specs.Units.{stop_of, refusals}
-use Rattle.coll_bench.specs.OpenBlocks.{kept_end_faults, kept_units}
+use Rattle.coll_units.specs.SessionLines.{opening_of, fault_heard, heard}
+use Rattle.coll_units.specs.Hearing.{heard_by, heard_in, heard_at}
+use Rattle.coll_units.specs.Units.{stop_of, refusals}
+use Rattle.coll_units.specs.OpenBlocks.{kept_end_faults, kept_units}
 use Rattle.coll_bench.specs.Replies.{refused_line, refused_lines, reply, history_after, answers}
-use Rattle.coll_bench.specs.Serving.{stop_at}
+use Rattle.coll_units.specs.Taking.{stop_at}
 use Rattle.coll_bench.specs.Runs.{last_line}
 use Rattle.coll_bench.specs.Underway.{written_from}
-use Rattle.coll_bench.specs.declared.open_blocks.OpenBlock.{OpenBlock}
-use Rattle.coll_bench.specs.declared.session_lines.Opening.{Opening}
-use Rattle.coll_bench.specs.declared.units.FaultAt.{FaultAt}
+use Rattle.coll_units.specs.declared.open_blocks.OpenBlock.{OpenBlock}
+use Rattle.coll_units.specs.declared.session_lines.Opening.{Opening}
+use Rattle.coll_units.specs.declared.units.FaultAt.{FaultAt}
 use Rattle.coll_bench.proofs.LineStops.{tokens_go_on}
 
 -- a fault after which the session goes on is none of a last line
@@ -38,7 +39,7 @@ not_last o lex.CharacterConstant goes = refl
 not_last o lex.BadCharDirective goes = refl
 not_last o lex.OutOfMemory goes = refl
 
-last_by : (s : LexerState) (line : List ℕ) (a : Result (Option Line × LexerState) LexFault) (later : List LogicalLine) → stop_at (heard_by (number_of s) (opening_of (first_line s line)) a) ≡ None → last_line (lines_by s line a ++ later) ≡ last_line later
+last_by : (s : LexerState) (line : List ℕ) (a : Result (Option Line × LexerState) LexFault) (later : List LogicalLine) → stop_at (heard_by true (number_of s) (opening_of (first_line s line)) a) ≡ None → last_line (lines_by s line a ++ later) ≡ last_line later
 unfolding last_line
 last_by s line (Ok (None, after)) later goes = refl
 last_by s line (Ok (Some given, after)) later goes = refl
@@ -47,7 +48,7 @@ last_by s line (Err f) later goes = ap (λ (b : Bool). if b then Some (number_of
 -- where the session goes on, the last line comes later
 pub last_on : (memory : Bool) (s : LexerState) (line : List ℕ) (c : List Bool) (ends : Bool) (later : List (List ℕ)) → stop_at (heard_at memory s line) ≡ None
     → last_line (logical_lines (memory ∷ c) ends s (line ∷ later)) ≡ last_line (logical_lines c ends (state_by s (served memory s line)) later)
-unfolding logical_lines heard_at
+unfolding logical_lines heard_in
 last_on memory s line c ends later goes = last_by s line (served memory s line) (logical_lines c ends (state_by s (served memory s line)) later) goes
 
 -- a fault at which the session ends, which isn't that of a text's end, is that of a last line
@@ -75,10 +76,10 @@ pub record IsLastLine (s : LexerState) (lines : List LogicalLine) (f : LexFault)
   pub last : ends_text f ≡ true
 
 stop_by : (s : LexerState) (line : List ℕ) (a : Result (Option Line × LexerState) LexFault) (later : List LogicalLine) (f : LexFault) → ((g : LexFault) → a ≡ Err g → (lex_fault_number g == 9) ≡ false)
-    → stop_at (heard_by (number_of s) (opening_of (first_line s line)) a) ≡ Some f → IsLastLine s (lines_by s line a ++ later) f
+    → stop_at (heard_by true (number_of s) (opening_of (first_line s line)) a) ≡ Some f → IsLastLine s (lines_by s line a ++ later) f
 unfolding last_line
 stop_by s line (Ok (None, after)) later f other stops = absurd (cc)
-stop_by s line (Ok (Some given, after)) later f other stops = let none = tokens_go_on (opening_of (first_line s line)) given.tokens in absurd (cc)
+stop_by s line (Ok (Some given, after)) later f other stops = let none = tokens_go_on true (opening_of (first_line s line)) given.tokens in absurd (cc)
 stop_by s line (Err g) later f other stops =
     let l = is_last_fault (opening_of (first_line s line)) g f (other g refl) stops in
     record {
@@ -97,14 +98,14 @@ never_dangles false s line g e = fed-not_dangling s line g e
 
 pub last_stop : (memory : Bool) (s : LexerState) (line : List ℕ) (c : List Bool) (ends : Bool) (later : List (List ℕ)) (f : LexFault) → stop_at (heard_at memory s line) ≡ Some f
     → IsLastLine s (logical_lines (memory ∷ c) ends s (line ∷ later)) f
-unfolding logical_lines heard_at
+unfolding logical_lines heard_in
 last_stop memory s line c ends later f stops =
     stop_by s line (served memory s line) (logical_lines c ends (state_by s (served memory s line)) later) f (λ g. never_dangles memory s line g) stops
 
 answers-refused : (h : History) (faults : List FaultAt) → answers h (refusals faults) [] ≡ refused_lines faults
 unfolding answers reply history_after refused_lines
 answers-refused h [] = refl
-answers-refused h (at ∷ faults) = ap (λ (bytes : List ℕ). refused_line at.fault ++ bytes) (answers-refused h faults)
+answers-refused h (at ∷ faults) = ap (λ (bytes : List ℕ). refused_line (fault_of at.fault) ++ bytes) (answers-refused h faults)
 
 end_by : (block : Option OpenBlock) (h : History) (o : Option OpenLine) → answers h (kept_units true block (map heard (line_left_open o))) [] ≡ refused_lines (kept_end_faults block (option_map (λ (o : OpenLine). o.number) o))
 unfolding kept_units

@@ -14,9 +14,10 @@ use Rattle.coll_lex.specs.declared.faults.ReadStop.TheVariants as stop
 use Rattle.coll_bench.specs.declared.faults.RunFault.{RunFault}
 use Rattle.coll_table.specs.Table.{Collation}
 use Rattle.coll_bench.specs.Histories.{begun}
-use Rattle.coll_bench.specs.OpenBlocks.{kept_end_faults, kept_last_faults}
+use Rattle.coll_units.specs.OpenBlocks.{kept_end_faults, kept_last_faults}
 use Rattle.coll_bench.specs.Replies.{refused_lines}
-use Rattle.coll_bench.specs.Serving.{stop_at, line_units, line_block, history_after_all, line_replies, write_failed, stopped_at, never_ran, read_failed, EndsWith, EndsAtLine, FinishesWith, IsCutOff}
+use Rattle.coll_units.specs.Taking.{stop_at, line_units, line_block}
+use Rattle.coll_bench.specs.Serving.{history_after_all, line_replies, write_failed, stopped_at, never_ran, read_failed, EndsWith, EndsAtLine, FinishesWith, IsCutOff}
 use Rattle.coll_bench.specs.Runs.{starved_output, last_line, RanToLastLine, RanToReadFault, RanToLexFault, Ran}
 use Rattle.coll_bench.specs.Underway.{written_from, IsCut, IsUnderway, Underway}
 use Rattle.coll_bench.specs.declared.serving.Desk.{Desk}
@@ -25,10 +26,10 @@ use Rattle.coll_bench.proofs.RunEnds.{last_stop, written_end, written_cut, last_
 use Rattle.coll_bench.proofs.RunSteps.{appended, unread_after, lines_next}
 use Rattle.coll_bench.proofs.ServingLemmas.{stopped_replies}
 use Rattle.coll_lex.specs.Faults.{ends_text}
-use Rattle.coll_bench.specs.SessionLines.{opening_of}
-use Rattle.coll_bench.specs.Hearing.{heard_by, heard_at}
-use Rattle.coll_bench.specs.declared.session_lines.HeardLine.{HeardLine}
-use Rattle.coll_bench.specs.declared.session_lines.Heard.TheVariants as heard
+use Rattle.coll_units.specs.SessionLines.{opening_of}
+use Rattle.coll_units.specs.Hearing.{heard_by, heard_in, heard_at}
+use Rattle.coll_units.specs.declared.session_lines.HeardLine.{HeardLine}
+use Rattle.coll_units.specs.declared.session_lines.Heard.TheVariants as heard
 use Rattle.coll_lex.proofs.PhysicalLinesLemmas.{lines_of-long}
 use Rattle.coll_lex.proofs.LineEnds.{fed-too_long}
 
@@ -149,8 +150,8 @@ abbrev long_line_at : LexerState → HeardLine
 long_line_at s = record { number = number_of s; heard = heard.Stops lex.LineTooLong }
 
 long_at : (s : LexerState) (line : List ℕ) → 65536 < length line → heard_at false s line ≡ Some (long_line_at s)
-unfolding heard_at served
-long_at s line long = ap (λ (a : Result (Option Line × LexerState) LexFault). heard_by (number_of s) (opening_of (first_line s line)) a) (fed-too_long s line long)
+unfolding heard_in served
+long_at s line long = ap (λ (a : Result (Option Line × LexerState) LexFault). heard_by true (number_of s) (opening_of (first_line s line)) a) (fed-too_long s line long)
 
 long_line : (read rest held more : List ℕ) → rest ≡ held ++ more → IsLongLine held → IsCut read → (line : List ℕ) × (later : List (List ℕ)) × (lines_of (read ++ rest) ≡ lines_of read ++ line ∷ later) × (65536 < length line)
 long_line read rest held more is long cut =

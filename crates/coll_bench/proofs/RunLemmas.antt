@@ -1,6 +1,6 @@
 -- The run of a session, put together over all that may come later: what one physical line writes, and what is then left
 -- to be written. The one lemma that joins what the session keeps to the definition of its units is `output_kept`.
-use Rattle.std.proofs.Common.{◌≡◌, ℕ, Bool, List, [], ◌∷◌, ◌++◌, map, Option, Some, None, Result, Ok, Err, refl, sym, ap, ◌∙◌, append_assoc}
+use Rattle.std.proofs.Common.{◌≡◌, ℕ, Bool, true, List, [], ◌∷◌, ◌++◌, map, Option, Some, None, Result, Ok, Err, refl, sym, ap, ◌∙◌, append_assoc}
 use Rattle.std.specs.Prelude.{option_to_list}
 use Rattle.coll_lex.specs.PhysicalLines.{lines_of}
 use Rattle.coll_lex.specs.LogicalLines.{LexerState, LogicalLine, first_state, number_of, first_line, served, state_by, lines_by, logical_lines}
@@ -8,17 +8,18 @@ use Rattle.coll_lex.specs.declared.tokens.Line.{Line}
 use Rattle.coll_lex.specs.declared.faults.LexFault.{LexFault}
 use Rattle.coll_table.specs.Table.{Collation}
 use Rattle.coll_bench.specs.Histories.{History, begun}
-use Rattle.coll_bench.specs.SessionLines.{opening_of, heard}
-use Rattle.coll_bench.specs.Hearing.{heard_by, heard_at}
-use Rattle.coll_bench.specs.OpenBlocks.{kept_units_at, kept_after, kept_last_or, kept_units}
+use Rattle.coll_units.specs.SessionLines.{opening_of, heard}
+use Rattle.coll_units.specs.Hearing.{heard_by, heard_in, heard_at}
+use Rattle.coll_units.specs.OpenBlocks.{kept_units_at, kept_after, kept_last_or, kept_units}
 use Rattle.coll_bench.specs.Replies.{answers, reply_if, history_after_if}
-use Rattle.coll_bench.specs.Serving.{replies_to, history_after_all, stop_at, units_or_last, line_units, line_block}
+use Rattle.coll_units.specs.Taking.{stop_at, units_or_last, line_units, line_block}
+use Rattle.coll_bench.specs.Serving.{replies_to, history_after_all}
 use Rattle.coll_bench.specs.Runs.{starved_output}
 use Rattle.coll_bench.specs.Underway.{written_from}
-use Rattle.coll_bench.specs.declared.open_blocks.OpenBlock.{OpenBlock}
-use Rattle.coll_bench.specs.declared.session_lines.HeardLine.{HeardLine}
-use Rattle.coll_bench.specs.declared.units.SessionUnit.{SessionUnit}
-use Rattle.coll_bench.proofs.BlockLemmas.{units_kept}
+use Rattle.coll_units.specs.declared.open_blocks.OpenBlock.{OpenBlock}
+use Rattle.coll_units.specs.declared.session_lines.HeardLine.{HeardLine}
+use Rattle.coll_units.specs.declared.units.SessionUnit.{SessionUnit}
+use Rattle.coll_units.proofs.BlockLemmas.{units_kept}
 
 -- what is written for a text is what is written from its beginning, by what the session keeps
 pub output_kept : (lines_starved units_starved : List Bool) (ends : Bool) (table : Collation) (text : List ℕ)
@@ -52,7 +53,7 @@ map-append [] ys = refl
 map-append (x ∷ xs) ys = ap (λ (hs : List HeardLine). heard x ∷ hs) (map-append xs ys)
 
 -- what is heard of the logical lines that an answer gives
-heard_lines : (s : LexerState) (line : List ℕ) (a : Result (Option Line × LexerState) LexFault) → map heard (lines_by s line a) ≡ option_to_list (heard_by (number_of s) (opening_of (first_line s line)) a)
+heard_lines : (s : LexerState) (line : List ℕ) (a : Result (Option Line × LexerState) LexFault) → map heard (lines_by s line a) ≡ option_to_list (heard_by true (number_of s) (opening_of (first_line s line)) a)
 heard_lines s line (Ok (None, after)) = refl
 heard_lines s line (Ok (Some given, after)) = refl
 heard_lines s line (Err f) = refl
@@ -60,7 +61,7 @@ heard_lines s line (Err f) = refl
 -- what is heard of a physical line, and then of those that come later
 pub heard_later : (memory : Bool) (choices : List Bool) (ends : Bool) (s : LexerState) (line : List ℕ) (later : List (List ℕ))
     → map heard (logical_lines (memory ∷ choices) ends s (line ∷ later)) ≡ option_to_list (heard_at memory s line) ++ map heard (logical_lines choices ends (state_by s (served memory s line)) later)
-unfolding logical_lines heard_at
+unfolding logical_lines heard_in
 heard_later memory choices ends s line later =
     map-append (lines_by s line (served memory s line)) (logical_lines choices ends (state_by s (served memory s line)) later)
     ∙ ap (λ (hs : List HeardLine). hs ++ map heard (logical_lines choices ends (state_by s (served memory s line)) later)) (heard_lines s line (served memory s line))

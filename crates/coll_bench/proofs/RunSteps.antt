@@ -13,12 +13,13 @@ use Rattle.coll_lex.proofs.PhysicalLinesLemmas.{lines_of-nil, lines_of-ended, li
 use Rattle.coll_table.specs.Table.{Collation}
 use Rattle.coll_table.specs.Loads.{with_feeds}
 use Rattle.coll_bench.specs.Histories.{History, begun}
-use Rattle.coll_bench.specs.Hearing.{heard_at}
-use Rattle.coll_bench.specs.Serving.{IsBegun, Served, ReadsNone, stop_at, line_units, line_block, history_after_all, replies_to, line_replies}
+use Rattle.coll_units.specs.Hearing.{heard_at}
+use Rattle.coll_units.specs.Taking.{stop_at, line_units, line_block}
+use Rattle.coll_bench.specs.Serving.{IsBegun, Served, ReadsNone, history_after_all, replies_to, line_replies}
 use Rattle.coll_bench.specs.Runs.{last_line, CountsReads}
 use Rattle.coll_bench.specs.Underway.{written_from, IsCut, IsCutThere, IsUnderway, Underway}
 use Rattle.coll_bench.specs.declared.faults.RunFault.{RunFault}
-use Rattle.coll_bench.specs.declared.open_blocks.OpenBlock.{OpenBlock}
+use Rattle.coll_units.specs.declared.open_blocks.OpenBlock.{OpenBlock}
 use Rattle.coll_bench.specs.declared.serving.Desk.{Desk}
 use Rattle.coll_bench.proofs.ServingLemmas.{counts_none}
 use Rattle.coll_bench.proofs.RunLemmas.{choices_for, written_on}

@@ -8,29 +8,32 @@ use Rattle.coll_lex.specs.declared.tokens.Line.{Line}
 use Rattle.coll_lex.specs.declared.faults.LexFault.{LexFault}
 use Rattle.coll_lex.specs.declared.faults.LexFault.TheVariants as lex
 use Rattle.coll_bench.specs.Histories.{History, begun}
-use Rattle.coll_bench.specs.SessionLines.{opening_of, heard}
-use Rattle.coll_bench.specs.Hearing.{heard_by, heard_at}
-use Rattle.coll_bench.specs.Units.{starved_at, fault_at, refused_at}
-use Rattle.coll_bench.specs.OpenBlocks.{open_at, kept_ended, kept_after, kept_units_at, kept_last_faults, kept_units}
+use Rattle.coll_units.specs.SessionLines.{opening_of, heard}
+use Rattle.coll_units.specs.Hearing.{heard_by, heard_in, heard_at}
+use Rattle.coll_units.specs.Units.{starved_at, fault_at, refused_at}
+use Rattle.coll_units.specs.OpenBlocks.{open_at, kept_ended, kept_after, kept_units_at, kept_last_faults, kept_units}
 use Rattle.coll_bench.specs.Replies.{refused_line, reply, history_after, starved_line, reply_if, history_after_if, answers}
-use Rattle.coll_bench.specs.Serving.{stop_at, line_units, line_block}
+use Rattle.coll_units.specs.Taking.{stop_at, line_units, line_block}
 use Rattle.coll_bench.specs.Runs.{starved_output, output, last_line, last_of}
 use Rattle.coll_bench.specs.Laws.{ShowsWant, WantShows, WantShowsLast}
 use Rattle.coll_bench.specs.Underway.{written_from}
-use Rattle.coll_bench.specs.declared.faults.Fault.{Fault}
-use Rattle.coll_bench.specs.declared.faults.Fault.TheVariants as fault
-use Rattle.coll_bench.specs.declared.open_blocks.OpenBlock.{OpenBlock}
-use Rattle.coll_bench.specs.declared.open_blocks.SoFar.{SoFar}
-use Rattle.coll_bench.specs.declared.open_blocks.SoFar.TheVariants as so_far
-use Rattle.coll_bench.specs.declared.session_lines.Opening.{Opening}
-use Rattle.coll_bench.specs.declared.session_lines.Opening.TheVariants as opening
-use Rattle.coll_bench.specs.declared.session_lines.Heard.{Heard}
-use Rattle.coll_bench.specs.declared.session_lines.Heard.TheVariants as line
-use Rattle.coll_bench.specs.declared.session_lines.HeardLine.{HeardLine}
-use Rattle.coll_bench.specs.declared.units.Request.{Request}
-use Rattle.coll_bench.specs.declared.units.Request.TheVariants as request
-use Rattle.coll_bench.specs.declared.units.SessionUnit.{SessionUnit}
-use Rattle.coll_bench.proofs.HearingLemmas.{served_starved}
+use Rattle.coll_bench.specs.Faults.{fault_of}
+use Rattle.coll_units.specs.declared.unit_faults.UnitFault.{UnitFault}
+use Rattle.coll_units.specs.declared.unit_faults.UnitFault.TheVariants as fault
+use Rattle.coll_units.specs.declared.session_lines.Command.{Command}
+use Rattle.coll_units.specs.declared.session_lines.Command.TheVariants as command
+use Rattle.coll_units.specs.declared.open_blocks.OpenBlock.{OpenBlock}
+use Rattle.coll_units.specs.declared.open_blocks.SoFar.{SoFar}
+use Rattle.coll_units.specs.declared.open_blocks.SoFar.TheVariants as so_far
+use Rattle.coll_units.specs.declared.session_lines.Opening.{Opening}
+use Rattle.coll_units.specs.declared.session_lines.Opening.TheVariants as opening
+use Rattle.coll_units.specs.declared.session_lines.Heard.{Heard}
+use Rattle.coll_units.specs.declared.session_lines.Heard.TheVariants as line
+use Rattle.coll_units.specs.declared.session_lines.HeardLine.{HeardLine}
+use Rattle.coll_units.specs.declared.units.Request.{Request}
+use Rattle.coll_units.specs.declared.units.Request.TheVariants as request
+use Rattle.coll_units.specs.declared.units.SessionUnit.{SessionUnit}
+use Rattle.coll_units.proofs.HearingLemmas.{served_starved}
 use Rattle.coll_bench.proofs.RunEnds.{last_on, last_stop}
 use Rattle.coll_bench.proofs.RunLemmas.{output_kept, heard_later, units_on, units_stop}
 
@@ -52,7 +55,7 @@ shows_later : (front bytes : List ℕ) → ShowsWant bytes → ShowsWant (front 
 shows_later front bytes (before, later, is) = (front ++ before, later, ap (λ (x : List ℕ). front ++ x) is ∙ sym (append_assoc front before (starved_line ++ later)))
 
 -- a refused unit has its reply, whatever the choices are
-refused_reply : (c : Bool) (h : History) (f : Fault) → reply_if c h (request.Refused f) ≡ refused_line f
+refused_reply : (c : Bool) (h : History) (f : UnitFault) → reply_if c h (request.Refused f) ≡ refused_line (fault_of f)
 unfolding reply
 refused_reply true h f = refl
 refused_reply false h f = refl
@@ -77,11 +80,28 @@ Exact written stated = (written ≡ stated) ⊎ ShowsWant written
 exact_later : (front written stated : List ℕ) → Exact written stated → Exact (front ++ written) (front ++ stated)
 exact_later front written stated e = ⊎_elim (λ (same : written ≡ stated). inl (ap (λ (x : List ℕ). front ++ x) same)) (λ (shows : ShowsWant written). inr (shows_later front written shows)) e
 
+-- a unit that is answered as if memory was there
+answered_step : (h : History) (asks : Request) (later : List SessionUnit) (choices : List Bool) → ((h2 : History) → Exact (answers h2 later choices) (answers h2 later []))
+    → Exact (reply h asks ++ answers (history_after h asks) later choices) (reply h asks ++ answers (history_after h asks) later [])
+answered_step h asks later choices ih = exact_later (reply h asks) (answers (history_after h asks) later choices) (answers (history_after h asks) later []) (ih (history_after h asks))
+
+-- a command that takes no memory is answered, and one that does may show it
+command_step : (h : History) (c : Command) (later : List SessionUnit) (choices : List Bool) → ((h2 : History) → Exact (answers h2 later choices) (answers h2 later []))
+    → Exact (reply_if true h (request.Asks c) ++ answers (history_after_if true h (request.Asks c)) later choices) (reply_if false h (request.Asks c) ++ answers (history_after_if false h (request.Asks c)) later [])
+command_step h command.Undo later choices ih = answered_step h (request.Asks command.Undo) later choices ih
+command_step h command.Redo later choices ih = answered_step h (request.Asks command.Redo) later choices ih
+command_step h command.List later choices ih = answered_step h (request.Asks command.List) later choices ih
+command_step h command.Print later choices ih = answered_step h (request.Asks command.Print) later choices ih
+command_step h (command.Key text) later choices ih = inr ([], answers h later choices, refl)
+command_step h (command.Compare text other_text) later choices ih = inr ([], answers h later choices, refl)
+command_step h command.History later choices ih = answered_step h (request.Asks command.History) later choices ih
+command_step h command.Check later choices ih = answered_step h (request.Asks command.Check) later choices ih
+
 answers_step : (c : Bool) (h : History) (asks : Request) (later : List SessionUnit) (choices : List Bool) → ((h2 : History) → Exact (answers h2 later choices) (answers h2 later []))
     → Exact (reply_if c h asks ++ answers (history_after_if c h asks) later choices) (reply_if false h asks ++ answers (history_after_if false h asks) later [])
 answers_step false h asks later choices ih = exact_later (reply_if false h asks) (answers (history_after_if false h asks) later choices) (answers (history_after_if false h asks) later []) (ih (history_after_if false h asks))
-answers_step true h (request.Asks command) later choices ih = let u = request.Asks command in exact_later (reply h u) (answers (history_after h u) later choices) (answers (history_after h u) later []) (ih (history_after h u))
-answers_step true h (request.Refused f) later choices ih = let u = request.Refused f in exact_later (reply h u) (answers (history_after h u) later choices) (answers (history_after h u) later []) (ih (history_after h u))
+answers_step true h (request.Asks c) later choices ih = command_step h c later choices ih
+answers_step true h (request.Refused f) later choices ih = answered_step h (request.Refused f) later choices ih
 answers_step true h (request.States s) later choices ih = inr ([], answers h later choices, refl)
 
 answers_exact : (h : History) (us : List SessionUnit) (choices : List Bool) → Exact (answers h us choices) (answers h us [])
@@ -124,6 +144,7 @@ starved_units n w (l ∷ lines) = by_heard l.number l.heard (starved_units n w l
     by_heard m (line.Opens target) next = wants_first w _
     by_heard m line.Ends next = wants_first w _
     by_heard m (line.Orders order) next = next
+    by_heard m (line.Apart a) next = next
 
 -- a line that was refused for want of memory
 abbrev refused_line_of : ℕ → Opening → HeardLine
@@ -149,9 +170,9 @@ refused_wants (Some block) n opening.Neither lines = stays block.so_far
     stays (so_far.Starved w) = starved_units block.line w lines
 
 starved_line_units : (block : Option OpenBlock) (s : LexerState) (bytes : List ℕ) (lines : List HeardLine) → takes_memory s bytes ≡ true → Wants (kept_units true block (option_to_list (heard_at true s bytes) ++ lines))
-unfolding heard_at
+unfolding heard_in
 starved_line_units block s bytes lines takes =
-    subst (λ (a : Result (Option Line × LexerState) LexFault). Wants (kept_units true block (option_to_list (heard_by (number_of s) (opening_of (first_line s bytes)) a) ++ lines))) (sym (served_starved s bytes takes))
+    subst (λ (a : Result (Option Line × LexerState) LexFault). Wants (kept_units true block (option_to_list (heard_by true (number_of s) (opening_of (first_line s bytes)) a) ++ lines))) (sym (served_starved s bytes takes))
     (refused_wants block (number_of s) (opening_of (first_line s bytes)) lines)
 
 -- a line that no memory is taken for is served as if memory was there

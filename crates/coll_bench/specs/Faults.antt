@@ -1,14 +1,20 @@
--- The numbers and the names of the faults of a session, as replies and messages show them.
+-- The numbers and the names of the faults of a session, as replies and messages show them (the project's own).
 use Rattle.std.specs.Prelude.{ℕ, Bool, true, false, List, codes}
 use Rattle.coll_lex.specs.Faults.{read_stop_number, read_stop_name, write_stop_number, write_stop_name, lex_fault_number, lex_fault_name}
 use Rattle.coll_syntax.specs.SyntaxFaults.{syntax_fault_number, syntax_fault_name}
 use Rattle.coll_table.specs.Refusals.{refusal_number, refusal_name}
 use Rattle.coll_table.specs.LoadFaults.{load_fault_number, load_fault_name}
+use Rattle.coll_key.specs.KeyFaults.{fault_number as key_fault_number, fault_name as key_fault_name}
 use Rattle.coll_lex.specs.declared.faults.LexFault.TheVariants as lex
 use Rattle.coll_syntax.specs.declared.syntax_faults.SyntaxFault.TheVariants as syntax
 use Rattle.coll_table.specs.declared.load_faults.LoadCause.{LoadCause}
 use Rattle.coll_table.specs.declared.load_faults.LoadCause.TheVariants as load
 use Rattle.coll_table.specs.declared.refusals.Refusal.TheVariants as refusal
+use Rattle.coll_key.specs.declared.key_faults.KeyFault.TheVariants as key
+use Rattle.coll_units.specs.declared.delta_faults.DeltaCause.{DeltaCause}
+use Rattle.coll_units.specs.declared.delta_faults.DeltaCause.TheVariants as delta
+use Rattle.coll_units.specs.declared.unit_faults.UnitFault.{UnitFault}
+use Rattle.coll_units.specs.declared.unit_faults.UnitFault.TheVariants as unit
 use Rattle.coll_bench.specs.declared.faults.BenchFault.{BenchFault}
 use Rattle.coll_bench.specs.declared.faults.BenchFault.TheVariants as bench
 use Rattle.coll_bench.specs.declared.faults.Fault.{Fault}
@@ -18,12 +24,14 @@ use Rattle.coll_bench.specs.declared.faults.Fault.TheVariants as fault
 abbrev pub bench_fault_number : BenchFault → ℕ
 bench_fault_number (bench.Table refusal) = refusal_number refusal
 bench_fault_number bench.NothingToUndo = 60
+bench_fault_number bench.NothingToRedo = 61
 bench_fault_number bench.HistoryFull = 66
 
 -- the name of a refusal by the history
 abbrev pub bench_fault_name : BenchFault → List ℕ
 bench_fault_name (bench.Table refusal) = refusal_name refusal
 bench_fault_name bench.NothingToUndo = codes "NothingToUndo"
+bench_fault_name bench.NothingToRedo = codes "NothingToRedo"
 bench_fault_name bench.HistoryFull = codes "HistoryFull"
 
 -- the number of a fault
@@ -34,6 +42,7 @@ fault_number (fault.Lex f) = lex_fault_number f
 fault_number (fault.Syntax f) = syntax_fault_number f
 fault_number (fault.Load f) = load_fault_number f
 fault_number (fault.Table f) = refusal_number f
+fault_number (fault.Key f) = key_fault_number f
 fault_number (fault.Bench f) = bench_fault_number f
 fault_number fault.BlockOpen = 62
 fault_number fault.BlockNotEnded = 63
@@ -48,6 +57,7 @@ fault_name (fault.Lex f) = lex_fault_name f
 fault_name (fault.Syntax f) = syntax_fault_name f
 fault_name (fault.Load f) = load_fault_name f
 fault_name (fault.Table f) = refusal_name f
+fault_name (fault.Key f) = key_fault_name f
 fault_name (fault.Bench f) = bench_fault_name f
 fault_name fault.BlockOpen = codes "BlockOpen"
 fault_name fault.BlockNotEnded = codes "BlockNotEnded"
@@ -65,5 +75,21 @@ is_want_of_memory (fault.Lex lex.OutOfMemory) = true
 is_want_of_memory (fault.Syntax syntax.OutOfMemory) = true
 is_want_of_memory (fault.Load f) = load_wants_memory f.cause
 is_want_of_memory (fault.Table refusal.OutOfMemory) = true
+is_want_of_memory (fault.Key key.OutOfMemory) = true
 is_want_of_memory (fault.Bench (bench.Table refusal.OutOfMemory)) = true
 is_want_of_memory f = false
+
+-- a fault that was found apart from any table, as one of all faults
+abbrev pub fault_of : UnitFault → Fault
+fault_of (unit.Lex f) = fault.Lex f
+fault_of (unit.Syntax f) = fault.Syntax f
+fault_of unit.BlockOpen = fault.BlockOpen
+fault_of unit.BlockNotEnded = fault.BlockNotEnded
+fault_of unit.UnknownCommand = fault.UnknownCommand
+fault_of unit.NoBlock = fault.NoBlock
+
+-- a fault of a delta file, at a line of it, as one of all faults
+abbrev pub delta_fault_of : ℕ → DeltaCause → Fault
+delta_fault_of line (delta.Unit f) = fault_of f
+delta_fault_of line delta.NoCategory = fault.Load (record { line = line; cause = load.NoCategory })
+delta_fault_of line delta.NoEnd = fault.Load (record { line = line; cause = load.NoEnd })

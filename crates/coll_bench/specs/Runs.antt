@@ -11,9 +11,9 @@ use Rattle.coll_table.specs.Table.{Collation}
 use Rattle.coll_table.specs.Loads.{with_feeds}
 use Rattle.coll_bench.specs.Histories.{begun}
 use Rattle.coll_lex.specs.Faults.{ends_text}
-use Rattle.coll_bench.specs.SessionLines.{heard}
+use Rattle.coll_units.specs.SessionLines.{heard}
 use Rattle.coll_bench.specs.Faults.{fault_number}
-use Rattle.coll_bench.specs.Units.{units}
+use Rattle.coll_units.specs.Units.{units}
 use Rattle.coll_bench.specs.Replies.{answers}
 use Rattle.coll_bench.specs.declared.faults.Fault.{Fault}
 use Rattle.coll_bench.specs.declared.faults.Fault.TheVariants as fault
@@ -87,6 +87,7 @@ RanToFault table text left written number (fault.Lex f) = RanToLexFault table te
 RanToFault table text left written number (fault.Syntax f) = ⊥
 RanToFault table text left written number (fault.Load f) = ⊥
 RanToFault table text left written number (fault.Table f) = ⊥
+RanToFault table text left written number (fault.Key f) = ⊥
 RanToFault table text left written number (fault.Bench f) = ⊥
 RanToFault table text left written number fault.BlockOpen = ⊥
 RanToFault table text left written number fault.BlockNotEnded = ⊥

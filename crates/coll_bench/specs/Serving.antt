@@ -11,16 +11,13 @@ use Rattle.coll_lex.specs.declared.faults.ReadStop.TheVariants as read
 use Rattle.coll_lex.specs.declared.faults.WriteStop.TheVariants as write
 use Rattle.coll_table.specs.Table.{Collation}
 use Rattle.coll_bench.specs.Histories.{History, begun}
-use Rattle.coll_bench.specs.Hearing.{heard_at}
+use Rattle.coll_units.specs.Hearing.{heard_at}
 use Rattle.coll_bench.specs.Faults.{fault_number}
-use Rattle.coll_bench.specs.Units.{stop_of, refusals}
-use Rattle.coll_bench.specs.OpenBlocks.{kept_units_at, kept_after, kept_last_faults}
+use Rattle.coll_units.specs.Taking.{line_block, line_units, stop_at}
 use Rattle.coll_bench.specs.Replies.{reply_if, history_after_if}
 use Rattle.coll_bench.specs.declared.faults.Fault.TheVariants as faults
 use Rattle.coll_bench.specs.declared.faults.RunFault.{RunFault}
-use Rattle.coll_bench.specs.declared.open_blocks.OpenBlock.{OpenBlock}
-use Rattle.coll_bench.specs.declared.session_lines.HeardLine.{HeardLine}
-use Rattle.coll_bench.specs.declared.units.SessionUnit.{SessionUnit}
+use Rattle.coll_units.specs.declared.units.SessionUnit.{SessionUnit}
 use Rattle.coll_bench.specs.declared.serving.Desk.{Desk}
 
 -- the replies to some units, to each of which memory was refused or not
@@ -32,26 +29,6 @@ replies_to starved h (unit ∷ later) = reply_if starved h unit.request ++ repli
 unfoldable pub history_after_all : (starved : Bool) → History → List SessionUnit → History
 history_after_all starved h [] = h
 history_after_all starved h (unit ∷ later) = history_after_all starved (history_after_if starved h unit.request) later
-
--- the fault at which the session ends, if what was heard has one
-abbrev pub stop_at : Option HeardLine → Option LexFault
-stop_at None = None
-stop_at (Some line) = stop_of line.heard
-
--- the units that a line completes, or the last ones
-abbrev pub units_or_last : Option OpenBlock → HeardLine → Option LexFault → List SessionUnit
-units_or_last block line None = kept_units_at block line
-units_or_last block line (Some f) = refusals (kept_last_faults block line.number f)
-
--- the units that a physical line completes, by the block that is kept before it
-unfoldable pub line_units : Option OpenBlock → Option HeardLine → List SessionUnit
-line_units block None = []
-line_units block (Some line) = units_or_last block line (stop_of line.heard)
-
--- the block that is kept after a physical line
-unfoldable pub line_block : Option OpenBlock → Option HeardLine → Option OpenBlock
-line_block block None = block
-line_block block (Some line) = kept_after block line
 
 -- a session at the beginning of a text
 pub record IsBegun (desk : Desk) (table : Collation) : Type 0 where

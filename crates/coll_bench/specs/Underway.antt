@@ -5,11 +5,11 @@ use Rattle.coll_lex.specs.LogicalLines.{LexerState, first_state, logical_lines}
 use Rattle.coll_table.specs.Table.{Collation}
 use Rattle.coll_table.specs.Loads.{with_feeds}
 use Rattle.coll_bench.specs.Histories.{History, begun}
-use Rattle.coll_bench.specs.SessionLines.{heard}
-use Rattle.coll_bench.specs.OpenBlocks.{kept_units}
+use Rattle.coll_units.specs.SessionLines.{heard}
+use Rattle.coll_units.specs.OpenBlocks.{kept_units}
 use Rattle.coll_bench.specs.Replies.{answers}
 use Rattle.coll_bench.specs.Runs.{last_line}
-use Rattle.coll_bench.specs.declared.open_blocks.OpenBlock.{OpenBlock}
+use Rattle.coll_units.specs.declared.open_blocks.OpenBlock.{OpenBlock}
 use Rattle.coll_bench.specs.declared.serving.Desk.{Desk}
 
 -- what is written from some moment on, for further physical lines: where the lexer stands, which block is kept and the

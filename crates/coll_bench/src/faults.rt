@@ -4,17 +4,19 @@
 //! fault is a new variant with its number and its name here and in `specs/Faults.antt`.
 
 ghost use Rattle.std.specs.Prelude.{◌≡◌};
-ghost use Rattle.coll_bench.specs.Faults.{bench_fault_number, bench_fault_name, fault_number, fault_name, is_want_of_memory as wants_memory, load_wants_memory as load_wants};
+ghost use Rattle.coll_bench.specs.Faults.{bench_fault_number, bench_fault_name, fault_number, fault_name, is_want_of_memory as wants_memory, load_wants_memory as load_wants, fault_of, delta_fault_of};
 ghost use Rattle.coll_table.specs.declared.refusals.Refusal.TheVariants.{OutOfMemory};
 ghost use Rattle.coll_bench.specs.declared.faults.BenchFault.TheVariants.{Table};
 
+use coll_key::KeyFault;
 use coll_lex::{LexFault, ReadStop, WriteStop};
 use coll_syntax::SyntaxFault;
 use coll_table::{LoadCause, LoadFault, Refusal};
+use coll_units::{DeltaCause, DeltaFault, UnitFault};
 use std::alloc::AllocError;
 use thiserror::Error;
 
-/// Why a history refused a statement, or had nothing to take back.
+/// Why a history refused a statement, or had nothing to take back or to put again.
 #[derive(Clone, Copy, Debug, PartialEq, Eq, Error)]
 #[error("{} {}", self.number(), self.name())]
 pub enum BenchFault {
@@ -22,6 +24,8 @@ pub enum BenchFault {
     Table(Refusal),
     /// No statement remains to be taken back.
     NothingToUndo,
+    /// No statement was taken back that could be put again.
+    NothingToRedo,
     /// 65,535 statements remain, which is the most.
     HistoryFull,
 }
@@ -34,6 +38,7 @@ impl BenchFault {
         match self {
             BenchFault::Table(refusal) => refusal.number(),
             BenchFault::NothingToUndo => 60,
+            BenchFault::NothingToRedo => 61,
             BenchFault::HistoryFull => 66,
         }
     }
@@ -45,6 +50,7 @@ impl BenchFault {
         match self {
             BenchFault::Table(refusal) => refusal.name(),
             BenchFault::NothingToUndo => "NothingToUndo",
+            BenchFault::NothingToRedo => "NothingToRedo",
             BenchFault::HistoryFull => "HistoryFull",
         }
     }
@@ -74,6 +80,8 @@ pub enum Fault {
     Load(LoadFault),
     /// A table refused a statement of which no history is kept.
     Table(Refusal),
+    /// A text has no key.
+    Key(KeyFault),
     /// The table or the history of a session refused a statement, or nothing was to be taken back.
     Bench(BenchFault),
     /// A block is open, and what the line asks for isn't taken there.
@@ -98,6 +106,7 @@ impl Fault {
             Fault::Syntax(fault) => fault.number(),
             Fault::Load(fault) => fault.number(),
             Fault::Table(refusal) => refusal.number(),
+            Fault::Key(fault) => fault.number(),
             Fault::Bench(fault) => fault.number(),
             Fault::BlockOpen => 62,
             Fault::BlockNotEnded => 63,
@@ -117,6 +126,7 @@ impl Fault {
             Fault::Syntax(fault) => fault.name(),
             Fault::Load(fault) => fault.name(),
             Fault::Table(refusal) => refusal.name(),
+            Fault::Key(fault) => fault.name(),
             Fault::Bench(fault) => fault.name(),
             Fault::BlockOpen => "BlockOpen",
             Fault::BlockNotEnded => "BlockNotEnded",
@@ -134,8 +144,43 @@ impl Fault {
             Fault::Syntax(SyntaxFault::OutOfMemory) => true,
             Fault::Load(fault) => load_wants_memory(fault.cause),
             Fault::Table(Refusal::OutOfMemory) => true,
+            Fault::Key(KeyFault::OutOfMemory) => true,
             Fault::Bench(BenchFault::Table(Refusal::OutOfMemory)) => true,
             _ => false,
+        }
+    }
+}
+
+impl From<UnitFault> for Fault {
+    ghost from_gives = { λ found fault. fault ≡ fault_of found };
+
+    fn from(found: UnitFault) -> Fault {
+        match found {
+            UnitFault::Lex(fault) => Fault::Lex(fault),
+            UnitFault::Syntax(fault) => Fault::Syntax(fault),
+            UnitFault::BlockOpen => Fault::BlockOpen,
+            UnitFault::BlockNotEnded => Fault::BlockNotEnded,
+            UnitFault::UnknownCommand => Fault::UnknownCommand,
+            UnitFault::NoBlock => Fault::NoBlock,
+        }
+    }
+}
+
+impl From<DeltaFault> for Fault {
+    ghost from_gives = { λ found fault. fault ≡ delta_fault_of found.line found.cause };
+
+    fn from(found: DeltaFault) -> Fault {
+        let line = found.line;
+        match found.cause {
+            DeltaCause::Unit(fault) => Fault::from(fault),
+            DeltaCause::NoCategory => Fault::Load(LoadFault {
+                line,
+                cause: LoadCause::NoCategory,
+            }),
+            DeltaCause::NoEnd => Fault::Load(LoadFault {
+                line,
+                cause: LoadCause::NoEnd,
+            }),
         }
     }
 }

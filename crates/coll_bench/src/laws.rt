@@ -1,35 +1,6 @@
 //! What follows from the definitions of a session, as contracts of functions that do nothing.
 
-ghost use Rattle.coll_bench.specs.Laws.{BlockEnds, BlockEndsRefused, BlockEndsAtNext, BlockLeftOpen, BlockStopped, BlockStates, BlockStarves, BlockBegunRefused, BlockSpoiled, WantShows, WantShowsLast};
-
-/// The law of a block: the lines from one that opens it to the next that ends it give the refusals of the commands
-/// among them, in order, and then one unit.
-///
-/// The first line is an accepted `reorder-after`, or a refused line that begins with that text. The unit is the statement
-/// of the target and the order lines, or a refusal: for want of memory where a line was refused for it, and else with the
-/// fault of the first line that spoils the block. A refused line that begins with `reorder-end` is one of the lines of the
-/// block that it ends; a line that opens the next block isn't.
-pub fn block_is_one_unit()
-    ensures ended { BlockEnds }
-    ensures ended_refused { BlockEndsRefused }
-    ensures ended_at_next { BlockEndsAtNext }
-{}
-
-/// The law of a block's unit, by its lines: the statement of its target and its order lines, where no line is refused and
-/// there is none too many; and else the refusal for want of memory, of its first line, or of the first line that spoils it.
-pub fn unit_of_a_block()
-    ensures states { BlockStates }
-    ensures starves { BlockStarves }
-    ensures begun_refused { BlockBegunRefused }
-    ensures spoiled { BlockSpoiled }
-{}
-
-/// The law of a block that no line ends: the refusals of the commands in it, in order, and then, at the end of the
-/// text, one refusal of the block; at a line after which no other comes, the last faults.
-pub fn block_left_open_is_refused()
-    ensures left_open { BlockLeftOpen }
-    ensures stopped { BlockStopped }
-{}
+ghost use Rattle.coll_bench.specs.Laws.{WantShows, WantShowsLast};
 
 /// The law of a want of memory: what is written for a text that was served to its end, or to a line too long or one too
 /// many, is exactly the stated output, and that line is exactly the stated one, or `refused 70 OutOfMemory` stands in it.

@@ -4,38 +4,47 @@
 //! flush fails, the device has taken a front of the reply. A new unit is a new case of `respond`, and of the
 //! definition of replies.
 
-ghost use Rattle.std.specs.Prelude.{◌≡◌, ◌≤◌, ◌++◌, ◌∷◌, [], Bool, length, chars, encode_utf8_all, IfOk};
+ghost use Rattle.std.specs.Prelude.{◌≡◌, ◌≤◌, ◌++◌, ◌∷◌, [], Bool, chars, encode_utf8_all, IfOk};
 ghost use Rattle.std.specs.Io.KnownBytes.{Keeps};
 ghost use Rattle.coll_lex.specs.Devices.{CountsErr, Sends};
 ghost use Rattle.coll_lex.specs.Spelling.{spelled_symbol};
 ghost use Rattle.coll_table.specs.TableLayout.{collation};
+ghost use Rattle.coll_units.specs.ProperLines.{IsProperRequest};
 ghost use Rattle.coll_table.specs.PrintedParts.{id_bytes};
 ghost use Rattle.coll_table.specs.WalkItems.{met_by};
 ghost use Rattle.coll_bench.specs.Listing.{met_line, rank_after};
-ghost use Rattle.coll_bench.specs.Replies.{worded, count_part, levels_part, sections_part, declared_part, checked_line, counted_line, refused_line, section_line, listed_line, listed_sections, listing, outcome_line, command_reply, history_after_command, reply_if, history_after_if};
+ghost use Rattle.coll_bench.specs.Replies.{worded, count_part, levels_part, sections_part, declared_part, checked_line, counted_line, told_line, refused_line, section_line, listed_line, listed_sections, listing, outcome_line, history_after_command, reply_if, history_after_if};
+
+mod past;
+mod texts;
 
 use crate::faults::{BenchFault, Fault};
-use crate::histories::Session;
-use crate::session_lines::Command;
-use crate::units::Request;
+use crate::ranked_sessions::RankedSession;
 use coll_lex::{Sink, WriteStop, write_bytes, write_symbol};
 use coll_syntax::Id;
 use coll_table::{Entry, Table, WalkItem, write_id};
+use coll_units::{Command, Request};
 use itoa::Buffer;
+use past::write_history;
+use std::alloc::Global;
+pub(crate) use texts::{write_key_ended, write_order};
+use texts::{answer_compare, answer_key};
 
 /// Does what a unit asks for, writes its reply and flushes it.
 ///
 /// Where the device fails, it has taken a front of the reply; the history is then as if the reply was written.
 pub fn answer<W: Sink>(
-    session: &mut Session,
+    alloc: Global,
+    session: &mut RankedSession,
     request: Request,
     out: &mut W,
 ) -> Result<(), WriteStop>
+    requires { IsProperRequest request }
     ensures answered { (starved : Bool) × Sends (W.taken out.old) (W.taken out.new) (reply_if starved session.old request) result
         × (session.new ≡ history_after_if starved session.old request) }
     ensures errors { CountsErr (W.failed out.old) (W.failed out.new) result }
 {
-    respond(session, request, out)?;
+    respond(alloc, session, request, out)?;
     flush(out)
 }
 
@@ -60,25 +69,36 @@ fn flush<W: Sink>(out: &mut W) -> Result<(), WriteStop>
 }
 
 // Does what a unit asks for, and writes its reply.
-fn respond<W: Sink>(session: &mut Session, request: Request, out: &mut W) -> Result<(), WriteStop>
+fn respond<W: Sink>(
+    alloc: Global,
+    session: &mut RankedSession,
+    request: Request,
+    out: &mut W,
+) -> Result<(), WriteStop>
+    requires { IsProperRequest request }
     ensures answered { (starved : Bool) × Sends (W.taken out.old) (W.taken out.new) (reply_if starved session.old request) result
         × (session.new ≡ history_after_if starved session.old request) }
     ensures errors { CountsErr (W.failed out.old) (W.failed out.new) result }
 {
     match request {
-        Request::Asks(command) => obey(session, command, out),
+        Request::Asks(command) => obey(alloc, session, &command, out),
         Request::States(statement) => {
             let outcome = session.statement(statement);
             write_outcome(out, b"ok", outcome)
         }
-        Request::Refused(fault) => write_refused(out, fault),
+        Request::Refused(fault) => write_refused(out, Fault::from(fault)),
     }
 }
 
-// Does what a command asks for, and writes its reply. It takes no memory.
-fn obey<W: Sink>(session: &mut Session, command: Command, out: &mut W) -> Result<(), WriteStop>
-    ensures sent { Sends (W.taken out.old) (W.taken out.new) (command_reply session.old command) result }
-    ensures after { session.new ≡ history_after_command session.old command }
+// Does what a command asks for, and writes its reply. Keys and comparisons alone take memory.
+fn obey<W: Sink>(
+    alloc: Global,
+    session: &mut RankedSession,
+    command: &Command,
+    out: &mut W,
+) -> Result<(), WriteStop>
+    ensures answered { (starved : Bool) × Sends (W.taken out.old) (W.taken out.new) (reply_if starved session.old (Request.Asks command.now)) result
+        × (session.new ≡ history_after_command session.old command.now) }
     ensures errors { CountsErr (W.failed out.old) (W.failed out.new) result }
 {
     match command {
@@ -86,9 +106,16 @@ fn obey<W: Sink>(session: &mut Session, command: Command, out: &mut W) -> Result
             let outcome = session.undo();
             write_outcome(out, b"undone", outcome)
         }
-        Command::List => write_listing(out, session.table()),
-        Command::Print => session.table().print(out),
-        Command::Check => write_checked(out, session.table()),
+        Command::Redo => {
+            let outcome = session.redo();
+            write_outcome(out, b"redone", outcome)
+        }
+        Command::List => write_listing(out, session.session().table()),
+        Command::Print => session.session().table().print(out),
+        Command::Key(text) => answer_key(alloc, session, text, out),
+        Command::Compare(text, other) => answer_compare(alloc, session, text, other, out),
+        Command::History => write_history(out, session.session()),
+        Command::Check => write_checked(out, session.session().table()),
     }
 }
 
@@ -117,9 +144,9 @@ fn write_listing<W: Sink>(out: &mut W, table: &Table) -> Result<(), WriteStop>
     write_counted(out, b"listed", table.len() as u64)
 }
 
-// Writes how many entries, declarations, sections and levels a table has.
+/// Writes how many entries, declarations, sections and levels a table has.
 #[tactic(auto, unfolding(crate::specs::Replies::checked_line))]
-fn write_checked<W: Sink>(out: &mut W, table: &Table) -> Result<(), WriteStop>
+pub(crate) fn write_checked<W: Sink>(out: &mut W, table: &Table) -> Result<(), WriteStop>
     ensures sent { Sends (W.taken out.old) (W.taken out.new) (checked_line (collation table.now)) result }
     ensures errors { CountsErr (W.failed out.old) (W.failed out.new) result }
 {
@@ -154,8 +181,8 @@ fn write_levels<W: Sink>(out: &mut W, table: &Table) -> Result<(), WriteStop>
     write_bytes(out, b"\n")
 }
 
-// Writes a word and a number behind it.
-fn write_part<W: Sink>(out: &mut W, word: &[u8], count: usize) -> Result<(), WriteStop>
+/// Writes a word and a number behind it.
+pub(crate) fn write_part<W: Sink>(out: &mut W, word: &[u8], count: usize) -> Result<(), WriteStop>
     ensures sent { Sends (W.taken out.old) (W.taken out.new) (count_part word.now count) result }
     ensures errors { CountsErr (W.failed out.old) (W.failed out.new) result }
 {
@@ -244,7 +271,15 @@ fn write_refused<W: Sink>(out: &mut W, fault: Fault) -> Result<(), WriteStop>
     ensures sent { Sends (W.taken out.old) (W.taken out.new) (refused_line fault) result }
     ensures errors { CountsErr (W.failed out.old) (W.failed out.new) result }
 {
-    write_bytes(out, b"refused ")?;
+    write_told(out, b"refused ", fault)
+}
+
+/// Writes a word, and then the number and the name of a fault, and the line's end.
+pub(crate) fn write_told<W: Sink>(out: &mut W, word: &[u8], fault: Fault) -> Result<(), WriteStop>
+    ensures sent { Sends (W.taken out.old) (W.taken out.new) (told_line word.now fault) result }
+    ensures errors { CountsErr (W.failed out.old) (W.failed out.new) result }
+{
+    write_bytes(out, word)?;
     let mut number = Buffer::new();
     write_words(
         out,

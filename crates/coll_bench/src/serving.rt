@@ -4,24 +4,23 @@
 //! open, and the history. A line is heard, taken by the block, and the unit that it completes is answered; each of these
 //! is a function with an exact clause over what the desk keeps.
 
-ghost use Rattle.std.specs.Prelude.{◌≡◌, ◌+◌, ◌<◌, ◌++◌, Bool, IfOk, IfErr, OnOk, Option, option_to_list};
+ghost use Rattle.std.specs.Prelude.{◌≡◌, ◌+◌, ◌<◌, ◌++◌, Bool, IfOk, IfErr, IfSome, OnOk, Option, option_to_list};
+ghost use Rattle.coll_units.specs.ProperLines.{IsProperRequest};
 ghost use Rattle.coll_lex.specs.Devices.{CountsErr, Sends};
 ghost use Rattle.coll_lex.specs.LogicalLines.{pending, number_of};
 ghost use Rattle.coll_lex.specs.Limits.{most_lines};
 ghost use Rattle.coll_table.specs.TableLayout.{collation};
-ghost use Rattle.coll_bench.specs.OpenBlocks.{kept_after, kept_units_at, kept_end_faults, kept_dropped_faults, kept_last_faults};
+ghost use Rattle.coll_units.specs.OpenBlocks.{kept_end_faults, kept_dropped_faults, kept_last_faults};
 ghost use Rattle.coll_bench.specs.Replies.{refused_line, refused_lines};
-ghost use Rattle.coll_bench.specs.Units.{dangling as dangling_faults};
+ghost use Rattle.coll_units.specs.Units.{dangling as dangling_faults};
 ghost use Rattle.coll_bench.specs.Serving.{EndsWith, FinishesWith, IsCutOff, CountsEnd, CountsWrites, CountsStop, ReadsNone, write_failed as failed_write, too_long};
 
 use crate::faults::{Fault, RunFault};
-use crate::hearing::{Hearing, Listener};
-use crate::histories::Session;
-use crate::open_blocks::{OpenBlock, take_line};
+use crate::ranked_sessions::RankedSession;
 use crate::replies::{answer, refuse};
-use crate::units::FaultAt;
 use coll_lex::{LexFault, ReadStop, Sink, WriteStop};
 use coll_table::Table;
+use coll_units::{FaultAt, Listener, OpenBlock, SessionUnit, UnitFault};
 use std::alloc::{AllocError, Global};
 
 /// Where a session stands between two lines.
@@ -29,7 +28,7 @@ use std::alloc::{AllocError, Global};
 pub struct Desk {
     listener: Listener,
     block: Option<OpenBlock>,
-    session: Session,
+    session: RankedSession,
 }
 
 impl Desk {
@@ -43,7 +42,7 @@ impl Desk {
         Ok(Desk {
             listener,
             block: None,
-            session: Session::new(alloc, table),
+            session: RankedSession::new(alloc, table),
         })
     }
 
@@ -61,30 +60,31 @@ impl Desk {
         ensures errors { CountsWrites (W.failed output.old) (W.failed output.new) result }
     {
         let number = self.listener.next_number();
-        let Some(hearing) = self.listener.hear(alloc, line) else {
-            return Ok(());
-        };
-        match hearing.stop() {
-            Some(fault) => Err(self.stop(number, fault, output)),
-            None => match self.take(hearing, output) {
+        match self.listener.take(alloc, &mut self.block, line) {
+            Err(fault) => Err(self.stop(number, fault, output)),
+            Ok(unit) => match self.answer_if(alloc, unit, output) {
                 Ok(()) => Ok(()),
                 Err(stop) => Err(write_failed(stop)),
             },
         }
     }
 
-    // Takes what was heard of a line, and answers the unit that it completes.
-    fn take<W: Sink>(&mut self, hearing: Hearing, output: &mut W) -> Result<(), WriteStop>
-        ensures block { self.new.block ≡ kept_after self.old.block hearing }
-        ensures answered { (starved : Bool) × Sends (W.taken output.old) (W.taken output.new) (replies_to starved self.old.session (kept_units_at self.old.block hearing)) result
-            × (self.new.session ≡ history_after_all starved self.old.session (kept_units_at self.old.block hearing)) }
+    // Answers the unit that a line completes, if it completes one.
+    fn answer_if<W: Sink>(
+        &mut self,
+        alloc: Global,
+        unit: Option<SessionUnit>,
+        output: &mut W,
+    ) -> Result<(), WriteStop>
+        requires { IfSome unit (λ completed. IsProperRequest completed.request) }
+        ensures answered { (starved : Bool) × Sends (W.taken output.old) (W.taken output.new) (replies_to starved self.old.session (option_to_list unit)) result
+            × (self.new.session ≡ history_after_all starved self.old.session (option_to_list unit)) }
+        ensures block { self.new.block ≡ self.old.block }
         ensures listener { self.new.listener ≡ self.old.listener }
         ensures errors { CountsErr (W.failed output.old) (W.failed output.new) result }
     {
-        let (block, unit) = take_line(self.block.take(), hearing);
-        self.block = block;
         match unit {
-            Some(unit) => answer(&mut self.session, unit.request, output),
+            Some(unit) => answer(alloc, &mut self.session, unit.request, output),
             None => Ok(()),
         }
     }
@@ -197,7 +197,7 @@ fn refuse_if<W: Sink>(at: Option<FaultAt>, output: &mut W) -> Result<(), WriteSt
     ensures errors { CountsErr (W.failed output.old) (W.failed output.new) result }
 {
     match at {
-        Some(at) => refuse(at.fault, output),
+        Some(at) => refuse(Fault::from(at.fault), output),
         None => Ok(()),
     }
 }
@@ -229,7 +229,7 @@ fn dangling(continued: Option<u32>) -> Option<FaultAt>
     match continued {
         Some(line) => Some(FaultAt {
             line,
-            fault: Fault::Lex(LexFault::DanglingEscape),
+            fault: UnitFault::Lex(LexFault::DanglingEscape),
         }),
         None => None,
     }

@@ -18,7 +18,7 @@ loop-item-init g c =
     record {
       sent = ([], sym (ap (listed_met 1) all ∙ sections_listed 1 sections), Appends-nil _);
       count = refl;
-      bound = subst (λ (ms : List Met). 1 + length ms ≤ 263169) (sym all) (omega (arith, length-met sections, c.check_table.ensures.built.few_entries, c.check_table.ensures.built.few_sections));
+      bound = subst (λ (ms : List Met). 1 + length ms ≤ 263169) (sym all) (omega (arith, length-met sections, c.check_table.ensures.well_formed.built.few_entries, c.check_table.ensures.well_formed.built.few_sections));
     }
 
 pub write_met-requires : goal.write_met-requires

@@ -1,0 +1,204 @@
+-- A delta file that is read line by line: what is known of it after some lines, and what each end of the reading says of it.
+use Rattle.std.proofs.Common.{◌≡◌, ℕ, ◌+◌, Bool, true, false, List, [], ◌∷◌, ◌++◌, length, Option, Some, None, Result, Ok, Err, ◌⊎◌, ⊎_elim, sym, ap, subst, ◌∙◌, refl, arith, append_assoc, append-nil, length-append}
+use Rattle.std.specs.Prelude.{option_map, IfErr, OnOk, ◌==◌, if◌then◌else◌}
+use Rattle.std.proofs.lemmas.Bool.{false≢true}
+use Rattle.std.proofs.lemmas.Grind.{flat_map-append}
+use Rattle.std.specs.Io.KnownBytes.{prepend_known}
+use Rattle.coll_lex.specs.Devices.{raised}
+use Rattle.coll_lex.specs.LineReading.{ReaderState, no_line, Advances, GivesLine, GivesEnd, EndsAgain, StopsNow, StopsAgain}
+use Rattle.coll_lex.specs.LogicalLines.{number_of}
+use Rattle.coll_lex.specs.PhysicalLines.{line_feed, lines_of}
+use Rattle.coll_lex.specs.declared.faults.LexFault.TheVariants as lex
+use Rattle.coll_lex.specs.declared.faults.ReadStop.{ReadStop}
+use Rattle.coll_lex.specs.declared.faults.ReadStop.TheVariants as stop
+use Rattle.coll_table.specs.Loads.{with_feeds}
+use Rattle.coll_table.specs.Table.{Collation}
+use Rattle.coll_table.proofs.TextSteps.{IsUnread, gives_first, was_last, stops_long, stops_short}
+use Rattle.coll_units.specs.DeltaFiles.{delta_outcome}
+use Rattle.coll_units.specs.DeltaReading.{DeltaState, first_delta, early_end, delta_end}
+use Rattle.coll_units.specs.Units.{BlockLines}
+use Rattle.coll_units.specs.declared.delta_faults.DeltaFault.{DeltaFault}
+use Rattle.coll_units.proofs.DeltaSteps.{outcome_from, StandsAfter, CountsOne, stands_first}
+use Rattle.coll_bench.specs.Faults.{fault_number}
+use Rattle.coll_bench.specs.BatchOutcome.{Decision, Decided, fault_in, delta_fault_in, decision, answer_at_end, after_delta}
+use Rattle.coll_bench.specs.BatchReading.{DeltaFails, ReadsDelta, CountsDelta, FailsAs, stopped_in, line_taken}
+use Rattle.coll_bench.specs.BatchRuns.{Ending, ReadFailed, WriteFailed, Starved, Refused, ending_of, DecidesNothing}
+use Rattle.coll_bench.specs.declared.faults.Fault.TheVariants as fault
+use Rattle.coll_bench.specs.declared.faults.RunFault.{RunFault}
+use Rattle.coll_bench.proofs.BatchFaults.{delta_fails}
+use Rattle.coll_bench.proofs.DeltaDecisions.{Leads, LineDecides, line_decides, long_line, ends_here, reader_ends, undecided_here, given_here}
+
+-- lines and one more, and those behind it, with their line feeds
+fed_more : (text : List ℕ) (whole : List (List ℕ)) (rest line later : List ℕ) → text ≡ with_feeds whole ++ rest → rest ≡ with_feeds (line ∷ []) ++ later → text ≡ with_feeds (whole ++ line ∷ []) ++ later
+fed_more text whole rest line later h k =
+    h ∙ (ap (λ l. with_feeds whole ++ l) k
+    ∙ (sym (append_assoc (with_feeds whole) (with_feeds (line ∷ [])) later)
+    ∙ ap (λ l. l ++ later) (sym (flat_map-append (λ line. line ++ line_feed ∷ []) whole (line ∷ [])))))
+
+module _ (input : ℕ) (first : Collation) where
+  -- of the text these lines were taken, and the rest is unread; what they decide is what is decided from the table and the state of
+  -- the file's reader
+  pub record ReadSoFar (text : List ℕ) (reader : ReaderState) (left : Option (List ℕ)) (block : Option BlockLines) (table : Collation) (s : DeltaState) : Type 0 where
+    pub whole : List (List ℕ)
+    pub rest : List ℕ
+    pub unread : IsUnread reader left rest
+    pub lines : lines_of text ≡ whole ++ lines_of rest
+    pub fed : reader.ended ≡ false → text ≡ with_feeds whole ++ rest
+    pub count : s.ended ≡ false → s.lexer.count ≡ length whole
+    pub decides : (ends : Bool) (more : List (List ℕ)) → decision input first (delta_outcome ends (whole ++ more)) ≡ decision input table (outcome_from ends block s more)
+
+  -- whatever text the device had, it was read so far
+  pub record OnWay (start : Option (List ℕ)) (reader : ReaderState) (left : Option (List ℕ)) (table : Collation) (s : DeltaState) : Type 0 where
+    pub block : Option BlockLines
+    pub stands : StandsAfter block s
+    pub read : (text : List ℕ) → start ≡ Some text → ReadSoFar text reader left block table s
+
+  -- before the first line
+  pub sets_out : (start : Option (List ℕ)) → OnWay start no_line start first first_delta
+  sets_out start = record {
+    block = None;
+    stands = stands_first;
+    read = λ text e. record {
+      whole = [];
+      rest = text;
+      unread = (ap (prepend_known []) e, λ n. absurd (false≢true n));
+      lines = refl;
+      fed = λ n. refl;
+      count = λ n. refl;
+      decides = λ ends more. refl;
+    };
+  }
+
+  -- what the lines of a text decide is the answer to it
+  answered_by : (text : List ℕ) (d : Decision) (count : ℕ) → decision input first (delta_outcome true (lines_of text)) ≡ d → length (lines_of text) ≡ count → after_delta input first text ≡ answer_at_end input count d
+  unfolding after_delta
+  answered_by text d count e n = ap (answer_at_end input (length (lines_of text))) e ∙ ap (λ c. answer_at_end input c d) n
+
+  module _ (start : Option (List ℕ)) (reader : ReaderState) (left : Option (List ℕ)) (table : Collation) (s : DeltaState) (way : OnWay start reader left table s) where
+    -- what is decided of the text by the lines unread
+    from_here : (text : List ℕ) (e : start ≡ Some text) (lines : List (List ℕ)) → let at = way.read text e in lines_of at.rest ≡ lines → decision input first (delta_outcome true (lines_of text)) ≡ decision input table (outcome_from true way.block s lines)
+    from_here text e lines ahead =
+        let at = way.read text e in
+        ap (λ ls. decision input first (delta_outcome true ls)) (at.lines ∙ ap (λ l. at.whole ++ l) ahead) ∙ at.decides true lines
+
+    -- a text of which a line decides is answered so
+    decided_so : (text : List ℕ) (e : start ≡ Some text) (line : List ℕ) (later : List (List ℕ)) (ended : RunFault) → let at = way.read text e in lines_of at.rest ≡ line ∷ later
+        → line_taken input table s line ≡ Err ended → after_delta input first text ≡ Err ended
+    decided_so text e line later ended ahead taken =
+        let decides : LineDecides input way.block table s line (Err ended) = subst (LineDecides input way.block table s line) taken (line_decides input way.block table s line way.stands) in
+        answered_by text (Decided (Err ended)) (length (lines_of text)) (from_here text e (line ∷ later) ahead ∙ decides true later) refl
+
+    -- where the category has ended, the table is the answer
+    pub given_whole : s.ended ≡ true → (text : List ℕ) → start ≡ Some text → after_delta input first text ≡ Ok table
+    given_whole ended text e =
+        let at = way.read text e in
+        answered_by text (Decided (Ok table)) (length (lines_of text)) (from_here text e (lines_of at.rest) refl ∙ given_here input way.block table s way.stands true (lines_of at.rest) ended) refl
+
+    module _ (going : s.ended ≡ false) (new : ReaderState) (left_after : Option (List ℕ)) (failed failed_after : ℕ) where
+      -- a line more that was taken
+      module _ (changed : Collation) (after : DeltaState) (taken : line_taken input table s new.line ≡ Ok (changed, after)) where
+        leads : Leads input way.block table changed s new.line after
+        leads = subst (LineDecides input way.block table s new.line) taken (line_decides input way.block table s new.line way.stands)
+
+        pub goes_on : GivesLine reader new left left_after failed failed_after → OnWay start new left_after changed after
+        goes_on gives = record {
+          block = leads.next;
+          stands = leads.stands;
+          read = λ text e.
+              let at = way.read text e in
+              let first_line = gives_first reader new left left_after failed failed_after at.rest at.unread gives in
+              record {
+                whole = at.whole ++ new.line ∷ [];
+                rest = first_line.rest;
+                unread = first_line.unread;
+                lines = at.lines ∙ (ap (λ lines. at.whole ++ lines) first_line.first ∙ sym (append_assoc at.whole (new.line ∷ []) (lines_of first_line.rest)));
+                fed = λ n. fed_more text at.whole at.rest new.line first_line.rest (at.fed first_line.went_on) (first_line.fed n);
+                count = λ n. let one = leads.counts n in omega (arith, one.1, at.count going, length-append at.whole (new.line ∷ []));
+                decides = λ ends more.
+                    ap (λ ls. decision input first (delta_outcome ends ls)) (append_assoc at.whole (new.line ∷ []) more) ∙ (at.decides ends (new.line ∷ more) ∙ leads.decides ends more);
+              };
+        }
+
+        -- which is counted, as long as the category goes on
+        pub counts : after.ended ≡ false → CountsOne s.lexer after.lexer
+        counts on = leads.counts on
+
+      -- a line more that was refused
+      refused_by : (kind : Ending) (ended : RunFault) → GivesLine reader new left left_after failed failed_after → FailsAs kind (line_taken input table s new.line) ended → (text : List ℕ) → start ≡ Some text → DeltaFails kind input first text left_after ended
+      refused_by ReadFailed ended gives h text e = absurd h
+      refused_by WriteFailed ended gives h text e = h
+      refused_by Starved ended gives h text e = tt
+      refused_by Refused ended gives h text e =
+          let at = way.read text e in
+          let first_line = gives_first reader new left left_after failed failed_after at.rest at.unread gives in
+          decided_so text e new.line (lines_of first_line.rest) ended first_line.first h
+
+      pub refused : (ended : RunFault) → GivesLine reader new left left_after failed failed_after → FailsAs (ending_of ended) (line_taken input table s new.line) ended → ReadsDelta input first table start left_after (Err ended)
+      refused ended gives h = refused_by (ending_of ended) ended gives h
+
+      -- a line more that is longer than a line may be
+      stopped_long : reader.stop ≡ None → StopsNow reader new left left_after failed failed_after stop.LineTooLong ⊎ StopsAgain reader new left left_after failed failed_after stop.LineTooLong → (text : List ℕ) → start ≡ Some text
+          → after_delta input first text ≡ Err (stopped_in input (number_of s.lexer) stop.LineTooLong)
+      stopped_long none stops text e =
+          let at = way.read text e in
+          let long = stops_long reader new left left_after failed failed_after at.rest at.unread none stops in
+          decided_so text e long.line long.later (stopped_in input (number_of s.lexer) stop.LineTooLong) long.first (long_line input way.block table s way.stands long.line long.long going)
+
+      -- a read that failed
+      stopped_short : reader.stop ≡ None → StopsNow reader new left left_after failed failed_after stop.ReadFault ⊎ StopsAgain reader new left left_after failed failed_after stop.ReadFault → (text : List ℕ) → start ≡ Some text
+          → DeltaFails ReadFailed input first text left_after (stopped_in input (number_of s.lexer) stop.ReadFault)
+      stopped_short none stops text e =
+          let at = way.read text e in
+          let cut = stops_short reader new left left_after failed failed_after at.rest at.unread none stops in (
+            refl,
+            (
+              at.whole,
+              cut.part,
+              cut.rest,
+              cut.left,
+              at.fed cut.went_on ∙ ap (λ rest. with_feeds at.whole ++ rest) cut.all,
+              at.lines ∙ ap (λ rest. at.whole ++ lines_of rest) cut.all,
+              cut.whole,
+              subst DecidesNothing (sym (ap (λ ls. decision input first (delta_outcome false ls)) (sym (append-nil at.whole)) ∙ at.decides false [])) (undecided_here input way.block table s way.stands going),
+            ),
+          )
+
+      -- a reader that stops
+      pub stopped : (why : ReadStop) → reader.stop ≡ None → Advances reader new left left_after failed failed_after (Err why) → ReadsDelta input first table start left_after (Err (stopped_in input (number_of s.lexer) why))
+      stopped stop.LineTooLong none stops = stopped_long none stops
+      stopped stop.ReadFault none stops = stopped_short none stops
+
+      -- no line more
+      all_read : GivesEnd reader new left left_after failed failed_after ⊎ EndsAgain reader new left left_after failed failed_after → (text : List ℕ) → start ≡ Some text
+          → after_delta input first text ≡ Err (delta_fault_in input (early_end s s.lexer.line))
+      all_read ends text e =
+          let at = way.read text e in
+          let none = was_last reader new left left_after failed failed_after at.rest at.unread ends in
+          let all : lines_of text ≡ at.whole = at.lines ∙ (ap (λ lines. at.whole ++ lines) none ∙ append-nil at.whole) in
+          answered_by text (decision input table (outcome_from true way.block s [])) s.lexer.count (from_here text e [] none) (ap length all ∙ sym (at.count going))
+          ∙ ends_here input way.block table s way.stands going
+
+      -- a file that ends before its category does: what its reader answers is the answer to the text
+      ends_early : GivesEnd reader new left left_after failed failed_after ⊎ EndsAgain reader new left left_after failed failed_after → (ended : RunFault) → option_map (delta_fault_in input) (delta_end s) ≡ Some ended → ReadsDelta input first table start left_after (Err ended)
+      ends_early ends ended h =
+          let f = early_end s s.lexer.line in
+          let both : Some (delta_fault_in input f) ≡ Some ended = sym (ap (option_map (delta_fault_in input)) (reader_ends input way.block table s way.stands going)) ∙ h in
+          let same : delta_fault_in input f ≡ ended = cc in
+          λ text e. subst (λ (ended : RunFault). DeltaFails (ending_of ended) input first text left_after ended) same
+          (fails_at (ending_of (delta_fault_in input f)) f text left_after (delta_fails input f (after_delta input first text) (λ _. all_read ends text e)))
+        where
+          fails_at : (kind : Ending) (f : DeltaFault) (text : List ℕ) (left_after : Option (List ℕ)) → FailsAs kind (after_delta input first text) (delta_fault_in input f) → DeltaFails kind input first text left_after (delta_fault_in input f)
+          fails_at ReadFailed f text left_after h = absurd h
+          fails_at WriteFailed f text left_after h = h
+          fails_at Starved f text left_after h = h
+          fails_at Refused f text left_after h = h
+
+      -- and it can't end well
+      ends_ill : delta_end s ≡ None → ⊥
+      ends_ill none = let both : Some (early_end s s.lexer.line) ≡ None = sym (reader_ends input way.block table s way.stands going) ∙ none in cc
+
+      -- a file that ends here
+      pub ends_file : GivesEnd reader new left left_after failed failed_after ⊎ EndsAgain reader new left left_after failed failed_after → (r : Result (Unit {0}) RunFault) → OnOk r (delta_end s ≡ None) → IfErr r (λ ended. option_map (delta_fault_in input) (delta_end s) ≡ Some ended)
+          → ReadsDelta input first table start left_after r
+      ends_file ends (Ok done) ok err = absurd (ends_ill ok)
+      ends_file ends (Err ended) ok err = ends_early ends ended err

@@ -1,0 +1,96 @@
+-- A whole run of a batch: what was written and what was answered are stated functions of what its inputs have.
+use Rattle.std.specs.Prelude.{◌≡◌, ◌==◌, ◌⊎◌, ℕ, zero, suc, false, if◌then◌else◌, List, [], ◌∷◌, ◌++◌, map, take, slice_get, Option, Some, Result, Ok, Err}
+use Rattle.coll_lex.specs.Devices.{raised}
+use Rattle.coll_lex.specs.PhysicalLines.{lines_of, IsInLine}
+use Rattle.coll_table.specs.Table.{Collation}
+use Rattle.coll_table.specs.Loads.{with_feeds, StopsWithin}
+use Rattle.coll_table.specs.Reading.{reads}
+use Rattle.coll_table.specs.TableLayout.{TableValue, collation}
+use Rattle.coll_units.specs.DeltaFiles.{delta_outcome}
+use Rattle.coll_bench.specs.Faults.{fault_number}
+use Rattle.coll_bench.specs.BatchOutcome.{Decision, Decided, Undecided, decision, after_delta, after_deltas, after_inputs, batch_outcome}
+use Rattle.coll_bench.specs.declared.batches.Batch.{Batch}
+use Rattle.coll_bench.specs.declared.faults.RunFault.{RunFault}
+
+-- what kind of fault ended a run: a read that failed, a write that failed, want of memory, or something that an input or a text
+-- says
+pub data Ending : Type 0 where
+  ReadFailed : Ending
+  WriteFailed : Ending
+  Starved : Ending
+  Refused : Ending
+
+-- the kind of a fault, by its number
+abbrev pub ending_of_number : ℕ → Ending
+ending_of_number number = if number == 67 then ReadFailed else (if number == 68 then WriteFailed else (if number == 70 then Starved else Refused))
+
+-- the kind of the fault that ended a run
+abbrev pub ending_of : RunFault → Ending
+ending_of ended = ending_of_number (fault_number ended.fault)
+
+-- lines that decide nothing
+abbrev pub DecidesNothing : Decision → Type 0
+DecidesNothing (Decided answer) = ⊥
+DecidesNothing (Undecided cause) = Unit {0}
+
+-- a read of a delta file failed behind a part of a line: its text begins with the lines read before it, each with its line feed,
+-- and these decide nothing; behind them stand that part and the rest, which is left
+abbrev pub DeltaStopsWithin : (input : ℕ) → Collation → (text : List ℕ) → (left : Option (List ℕ)) → Type 0
+DeltaStopsWithin input table text left =
+    (whole : List (List ℕ)) × (part : List ℕ) × (rest : List ℕ) × (left ≡ Some rest) × (text ≡ with_feeds whole ++ (part ++ rest))
+    × (lines_of text ≡ whole ++ lines_of (part ++ rest)) × IsInLine part × DecidesNothing (decision input table (delta_outcome false whole))
+
+-- a read of one of the delta files failed, with so many before it, which give a table
+abbrev pub DeltasStopWithin : (before : ℕ) → Collation → (texts : List (List ℕ)) → (lefts : List (Option (List ℕ))) → Type 0
+DeltasStopWithin before first texts lefts =
+    (table : Collation) × (text : List ℕ) × (left : Option (List ℕ)) × (after_deltas 1 first (take before texts) ≡ Ok table)
+    × (slice_get texts before ≡ Some text) × (slice_get lefts before ≡ Some left) × DeltaStopsWithin (suc before) table text left
+
+-- a read of an input failed, and nothing before that is at fault
+abbrev pub InputsStopWithin : (input : ℕ) → (table_text : List ℕ) → (delta_texts : List (List ℕ)) → (left : Option (List ℕ)) → (lefts : List (Option (List ℕ))) → Type 0
+InputsStopWithin zero table_text delta_texts left lefts = StopsWithin table_text left
+InputsStopWithin (suc before) table_text delta_texts left lefts =
+    (first : Collation) × (reads table_text ≡ Ok first) × DeltasStopWithin before first delta_texts lefts
+
+-- what was written is a front of the output
+abbrev pub WritesFront : Batch → (table_text : List ℕ) → (delta_texts : List (List ℕ)) → (written : List ℕ) → Type 0
+WritesFront b table_text delta_texts written = (back : List ℕ) × (batch_outcome b table_text delta_texts ≡ Ok (written ++ back))
+
+-- a fault of no line of the first input, as which a fault that comes with the output counts
+abbrev pub IsOfNoLine : RunFault → Type 0
+IsOfNoLine ended = (ended.input ≡ 0) × (ended.line ≡ 0)
+
+-- what a run did that ended with a fault, by its kind: nothing is written where an input is at fault or a read fails; a write that
+-- fails leaves a front of the output; and where memory is refused, nothing is written, or a front of the output
+abbrev pub BatchRanTo : Ending → Batch → (table_text : List ℕ) → (delta_texts : List (List ℕ)) → (left : Option (List ℕ)) → (lefts : List (Option (List ℕ))) → (written : List ℕ) → RunFault → Type 0
+BatchRanTo ReadFailed b table_text delta_texts left lefts written ended =
+    (written ≡ []) × (ended.line ≡ 0) × InputsStopWithin ended.input table_text delta_texts left lefts
+BatchRanTo WriteFailed b table_text delta_texts left lefts written ended =
+    IsOfNoLine ended × WritesFront b table_text delta_texts written
+BatchRanTo Starved b table_text delta_texts left lefts written ended =
+    (written ≡ []) ⊎ (IsOfNoLine ended × WritesFront b table_text delta_texts written)
+BatchRanTo Refused b table_text delta_texts left lefts written ended =
+    (written ≡ []) × (batch_outcome b table_text delta_texts ≡ Err ended)
+
+-- what a run of a batch did, by its answer
+abbrev pub BatchRan : Batch → (table_text : List ℕ) → (delta_texts : List (List ℕ)) → (left : Option (List ℕ)) → (lefts : List (Option (List ℕ))) → (written : List ℕ) → Result (Unit {0}) RunFault → Type 0
+BatchRan b table_text delta_texts left lefts written (Ok done) = batch_outcome b table_text delta_texts ≡ Ok written
+BatchRan b table_text delta_texts left lefts written (Err ended) = BatchRanTo (ending_of ended) b table_text delta_texts left lefts written ended
+
+-- the theorem of a batch: whatever texts the inputs have, and whatever the sink took before, what was written and what was
+-- answered are as stated for these texts
+abbrev pub BatchRuns : Batch → (left left_after : Option (List ℕ)) → (lefts lefts_after : List (Option (List ℕ))) → (taken taken_after : Option (List ℕ)) → Result (Unit {0}) RunFault → Type 0
+BatchRuns b left left_after lefts lefts_after taken taken_after r =
+    (table_text : List ℕ) (delta_texts : List (List ℕ)) (before : List ℕ) → left ≡ Some table_text → lefts ≡ map Some delta_texts → taken ≡ Some before
+    → (written : List ℕ) × (taken_after ≡ Some (before ++ written)) × BatchRan b table_text delta_texts left_after lefts_after written r
+
+-- the counts of the inputs, that of one of them, by its number, one higher
+abbrev pub raised_at : ℕ → List ℕ → List ℕ
+raised_at n [] = []
+raised_at zero (count ∷ counts) = raised count ∷ counts
+raised_at (suc n) (count ∷ counts) = count ∷ raised_at n counts
+
+-- a failed read is counted by its input, and nothing else is
+abbrev pub CountsInputs : {T : Type 0} → (old new : List ℕ) → Result T RunFault → Type 0
+CountsInputs old new (Ok done) = new ≡ old
+CountsInputs old new (Err ended) = new ≡ (if fault_number ended.fault == 67 then raised_at ended.input old else old)

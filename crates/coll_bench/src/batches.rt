@@ -1,0 +1,99 @@
+//! A batch: a table is read, rewritten by delta files, and answered from once.
+//!
+//! `run_batch` carries the theorem of a batch: what is written and what is answered are stated functions of the texts of its inputs
+//! (`BatchRuns` of `specs/BatchRuns.antt`). `inputs` reads the table and the delta files, `delta_files` a single one, and `output`
+//! writes what the batch asks for. Every input is read before the first byte is written, and no history is kept. A new batch is a
+//! new variant of `Batch`, a case of `batch_output`, and of `write_output`.
+
+ghost use Rattle.std.specs.Prelude.{◌≡◌, ◌≤◌, ◌∷◌, length, map, IfErr};
+ghost use Rattle.coll_bench.specs.BatchOutcome.{fault_in, texts_of as texts_asked, is_any_too_long as any_too_long};
+ghost use Rattle.coll_key.specs.KeyLimits.{is_too_long as too_long};
+ghost use Rattle.coll_bench.specs.BatchRuns.{BatchRuns, CountsInputs};
+ghost use Rattle.coll_bench.specs.Serving.{CountsWrites};
+
+mod delta_files;
+mod inputs;
+mod output;
+
+use crate::faults::{Fault, RunFault};
+use coll_key::{KeyFault, MOST_TEXT_CHARACTERS};
+use coll_lex::{ListBuf, Sink, Source, TextBuf};
+use inputs::read_inputs;
+use output::write_output;
+use std::alloc::Global;
+
+/// What is asked of the table that the inputs of a batch give.
+#[derive(Debug, Drop)]
+pub enum Batch {
+    /// How many entries, declarations, sections and levels it has.
+    Check,
+    /// Its canonical text.
+    Print,
+    /// Its compiled listing.
+    Compile,
+    /// The written sort key of each text, one a line, in their order.
+    Key(ListBuf<TextBuf>),
+    /// The order of two texts: `less`, `equal` or `greater`.
+    Compare(TextBuf, TextBuf),
+}
+
+/// Reads a table, rewrites it by delta files in their order, and writes what is asked of the result.
+///
+/// Input 0 is the table, input k the k-th delta file; nothing behind the end of a category is looked at. The first fault met is
+/// the answer, with its input and its line (of a refused block that of its `reorder-after`), and then nothing is written. After all
+/// inputs were read, a text of more than 65,536 characters is refused, with input 0 and line 0, before anything is written. A
+/// write that fails, and want of memory while keys are written, have input 0 and line 0, and leave a front of the output. A read
+/// that fails has line 0 and its input, unless the lines read whole before it are at fault already.
+pub fn run_batch<R: Source, W: Sink>(
+    alloc: Global,
+    batch: Batch,
+    table: &mut R,
+    deltas: &mut [R],
+    output: &mut W,
+) -> Result<(), RunFault>
+    ensures run { BatchRuns batch (R.left table.old) (R.left table.new) (map R.left deltas.old) (map R.left deltas.new) (W.taken output.old) (W.taken output.new) result }
+    ensures input { IfErr result (λ ended. ended.input ≤ length deltas.old) }
+    ensures reads { CountsInputs (R.failed table.old ∷ map R.failed deltas.old) (R.failed table.new ∷ map R.failed deltas.new) result }
+    ensures writes { CountsWrites (W.failed output.old) (W.failed output.new) result }
+{
+    let changed = match read_inputs(alloc, table, deltas) {
+        Ok(changed) => changed,
+        Err(ended) => return Err(ended),
+    };
+    if is_any_too_long(&batch) {
+        return Err(with_no_line(Fault::Key(KeyFault::TextTooLong)));
+    }
+    match write_output(alloc, &batch, &changed, output) {
+        Ok(()) => Ok(()),
+        Err(fault) => Err(with_no_line(fault)),
+    }
+}
+
+// Whether one of the texts that a batch is about is too long to have a key.
+fn is_any_too_long(batch: &Batch) -> bool
+    ensures { result ≡ any_too_long (texts_asked batch.now) }
+{
+    match batch {
+        Batch::Key(texts) => texts.get().iter().any(is_too_long),
+        Batch::Compare(first, second) => is_too_long(first) || is_too_long(second),
+        Batch::Check | Batch::Print | Batch::Compile => false,
+    }
+}
+
+// Whether a text is too long to have a key.
+fn is_too_long(text: &TextBuf) -> bool
+    ensures { result ≡ too_long text.now }
+{
+    text.get().chars().count() > MOST_TEXT_CHARACTERS
+}
+
+// A fault that comes from no line, as which one that comes with the output counts.
+fn with_no_line(fault: Fault) -> RunFault
+    ensures { result ≡ fault_in 0 0 fault }
+{
+    RunFault {
+        input: 0,
+        line: 0,
+        fault,
+    }
+}

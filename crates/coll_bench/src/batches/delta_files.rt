@@ -1,0 +1,161 @@
+//! A delta file is read line by line, and each statement rewrites the table at once.
+//!
+//! No history is kept: the record of a statement is dropped. Whoever keeps more of a file than its reader and the table gives up
+//! that a file of any length is read in the memory of its longest block.
+
+ghost use Rattle.std.specs.Prelude.{◌≡◌, option_map, option_to_list, IfSome, IfErr, OnOk, Ok, None, Some};
+ghost use Rattle.coll_units.specs.DeltaReading.{delta_end};
+ghost use Rattle.coll_syntax.specs.Proper.{IsProper};
+ghost use Rattle.coll_table.specs.Delta.{delta as delta_of};
+ghost use Rattle.coll_table.specs.TableLayout.{collation};
+ghost use Rattle.coll_bench.specs.BatchOutcome.{delta_fault_in, judged_at, rewritten};
+ghost use Rattle.coll_bench.specs.BatchReading.{ReadsDelta, CountsDelta, WritesNone, FailsAs, line_taken, starved_in, stopped_in};
+ghost use Rattle.coll_bench.specs.BatchRuns.{ending_of};
+
+use crate::faults::{Fault, RunFault};
+use coll_lex::{LexFault, LineReader, ReadStop, Source};
+use coll_table::Table;
+use coll_units::{DeltaFault, DeltaReader, StatementAt};
+use std::alloc::Global;
+
+/// Rewrites a table by a delta file, which is the input with this number.
+pub(crate) fn read_delta<R: Source>(
+    alloc: Global,
+    input: usize,
+    table: &mut Table,
+    delta: &mut R,
+) -> Result<(), RunFault>
+    ensures file { ReadsDelta input (collation table.old) (collation table.new) (R.left delta.old) (R.left delta.new) result }
+    ensures input { IfErr result (λ ended. ended.input ≡ input) }
+    ensures writes { IfErr result (λ ended. WritesNone ended) }
+    ensures reads { CountsDelta (R.failed delta.old) (R.failed delta.new) result }
+{
+    let Ok(mut file) = DeltaReader::new(alloc) else {
+        return Err(no_memory(input));
+    };
+    let Ok(mut reader) = LineReader::new(alloc) else {
+        return Err(no_memory(input));
+    };
+    'lines: loop {
+        match reader.advance(delta) {
+            Ok(true) => {
+                if let Err(ended) = take_line(input, table, &mut file, reader.line()) {
+                    return Err(ended);
+                }
+            }
+            Ok(false) => return end_file(input, file),
+            Err(stop) => return Err(stop_fault(input, file.next_number(), stop)),
+        }
+        if file.finished() {
+            return Ok(());
+        }
+    }
+}
+
+// Hands a line in, and rewrites the table by the statement that it completes. A line may be at fault behind that statement, and the
+// fault is then stored.
+fn take_line(
+    input: usize,
+    table: &mut Table,
+    file: &mut DeltaReader,
+    line: &[u8],
+) -> Result<(), RunFault>
+    ensures ok { OnOk result (line_taken input (collation table.old) file.old line.now ≡ Ok (collation table.new, file.new)) }
+    ensures err { IfErr result (λ ended. FailsAs (ending_of ended) (line_taken input (collation table.old) file.old line.now) ended) }
+    ensures input { IfErr result (λ ended. ended.input ≡ input) }
+{
+    match file.line(line) {
+        Ok(given) => {
+            if let Err(ended) = rewrite_if(input, table, given) {
+                return Err(ended);
+            }
+        }
+        Err(fault) => return Err(delta_fault(input, fault)),
+    }
+    match file.fault() {
+        Some(fault) => Err(delta_fault(input, fault)),
+        None => Ok(()),
+    }
+}
+
+// Rewrites the table by a statement, if there is one.
+#[tactic(auto, unfolding(crate::specs::BatchOutcome::rewritten))]
+fn rewrite_if(input: usize, table: &mut Table, given: Option<StatementAt>) -> Result<(), RunFault>
+    requires proper { IfSome given (λ at. IsProper at.statement) }
+    ensures ok { OnOk result (rewritten input (collation table.old) (option_to_list given) ≡ Ok (collation table.new)) }
+    ensures err { IfErr result (λ ended. FailsAs (ending_of ended) (rewritten input (collation table.old) (option_to_list given)) ended) }
+    ensures input { IfErr result (λ ended. ended.input ≡ input) }
+{
+    match given {
+        Some(at) => rewrite(input, table, &at),
+        None => Ok(()),
+    }
+}
+
+// Rewrites the table by a statement. The record that would take it back is dropped.
+fn rewrite(input: usize, table: &mut Table, at: &StatementAt) -> Result<(), RunFault>
+    requires proper { IsProper at.now.statement }
+    ensures ok { OnOk result (judged_at input at.now.line (delta_of (collation table.old) at.now.statement) ≡ Ok (collation table.new)) }
+    ensures err { IfErr result (λ ended. FailsAs (ending_of ended) (judged_at input at.now.line (delta_of (collation table.old) at.now.statement)) ended) }
+    ensures input { IfErr result (λ ended. ended.input ≡ input) }
+{
+    match table.apply(&at.statement) {
+        Ok(_) => Ok(()),
+        Err(refusal) => Err(RunFault {
+            input,
+            line: at.line,
+            fault: Fault::Table(refusal),
+        }),
+    }
+}
+
+// Ends a file whose lines were all handed in.
+fn end_file(input: usize, file: DeltaReader) -> Result<(), RunFault>
+    ensures ok { OnOk result (delta_end file ≡ None) }
+    ensures err { IfErr result (λ ended. option_map (delta_fault_in input) (delta_end file) ≡ Some ended) }
+{
+    match file.finish() {
+        Ok(()) => Ok(()),
+        Err(fault) => Err(delta_fault(input, fault)),
+    }
+}
+
+// A fault of a delta file, as that of a run.
+fn delta_fault(input: usize, fault: DeltaFault) -> RunFault
+    ensures { result ≡ delta_fault_in input fault }
+{
+    RunFault {
+        input,
+        line: fault.line,
+        fault: Fault::from(fault),
+    }
+}
+
+// The fault that is answered where the reader stops before the line with this number.
+fn stop_fault(input: usize, number: u32, stop: ReadStop) -> RunFault
+    ensures { result ≡ stopped_in input number stop }
+{
+    match stop {
+        ReadStop::LineTooLong => RunFault {
+            input,
+            line: number,
+            fault: Fault::Lex(LexFault::LineTooLong),
+        },
+        ReadStop::ReadFault => RunFault {
+            input,
+            line: 0,
+            fault: Fault::Read(ReadStop::ReadFault),
+        },
+    }
+}
+
+// The fault of an input for which memory was refused before its first line.
+fn no_memory(input: usize) -> RunFault
+    ensures { result ≡ starved_in input }
+{
+    RunFault {
+        input,
+        line: 0,
+        fault: Fault::Lex(LexFault::OutOfMemory),
+    }
+}

@@ -1,0 +1,65 @@
+//! The inputs of a batch are read: the table, and then the delta files in their order, each of which rewrites it.
+
+ghost use Rattle.std.specs.Prelude.{◌≡◌, ◌≤◌, ◌<◌, ◌∷◌, length, map, IfErr};
+ghost use Rattle.coll_table.specs.TableLayout.{collation};
+ghost use Rattle.coll_bench.specs.BatchOutcome.{table_fault as fault_of_table};
+ghost use Rattle.coll_bench.specs.BatchReading.{ReadsInputs, ReadsDeltas, CountsDeltas, WritesNone};
+ghost use Rattle.coll_bench.specs.BatchRuns.{CountsInputs};
+
+use super::delta_files::read_delta;
+use crate::faults::{Fault, RunFault};
+use coll_lex::Source;
+use coll_table::{LoadFault, Table, load};
+use std::alloc::Global;
+
+/// Reads the table and the delta files. The answer is the table after all of them, or the first fault met.
+pub(crate) fn read_inputs<R: Source>(
+    alloc: Global,
+    table: &mut R,
+    deltas: &mut [R],
+) -> Result<Table, RunFault>
+    ensures inputs { ReadsInputs (R.left table.old) (R.left table.new) (map R.left deltas.old) (map R.left deltas.new) result }
+    ensures input { IfErr result (λ ended. ended.input ≤ length deltas.old) }
+    ensures writes { IfErr result (λ ended. WritesNone ended) }
+    ensures reads { CountsInputs (R.failed table.old ∷ map R.failed deltas.old) (R.failed table.new ∷ map R.failed deltas.new) result }
+{
+    let mut first = match load(alloc, table) {
+        Ok(first) => first,
+        Err(fault) => return Err(table_fault(fault)),
+    };
+    match read_deltas(alloc, &mut first, deltas) {
+        Ok(()) => Ok(first),
+        Err(ended) => Err(ended),
+    }
+}
+
+// Rewrites a table by delta files, in their order.
+fn read_deltas<R: Source>(
+    alloc: Global,
+    table: &mut Table,
+    deltas: &mut [R],
+) -> Result<(), RunFault>
+    ensures inputs { ReadsDeltas (collation table.old) (collation table.new) (map R.left deltas.old) (map R.left deltas.new) result }
+    ensures first { IfErr result (λ ended. 0 < ended.input) }
+    ensures input { IfErr result (λ ended. ended.input ≤ length deltas.old) }
+    ensures writes { IfErr result (λ ended. WritesNone ended) }
+    ensures reads { CountsDeltas (map R.failed deltas.old) (map R.failed deltas.new) result }
+{
+    for (before, delta) in deltas.iter_mut().enumerate() {
+        if let Err(ended) = read_delta(alloc, before + 1, table, delta) {
+            return Err(ended);
+        }
+    }
+    Ok(())
+}
+
+// A fault of the table, as that of a run.
+fn table_fault(fault: LoadFault) -> RunFault
+    ensures { result ≡ fault_of_table fault }
+{
+    RunFault {
+        input: 0,
+        line: fault.line,
+        fault: Fault::Load(fault),
+    }
+}
