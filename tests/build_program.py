@@ -1,5 +1,6 @@
 #!/usr/bin/env python3
 """Proves and builds the program, and says how far it is, crate by crate. What is not proved is printed as it comes.
+Once it is built it is run for its help, which is not shown.
 
 usage: tests/build_program.py
 """
@@ -18,11 +19,11 @@ PASSED_OVER = re.compile(
 
 
 def main():
-    crate = "collbench"
+    crate, built = "collbench", False
     print("Proving and building the program: some minutes from nothing, and less after a change.", flush=True)
     how = {"stdin": subprocess.DEVNULL, "stdout": subprocess.PIPE, "stderr": subprocess.STDOUT}
     text = {"encoding": "utf-8", "errors": "replace"}
-    with subprocess.Popen(["rt", "run"], cwd=f"{ROOT}/crates/collbench", **how, **text) as build:
+    with subprocess.Popen(["rt", "run", "--", "--help"], cwd=f"{ROOT}/crates/collbench", **how, **text) as build:
         for line in build.stdout:
             begun = re.match(r"rt: chose --jobs \d+ for (\w+)", line)
             so_far = re.match(r"so far: (\d+ of \d+ functions)", line)
@@ -32,8 +33,8 @@ def main():
                 print(f"{crate}: {so_far[1]}", flush=True)
             elif line.startswith("logic=proved"):
                 print(f"{crate}: proved", flush=True)
-                crate = "collbench"
-            elif not PASSED_OVER.match(line):
+                crate, built = "collbench", crate == "collbench"
+            elif not built and not PASSED_OVER.match(line):
                 print(line, end="", flush=True)
     if build.returncode:
         print("The program is not built.")

@@ -4,15 +4,16 @@
 usage: tests/run_program.py [PROGRAM [NAME..]]
 
 PROGRAM is crates/collbench/out/collbench where none is given, which `make` and the gate build. Each file
-tests/runs/NAME.json is one run, in an empty folder of its own:
+tests/runs/NAME.json is one run, in a folder of its own, which has the examples and nothing else:
 
     shows         what the run shows, in a sentence
-    words         the words after the program; none if left out
+    words         the words after the program, each a value; none if left out
+    files         further files in the folder, each name with a value
     input         standard input, a value; empty if left out
     input_from    the path that standard input is opened from, in place of `input`
-    output        what the program writes to standard output, a value; empty if left out
+    output        what the program writes to standard output, a value; empty if left out, and not looked at if null
     output_to     the path that standard output is opened at; `output` is then not looked at
-    errors        what it writes to standard error, a value; empty if left out
+    errors        what it writes to standard error, a value; empty if left out, and not looked at if null
     errors_to     the path that standard error is opened at; `errors` is then not looked at
     status        the exit status; 0 if left out
 
@@ -26,6 +27,7 @@ failed.
 import contextlib
 import json
 import os
+import shutil
 import subprocess
 import sys
 import tempfile
@@ -34,7 +36,7 @@ ROOT = os.path.dirname(os.path.dirname(os.path.abspath(__file__)))
 PROGRAM = f"{ROOT}/crates/collbench/out/collbench"
 RUNS = f"{ROOT}/tests/runs"
 SECONDS = 120
-MEMBERS = {"shows", "words", "input", "input_from", "output", "output_to", "errors", "errors_to", "status"}
+MEMBERS = {"shows", "words", "files", "input", "input_from", "output", "output_to", "errors", "errors_to", "status"}
 
 
 def bytes_of(value):
@@ -47,9 +49,12 @@ def bytes_of(value):
         return bytes.fromhex(value["hex"])
     if set(value) == {"repeat", "times"}:
         return bytes_of(value["repeat"]) * value["times"]
-    if set(value) == {"file"}:
+    if set(value) | {"lines"} == {"file", "lines"}:
         with open(f"{ROOT}/{value['file']}", "rb") as file:
-            return file.read()
+            lines = file.readlines()
+        for number, line in value.get("lines", {}).items():
+            lines[int(number) - 1] = bytes_of(line)
+        return b"".join(lines)
     raise ValueError(f"no value: {value}")
 
 
@@ -81,8 +86,13 @@ def differences(program, run):
             if to in run:
                 how[stream] = opened(stack, run[to], os.O_WRONLY)
         folder = stack.enter_context(tempfile.TemporaryDirectory(prefix="run-program-"))
+        shutil.copytree(f"{ROOT}/examples", folder, dirs_exist_ok=True)
+        for name, value in run.get("files", {}).items():
+            with open(f"{folder}/{name}", "wb") as file:
+                file.write(bytes_of(value))
+        words = [bytes_of(word) for word in run.get("words", [])]
         try:
-            ended = subprocess.run([program, *run.get("words", [])], cwd=folder, timeout=SECONDS, check=False, **how)
+            ended = subprocess.run([program, *words], cwd=folder, timeout=SECONDS, check=False, **how)
         except subprocess.TimeoutExpired:
             return [f"the program had not ended after {SECONDS} seconds"]
         except OSError as error:
@@ -91,7 +101,8 @@ def differences(program, run):
     found += [] if "errors_to" in run else [("errors", ended.stderr)]
     lines = []
     for member, wrote in found:
-        wanted = bytes_of(run.get(member, ""))
+        value = run.get(member, "")
+        wanted = wrote if value is None else bytes_of(value)
         if wrote != wanted:
             lines += [f"{member} wanted: {shown(wanted)}", f"{member} found:  {shown(wrote)}"]
     if ended.returncode != run.get("status", 0):

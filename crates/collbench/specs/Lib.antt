@@ -1,1 +1,1 @@
-pub mod ExitStatus
+pub mod Tasks

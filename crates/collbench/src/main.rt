@@ -1,62 +1,163 @@
-//! The program: a session over the first table, from standard input to standard output.
+//! The program: a thin `main` over `coll_bench`, which runs batches and serves sessions.
 //!
-//! It is a thin `main` over `coll_bench`, which reads the table and serves the session. Here stand only the text of the
-//! table, the line on standard error for a fault that ends the run, and the exit status.
+//! `command_line` reads the words, and `files` opens what they name. Here the runs are started, and their faults are told: a line
+//! on standard error, and the exit status, which stands also where that line can't be written.
 #![tactic(auto)]
 
-ghost use Rattle.std.specs.Prelude.{◌≡◌};
-ghost use Rattle.collbench.specs.ExitStatus.{exit_status as stated_status};
+ghost use Rattle.std.specs.Prelude.{◌<◌, length, vec_len, IfErr, ◌≡◌};
 
-use coll_bench::run_session;
-use coll_lex::{Counted, LexFault};
-use coll_table::load;
-use std::io::BufWriter;
+mod command_line;
+mod files;
+
+use coll_bench::{Batch, Fault, RunFault, exit_status, run_batch, run_session, write_fault};
+use coll_lex::{Counted, LexFault, Sink, TextBuf, WriteStop};
+use coll_table::{Table, load};
+use command_line::{Request, Task, Unasked, copied_text, copied_texts, read_words};
+use files::{at_no_line, open_all};
+use std::env;
+use std::io::{BufWriter, ErrorKind, Stdout};
 use std::process::ExitCode;
 
-/// The first table: a collating symbol and three letters.
-const FIRST_TABLE: &str = "LC_COLLATE
-collating-symbol <BASE>
-order_start forward
-<BASE>
-<U0061>
-<U0062>
-<U0063>
-order_end
-END LC_COLLATE
-";
+/// The exit status where the words of the command line are wrong.
+const WRONG_WORDS: u8 = 2;
 
-/// The exit status for the fault, by its number, that ended a run: 2 where a device failed, 1 otherwise.
-pub fn exit_status(number: u8) -> u8
-    ensures { result ≡ stated_status number }
-{
-    match number {
-        67 | 68 => 2,
-        _ => 1,
+/// The name of standard input.
+const STANDARD_INPUT: &str = "-";
+
+fn main(rt: HostRuntime) -> ExitCode {
+    let words = match env::args(&rt) {
+        Ok(words) => words,
+        Err(error) if error.kind() == ErrorKind::OutOfMemory => return tell_no_memory(&rt),
+        Err(_) => return tell_not_text(&rt),
+    };
+    let Ok(words) = words.collect::<Vec<String>>(rt.alloc()) else {
+        return tell_no_memory(&rt);
+    };
+    match read_words(rt.alloc(), words.as_slice()) {
+        Ok(request) => obey(&rt, request),
+        Err(Unasked::Told(text)) => tell(&rt, &text),
+        Err(Unasked::OutOfMemory) => tell_no_memory(&rt),
     }
 }
 
-fn main(rt: HostRuntime) -> ExitCode {
-    let table = match load(rt.alloc(), &mut Counted::new(FIRST_TABLE.as_bytes())) {
-        Ok(table) => table,
-        Err(fault) => {
-            // Where the line can't be written, the status says what happened.
-            let _ = eprintln!(rt; "table:{}: {}", fault.line, fault.cause);
-            return ExitCode::from(exit_status(fault.cause.number()));
-        }
+// Does what was asked for, and answers the exit status.
+fn obey(rt: &HostRuntime, request: Request<'_>) -> ExitCode
+    requires { 0 < vec_len request.files }
+{
+    let Request { task, files } = request;
+    let files = files.as_slice();
+    let Ok(names) = copied_texts(rt.alloc(), files) else {
+        return tell_no_memory(rt);
     };
-    // The run flushes each reply, and answers a write that fails. Only after one does the buffer hold bytes when it is
-    // dropped, and its last try to write them hides no error.
-    let Ok(buffered) = BufWriter::new(rt.alloc(), rt.stdout()) else {
-        let _ = eprintln!(rt; "-:0: {}", LexFault::OutOfMemory);
-        return ExitCode::from(exit_status(LexFault::OutOfMemory.number()));
-    };
-    let mut input = Counted::new(rt.stdin());
-    let mut output = Counted::new(buffered);
-    match run_session(rt.alloc(), table, &mut input, &mut output) {
-        Ok(()) => ExitCode::SUCCESS,
-        Err(ended) => {
-            let _ = eprintln!(rt; "-:{ended}");
-            ExitCode::from(exit_status(ended.fault.number()))
-        }
+    match task {
+        Task::Batch(batch) => status(rt, run_on_files(rt, batch, files), names.get()),
+        Task::Session => match read_table(rt, files) {
+            Ok(table) => serve(rt, table),
+            Err(fault) => tell_fault(rt, &fault, names.get()),
+        },
     }
+}
+
+// Runs a batch on the table and the delta files with these names, to standard output.
+fn run_on_files(rt: &HostRuntime, batch: Batch, files: &[&str]) -> Result<(), RunFault>
+    requires { 0 < length files.now }
+    ensures { IfErr result (λ fault. fault.input < length files.now) }
+{
+    let mut inputs = open_all(rt, files)?;
+    let mut output = standard_output(rt)?;
+    let (table, deltas) = inputs.as_mut_slice().split_at_mut(1);
+    run_batch(rt.alloc(), batch, &mut table[0], deltas, &mut output)?;
+    match output.flush() {
+        Ok(()) => Ok(()),
+        Err(_) => Err(at_no_line(0, Fault::Write(WriteStop::WriteFault))),
+    }
+}
+
+// The table in the first of these files.
+fn read_table(rt: &HostRuntime, files: &[&str]) -> Result<Table, RunFault>
+    requires { 0 < length files.now }
+    ensures { IfErr result (λ fault. fault.input < length files.now) }
+{
+    let mut inputs = open_all(rt, files)?;
+    match load(rt.alloc(), &mut inputs[0]) {
+        Ok(table) => Ok(table),
+        Err(fault) => Err(RunFault {
+            input: 0,
+            line: fault.line,
+            fault: Fault::Load(fault),
+        }),
+    }
+}
+
+// Serves a session over a table, from standard input to standard output.
+fn serve(rt: &HostRuntime, table: Table) -> ExitCode {
+    let Ok(name) = copied_text(rt.alloc(), STANDARD_INPUT) else {
+        return tell_no_memory(rt);
+    };
+    status(rt, serve_standard_input(rt, table), &[name])
+}
+
+// Serves the lines of standard input.
+fn serve_standard_input(rt: &HostRuntime, table: Table) -> Result<(), RunFault>
+    ensures { IfErr result (λ fault. fault.input ≡ 0) }
+{
+    let mut output = standard_output(rt)?;
+    match run_session(
+        rt.alloc(),
+        table,
+        &mut Counted::new(rt.stdin()),
+        &mut output,
+    ) {
+        Ok(()) => Ok(()),
+        // A session has one input.
+        Err(ended) => Err(RunFault { input: 0, ..ended }),
+    }
+}
+
+// Standard output, with a buffer. A run flushes what it writes, and answers a write that fails; only after one does the
+// buffer hold bytes when it is dropped, and its last try to write them hides no error.
+fn standard_output(rt: &HostRuntime) -> Result<Counted<BufWriter<Stdout>>, RunFault>
+    ensures { IfErr result (λ fault. fault.input ≡ 0) }
+{
+    match BufWriter::new(rt.alloc(), rt.stdout()) {
+        Ok(buffered) => Ok(Counted::new(buffered)),
+        Err(_) => Err(at_no_line(0, Fault::Lex(LexFault::OutOfMemory))),
+    }
+}
+
+// The exit status of a run, whose fault is told.
+fn status(rt: &HostRuntime, ran: Result<(), RunFault>, names: &[TextBuf]) -> ExitCode
+    requires { IfErr ran (λ fault. fault.input < length names.now) }
+{
+    match ran {
+        Ok(()) => ExitCode::SUCCESS,
+        Err(fault) => tell_fault(rt, &fault, names),
+    }
+}
+
+// Tells a fault on standard error, and answers the exit status. Where the line can't be written, the status says what happened.
+fn tell_fault(rt: &HostRuntime, fault: &RunFault, names: &[TextBuf]) -> ExitCode
+    requires { fault.now.input < length names.now }
+{
+    let _ = write_fault(fault, names, &mut Counted::new(rt.stderr()));
+    ExitCode::from(exit_status(&fault.fault))
+}
+
+// Tells that memory was refused before there was an input.
+fn tell_no_memory(rt: &HostRuntime) -> ExitCode {
+    let fault = Fault::Lex(LexFault::OutOfMemory);
+    let _ = eprintln!(rt; "-:0: {fault}");
+    ExitCode::from(exit_status(&fault))
+}
+
+// Tells that the words aren't text.
+fn tell_not_text(rt: &HostRuntime) -> ExitCode {
+    let _ = eprintln!(rt; "error: a word of the command line is not UTF-8");
+    ExitCode::from(WRONG_WORDS)
+}
+
+// Prints the help that was asked for, or what is wrong with the words.
+fn tell(rt: &HostRuntime, text: &clap::Error) -> ExitCode {
+    let _ = text.print(rt);
+    ExitCode::from(if text.use_stderr() { WRONG_WORDS } else { 0 })
 }

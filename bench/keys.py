@@ -1,0 +1,312 @@
+#!/usr/bin/env python3
+"""Ranks a large table, makes keys and compares words by it, and prints what each took.
+
+Run by hand, with the toolchain's `rt` on the path; no gate runs it:
+
+    bench/keys.py
+
+It writes a table of the shape of a real one: four levels, 105,000 entries in 23 sections, of which half are collating symbols and
+half characters with four weights, and among them 800 collating elements, five for each of 160 first characters, of which two
+are letters of the words. Of 100,000 words of nine letters in their order it takes 4,000, forty times a hundred that follow one
+another. It builds a small program over coll_key that loads the table, and then makes its ranks, a key of each word, a comparison
+of each word with the next one, keys of short texts and of a long one, and a listing. Each is done fifty times, in turn, and the
+least time is printed, since each is so short that it is seldom interrupted. The memory of the ranks is what the program took at
+most with them, less what it took without, and less the words. All of it stands in a temporary folder, which is removed at the
+end. The first build proves the crates below and takes some minutes; with a folder as its argument the script keeps what it builds
+there, and a second run is quick.
+
+Targets: 160 ns for a key of a word of nine letters, 35 ns for a comparison of adjacent words, 15 ms and 16 MB for the ranks, for a
+key of 65,536 characters at most 500 times that of 128, and 0.1 s for a listing.
+"""
+
+import os
+import random
+import shutil
+import subprocess
+import sys
+import tempfile
+
+ROOT = os.path.dirname(os.path.dirname(os.path.abspath(__file__)))
+CRATES = ("coll_lex", "coll_order", "coll_syntax", "coll_table", "coll_key")
+ENTRIES = 105_000
+ELEMENTS = 800
+SECTIONS = 23
+WORDS = 100_000
+WINDOW, WINDOWS = 100, 40
+LETTERS = 26
+LENGTH = 9
+
+PROGRAM = """#![tactic(auto)]
+
+ghost use Rattle.coll_table.specs.TableLayout.{collation};
+ghost use Rattle.coll_key.specs.Ranks.{AreRanksOf};
+
+use anyhow::{Context, Result};
+use coll_key::{Ranks, compare, key, write_compiled};
+use coll_lex::{Counted, Sink};
+use coll_table::{Table, load};
+use std::env;
+use std::fs::{self, File};
+use std::io::BufWriter;
+use std::time::Instant;
+
+const RUNS: usize = 50;
+
+fn main(rt: HostRuntime) -> Result<()> {
+    let path = env::args(&rt)?.nth(1).context("a table is wanted")?;
+    let mut input = Counted::new(File::open(&rt, path.as_str())?);
+    let table = load(rt.alloc(), &mut input)?;
+    if env::args(&rt)?.nth(2).is_some() {
+        measure(&rt, &table)?;
+    }
+    Ok(())
+}
+
+fn measure_ranks(rt: &HostRuntime, table: &Table) -> Result<()> {
+    let start = Instant::now(rt)?;
+    let _ranks = Ranks::new(rt.alloc(), table)?;
+    tell(rt, "ranks", start, table.len())
+}
+
+// What is measured goes over the files that the words behind the table's name.
+fn measure(rt: &HostRuntime, table: &Table) -> Result<()> {
+    for _ in 0..RUNS {
+        measure_ranks(rt, table)?;
+    }
+    let ranks = Ranks::new(rt.alloc(), table)?;
+    measure_each(rt, table, &ranks)
+}
+
+// Tells how many nanoseconds something took, and how much it gave.
+fn tell(rt: &HostRuntime, what: &str, start: Instant, given: usize) -> Result<()> {
+    let time = start.elapsed(rt)?;
+    println!(rt; "{what} {} {given}", time.as_nanos())?;
+    Ok(())
+}
+
+fn measure_each(rt: &HostRuntime, table: &Table, ranks: &Ranks) -> Result<()>
+    requires { AreRanksOf ranks.now (collation table.now) }
+{
+    let words = text_of(rt, 2)?;
+    let pairs = text_of(rt, 3)?;
+    let short = text_of(rt, 4)?;
+    let long = text_of(rt, 5)?;
+    for _ in 0..RUNS {
+        measure_words(rt, table, ranks, words.as_str())?;
+        measure_pairs(rt, table, ranks, pairs.as_str())?;
+        measure_texts(rt, table, ranks, short.as_str(), long.as_str())?;
+        measure_listing(rt, table, ranks)?;
+    }
+    Ok(())
+}
+
+// The text of the file that a word of the command line names.
+fn text_of(rt: &HostRuntime, word: usize) -> Result<String> {
+    let path = env::args(rt)?.nth(word).context("a file is wanted")?;
+    let text = fs::read_to_string(rt, path.as_str())?;
+    Ok(text)
+}
+
+fn measure_words(rt: &HostRuntime, table: &Table, ranks: &Ranks, words: &str) -> Result<()>
+    requires { AreRanksOf ranks.now (collation table.now) }
+{
+    let start = Instant::now(rt)?;
+    let made = keys(rt, table, ranks, words)?;
+    tell(rt, "keys", start, made)?;
+    let start = Instant::now(rt)?;
+    let walked = walk(words);
+    tell(rt, "words", start, walked)
+}
+
+fn measure_pairs(rt: &HostRuntime, table: &Table, ranks: &Ranks, pairs: &str) -> Result<()>
+    requires { AreRanksOf ranks.now (collation table.now) }
+{
+    let start = Instant::now(rt)?;
+    let less = comparisons(rt, table, ranks, pairs)?;
+    tell(rt, "comparisons", start, less)?;
+    let start = Instant::now(rt)?;
+    let walked = walk_pairs(pairs)?;
+    tell(rt, "pairs", start, walked)
+}
+
+// The short texts are as long, all together, as the long one.
+fn measure_texts(rt: &HostRuntime, table: &Table, ranks: &Ranks, short: &str, long: &str) -> Result<()>
+    requires { AreRanksOf ranks.now (collation table.now) }
+{
+    let start = Instant::now(rt)?;
+    let made = keys(rt, table, ranks, short)?;
+    tell(rt, "short", start, made)?;
+    let start = Instant::now(rt)?;
+    let made = keys(rt, table, ranks, long)?;
+    tell(rt, "long", start, made)
+}
+
+fn measure_listing(rt: &HostRuntime, table: &Table, ranks: &Ranks) -> Result<()>
+    requires { AreRanksOf ranks.now (collation table.now) }
+{
+    let file = File::create(rt, "/dev/null")?;
+    let mut out = Counted::new(BufWriter::new(rt.alloc(), file)?);
+    let start = Instant::now(rt)?;
+    write_compiled(table, ranks, &mut out)?;
+    out.flush()?;
+    tell(rt, "listing", start, table.len())
+}
+
+// The numbers in the keys of all words.
+fn keys(rt: &HostRuntime, table: &Table, ranks: &Ranks, words: &str) -> Result<usize>
+    requires { AreRanksOf ranks.now (collation table.now) }
+{
+    let mut numbers = 0usize;
+    for word in words.lines() {
+        let made = key(rt.alloc(), table, ranks, word)?;
+        numbers = numbers.wrapping_add(made.len());
+    }
+    Ok(numbers)
+}
+
+// How many words come before the one beside them.
+fn comparisons(rt: &HostRuntime, table: &Table, ranks: &Ranks, pairs: &str) -> Result<usize>
+    requires { AreRanksOf ranks.now (collation table.now) }
+{
+    let mut before = 0usize;
+    for pair in pairs.lines() {
+        let (word, other) = pair.split_once(' ').context("two words are wanted")?;
+        if compare(rt.alloc(), table, ranks, word, other)?.is_lt() {
+            before = before.wrapping_add(1);
+        }
+    }
+    Ok(before)
+}
+
+// The bytes of all words, found as for keys.
+fn walk(words: &str) -> usize {
+    let mut bytes = 0usize;
+    for word in words.lines() {
+        bytes = bytes.wrapping_add(word.len());
+    }
+    bytes
+}
+
+// The bytes of all words, found as for comparisons.
+fn walk_pairs(pairs: &str) -> Result<usize> {
+    let mut bytes = 0usize;
+    for pair in pairs.lines() {
+        let (word, other) = pair.split_once(' ').context("two words are wanted")?;
+        bytes = bytes.wrapping_add(word.len()).wrapping_add(other.len());
+    }
+    Ok(bytes)
+}
+"""
+
+
+def table_lines():
+    """The lines of the table. Its letters are the first characters that have entries."""
+    symbols = ENTRIES // 2
+    characters = ENTRIES - symbols - ELEMENTS
+    yield "comment_char %\nescape_char /\nLC_COLLATE\n"
+    for number in range(symbols):
+        yield f"collating-symbol <S{number:07d}>\n"
+    for number in range(ELEMENTS):
+        first, second = first_of(number // 5), letter(number % 5 + 5)
+        yield f'collating-element <E{number:07d}> from "<U{first:08X}><U{second:08X}>"\n'
+    yield "order_start forward;forward;forward;forward,position\n"
+    lines = [f"<S{number:07d}>\n" for number in range(symbols)]
+    for number in range(characters):
+        code = 0x10000 + number
+        lines.append(f"<U{code:08X}> <S{number:07d}>;<S{number // 2:07d}>;<S{number // 3:07d}>;IGNORE\n")
+    for number in range(ELEMENTS):
+        lines.append(f"<E{number:07d}> <S{number:07d}>;<S{number // 2:07d}>;<S{number // 3:07d}>;IGNORE\n")
+    each = ENTRIES // SECTIONS
+    for number, line in enumerate(lines):
+        if number and number % each == 0 and number // each < SECTIONS:
+            yield f"section <PART{number // each:02d}>\n"
+        yield line
+    yield "order_end\nEND LC_COLLATE\n"
+
+
+def letter(number):
+    """The code point of a letter of the words."""
+    return 0x10000 + number
+
+
+def first_of(number):
+    """The first character of so many elements: two letters, and then characters that no word has."""
+    return letter(number) if number < 2 else letter(LETTERS + number)
+
+
+def written(work, name, lines):
+    """The file with these lines."""
+    path = os.path.join(work, name + ".txt")
+    with open(path, "w") as out:
+        out.writelines(lines)
+    return path
+
+
+def texts(work):
+    """The files with words in their order, with each word and the next one, with 512 texts of 128 characters, and with one of 65,536."""
+    chosen = random.Random(9)
+    some = lambda count: "".join(chr(letter(chosen.randrange(LETTERS))) for _ in range(count))
+    all_words = sorted(some(LENGTH) for _ in range(WORDS))
+    words = [word for first in range(0, WORDS, WORDS // WINDOWS) for word in all_words[first : first + WINDOW]]
+    return [
+        written(work, "words", (word + "\n" for word in words)),
+        written(work, "pairs", (f"{word} {other}\n" for word, other in zip(words, words[1:] + words[:1]))),
+        written(work, "short", (some(128) + "\n" for _ in range(512))),
+        written(work, "long", [some(65_536) + "\n"]),
+    ]
+
+
+def build(work):
+    """The program, built in this folder over copies of the crates."""
+    for name in CRATES:
+        crate = os.path.join(work, "crates", name)
+        os.makedirs(crate, exist_ok=True)
+        for part in ("src", "specs", "proofs"):
+            shutil.rmtree(os.path.join(crate, part), ignore_errors=True)
+            shutil.copytree(os.path.join(ROOT, "crates", name, part), os.path.join(crate, part))
+    with open(os.path.join(ROOT, "crates.txt")) as lines:
+        own = [line for line in lines if line.split(":")[0] in CRATES]
+    with open(os.path.join(work, "crates.txt"), "w") as out:
+        out.writelines(own + ["key_times: coll_lex coll_table coll_key anyhow\n"])
+    program = os.path.join(work, "crates", "key_times")
+    os.makedirs(os.path.join(program, "src"), exist_ok=True)
+    with open(os.path.join(program, "src", "main.rt"), "w") as out:
+        out.write(PROGRAM)
+    empty = written(work, "empty", ["LC_COLLATE\norder_start\norder_end\nEND LC_COLLATE\n"])
+    subprocess.run(["rt", "run", "--", empty], cwd=program, check=True, stdout=subprocess.DEVNULL)
+    return os.path.join(program, "out", "key_times")
+
+
+def run(program, *files):
+    """What the program printed, and its peak memory in kilobytes."""
+    done = subprocess.run(["/usr/bin/time", "-f", "%M", program, *files], capture_output=True, text=True)
+    if done.returncode != 0:
+        sys.exit(f"the program ended with status {done.returncode}: {done.stderr}")
+    return done.stdout, int(done.stderr.split()[-1])
+
+
+def main(work):
+    program = build(work)
+    table = written(work, "table", table_lines())
+    _, without = run(program, table)
+    files = texts(work)
+    said, with_ranks = run(program, table, *files)
+    held = sum(os.path.getsize(file) for file in files) // 1024
+    least = {}
+    for line in said.splitlines():
+        name, nanoseconds = line.split()[:2]
+        least[name] = min(least.get(name, int(nanoseconds)), int(nanoseconds))
+    print(f"ranks: {least['ranks'] / 1e6:.1f} ms, {with_ranks - without - held} kB (aim 15 ms, 16000 kB)")
+    print(f"a key: {(least['keys'] - least['words']) / (WINDOW * WINDOWS):.0f} ns (aim 160)")
+    print(f"a comparison: {(least['comparisons'] - least['pairs']) / (WINDOW * WINDOWS):.0f} ns (aim 35)")
+    print(f"keys of 128 characters: {least['short'] / 512:.0f} ns, of 65536: {least['long']} ns, {512 * least['long'] / least['short']:.0f} times that (aim 500)")
+    print(f"a listing: {least['listing'] / 1e9:.3f} s (aim 0.1)")
+
+
+if __name__ == "__main__":
+    if len(sys.argv) > 1:
+        os.makedirs(sys.argv[1], exist_ok=True)
+        main(sys.argv[1])
+    else:
+        with tempfile.TemporaryDirectory() as folder:
+            main(folder)

@@ -1,0 +1,30 @@
+-- What a subcommand of the program does (the project's own).
+use Rattle.std.specs.Prelude.{ℕ, List, [], ◌∷◌, codes, Option, Some, None}
+use Rattle.coll_bench.specs.declared.batches.Batch.TheVariants as batch
+use Rattle.collbench.specs.declared.command_line.Subcommand.{Subcommand}
+use Rattle.collbench.specs.declared.command_line.Subcommand.TheVariants as subcommand
+use Rattle.collbench.specs.declared.command_line.Task.{Task}
+use Rattle.collbench.specs.declared.command_line.Task.TheVariants as task
+
+-- the name of a subcommand, as it stands on a command line
+abbrev pub subcommand_name : Subcommand → List ℕ
+subcommand_name subcommand.Check = codes "check"
+subcommand_name subcommand.Print = codes "print"
+subcommand_name subcommand.Compile = codes "compile"
+subcommand_name subcommand.Key = codes "key"
+subcommand_name subcommand.Compare = codes "compare"
+subcommand_name subcommand.Session = codes "session"
+
+-- a comparison is of two texts
+abbrev pub comparison : (texts : List (List ℕ)) → Option Task
+comparison (first ∷ second ∷ []) = Some (task.Batch (batch.Compare first second))
+comparison texts = None
+
+-- what a subcommand does with a table, by the texts given to it; nothing if they aren't as many as it takes
+abbrev pub task_for : Subcommand → (texts : List (List ℕ)) → Option Task
+task_for subcommand.Check texts = Some (task.Batch batch.Check)
+task_for subcommand.Print texts = Some (task.Batch batch.Print)
+task_for subcommand.Compile texts = Some (task.Batch batch.Compile)
+task_for subcommand.Key texts = Some (task.Batch (batch.Key texts))
+task_for subcommand.Compare texts = comparison texts
+task_for subcommand.Session texts = Some task.Session

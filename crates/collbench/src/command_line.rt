@@ -1,0 +1,277 @@
+//! The command line: what the words after the program's name ask for.
+//!
+//! `clap` reads the words, and its texts tell a user what may stand there. A new subcommand is a variant of `Subcommand` with its
+//! name, a case of `task_of` and of `task_for` in `specs/Tasks.antt`, and a line of `command` with an example in `EXAMPLES`. There
+//! is one level of subcommands, and no option but help.
+
+ghost use Rattle.std.specs.Prelude.{◌≡◌, ◌≢◌, ◌<◌, None, map, chars, vec_len, IfOk, IfSome};
+ghost use Rattle.collbench.specs.Tasks.{subcommand_name, task_for};
+ghost use Rattle.collbench.specs.declared.command_line.Subcommand.{Subcommand};
+
+use clap::error::ErrorKind;
+use clap::{Arg, ArgMatches, Command};
+use coll_bench::Batch;
+use coll_lex::{ListBuf, TextBuf};
+use std::alloc::{AllocError, Global};
+
+// The names of the words that a subcommand takes, as usage shows them.
+const TABLE: &str = "TABLE";
+
+const DELTA: &str = "DELTA";
+
+const TEXT: &str = "TEXT";
+
+const FIRST: &str = "A";
+
+const SECOND: &str = "B";
+
+const EXAMPLES: &str = "Examples:
+  collbench check base.txt                     table entries 9 declared 3 sections 2 levels 4
+  collbench print base.txt c_behind_a.txt      the table, in which c goes behind a
+  collbench compile base.txt                   the rank of each entry, and its weights as ranks
+  collbench key base.txt ab                    4 6 | 1 1 | 2 2 | |
+  collbench compare base.txt a A               less
+  collbench session base.txt < lines.txt       a reply to each line";
+
+/// A subcommand.
+#[derive(Clone, Copy, Debug, PartialEq, Eq)]
+pub enum Subcommand {
+    /// Counts what a table has.
+    Check,
+    /// Prints a table.
+    Print,
+    /// Prints the compiled listing of a table.
+    Compile,
+    /// Prints the sort keys of texts.
+    Key,
+    /// Compares two texts.
+    Compare,
+    /// Serves a session over a table.
+    Session,
+}
+
+/// What is done with a table.
+#[derive(Debug, Drop)]
+pub enum Task {
+    /// It is read, rewritten by delta files, and answered from once.
+    Batch(Batch),
+    /// It is read, and a session over it is served.
+    Session,
+}
+
+/// What the words of a command line ask for.
+#[derive(Debug, Drop)]
+pub struct Request<'a> {
+    /// What is done with the table.
+    pub task: Task,
+    /// The names of the files: the table's, and then those of the delta files, in their order.
+    pub files: Vec<&'a str>,
+}
+
+/// Why the words of a command line ask for nothing.
+#[derive(Debug, Drop)]
+pub enum Unasked {
+    /// Help was asked for, or the words aren't those of a subcommand. The text is `clap`'s.
+    Told(clap::Error),
+    /// Memory was refused while the words were read.
+    OutOfMemory,
+}
+
+impl From<AllocError> for Unasked {
+    fn from(_error: AllocError) -> Unasked {
+        Unasked::OutOfMemory
+    }
+}
+
+impl From<clap::Error> for Unasked {
+    fn from(error: clap::Error) -> Unasked {
+        match error.kind() {
+            ErrorKind::OutOfMemory => Unasked::OutOfMemory,
+            _ => Unasked::Told(error),
+        }
+    }
+}
+
+/// Reads the words of a command line, of which the first is the program's name.
+pub fn read_words<'a>(alloc: Global, words: &'a [String]) -> Result<Request<'a>, Unasked>
+    ensures { IfOk result (λ request. 0 < vec_len request.files) }
+{
+    let mut command = command(alloc)?;
+    let matches = command.try_get_matches_from_mut(words)?;
+    match request_of(alloc, &matches)? {
+        Some(request) => Ok(request),
+        None => Err(Unasked::Told(command.error(
+            ErrorKind::MissingSubcommand,
+            "a subcommand and its words are wanted",
+        )?)),
+    }
+}
+
+// What may stand on a command line.
+fn command<'a>(alloc: Global) -> Result<Command<'a>, AllocError> {
+    let check = "Counts the entries, declarations, sections and levels of a table";
+    let print = "Prints a table, in a form that can be read again";
+    let compile = "Prints the rank of each entry of a table, and its weights as ranks";
+    let key = "Prints the sort key of each text, one a line";
+    let compare = "Compares two texts: less, equal or greater";
+    let session = "Reads the lines of a session from standard input, and replies to each";
+    Command::new(alloc, "collbench")
+        .about("A workbench for collation tables in LC_COLLATE source form")
+        .after_help(EXAMPLES)
+        .subcommand_required(true)
+        .arg_required_else_help(true)
+        .subcommand(over_deltas(alloc, Subcommand::Check, check)?)?
+        .subcommand(over_deltas(alloc, Subcommand::Print, print)?)?
+        .subcommand(over_deltas(alloc, Subcommand::Compile, compile)?)?
+        .subcommand(over_table(alloc, Subcommand::Key, key)?.arg(texts(alloc))?)?
+        .subcommand(
+            over_table(alloc, Subcommand::Compare, compare)?
+                .arg(text(alloc, FIRST))?
+                .arg(text(alloc, SECOND))?,
+        )?
+        .subcommand(over_table(alloc, Subcommand::Session, session)?)
+}
+
+// A subcommand that takes a table, and what help says of it.
+fn over_table<'a>(
+    alloc: Global,
+    subcommand: Subcommand,
+    about: &'a str,
+) -> Result<Command<'a>, AllocError> {
+    let table = Arg::new(alloc, TABLE)
+        .required(true)
+        .help("The file of the table");
+    let name: &'a str = subcommand.name();
+    Command::new(alloc, name).about(about).arg(table)
+}
+
+// A subcommand that takes a table and delta files, perhaps none, and what help says of it.
+fn over_deltas<'a>(
+    alloc: Global,
+    subcommand: Subcommand,
+    about: &'a str,
+) -> Result<Command<'a>, AllocError> {
+    let deltas = Arg::new(alloc, DELTA).num_args(0..).help(
+        "Files of statements that change the table, in their order",
+    );
+    over_table(alloc, subcommand, about)?.arg(deltas)
+}
+
+// One or more texts.
+fn texts<'a>(alloc: Global) -> Arg<'a> {
+    Arg::new(alloc, TEXT)
+        .required(true)
+        .num_args(1..)
+        .help("The texts, as they stand")
+}
+
+// One text.
+fn text<'a>(alloc: Global, name: &'static str) -> Arg<'a> {
+    Arg::new(alloc, name)
+        .required(true)
+        .help("A text, as it stands")
+}
+
+// What the words that were found ask for; nothing where a word is missing, which `command` rules out.
+fn request_of<'a>(
+    alloc: Global,
+    matches: &ArgMatches<'a>,
+) -> Result<Option<Request<'a>>, AllocError>
+    ensures { IfOk result (λ asked. IfSome asked (λ request. 0 < vec_len request.files)) }
+{
+    let Some((name, found)) = matches.subcommand() else {
+        return Ok(None);
+    };
+    let (Some(subcommand), Some(table)) = (Subcommand::named(name), found.get_str(TABLE)) else {
+        return Ok(None);
+    };
+    let Some(task) = task_of(alloc, subcommand, texts_of(alloc, found)?.as_slice())? else {
+        return Ok(None);
+    };
+    let mut files = Vec::new(alloc);
+    files.push(table)?;
+    files.extend_from_slice(found.get_strs(DELTA).unwrap_or(&[]))?;
+    Ok(Some(Request { task, files }))
+}
+
+// The texts that were given to a subcommand.
+fn texts_of<'a>(alloc: Global, found: &ArgMatches<'a>) -> Result<Vec<&'a str>, AllocError> {
+    let mut texts = Vec::new(alloc);
+    for name in [TEXT, FIRST, SECOND] {
+        texts.extend_from_slice(found.get_strs(name).unwrap_or(&[]))?;
+    }
+    Ok(texts)
+}
+
+// What a subcommand does with a table, by the texts given to it; nothing if they aren't as many as it takes.
+fn task_of(
+    alloc: Global,
+    subcommand: Subcommand,
+    texts: &[&str],
+) -> Result<Option<Task>, AllocError>
+    ensures { IfOk result (λ task. task ≡ task_for subcommand (map (λ text. chars text.now) texts.now)) }
+{
+    let batch = match (subcommand, texts) {
+        (Subcommand::Check, _) => Batch::Check,
+        (Subcommand::Print, _) => Batch::Print,
+        (Subcommand::Compile, _) => Batch::Compile,
+        (Subcommand::Key, _) => Batch::Key(copied_texts(alloc, texts)?),
+        (Subcommand::Compare, [first, second]) => Batch::Compare(
+            copied_text(alloc, first)?,
+            copied_text(alloc, second)?,
+        ),
+        (Subcommand::Compare, _) => return Ok(None),
+        (Subcommand::Session, _) => return Ok(Some(Task::Session)),
+    };
+    Ok(Some(Task::Batch(batch)))
+}
+
+/// Texts, in new memory.
+pub fn copied_texts(alloc: Global, texts: &[&str]) -> Result<ListBuf<TextBuf>, AllocError>
+    ensures { IfOk result (λ copies. copies ≡ map (λ text. chars text.now) texts.now) }
+{
+    let mut copies = Vec::with_capacity(alloc, texts.len())?;
+    for text in texts {
+        copies.push(copied_text(alloc, text)?)?;
+    }
+    Ok(ListBuf::new(copies))
+}
+
+/// A text, in new memory.
+pub fn copied_text(alloc: Global, text: &str) -> Result<TextBuf, AllocError>
+    ensures { IfOk result (λ copy. copy ≡ chars text.now) }
+{
+    Ok(TextBuf::new(String::from_str(alloc, text)?))
+}
+
+impl Subcommand {
+    /// Its name, as it stands on a command line.
+    pub fn name(self) -> &'static str
+        ensures { result.now ≡ subcommand_name self }
+    {
+        match self {
+            Subcommand::Check => "check",
+            Subcommand::Print => "print",
+            Subcommand::Compile => "compile",
+            Subcommand::Key => "key",
+            Subcommand::Compare => "compare",
+            Subcommand::Session => "session",
+        }
+    }
+
+    /// The subcommand with this name, if there is one.
+    pub fn named(name: &str) -> Option<Subcommand>
+        ensures some { IfSome result (λ subcommand. subcommand_name subcommand ≡ name.now) }
+        ensures none { result ≡ None → (subcommand : Subcommand) → subcommand_name subcommand ≢ name.now }
+    {
+        match name {
+            "check" => Some(Subcommand::Check),
+            "print" => Some(Subcommand::Print),
+            "compile" => Some(Subcommand::Compile),
+            "key" => Some(Subcommand::Key),
+            "compare" => Some(Subcommand::Compare),
+            "session" => Some(Subcommand::Session),
+            _ => None,
+        }
+    }
+}
