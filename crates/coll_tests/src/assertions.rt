@@ -5,6 +5,7 @@
 //! value it is, and in which row of a table. For the same reason a test ends by `expect` where something is refused that
 //! it needs, and not by `?`, behind which all that it holds would have to be given up once more.
 
+use std::alloc::Global;
 use std::fmt::{Debug, Display};
 use std::process::Abort;
 
@@ -21,4 +22,11 @@ pub fn assert_same<T: PartialEq + Debug + Drop>(
 /// Asserts that something is so.
 pub fn assert_that(rt: &impl Abort, what: impl Display + Drop, holds: bool) {
     assert!(rt; holds, "{what}: it is not so");
+}
+
+/// Asserts that bytes are a text, and shows both as texts where they aren't.
+pub fn assert_text(rt: &impl Abort, alloc: Global, given: &[u8], wanted: &[u8]) {
+    let given = String::from_utf8_lossy(alloc, given).expect(rt, "a text");
+    let wanted = String::from_utf8_lossy(alloc, wanted).expect(rt, "a text");
+    assert_same(rt, "what is written", given.as_str(), wanted.as_str());
 }

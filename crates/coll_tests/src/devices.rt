@@ -1,8 +1,9 @@
 //! Devices that give and take little at a time and fail where they are told to.
 //!
-//! `ShortReader` and `ShortWriter` fail once; `ScriptedReader` and `ScriptedWriter` do at each call what a script of
+//! `ShortReader` and `ShortWriter` fail once; `NarrowWriter` has no more room; `ScriptedReader` and `ScriptedWriter` do at each call what a script of
 //! four steps says, and count their own calls and errors; `WholeWriter` takes everything.
 
+use std::alloc::Global;
 use std::io;
 use std::io::{ErrorKind, Read, Write};
 
@@ -92,6 +93,47 @@ impl Write for ShortWriter {
             return Err(io::Error::from(ErrorKind::BrokenPipe));
         }
         Ok(())
+    }
+}
+
+/// Takes so many bytes in all, and answers an error to each further write, or to each flush where it is told to.
+#[derive(Drop)]
+pub struct NarrowWriter {
+    /// The bytes taken.
+    pub taken: Vec<u8>,
+    room: usize,
+    flushes: bool,
+}
+
+impl NarrowWriter {
+    /// A writer that takes so many bytes.
+    pub fn new(alloc: Global, room: usize, flushes: bool) -> Self {
+        NarrowWriter {
+            taken: Vec::new(alloc),
+            room,
+            flushes,
+        }
+    }
+}
+
+impl Write for NarrowWriter {
+    fn write(&mut self, buf: &[u8]) -> io::Result<usize> {
+        let count = buf.len().min(self.room.saturating_sub(self.taken.len()));
+        if count == 0 {
+            return Err(io::Error::from(ErrorKind::StorageFull));
+        }
+        match self.taken.extend_from_slice(&buf[..count]) {
+            Ok(()) => Ok(count),
+            Err(_) => Err(io::Error::from(ErrorKind::OutOfMemory)),
+        }
+    }
+
+    fn flush(&mut self) -> io::Result<()> {
+        if self.flushes {
+            Ok(())
+        } else {
+            Err(io::Error::from(ErrorKind::BrokenPipe))
+        }
     }
 }
 

@@ -4,9 +4,11 @@
 
 use crate::assertions::assert_same;
 use coll_bench::{BenchFault, Fault, RunFault};
+use coll_key::KeyFault;
 use coll_lex::{LexFault, ReadStop, WriteStop};
 use coll_syntax::SyntaxFault;
 use coll_table::{LoadCause, LoadFault, Refusal};
+use coll_units::{DeltaCause, UnitFault};
 use std::alloc::Global;
 use std::fmt::Display;
 use std::process::Abort;
@@ -69,18 +71,49 @@ const LOAD_CAUSES: &[(LoadCause, &str)] = &[
 ];
 
 const REFUSALS: &[(Refusal, &str)] = &[
+    (Refusal::DeclaredTwice, "33 DeclaredTwice"),
     (Refusal::NotDeclared, "34 NotDeclared"),
+    (Refusal::SymbolWithWeights, "36 SymbolWithWeights"),
+    (Refusal::TooManyWeights, "37 TooManyWeights"),
+    (Refusal::WeightNotPlaced, "38 WeightNotPlaced"),
+    (Refusal::StringTwice, "39 StringTwice"),
     (Refusal::Full, "42 Full"),
     (Refusal::TargetNotPlaced, "50 TargetNotPlaced"),
     (Refusal::TwiceInBlock, "51 TwiceInBlock"),
+    (Refusal::NoSuchSection, "52 NoSuchSection"),
+    (Refusal::SectionAfterItself, "53 SectionAfterItself"),
     (Refusal::NotPlaced, "54 NotPlaced"),
     (Refusal::NoWeights, "55 NoWeights"),
     (Refusal::OutOfMemory, "70 OutOfMemory"),
 ];
 
+const KEY_FAULTS: &[(KeyFault, &str)] = &[
+    (KeyFault::TextTooLong, "65 TextTooLong"),
+    (KeyFault::OutOfMemory, "70 OutOfMemory"),
+];
+
+const UNIT_FAULTS: &[(UnitFault, &str)] = &[
+    (UnitFault::Lex(LexFault::BadName), "4 BadName"),
+    (
+        UnitFault::Syntax(SyntaxFault::EmptyString),
+        "28 EmptyString",
+    ),
+    (UnitFault::BlockOpen, "62 BlockOpen"),
+    (UnitFault::BlockNotEnded, "63 BlockNotEnded"),
+    (UnitFault::UnknownCommand, "64 UnknownCommand"),
+    (UnitFault::NoBlock, "69 NoBlock"),
+];
+
+const DELTA_CAUSES: &[(DeltaCause, &str)] = &[
+    (DeltaCause::Unit(UnitFault::NoBlock), "69 NoBlock"),
+    (DeltaCause::NoCategory, "30 NoCategory"),
+    (DeltaCause::NoEnd, "43 NoEnd"),
+];
+
 const BENCH_FAULTS: &[(BenchFault, &str)] = &[
     (BenchFault::Table(Refusal::NotPlaced), "54 NotPlaced"),
     (BenchFault::NothingToUndo, "60 NothingToUndo"),
+    (BenchFault::NothingToRedo, "61 NothingToRedo"),
     (BenchFault::HistoryFull, "66 HistoryFull"),
 ];
 
@@ -96,6 +129,7 @@ const FAULTS: &[(Fault, &str)] = &[
     (Fault::Syntax(SyntaxFault::BadOperand), "29 BadOperand"),
     (Fault::Load(LOAD_FAULT), "35 PlacedTwice"),
     (Fault::Table(Refusal::Full), "42 Full"),
+    (Fault::Key(KeyFault::TextTooLong), "65 TextTooLong"),
     (Fault::Bench(BenchFault::HistoryFull), "66 HistoryFull"),
     (Fault::BlockOpen, "62 BlockOpen"),
     (Fault::BlockNotEnded, "63 BlockNotEnded"),
@@ -136,10 +170,13 @@ fn a_fault_of_a_line_is_shown_by_number_and_name(rt: HostRuntime) {
 fn a_fault_of_a_table_is_shown_by_number_and_name(rt: HostRuntime) {
     assert_shown(&rt, rt.alloc(), LOAD_CAUSES);
     assert_shown(&rt, rt.alloc(), REFUSALS);
+    assert_shown(&rt, rt.alloc(), KEY_FAULTS);
 }
 
 #[test]
 fn a_fault_of_a_session_is_shown_by_number_and_name(rt: HostRuntime) {
+    assert_shown(&rt, rt.alloc(), UNIT_FAULTS);
+    assert_shown(&rt, rt.alloc(), DELTA_CAUSES);
     assert_shown(&rt, rt.alloc(), BENCH_FAULTS);
     assert_shown(&rt, rt.alloc(), FAULTS);
 }

@@ -1,8 +1,9 @@
 //! Tests of the crates below, through their public calls alone.
 //!
 //! A module shows each crate: `lines` is of `coll_lex`, `ordered_rings` of `coll_order`, `grammar` of `coll_syntax`, `tables`
-//! of `coll_table`, `sessions` of `coll_bench`, and `faults` of the shown text of the faults of all of them; `devices` has
-//! the devices that they use, `long_texts` makes their longest texts, and `assertions` compares what they are given.
+//! of `coll_table`, `keys` of `coll_key`, `sessions` and `batches` of `coll_units` and `coll_bench`, and `faults` of the shown text
+//! of the faults of all of them; `statements` makes statements of their lines, `devices` has the devices that they use,
+//! `long_texts` makes their longest texts, and `assertions` compares what they are given.
 //! Expected values come from POSIX.1-2017 (7.3.2), from ISO/IEC 14651 and from docs/, and never from what a program wrote.
 //! What no public call shows is proved, and has no test. The crates below have no tests of their own, since a crate with
 //! tests is proved twice.
@@ -11,11 +12,15 @@
 #[cfg(test)]
 mod assertions;
 #[cfg(test)]
+mod batches;
+#[cfg(test)]
 mod devices;
 #[cfg(test)]
 mod faults;
 #[cfg(test)]
 mod grammar;
+#[cfg(test)]
+mod keys;
 #[cfg(test)]
 mod lines;
 #[cfg(test)]
@@ -24,5 +29,7 @@ mod long_texts;
 mod ordered_rings;
 #[cfg(test)]
 mod sessions;
+#[cfg(test)]
+mod statements;
 #[cfg(test)]
 mod tables;

@@ -30,3 +30,12 @@ fn extend(
     }
     text.extend_from_slice(rest)
 }
+
+/// A text that is a part so many times.
+pub fn repeated_text(rt: &impl Abort, alloc: Global, part: &str, count: usize) -> String {
+    let mut text = String::new(alloc);
+    for _ in 0..count {
+        text.push_str(part).expect(rt, "a long text");
+    }
+    text
+}

@@ -1,10 +1,12 @@
-//! Sessions over the first table: their replies, their ends, and the devices that they are read from and written to.
+//! Sessions: their replies, their ends, and the devices that they are read from and written to.
 
 mod device_faults;
 mod flushes;
 mod histories;
 mod limits;
 mod replies;
+mod statements;
+pub mod worked;
 
 use crate::tables::examples::first_table;
 use coll_bench::{RunFault, run_session};

@@ -5,7 +5,6 @@ pub mod examples;
 mod limits;
 mod line_by_line;
 mod loading;
-mod plain_lines;
 mod printing;
 mod reading;
 mod shown;

@@ -1,7 +1,7 @@
 //! Sessions whose reader or writer fails in mid-text.
 
 use crate::assertions::{assert_same, assert_that};
-use crate::devices::{Failure, ShortReader, ShortWriter};
+use crate::devices::{Failure, NarrowWriter, ShortReader, ShortWriter};
 use crate::sessions::{MOVED, MOVED_TEXT, run};
 use coll_bench::{Fault, RunFault};
 use coll_lex::{Counted, ReadStop, Sink, Source, WriteStop};
@@ -102,5 +102,38 @@ fn a_write_that_fails_leaves_a_front_of_the_replies(rt: HostRuntime) {
     for failure in [Failure::Error, Failure::TakesNothing] {
         let whole = (1..1_000).find(|at| is_whole(&rt, rt.alloc(), replies.as_str(), *at, failure));
         assert_that(&rt, "a whole run", whole.is_some());
+    }
+}
+
+const BLOCK_AND_UNDO: &[u8] = b"reorder-after <U0061>\n<U0063>\nreorder-end\n:undo\n:re";
+
+// A line that a failing read cuts off gets no reply. Three bytes are given at a time.
+#[test]
+fn a_cut_line_gets_no_reply(rt: HostRuntime) {
+    let reads = BLOCK_AND_UNDO.len().div_ceil(3);
+    let mut input = Counted::new(ShortReader::new(BLOCK_AND_UNDO, reads.saturating_add(1)));
+    let mut output = Counted::new(Vec::new(rt.alloc()));
+    let answer = run(&rt, rt.alloc(), &mut input, &mut output);
+    assert_same(&rt, "the answer", answer, Err(READ_FAULT));
+    let written = output.device().as_slice();
+    assert_same(&rt, "the replies", written, b"ok 1\nundone 0\n".as_slice());
+}
+
+// How many bytes a device takes in all, whether it flushes, and what it then has taken.
+const NARROW: &[(usize, bool, &[u8])] = &[(6, true, b"ok 1\nu"), (100, false, b"ok 1\n")];
+
+#[test]
+fn a_device_that_is_full_or_fails_to_flush_ends_the_session(rt: HostRuntime) {
+    for (room, flushes, taken) in NARROW {
+        let mut output = Counted::new(NarrowWriter::new(rt.alloc(), *room, *flushes));
+        let answer = run(
+            &rt,
+            rt.alloc(),
+            &mut Counted::new(BLOCK_AND_UNDO),
+            &mut output,
+        );
+        assert_same(&rt, "the answer", answer, Err(WRITE_FAULT));
+        let given = output.device().taken.as_slice();
+        assert_same(&rt, "the replies", given, *taken);
     }
 }

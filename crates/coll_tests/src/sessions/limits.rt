@@ -5,7 +5,7 @@ use crate::long_texts::repeated;
 use crate::sessions::run;
 use coll_bench::{Fault, MOST_REMAINING, RunFault};
 use coll_lex::{Counted, LexFault, MOST_LINE_BYTES};
-use std::alloc::Global;
+use std::alloc::{AllocError, Global};
 use std::process::Abort;
 
 // Asserts what a session over this text answers, and with which replies it ends.
@@ -52,4 +52,34 @@ fn a_full_history_refuses_a_statement(rt: HostRuntime) {
     let text = repeated(&rt, rt.alloc(), b"", block, MOST_REMAINING + 1, b":undo\n");
     let replies = "ok 65535\nrefused 66 HistoryFull\nundone 65534\n";
     assert_ends(&rt, rt.alloc(), &text, Ok(()), replies);
+}
+
+// The lines of so many characters, from U+10000 on, as a text behind another.
+fn push_characters(text: &mut String, count: u32) -> Result<(), AllocError> {
+    for number in 0..count {
+        write!(text, "<U{:08X}>\n", number.saturating_add(0x10000))?;
+    }
+    Ok(())
+}
+
+// A block of so many order lines, with lines that don't count, and the history behind it.
+fn block_text(alloc: Global, count: u32) -> Result<String, AllocError> {
+    let mut text = String::from_str(alloc, "reorder-after <U0061>\n# note\n\nescape_char /\n")?;
+    push_characters(&mut text, count)?;
+    text.push_str("# note\nreorder-end\n:history\n")?;
+    Ok(text)
+}
+
+// A count of order lines, and the replies to a block of so many.
+const BLOCKS: &[(u32, &str)] = &[
+    (4_096, "ok 1\n1 block <U0061> 4096\nhistory 1 0\n"),
+    (4_097, "refused 27 BlockTooLong\nhistory 0 0\n"),
+];
+
+#[test]
+fn a_block_has_4096_order_lines(rt: HostRuntime) {
+    for (count, replies) in BLOCKS {
+        let text = block_text(rt.alloc(), *count).expect(&rt, "a text");
+        assert_ends(&rt, rt.alloc(), text.as_bytes(), Ok(()), replies);
+    }
 }

@@ -1,14 +1,8 @@
 //! Texts of whole sessions, and their replies.
 
-use crate::assertions::assert_same;
-use crate::devices::{Failure, ShortReader, ShortWriter};
-use crate::sessions::run;
+use crate::assertions::assert_text;
+use crate::sessions::worked::{written, written_in_parts};
 use crate::tables::examples::{BASE_TABLE, first_table, loaded_lines};
-use coll_bench::{RunFault, run_session};
-use coll_lex::Counted;
-use coll_table::Table;
-use std::alloc::Global;
-use std::process::Abort;
 
 // Texts of whole sessions, and what is written for each.
 const SESSIONS: &[(&[u8], &str)] = &[
@@ -21,11 +15,6 @@ const SESSIONS: &[(&[u8], &str)] = &[
     (b"# note\n\n", ""),
     (b":list \\\n", "refused 9 DanglingEscape\n"),
     (b":list \\", "refused 9 DanglingEscape\n"),
-    // A block of two order lines is too long, and changes nothing.
-    (
-        b"reorder-after <U0063>\n<U0061>\n<U0062>\nreorder-end\n:list\n",
-        "refused 27 BlockTooLong\n1 <BASE>\n2 <U0061>\n3 <U0062>\n4 <U0063>\nlisted 4\n",
-    ),
     // Comments, empty lines and directives are no lines of a block.
     (
         b"reorder-after <U0063>\n# one\n\n<U0061>\ncomment_char %\n% two\nreorder-end\n",
@@ -34,6 +23,10 @@ const SESSIONS: &[(&[u8], &str)] = &[
     // A refused line opens a block by the bytes of its first physical line.
     (
         b"reorder-afterwards\n:undo\nreorder-end\n",
+        "refused 62 BlockOpen\nrefused 20 UnknownStatement\n",
+    ),
+    (
+        b"reorder-after-all <X>\n:undo\nreorder-end\n",
         "refused 62 BlockOpen\nrefused 20 UnknownStatement\n",
     ),
     (
@@ -65,8 +58,12 @@ const SESSIONS: &[(&[u8], &str)] = &[
         "refused 2 OpenSymbol\nrefused 60 NothingToUndo\n",
     ),
     (
+        b"\x0Breorder-after <\n:undo\n",
+        "refused 2 OpenSymbol\nrefused 60 NothingToUndo\n",
+    ),
+    (
         b"reorder-section-after <X>\n:undo\n",
-        "refused 20 UnknownStatement\nrefused 60 NothingToUndo\n",
+        "refused 21 MissingOperand\nrefused 60 NothingToUndo\n",
     ),
     // An accepted line opens one by its tokens.
     (
@@ -89,6 +86,10 @@ const SESSIONS: &[(&[u8], &str)] = &[
     // Where no block is open it has its own fault.
     (b"reorder-endless\n", "refused 20 UnknownStatement\n"),
     (b"reorder-end <\n", "refused 2 OpenSymbol\n"),
+    (
+        b"reorder-after <U0063>\nreorder-endless\n:undo\n",
+        "refused 20 UnknownStatement\nrefused 60 NothingToUndo\n",
+    ),
     // A command that the lexer refuses is none, and spoils the block.
     (
         b"reorder-after <U0063>\n:undo \"a\nreorder-end\n",
@@ -101,8 +102,8 @@ const SESSIONS: &[(&[u8], &str)] = &[
         "refused 60 NothingToUndo\nrefused 60 NothingToUndo\nrefused 22 ExtraOperand\nrefused 22 ExtraOperand\nrefused 64 UnknownCommand\n",
     ),
     (
-        b":\n:;\n",
-        "refused 54 NotPlaced\nrefused 22 ExtraOperand\n",
+        b":\n:;\n:<BASE>\n:\"x\"\n",
+        "refused 54 NotPlaced\nrefused 54 NotPlaced\nrefused 54 NotPlaced\nrefused 54 NotPlaced\n",
     ),
     // In a block every command is refused alike, and the block stays as it was.
     (
@@ -115,9 +116,19 @@ const SESSIONS: &[(&[u8], &str)] = &[
         "refused 20 UnknownStatement\n",
     ),
     (
-        b"reorder-after <U0063>\nEND LC_COLLATE\nreorder-end\n",
-        "refused 20 UnknownStatement\n",
+        b"reorder-after <U0063>\ncomment_char\n<U0061>\nreorder-end\n",
+        "refused 11 BadCharDirective\n",
     ),
+    // So do accepted lines that are none of a block; some of them get no reply elsewhere.
+    (
+        b"reorder-after <U0063>\nEND LC_COLLATE\nreorder-after <U0063>\nLC_COLLATE\nreorder-after <U0063>\ncopy \"x\"\nreorder-after <U0063>\nscript <N>\nreorder-end\n",
+        "refused 62 BlockOpen\nrefused 62 BlockOpen\nrefused 62 BlockOpen\nrefused 62 BlockOpen\n",
+    ),
+    (
+        b"reorder-after <U0063>\ncollating-symbol <X>\nreorder-after <U0063>\nreorder-section-after <S> <T>\nreorder-end\n",
+        "refused 62 BlockOpen\nrefused 62 BlockOpen\n",
+    ),
+    (b"END LC_COLLATE\nLC_COLLATE\ncopy \"x\"\nscript <N>\n", ""),
     // A further `reorder-after` ends the block and opens the next.
     (
         b"reorder-after <U0063>\n<U0061>\nreorder-after <U0061>\n<U0062>\nreorder-end\n:undo\n",
@@ -153,24 +164,12 @@ const SESSIONS: &[(&[u8], &str)] = &[
     (b"reorder-after <U0063>\r\n<U0061>\r\nreorder-end", "ok 1\n"),
 ];
 
-// Asserts that a session ended with its input, and has written these replies.
-fn assert_replies(rt: &impl Abort, answer: Result<(), RunFault>, written: &[u8], replies: &str) {
-    assert_same(rt, replies, answer, Ok(()));
-    assert_same(rt, replies, written, replies.as_bytes());
-}
-
-// Asserts what a session over a table and this text replies to a device that takes all bytes.
-fn assert_session(rt: &impl Abort, alloc: Global, table: Table, text: &[u8], replies: &str) {
-    let mut output = Counted::new(Vec::new(alloc));
-    let answer = run_session(alloc, table, &mut Counted::new(text), &mut output);
-    assert_replies(rt, answer, output.device(), replies);
-}
-
 #[test]
 fn each_unit_has_its_reply(rt: HostRuntime) {
     for (text, replies) in SESSIONS {
         let table = first_table(&rt, rt.alloc());
-        assert_session(&rt, rt.alloc(), table, text, replies);
+        let given = written(&rt, rt.alloc(), table, text);
+        assert_text(&rt, rt.alloc(), given.as_slice(), replies.as_bytes());
     }
 }
 
@@ -186,11 +185,7 @@ const SECTIONED: &[(&[u8], &str)] = &[
         b"reorder-after -\n<U007A>\nreorder-end\nreorder-after <U0064>\n<U002D>\nreorder-end\n:list\n",
         "ok 1\nok 2\n1 <BASE>\n2 <MIN>\n3 <CAP>\n4 <U0061>\n5 <U0041>\n6 <U0062>\n7 <U0063>\n8 <U0064>\n9 <U002D>\nsection <PUNCT>\n10 <U007A>\nlisted 10\n",
     ),
-    // The table is printed as it is now, and counted; both are refused in a block and with arguments.
-    (
-        b"reorder-after <U0064>\n<U002D>\nreorder-end\n:print\n:undo\n:print\n",
-        "ok 1\ncomment_char %\nescape_char /\nLC_COLLATE\ncollating-symbol <BASE>\ncollating-symbol <MIN>\ncollating-symbol <CAP>\norder_start forward;backward;forward;forward,position\n<BASE>\n<MIN>\n<CAP>\n<U0061> <U0061>;<BASE>;<MIN>;IGNORE\n<U0041> <U0061>;<BASE>;<CAP>;IGNORE\n<U0062> <U0062>;<BASE>;<MIN>;IGNORE\n<U0063> <U0063>;<BASE>;<MIN>;IGNORE\n<U0064> <U0064>;<BASE>;<MIN>;IGNORE\n<U002D> IGNORE;IGNORE;IGNORE;<U002D>\nsection <PUNCT>\norder_end\nEND LC_COLLATE\nundone 0\ncomment_char %\nescape_char /\nLC_COLLATE\ncollating-symbol <BASE>\ncollating-symbol <MIN>\ncollating-symbol <CAP>\norder_start forward;backward;forward;forward,position\n<BASE>\n<MIN>\n<CAP>\n<U0061> <U0061>;<BASE>;<MIN>;IGNORE\n<U0041> <U0061>;<BASE>;<CAP>;IGNORE\n<U0062> <U0062>;<BASE>;<MIN>;IGNORE\n<U0063> <U0063>;<BASE>;<MIN>;IGNORE\n<U0064> <U0064>;<BASE>;<MIN>;IGNORE\nsection <PUNCT>\n<U002D> IGNORE;IGNORE;IGNORE;<U002D>\norder_end\nEND LC_COLLATE\n",
-    ),
+    // Both commands are refused in a block and with arguments.
     (
         b":check\n:check <U0061>\n:print \"a\"\nreorder-after -\n:print\n:check\nreorder-end\n",
         "table entries 9 declared 3 sections 2 levels 4\nrefused 22 ExtraOperand\nrefused 22 ExtraOperand\nrefused 62 BlockOpen\nrefused 62 BlockOpen\nok 1\n",
@@ -201,22 +196,16 @@ const SECTIONED: &[(&[u8], &str)] = &[
 fn sections_are_listed_by_name(rt: HostRuntime) {
     for (text, replies) in SECTIONED {
         let table = loaded_lines(rt.alloc(), BASE_TABLE).expect(&rt, "a table");
-        assert_session(&rt, rt.alloc(), table, text, replies);
+        let given = written(&rt, rt.alloc(), table, text);
+        assert_text(&rt, rt.alloc(), given.as_slice(), replies.as_bytes());
     }
-}
-
-// Asserts the same of devices that give and take a few bytes at a time.
-fn assert_short_session(rt: &impl Abort, alloc: Global, text: &[u8], replies: &str) {
-    let mut input = Counted::new(ShortReader::new(text, 0));
-    let writer = ShortWriter::new(Vec::new(alloc), 0, Failure::Error);
-    let mut output = Counted::new(writer);
-    let answer = run(rt, alloc, &mut input, &mut output);
-    assert_replies(rt, answer, &output.device().taken, replies);
 }
 
 #[test]
 fn short_reads_and_writes_change_no_reply(rt: HostRuntime) {
     for (text, replies) in SESSIONS {
-        assert_short_session(&rt, rt.alloc(), text, replies);
+        let table = first_table(&rt, rt.alloc());
+        let given = written_in_parts(&rt, rt.alloc(), table, text);
+        assert_text(&rt, rt.alloc(), given.as_slice(), replies.as_bytes());
     }
 }

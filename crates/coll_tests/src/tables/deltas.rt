@@ -1,46 +1,138 @@
-//! Statements applied to the first table, and turned back.
+//! Statements applied to tables, refused by them, and turned back.
+
+ghost use Rattle.coll_syntax.specs.Proper.{IsProper};
 
 use crate::assertions::assert_same;
+use crate::statements::{Lines, statement_of};
 use crate::tables::examples::{
-    BASE_TABLE, Change, assert_order, assert_shown, block, first_table, id,
+    BASE_TABLE, Change, SECTIONS_TABLE, assert_shown, loaded_lines, printed, rewritten,
 };
-use coll_table::{PlainLine, PlainStatement, Refusal, Table};
+use coll_syntax::Statement;
+use coll_table::{Refusal, Table};
 use std::alloc::Global;
 use std::process::Abort;
 
-// A block's target and its lines, and the order after it.
-const BLOCKS: &[(&str, &[&str], &str)] = &[
-    ("c", &["a"], "<bca"),
-    ("c", &["a", "b"], "<cab"),
-    ("a", &["c", "z", "BASE"], "acz<b"),
-    ("BASE", &["c"], "<cab"),
-    ("a", &[], "<abc"),
-];
-
-// Asserts that the first table, rewritten by a statement, has this order, and the first one turned back, once and again.
-fn assert_turns(rt: &impl Abort, table: &mut Table, statement: &PlainStatement, after: &str) {
-    let mut record = table.apply(statement).expect(rt, after);
-    assert_order(rt, table, after);
-    assert_same(rt, "the steps back", table.flip(&mut record), 0);
-    assert_order(rt, table, "<abc");
-    assert_same(rt, "the steps", table.flip(&mut record), 0);
-    assert_order(rt, table, after);
-    assert_same(rt, "the steps back", table.flip(&mut record), 0);
-    table.forget(record);
-    assert_order(rt, table, "<abc");
+// A table, statements that it accepts, a further one, and how many ring steps it takes to turn that one back or do it again.
+struct Turned {
+    table: Lines,
+    before: &'static [Lines],
+    statement: Lines,
+    steps: u32,
 }
 
-fn assert_blocks_turn(rt: &impl Abort, alloc: Global, table: &mut Table) {
-    for (target, lines, after) in BLOCKS {
-        let statement = block(alloc, target, lines).expect(rt, "a block");
-        assert_turns(rt, table, &statement, after);
-    }
+const TURNED: &[Turned] = &[
+    // A block takes two steps for each line whose entry was placed, and one for each other line.
+    Turned {
+        table: BASE_TABLE,
+        before: &[],
+        statement: &["reorder-after <U0061>", "<U0063>"],
+        steps: 2,
+    },
+    Turned {
+        table: BASE_TABLE,
+        before: &[],
+        statement: &["reorder-after <U0064>", "<U0061>", "<U0041>"],
+        steps: 4,
+    },
+    Turned {
+        table: BASE_TABLE,
+        before: &[],
+        statement: &["reorder-after <U0061>"],
+        steps: 0,
+    },
+    Turned {
+        table: BASE_TABLE,
+        before: &[&["collating-element <ch> from \"<U0063><U0068>\""]],
+        statement: &["reorder-after <U0063>", "<ch> <ch>;<BASE>;<MIN>;IGNORE"],
+        steps: 1,
+    },
+    Turned {
+        table: BASE_TABLE,
+        before: &[&["collating-symbol <X>"]],
+        statement: &[
+            "reorder-after <MIN>",
+            "<X>",
+            "<U0061> <U0061>;<X>;<MIN>;IGNORE",
+        ],
+        steps: 3,
+    },
+    // A declaration takes one step, a section two, wherever it stands, and other weights none.
+    Turned {
+        table: BASE_TABLE,
+        before: &[],
+        statement: &["collating-element <ch> from \"<U0063><U0068>\""],
+        steps: 1,
+    },
+    Turned {
+        table: BASE_TABLE,
+        before: &[],
+        statement: &["collating-symbol <X>"],
+        steps: 1,
+    },
+    Turned {
+        table: SECTIONS_TABLE,
+        before: &[],
+        statement: &["reorder-section-after <S2> <S1>"],
+        steps: 2,
+    },
+    Turned {
+        table: SECTIONS_TABLE,
+        before: &[],
+        statement: &["reorder-section-after <S1> <S3>"],
+        steps: 2,
+    },
+    Turned {
+        table: BASE_TABLE,
+        before: &[],
+        statement: &["<U0062> <U0063>"],
+        steps: 0,
+    },
+];
+
+// Asserts that a statement is turned back and done again, each by so many ring steps, and what the table is each time.
+fn assert_turns(
+    rt: &impl Abort,
+    alloc: Global,
+    table: &mut Table,
+    statement: &Statement,
+    steps: u32,
+)
+    requires { IsProper statement.now }
+{
+    let before = printed(rt, alloc, table);
+    let mut record = table.apply(statement).expect(rt, "a record");
+    let after = printed(rt, alloc, table);
+    let taken = table.steps();
+    assert_same(rt, "the steps back", table.flip(&mut record), steps);
+    assert_same(
+        rt,
+        "taken back",
+        printed(rt, alloc, table).as_slice(),
+        &before,
+    );
+    assert_same(rt, "the steps", table.flip(&mut record), steps);
+    assert_same(
+        rt,
+        "done again",
+        printed(rt, alloc, table).as_slice(),
+        &after,
+    );
+    let taken = table.steps().wrapping_sub(taken);
+    assert_same(rt, "both ways", taken, u64::from(steps).saturating_mul(2));
+    drop(record);
+}
+
+fn assert_turned(rt: &impl Abort, alloc: Global, row: &Turned) {
+    let mut table = rewritten(rt, alloc, row.table, row.before);
+    let statement = statement_of(rt, alloc, row.statement);
+    assert_turns(rt, alloc, &mut table, &statement, row.steps);
 }
 
 #[test]
-fn a_block_is_applied_turned_back_and_applied_again(rt: HostRuntime) {
-    let mut table = first_table(&rt, rt.alloc());
-    assert_blocks_turn(&rt, rt.alloc(), &mut table);
+fn a_statement_is_turned_by_the_steps_of_its_own_nodes(rt: HostRuntime) {
+    for row in TURNED {
+        assert_turned(&rt, rt.alloc(), row);
+    }
 }
 
 // The base table with a symbol and an element that have no entry.
@@ -56,27 +148,21 @@ const MORE_DECLARED: Change = Change {
 const DECLARED_SHOWN: &str =
     "rules forward backward forward forward,position\nsymbol <BASE>\nsymbol <MIN>\nsymbol <CAP>\nsymbol <NEW>\nelement <ch> ch\n";
 
-const BEFORE_SHOWN: &str =
-    "<BASE>\n<MIN>\n<CAP>\na - (<BASE>) (<MIN>) I\nA (a) (<BASE>) (<CAP>) I\nb - (<BASE>) (<MIN>) I\nc - (<BASE>) (<MIN>) I\nd - (<BASE>) (<MIN>) I\nsection <PUNCT>\n- I I I -\n";
-
-// A block's target and its lines, and the sections after it.
-const REWRITTEN: &[(&str, &[&str], &str)] = &[
+// A block, and the sections after it.
+const REWRITTEN: &[(Lines, &str)] = &[
     // Entries that are moved, also into another section and out of it, keep their weights.
     (
-        "-",
-        &["A", "MIN"],
+        &["reorder-after -", "A", "<MIN>"],
         "<BASE>\n<CAP>\na - (<BASE>) (<MIN>) I\nb - (<BASE>) (<MIN>) I\nc - (<BASE>) (<MIN>) I\nd - (<BASE>) (<MIN>) I\nsection <PUNCT>\n- I I I -\nA (a) (<BASE>) (<CAP>) I\n<MIN>\n",
     ),
     (
-        "BASE",
-        &["-", "b"],
+        &["reorder-after <BASE>", "-", "b"],
         "<BASE>\n- I I I -\nb - (<BASE>) (<MIN>) I\n<MIN>\n<CAP>\na - (<BASE>) (<MIN>) I\nA (a) (<BASE>) (<CAP>) I\nc - (<BASE>) (<MIN>) I\nd - (<BASE>) (<MIN>) I\nsection <PUNCT>\n",
     ),
-    // A new entry has its own weight at each level, but a symbol has none.
+    // A new entry has its own weight at each level, but a symbol has none. Weights that are missing are its own.
     (
-        "d",
-        &["z", "UNDEFINED", "NEW", "ch"],
-        "<BASE>\n<MIN>\n<CAP>\na - (<BASE>) (<MIN>) I\nA (a) (<BASE>) (<CAP>) I\nb - (<BASE>) (<MIN>) I\nc - (<BASE>) (<MIN>) I\nd - (<BASE>) (<MIN>) I\nz - - - -\nUNDEFINED - - - -\n<NEW>\n<ch> - - - -\nsection <PUNCT>\n- I I I -\n",
+        &["reorder-after d", "z", "UNDEFINED", "<NEW>", "<ch> ;a"],
+        "<BASE>\n<MIN>\n<CAP>\na - (<BASE>) (<MIN>) I\nA (a) (<BASE>) (<CAP>) I\nb - (<BASE>) (<MIN>) I\nc - (<BASE>) (<MIN>) I\nd - (<BASE>) (<MIN>) I\nz - - - -\nUNDEFINED - - - -\n<NEW>\n<ch> - (a) - -\nsection <PUNCT>\n- I I I -\n",
     ),
 ];
 
@@ -86,111 +172,76 @@ fn assert_sections(rt: &impl Abort, alloc: Global, table: &Table, sections: &str
     assert_shown(rt, alloc, table, want.as_str());
 }
 
-// Asserts that a table, rewritten by a statement, has these sections, and those before it turned back.
-fn assert_rewrites(
-    rt: &impl Abort,
-    alloc: Global,
-    table: &mut Table,
-    statement: &PlainStatement,
-    after: &str,
-) {
-    let mut record = table.apply(statement).expect(rt, after);
-    assert_sections(rt, alloc, table, after);
-    assert_same(rt, "the steps back", table.flip(&mut record), 0);
-    assert_sections(rt, alloc, table, BEFORE_SHOWN);
-    table.forget(record);
-}
-
-fn assert_rewritten(rt: &impl Abort, alloc: Global, table: &mut Table) {
-    assert_sections(rt, alloc, table, BEFORE_SHOWN);
-    for (target, lines, after) in REWRITTEN {
-        let statement = block(alloc, target, lines).expect(rt, "a block");
-        assert_rewrites(rt, alloc, table, &statement, after);
-    }
+fn assert_rewritten(rt: &impl Abort, alloc: Global, lines: &[&str], after: &str) {
+    let mut table = MORE_DECLARED
+        .loaded(alloc, BASE_TABLE)
+        .expect(rt, "a table");
+    let statement = statement_of(rt, alloc, lines);
+    table.apply(&statement).expect(rt, "a record");
+    assert_sections(rt, alloc, &table, after);
 }
 
 #[test]
 fn a_moved_entry_keeps_its_weights_and_a_new_one_has_its_own(rt: HostRuntime) {
-    let mut table = MORE_DECLARED
-        .loaded(rt.alloc(), BASE_TABLE)
-        .expect(&rt, "a table");
-    assert_rewritten(&rt, rt.alloc(), &mut table);
+    for (lines, after) in REWRITTEN {
+        assert_rewritten(&rt, rt.alloc(), lines, after);
+    }
 }
 
-// A block's target and its lines, and why the first table refuses it: the target is judged first, and then line by line.
-const REFUSED_BLOCKS: &[(&str, &[&str], Refusal)] = &[
-    ("q", &["a", "a", "SMALL"], Refusal::TargetNotPlaced),
-    ("SMALL", &["a"], Refusal::TargetNotPlaced),
-    ("a", &["b", "a"], Refusal::TwiceInBlock),
-    ("a", &["b", "c", "b"], Refusal::TwiceInBlock),
-    ("a", &["b", "SMALL", "b"], Refusal::NotDeclared),
-    ("a", &["b", "c", "SMALL"], Refusal::NotDeclared),
+// A block, and why the base table refuses it: the target is judged first, then line by line, and last the weights.
+const REFUSED: &[(Lines, Refusal)] = &[
+    (
+        &["reorder-after q", "a", "a", "<Q>"],
+        Refusal::TargetNotPlaced,
+    ),
+    (&["reorder-after <Q>"], Refusal::TargetNotPlaced),
+    (&["reorder-after UNDEFINED"], Refusal::TargetNotPlaced),
+    (&["reorder-after a", "b", "a"], Refusal::TwiceInBlock),
+    (&["reorder-after a", "b", "c", "b"], Refusal::TwiceInBlock),
+    (&["reorder-after a", "b", "<Q>", "b"], Refusal::NotDeclared),
+    (
+        &["reorder-after a", "<MIN> ;;;;"],
+        Refusal::SymbolWithWeights,
+    ),
+    (&["reorder-after a", "b ;;;;", "a"], Refusal::TooManyWeights),
+    (
+        &["reorder-after a", "b <Q>", "c ;;;;"],
+        Refusal::TooManyWeights,
+    ),
+    (
+        &["reorder-after a", "b z", "c <Q>"],
+        Refusal::WeightNotPlaced,
+    ),
+    (&["reorder-after a", "b <Q>", "c z"], Refusal::NotDeclared),
+    (
+        &["reorder-after a", "b \"cz<Q>\""],
+        Refusal::WeightNotPlaced,
+    ),
 ];
 
-// Asserts that a table, which has the order of the first one, refuses a statement so and is then as it was.
+// Asserts that a table refuses a statement so, whether it is only judged or applied, and is then as it was.
 fn assert_refused(
-    rt: &impl Abort,
-    table: &mut Table,
-    statement: &PlainStatement,
-    refusal: Refusal,
-) {
-    let refused = table.apply(statement).err();
-    assert_same(rt, "the refusal", refused, Some(refusal));
-    assert_order(rt, table, "<abc");
-}
-
-fn assert_refused_block(
     rt: &impl Abort,
     alloc: Global,
     table: &mut Table,
-    target: &str,
     lines: &[&str],
     refusal: Refusal,
 ) {
-    let statement = block(alloc, target, lines).expect(rt, "a block");
-    assert_refused(rt, table, &statement, refusal);
+    let statement = statement_of(rt, alloc, lines);
+    assert_same(rt, "judged", table.check(&statement), Err(refusal));
+    assert_same(rt, "applied", table.apply(&statement).err(), Some(refusal));
 }
 
-fn assert_refused_blocks(rt: &impl Abort, alloc: Global, table: &mut Table) {
-    for (target, lines, refusal) in REFUSED_BLOCKS {
-        assert_refused_block(rt, alloc, table, target, lines, *refusal);
+fn assert_all_refused(rt: &impl Abort, alloc: Global, table: &mut Table) {
+    let before = printed(rt, alloc, table);
+    for (lines, refusal) in REFUSED {
+        assert_refused(rt, alloc, table, lines, *refusal);
+        assert_same(rt, *refusal, printed(rt, alloc, table).as_slice(), &before);
     }
 }
 
 #[test]
 fn a_refused_block_changes_nothing(rt: HostRuntime) {
-    let mut table = first_table(&rt, rt.alloc());
-    assert_refused_blocks(&rt, rt.alloc(), &mut table);
-}
-
-const REFUSED_LINES: &[(&str, Refusal)] = &[
-    ("a", Refusal::NoWeights),
-    ("BASE", Refusal::NoWeights),
-    ("z", Refusal::NotPlaced),
-    ("UNDEFINED", Refusal::NotPlaced),
-    ("SMALL", Refusal::NotDeclared),
-];
-
-fn assert_refused_line(
-    rt: &impl Abort,
-    alloc: Global,
-    table: &mut Table,
-    text: &str,
-    refusal: Refusal,
-) {
-    let id = id(alloc, text).expect(rt, text);
-    let statement = PlainStatement::Reweight(PlainLine { id });
-    assert_refused(rt, table, &statement, refusal);
-}
-
-fn assert_refused_lines(rt: &impl Abort, alloc: Global, table: &mut Table) {
-    for (text, refusal) in REFUSED_LINES {
-        assert_refused_line(rt, alloc, table, text, *refusal);
-    }
-}
-
-#[test]
-fn an_order_line_outside_a_block_is_refused(rt: HostRuntime) {
-    let mut table = first_table(&rt, rt.alloc());
-    assert_refused_lines(&rt, rt.alloc(), &mut table);
+    let mut table = loaded_lines(rt.alloc(), BASE_TABLE).expect(&rt, "the base table");
+    assert_all_refused(&rt, rt.alloc(), &mut table);
 }

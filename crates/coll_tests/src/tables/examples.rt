@@ -1,10 +1,11 @@
 //! Tables, identifiers and statements that several tests use.
 
 use crate::assertions::assert_same;
+use crate::statements::{Lines, statement_of};
 use crate::tables::shown::shown;
-use coll_lex::{Counted, ListBuf, TextBuf};
+use coll_lex::{Counted, TextBuf};
 use coll_syntax::Id;
-use coll_table::{LoadCause, LoadFault, Loader, PlainLine, PlainStatement, Table, WalkItem, load};
+use coll_table::{LoadCause, LoadFault, Loader, Table, WalkItem, load};
 use std::alloc::{AllocError, Global};
 use std::process::Abort;
 
@@ -35,6 +36,69 @@ pub const BASE_TABLE: &[&str] = &[
     "END LC_COLLATE",
 ];
 
+/// A table of two levels, the second backward, with letters that have accents, line by line.
+pub const FRENCH_TABLE: &[&str] = &[
+    "comment_char %",
+    "escape_char /",
+    "LC_COLLATE",
+    "collating-symbol <BASE>",
+    "collating-symbol <ACUTE>",
+    "collating-symbol <CIRC>",
+    "order_start forward;backward",
+    "<BASE>",
+    "<ACUTE>",
+    "<CIRC>",
+    "<U0063> <U0063>;<BASE>",
+    "<U0065> <U0065>;<BASE>",
+    "<U00E9> <U0065>;<ACUTE>",
+    "<U006F> <U006F>;<BASE>",
+    "<U00F4> <U006F>;<CIRC>",
+    "<U0074> <U0074>;<BASE>",
+    "order_end",
+    "END LC_COLLATE",
+];
+
+/// What makes both levels of that table forward.
+pub const BOTH_FORWARD: Change = Change {
+    first: 7,
+    last: 7,
+    others: &["order_start forward;forward"],
+};
+
+/// A table of one level and four sections, line by line.
+pub const SECTIONS_TABLE: &[&str] = &[
+    "comment_char %",
+    "escape_char /",
+    "LC_COLLATE",
+    "order_start forward",
+    "<U0061>",
+    "section <S1>",
+    "<U0062>",
+    "section <S2>",
+    "<U0063>",
+    "section <S3>",
+    "<U0064>",
+    "order_end",
+    "END LC_COLLATE",
+];
+
+/// A text that spells what it may in other ways than the canonical ones.
+pub const SPELLED_OTHERWISE: &[&str] = &[
+    "LC_COLLATE            # the defaults stand",
+    "collating-symbol \\",
+    "  <S>",
+    "collating-symbol <a\\>b>",
+    "order_start forward;\\",
+    "forward",
+    "<S>",
+    "<a\\>b>",
+    "a  ;<S>   # trailing",
+    "b \"<S>a\";IGNORE",
+    "<U\\0041> \"<U0041>\";<a\\>b>",
+    "order_end",
+    "END LC_COLLATE",
+];
+
 /// The table that the text is.
 pub fn loaded(alloc: Global, text: &[u8]) -> Result<Table, LoadFault> {
     load(alloc, &mut Counted::new(text))
@@ -58,6 +122,23 @@ pub fn loaded_lines(alloc: Global, lines: &[&str]) -> Result<Table, LoadFault> {
     let mut loader = Loader::new(alloc)?;
     hand_in(&mut loader, lines)?;
     loader.finish()
+}
+
+/// The table of these lines, rewritten by statements.
+pub fn rewritten(rt: &impl Abort, alloc: Global, lines: &[&str], statements: &[Lines]) -> Table {
+    let mut table = loaded_lines(alloc, lines).expect(rt, "a table");
+    for lines in statements {
+        let statement = statement_of(rt, alloc, lines);
+        table.apply(&statement).expect(rt, "a record");
+    }
+    table
+}
+
+/// A table's canonical text.
+pub fn printed(rt: &impl Abort, alloc: Global, table: &Table) -> Vec<u8> {
+    let mut out = Counted::new(Vec::new(alloc));
+    table.print(&mut out).expect(rt, "a printed table");
+    out.device().clone().expect(rt, "a copy")
 }
 
 /// A change of a list of lines: those from a first to a last, counted from 1, and what stands in their place. Where the last
@@ -162,17 +243,4 @@ pub fn id(alloc: Global, text: &str) -> Result<Id, AllocError> {
         _ if text == "UNDEFINED" => Ok(Id::Undefined),
         _ => Ok(Id::Named(TextBuf::new(String::from_str(alloc, text)?))),
     }
-}
-
-/// A block of these order lines.
-pub fn block(alloc: Global, target: &str, lines: &[&str]) -> Result<PlainStatement, AllocError> {
-    let mut order = Vec::new(alloc);
-    for line in lines {
-        let id = id(alloc, line)?;
-        order.push(PlainLine { id })?;
-    }
-    Ok(PlainStatement::Block {
-        target: id(alloc, target)?,
-        lines: ListBuf::new(order),
-    })
 }

@@ -3,7 +3,8 @@
 //! A build with no proof is slow at these: give `rt try --test` a minute and a half for each, by `--seconds 90`.
 
 use crate::assertions::assert_same;
-use crate::tables::examples::{block, hand_in};
+use crate::statements::statement_of;
+use crate::tables::examples::hand_in;
 use coll_table::{LoadCause, LoadFault, Loader, Refusal, Table};
 use std::alloc::Global;
 use std::process::Abort;
@@ -89,7 +90,7 @@ fn a_table_has_262144_entries(rt: HostRuntime) {
     assert_limit(&rt, rt.alloc(), Kind::Characters, 262_144, 262_147);
 }
 
-// Asserts what a table answers to a block.
+// Asserts what a table answers to a statement.
 fn assert_applied(
     rt: &impl Abort,
     alloc: Global,
@@ -97,30 +98,49 @@ fn assert_applied(
     lines: &[&str],
     refusal: Option<Refusal>,
 ) {
-    let statement = block(alloc, "\u{10001}", lines).expect(rt, "a block");
+    let statement = statement_of(rt, alloc, lines);
     assert_same(rt, "the refusal", table.apply(&statement).err(), refusal);
 }
 
-// Fills a loader to the end of a category.
-fn fill_whole(alloc: Global, loader: &mut Loader) -> Result<(), LoadFault> {
-    fill(alloc, loader, Kind::Characters, 262_144)?;
+// Fills a loader with lines of a kind, to the end of a category.
+fn fill_whole(alloc: Global, loader: &mut Loader, kind: Kind) -> Result<(), LoadFault> {
+    fill(alloc, loader, kind, 262_144)?;
     hand_in(loader, &["order_end", "END LC_COLLATE"])
 }
 
-// A table of the characters from U+10000 to U+4FFFF.
-fn full_table(alloc: Global) -> Result<Table, LoadFault> {
+// A table of 262,144 lines of a kind: characters are those from U+10000 to U+4FFFF.
+fn full_table(alloc: Global, kind: Kind) -> Result<Table, LoadFault> {
     let mut loader = Loader::new(alloc)?;
-    fill_whole(alloc, &mut loader)?;
+    fill_whole(alloc, &mut loader, kind)?;
     loader.finish()
 }
 
 fn assert_full(rt: &impl Abort, alloc: Global, table: &mut Table) {
-    assert_applied(rt, alloc, table, &["a"], Some(Refusal::Full));
-    assert_applied(rt, alloc, table, &["\u{10000}"], None);
+    assert_applied(
+        rt,
+        alloc,
+        table,
+        &["reorder-after <U00010001>", "a"],
+        Some(Refusal::Full),
+    );
+    assert_applied(
+        rt,
+        alloc,
+        table,
+        &["reorder-after <U00010001>", "<U00010000>"],
+        None,
+    );
 }
 
 #[test]
 fn a_full_table_takes_no_new_entry_and_moves_those_it_has(rt: HostRuntime) {
-    let mut table = full_table(rt.alloc()).expect(&rt, "a table");
+    let mut table = full_table(rt.alloc(), Kind::Characters).expect(&rt, "a table");
     assert_full(&rt, rt.alloc(), &mut table);
+}
+
+#[test]
+fn a_full_table_takes_no_new_declaration(rt: HostRuntime) {
+    let mut table = full_table(rt.alloc(), Kind::Declarations).expect(&rt, "a table");
+    let lines = &["collating-symbol <X>"];
+    assert_applied(&rt, rt.alloc(), &mut table, lines, Some(Refusal::Full));
 }

@@ -1,31 +1,14 @@
 //! The canonical text of a table: what is written, and that it is read back.
 
 use crate::assertions::assert_same;
-use crate::tables::examples::{BASE_TABLE, loaded_lines, text_of};
+use crate::tables::examples::{BASE_TABLE, SPELLED_OTHERWISE, loaded_lines, text_of};
 use crate::tables::reading::TWO_SECTIONS;
 use coll_lex::Counted;
 use coll_table::Table;
 use std::alloc::Global;
 use std::process::Abort;
 
-/// A text that spells what it may in other ways than the canonical ones.
-const SPELLED_OTHERWISE: &[&str] = &[
-    "LC_COLLATE            # the defaults stand",
-    "collating-symbol \\",
-    "  <S>",
-    "collating-symbol <a\\>b>",
-    "order_start forward;\\",
-    "forward",
-    "<S>",
-    "<a\\>b>",
-    "a  ;<S>   # trailing",
-    "b \"<S>a\";IGNORE",
-    "<U\\0041> \"<U0041>\";<a\\>b>",
-    "order_end",
-    "END LC_COLLATE",
-];
-
-/// The same table, printed.
+/// The table of other spellings, printed.
 const PRINTED: &[&str] = &[
     "comment_char %",
     "escape_char /",
