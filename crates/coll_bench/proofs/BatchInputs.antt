@@ -2,7 +2,7 @@
 use Rattle.std.proofs.Common.{◌≡◌, ℕ, zero, suc, pred, ◌+◌, ◌<◌, ◌≤◌, min, Bool, true, false, if◌then◌else◌, List, [], ◌∷◌, ◌++◌, map, take, drop, set, length, get_or, Option, Some, None, Result, Ok, Err, refl, sym, ap, ◌∙◌, subst, arith, add-one, append-nil}
 use Rattle.std.specs.Prelude.{slice_get, ◌==◌, IfErr}
 use Rattle.coll_lex.specs.Devices.{raised}
-use Rattle.coll_table.specs.Table.{Collation}
+use Rattle.coll_nodes.specs.Table.{Collation}
 use Rattle.coll_bench.specs.Faults.{fault_number}
 use Rattle.coll_bench.specs.BatchOutcome.{unless_faulty, after_delta, after_deltas}
 use Rattle.coll_bench.specs.BatchReading.{DeltaFails, ReadsDelta, CountsDelta, DeltasFail, ReadsDeltas, CountsDeltas}

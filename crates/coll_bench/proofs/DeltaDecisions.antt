@@ -9,7 +9,7 @@ use Rattle.coll_lex.specs.declared.tokens.Line.{Line}
 use Rattle.coll_lex.proofs.LineSteps.{logical_lines-nil}
 use Rattle.coll_lex.proofs.LineEnds.{fed-too_long}
 use Rattle.coll_table.specs.Delta.{delta}
-use Rattle.coll_table.specs.Table.{Collation}
+use Rattle.coll_nodes.specs.Table.{Collation}
 use Rattle.coll_table.proofs.LineCounts.{outside_too_long}
 use Rattle.coll_units.specs.Hearing.{heard_in, heard_by}
 use Rattle.coll_units.specs.SessionLines.{opening_of, fault_heard, delta_file_heard}

@@ -12,7 +12,7 @@ use Rattle.coll_lex.specs.declared.faults.LexFault.TheVariants as lex
 use Rattle.coll_lex.specs.declared.faults.ReadStop.{ReadStop}
 use Rattle.coll_lex.specs.declared.faults.ReadStop.TheVariants as stop
 use Rattle.coll_table.specs.Loads.{with_feeds}
-use Rattle.coll_table.specs.Table.{Collation}
+use Rattle.coll_nodes.specs.Table.{Collation}
 use Rattle.coll_table.proofs.TextSteps.{IsUnread, gives_first, was_last, stops_long, stops_short}
 use Rattle.coll_units.specs.DeltaFiles.{delta_outcome}
 use Rattle.coll_units.specs.DeltaReading.{DeltaState, first_delta, early_end, delta_end}

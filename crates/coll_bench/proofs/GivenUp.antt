@@ -9,14 +9,14 @@ use Rattle.coll_order.specs.Sound.{AreDistinct}
 use Rattle.coll_order.specs.declared.places.NodeId.{NodeId}
 use Rattle.coll_order.proofs.Sameness.{by_test, not_both, same_node_is, same_node_itself}
 use Rattle.coll_bench.proofs.HistorySteps.{reversed}
-use Rattle.coll_table.specs.Bodies.{IsLooseNode}
+use Rattle.coll_nodes.specs.Bodies.{IsLooseNode}
 use Rattle.coll_bench.specs.Kept.{added_by_all, LeadsOn}
-use Rattle.coll_table.specs.Linking.{nodes_without}
+use Rattle.coll_nodes.specs.Linking.{nodes_without}
 use Rattle.coll_table.specs.Record.{AreLoose, Extends, Fits, KeepsLoose, added_nodes, dropped_nodes, turn, without_nodes}
 use Rattle.coll_table.specs.RecordLaws.{RecordsTurnBack, UndonePutIn}
-use Rattle.coll_table.specs.SoundLayouts.{IsTable}
-use Rattle.coll_table.specs.TableLayout.{TableLayout, TableValue, MadeNode, content_of, content_among}
-use Rattle.coll_table.specs.declared.contents.Content.{Content}
+use Rattle.coll_nodes.specs.SoundLayouts.{IsTable}
+use Rattle.coll_nodes.specs.TableLayout.{TableLayout, TableValue, MadeNode, content_of, content_among}
+use Rattle.coll_nodes.specs.declared.contents.Content.{Content}
 use Rattle.coll_bench.specs.declared.histories.Kept.{Kept}
 
 has_joined : (a b : List NodeId) (node : NodeId) → has_node (a ++ b) node ≡ (has_node a node || has_node b node)

@@ -5,12 +5,12 @@ use Rattle.std.proofs.lemmas.Bool.{le-leb, lt-leb, ne_eqb}
 use Rattle.std.proofs.lemmas.List.{reverse-append}
 use Rattle.std.proofs.Math.Seq.{take-append_seam, drop-append_seam}
 use Rattle.coll_syntax.specs.declared.statements.Statement.{Statement}
-use Rattle.coll_table.specs.Table.{Collation}
-use Rattle.coll_table.specs.TableLayout.{TableValue, collation}
+use Rattle.coll_nodes.specs.Table.{Collation}
+use Rattle.coll_nodes.specs.TableLayout.{TableValue, collation}
 use Rattle.coll_table.specs.Delta.{delta}
 use Rattle.coll_table.specs.Record.{Extends, Fits, IsSame, statement_steps, turn, turned}
 use Rattle.coll_table.specs.RecordLaws.{RecordsTurnBack, RecordsFitWider, RecordsFitNarrower, TurnsAlike, TurnsBack}
-use Rattle.coll_table.specs.SoundLayouts.{IsTable}
+use Rattle.coll_nodes.specs.SoundLayouts.{IsTable}
 use Rattle.coll_table.specs.Turning.{steps_of}
 use Rattle.coll_bench.specs.Replay.{given_or, replay}
 use Rattle.coll_bench.specs.Histories.{History, begun, table_now, with_statement, judged_by, judged, stepped_back, taken_back, put_again, first_steps, redo_steps, undo_steps}

@@ -9,9 +9,9 @@ use Rattle.coll_bench.specs.Kept.{statements_of, undone_by, uncounted, IsChange,
 use Rattle.coll_table.specs.Record.{Extends, Fits, IsSame, statement_steps, turn, turned}
 use Rattle.coll_table.specs.RecordLaws.{RecordsTurnBack, RecordsFitWider, RecordsFitNarrower}
 use Rattle.coll_bench.specs.Replay.{replay}
-use Rattle.coll_table.specs.SoundLayouts.{IsTable}
-use Rattle.coll_table.specs.Table.{Collation}
-use Rattle.coll_table.specs.TableLayout.{TableValue, collation}
+use Rattle.coll_nodes.specs.SoundLayouts.{IsTable}
+use Rattle.coll_nodes.specs.Table.{Collation}
+use Rattle.coll_nodes.specs.TableLayout.{TableValue, collation}
 use Rattle.coll_table.specs.Turning.{steps_of}
 use Rattle.coll_bench.specs.declared.histories.Kept.{Kept}
 

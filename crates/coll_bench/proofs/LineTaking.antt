@@ -1,6 +1,6 @@
 -- What a line of a delta file is taken as, from what the reader of the file and the table answered.
 use Rattle.std.proofs.Common.{◌≡◌, ℕ, false, List, Option, Some, None, Result, Ok, Err, sym, ap, subst, ◌∙◌}
-use Rattle.coll_table.specs.Table.{Collation}
+use Rattle.coll_nodes.specs.Table.{Collation}
 use Rattle.coll_units.specs.DeltaFaults.{wants_memory}
 use Rattle.coll_units.specs.DeltaReading.{DeltaState, Step, delta_line}
 use Rattle.coll_units.specs.declared.delta_faults.DeltaFault.{DeltaFault}

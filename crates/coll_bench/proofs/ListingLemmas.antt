@@ -1,8 +1,8 @@
 -- The lines of all that a walk meets are the listing by sections.
 use Rattle.std.proofs.Common.{◌≡◌, ℕ, ◌+◌, ◌≤◌, List, [], ◌∷◌, ◌++◌, Option, Some, None, length, map, suc, refl, sym, ap, ◌∙◌, append_assoc, length-append, arith}
-use Rattle.coll_table.specs.declared.entries.Entry.{Entry}
-use Rattle.coll_table.specs.Table.{Section, joined_entries}
-use Rattle.coll_table.specs.Walks.{Met, MetSection, MetEntry, met, met_name}
+use Rattle.coll_nodes.specs.declared.entries.Entry.{Entry}
+use Rattle.coll_nodes.specs.Table.{Section, joined_entries}
+use Rattle.coll_nodes.specs.Walks.{Met, MetSection, MetEntry, met, met_name}
 use Rattle.coll_bench.specs.Replies.{header, listed_line, listed_lines, listed_sections}
 use Rattle.coll_bench.specs.Listing.{listed_met, met_line, rank_after}
 

@@ -12,7 +12,7 @@ use Rattle.coll_lex.specs.declared.faults.LexFault.TheVariants as lex
 use Rattle.coll_lex.specs.declared.faults.ReadStop.{ReadStop}
 use Rattle.coll_lex.specs.declared.faults.ReadStop.TheVariants as stop
 use Rattle.coll_bench.specs.declared.faults.RunFault.{RunFault}
-use Rattle.coll_table.specs.Table.{Collation}
+use Rattle.coll_nodes.specs.Table.{Collation}
 use Rattle.coll_bench.specs.Histories.{begun}
 use Rattle.coll_units.specs.OpenBlocks.{kept_end_faults, kept_last_faults}
 use Rattle.coll_bench.specs.Replies.{refused_lines}

@@ -6,7 +6,7 @@ use Rattle.coll_lex.specs.PhysicalLines.{lines_of}
 use Rattle.coll_lex.specs.LogicalLines.{LexerState, LogicalLine, first_state, number_of, first_line, served, state_by, lines_by, logical_lines}
 use Rattle.coll_lex.specs.declared.tokens.Line.{Line}
 use Rattle.coll_lex.specs.declared.faults.LexFault.{LexFault}
-use Rattle.coll_table.specs.Table.{Collation}
+use Rattle.coll_nodes.specs.Table.{Collation}
 use Rattle.coll_bench.specs.Histories.{History, begun}
 use Rattle.coll_units.specs.SessionLines.{opening_of, heard}
 use Rattle.coll_units.specs.Hearing.{heard_by, heard_in, heard_at}

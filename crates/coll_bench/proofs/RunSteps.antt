@@ -10,7 +10,7 @@ use Rattle.coll_lex.specs.LineReading.{ReaderState, no_line, CutsLine, Cuts, Giv
 use Rattle.coll_lex.specs.LogicalLines.{LexerState, first_state, served, state_by, logical_lines}
 use Rattle.coll_lex.specs.declared.faults.ReadStop.{ReadStop}
 use Rattle.coll_lex.proofs.PhysicalLinesLemmas.{lines_of-nil, lines_of-ended, lines_of-part, lines_of-cut}
-use Rattle.coll_table.specs.Table.{Collation}
+use Rattle.coll_nodes.specs.Table.{Collation}
 use Rattle.coll_table.specs.Loads.{with_feeds}
 use Rattle.coll_bench.specs.Histories.{History, begun}
 use Rattle.coll_units.specs.Hearing.{heard_at}

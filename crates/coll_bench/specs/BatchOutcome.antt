@@ -3,11 +3,11 @@
 use Rattle.std.specs.Prelude.{ℕ, suc, Bool, true, if◌then◌else◌, List, [], ◌∷◌, ◌++◌, length, Result, Ok, Err}
 use Rattle.std.specs.List.{flat_map, list_any}
 use Rattle.coll_lex.specs.PhysicalLines.{lines_of}
-use Rattle.coll_table.specs.Table.{Collation}
-use Rattle.coll_table.specs.CanonicalText.{text}
+use Rattle.coll_nodes.specs.Table.{Collation}
+use Rattle.coll_print.specs.CanonicalText.{text}
 use Rattle.coll_table.specs.Delta.{delta}
-use Rattle.coll_table.specs.Reading.{reads}
-use Rattle.coll_table.specs.declared.load_faults.LoadFault.{LoadFault}
+use Rattle.coll_draft.specs.Reading.{reads}
+use Rattle.coll_draft.specs.declared.load_faults.LoadFault.{LoadFault}
 use Rattle.coll_table.specs.declared.refusals.Refusal.{Refusal}
 use Rattle.coll_units.specs.DeltaFiles.{DeltaEnd, Ended, AtFault, Undecided as EndUndecided, DeltaOutcome, at_line, delta_outcome}
 use Rattle.coll_units.specs.declared.delta_faults.DeltaCause.{DeltaCause}

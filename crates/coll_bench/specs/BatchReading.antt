@@ -4,8 +4,8 @@ use Rattle.coll_lex.specs.Devices.{raised}
 use Rattle.coll_lex.specs.declared.faults.LexFault.TheVariants as lex
 use Rattle.coll_lex.specs.declared.faults.ReadStop.{ReadStop}
 use Rattle.coll_lex.specs.declared.faults.ReadStop.TheVariants as read
-use Rattle.coll_table.specs.Table.{Collation}
-use Rattle.coll_table.specs.TableLayout.{TableValue, collation}
+use Rattle.coll_nodes.specs.Table.{Collation}
+use Rattle.coll_nodes.specs.TableLayout.{TableValue, collation}
 use Rattle.coll_units.specs.DeltaReading.{DeltaState, Step, delta_line}
 use Rattle.coll_units.specs.declared.delta_faults.DeltaFault.{DeltaFault}
 use Rattle.coll_bench.specs.Faults.{fault_number}

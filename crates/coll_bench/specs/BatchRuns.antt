@@ -2,10 +2,10 @@
 use Rattle.std.specs.Prelude.{◌≡◌, ◌==◌, ◌⊎◌, ℕ, zero, suc, false, if◌then◌else◌, List, [], ◌∷◌, ◌++◌, map, take, slice_get, Option, Some, Result, Ok, Err}
 use Rattle.coll_lex.specs.Devices.{raised}
 use Rattle.coll_lex.specs.PhysicalLines.{lines_of, IsInLine}
-use Rattle.coll_table.specs.Table.{Collation}
+use Rattle.coll_nodes.specs.Table.{Collation}
 use Rattle.coll_table.specs.Loads.{with_feeds, StopsWithin}
-use Rattle.coll_table.specs.Reading.{reads}
-use Rattle.coll_table.specs.TableLayout.{TableValue, collation}
+use Rattle.coll_draft.specs.Reading.{reads}
+use Rattle.coll_nodes.specs.TableLayout.{TableValue, collation}
 use Rattle.coll_units.specs.DeltaFiles.{delta_outcome}
 use Rattle.coll_bench.specs.Faults.{fault_number}
 use Rattle.coll_bench.specs.BatchOutcome.{Decision, Decided, Undecided, decision, after_delta, after_deltas, after_inputs, batch_outcome}

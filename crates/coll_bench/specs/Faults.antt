@@ -3,12 +3,12 @@ use Rattle.std.specs.Prelude.{ℕ, Bool, true, false, List, codes}
 use Rattle.coll_lex.specs.Faults.{read_stop_number, read_stop_name, write_stop_number, write_stop_name, lex_fault_number, lex_fault_name}
 use Rattle.coll_syntax.specs.SyntaxFaults.{syntax_fault_number, syntax_fault_name}
 use Rattle.coll_table.specs.Refusals.{refusal_number, refusal_name}
-use Rattle.coll_table.specs.LoadFaults.{load_fault_number, load_fault_name}
+use Rattle.coll_draft.specs.LoadFaults.{load_fault_number, load_fault_name}
 use Rattle.coll_key.specs.KeyFaults.{fault_number as key_fault_number, fault_name as key_fault_name}
 use Rattle.coll_lex.specs.declared.faults.LexFault.TheVariants as lex
 use Rattle.coll_syntax.specs.declared.syntax_faults.SyntaxFault.TheVariants as syntax
-use Rattle.coll_table.specs.declared.load_faults.LoadCause.{LoadCause}
-use Rattle.coll_table.specs.declared.load_faults.LoadCause.TheVariants as load
+use Rattle.coll_draft.specs.declared.load_faults.LoadCause.{LoadCause}
+use Rattle.coll_draft.specs.declared.load_faults.LoadCause.TheVariants as load
 use Rattle.coll_table.specs.declared.refusals.Refusal.TheVariants as refusal
 use Rattle.coll_key.specs.declared.key_faults.KeyFault.TheVariants as key
 use Rattle.coll_units.specs.declared.delta_faults.DeltaCause.{DeltaCause}

@@ -7,7 +7,7 @@ use Rattle.coll_table.specs.Delta.{delta}
 use Rattle.coll_bench.specs.Limits.{most_remaining}
 use Rattle.coll_bench.specs.Histories.{History, SessionValue}
 use Rattle.coll_table.specs.Record.{Fits, dropped_nodes, statement_steps, turn}
-use Rattle.coll_table.specs.TableLayout.{TableValue, collation}
+use Rattle.coll_nodes.specs.TableLayout.{TableValue, collation}
 use Rattle.coll_table.specs.Turning.{steps_of}
 use Rattle.coll_bench.specs.declared.histories.Kept.{Kept}
 use Rattle.coll_bench.specs.declared.histories.Session.TheInside.{Inside}

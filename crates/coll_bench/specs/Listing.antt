@@ -1,6 +1,6 @@
 -- The lines of a listing, as a walk through the table meets its sections and entries.
 use Rattle.std.specs.Prelude.{ℕ, suc, List, [], ◌∷◌, ◌++◌}
-use Rattle.coll_table.specs.Walks.{Met, MetSection, MetEntry}
+use Rattle.coll_nodes.specs.Walks.{Met, MetSection, MetEntry}
 use Rattle.coll_bench.specs.Replies.{section_line, listed_line}
 
 -- the line of what is met: a section's name, or an entry with its rank

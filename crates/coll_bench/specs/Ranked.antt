@@ -1,6 +1,6 @@
 -- Ranks that a session keeps (the project's own): if it has any, they are those of its table now.
 use Rattle.std.specs.Prelude.{Option, Some, None}
-use Rattle.coll_table.specs.Table.{Collation}
+use Rattle.coll_nodes.specs.Table.{Collation}
 use Rattle.coll_key.specs.Ranks.{RanksValue, AreRanksOf}
 
 -- there are no ranks, or they are those of this table

@@ -3,9 +3,9 @@ use Rattle.std.specs.Prelude.{ℕ, suc, ◌+◌, Bool, true, false, ◌&&◌, �
 use Rattle.coll_lex.specs.LogicalLines.{first_choice, later_choices}
 use Rattle.coll_lex.specs.Spelling.{spelled_symbol}
 use Rattle.coll_lex.specs.declared.faults.LexFault.TheVariants as lex
-use Rattle.coll_table.specs.Table.{Collation, Section, entries_of}
-use Rattle.coll_table.specs.CanonicalText.{text}
-use Rattle.coll_table.specs.PrintedParts.{id_bytes}
+use Rattle.coll_nodes.specs.Table.{Collation, Section, entries_of}
+use Rattle.coll_print.specs.CanonicalText.{text}
+use Rattle.coll_print.specs.PrintedParts.{id_bytes}
 use Rattle.coll_syntax.specs.declared.statements.Statement.{Statement}
 use Rattle.coll_syntax.specs.declared.statements.Statement.TheVariants as statement
 use Rattle.coll_key.specs.KeyLimits.{is_too_long}
@@ -17,7 +17,7 @@ use Rattle.std.specs.declared.cmp.Ordering.{Ordering}
 use Rattle.std.specs.declared.cmp.Ordering.TheVariants.{Less, Equal, Greater}
 use Rattle.coll_bench.specs.Histories.{History, table_now, judged, taken_back, put_again}
 use Rattle.coll_bench.specs.Faults.{fault_number, fault_name, fault_of}
-use Rattle.coll_table.specs.declared.entries.Entry.{Entry}
+use Rattle.coll_nodes.specs.declared.entries.Entry.{Entry}
 use Rattle.coll_bench.specs.declared.faults.BenchFault.{BenchFault}
 use Rattle.coll_bench.specs.declared.faults.Fault.{Fault}
 use Rattle.coll_bench.specs.declared.faults.Fault.TheVariants as fault

@@ -9,7 +9,7 @@ use Rattle.coll_lex.specs.declared.faults.LexFault.TheVariants as lex
 use Rattle.coll_lex.specs.declared.faults.ReadStop.{ReadStop}
 use Rattle.coll_lex.specs.declared.faults.ReadStop.TheVariants as read
 use Rattle.coll_lex.specs.declared.faults.WriteStop.TheVariants as write
-use Rattle.coll_table.specs.Table.{Collation}
+use Rattle.coll_nodes.specs.Table.{Collation}
 use Rattle.coll_bench.specs.Histories.{History, begun}
 use Rattle.coll_units.specs.Hearing.{heard_at}
 use Rattle.coll_bench.specs.Faults.{fault_number}

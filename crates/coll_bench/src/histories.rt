@@ -9,7 +9,7 @@
 ghost use Rattle.std.specs.Prelude.{◌≡◌, ◌≢◌, ◌↔◌, ◌<◌, ◌≤◌, ◌+◌, [], length, reverse, slice_get, vec_len, vec_capacity, option_copied, IsOk, IsTrue, Ok, Err, IfOk, IfErr, OnOk, OnErr};
 ghost use Rattle.coll_syntax.specs.Proper.{IsProper};
 ghost use Rattle.coll_table.specs.Record.{AreLoose, Extends, dropped_nodes, more_steps, without_nodes};
-ghost use Rattle.coll_table.specs.TableLayout.{collation};
+ghost use Rattle.coll_nodes.specs.TableLayout.{collation};
 ghost use Rattle.coll_bench.specs.Kept.{added_by_all, statements_of};
 ghost use Rattle.coll_bench.specs.Histories.{History, begun, judged, taken_back, put_again, undo_steps, redo_steps, numbered, table_now, RefusesStatement};
 

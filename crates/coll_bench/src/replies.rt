@@ -8,10 +8,10 @@ ghost use Rattle.std.specs.Prelude.{◌≡◌, ◌≤◌, ◌++◌, ◌∷◌, [
 ghost use Rattle.std.specs.Io.KnownBytes.{Keeps};
 ghost use Rattle.coll_lex.specs.Devices.{CountsErr, Sends};
 ghost use Rattle.coll_lex.specs.Spelling.{spelled_symbol};
-ghost use Rattle.coll_table.specs.TableLayout.{collation};
+ghost use Rattle.coll_nodes.specs.TableLayout.{collation};
 ghost use Rattle.coll_units.specs.ProperLines.{IsProperRequest};
-ghost use Rattle.coll_table.specs.PrintedParts.{id_bytes};
-ghost use Rattle.coll_table.specs.WalkItems.{met_by};
+ghost use Rattle.coll_print.specs.PrintedParts.{id_bytes};
+ghost use Rattle.coll_nodes.specs.WalkItems.{met_by};
 ghost use Rattle.coll_bench.specs.Listing.{met_line, rank_after};
 ghost use Rattle.coll_bench.specs.Replies.{worded, count_part, levels_part, sections_part, declared_part, checked_line, counted_line, told_line, refused_line, section_line, listed_line, listed_sections, listing, outcome_line, history_after_command, reply_if, history_after_if};
 

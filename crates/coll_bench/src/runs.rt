@@ -5,7 +5,7 @@
 //! come later.
 
 ghost use Rattle.std.specs.Prelude.{◌≡◌};
-ghost use Rattle.coll_table.specs.TableLayout.{collation};
+ghost use Rattle.coll_nodes.specs.TableLayout.{collation};
 ghost use Rattle.coll_bench.specs.Serving.{CountsWrites, never_ran};
 ghost use Rattle.coll_bench.specs.Runs.{Runs, CountsReads};
 

@@ -3,8 +3,8 @@ use Rattle.std.proofs.Common.{◌≡◌, ℕ, suc, ◌&&◌, ◌||◌, Bool, tru
 use Rattle.std.specs.List.{flat_map}
 use Rattle.std.proofs.lemmas.Bool.{ne_eqb}
 use Rattle.coll_syntax.specs.declared.rules.Rule.{Rule}
-use Rattle.coll_table.specs.Table.{Collation}
-use Rattle.coll_table.specs.WellFormed.{IsWellFormed}
+use Rattle.coll_nodes.specs.Table.{Collation}
+use Rattle.coll_nodes.specs.WellFormed.{IsWellFormed}
 use Rattle.coll_key.specs.Elements.{elements_of}
 use Rattle.coll_key.specs.LevelList.{numbers_at, items, directed, listed, level_list, level_lists_from}
 use Rattle.coll_key.specs.SortKey.{ended, key_of}

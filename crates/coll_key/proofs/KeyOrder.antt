@@ -12,11 +12,11 @@ use Rattle.coll_syntax.specs.declared.identifiers.Id.TheVariants.{Undefined}
 use Rattle.coll_syntax.specs.declared.rules.Rule.{Rule}
 use Rattle.coll_syntax.specs.declared.weights.Weight.{Weight}
 use Rattle.coll_syntax.specs.declared.weights.Weight.TheVariants.{Ignore, Own, Names}
-use Rattle.coll_table.specs.Entries.{weight_ids}
-use Rattle.coll_table.specs.Placement.{entry_at}
-use Rattle.coll_table.specs.Table.{Collation, entries_of, ids_of, is_placed}
-use Rattle.coll_table.specs.WellFormed.{IsWellFormed, HasPlacedWeights}
-use Rattle.coll_table.specs.declared.entries.Entry.{Entry}
+use Rattle.coll_nodes.specs.Entries.{weight_ids}
+use Rattle.coll_nodes.specs.Placement.{entry_at}
+use Rattle.coll_nodes.specs.Table.{Collation, entries_of, ids_of, is_placed}
+use Rattle.coll_nodes.specs.WellFormed.{IsWellFormed, HasPlacedWeights}
+use Rattle.coll_nodes.specs.declared.entries.Entry.{Entry}
 use Rattle.coll_key.specs.Elements.{elements_of}
 use Rattle.coll_key.specs.LevelList.{number_of, undefined_weights, weights_or, weights_of, weight_at, own_number, weight_numbers, code_point, numbers_at, items_of, items, directed, listed, level_list, level_lists_from}
 use Rattle.coll_key.specs.Rank.{place_among, rank_unplaced, known_rank}

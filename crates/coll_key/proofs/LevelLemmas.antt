@@ -3,8 +3,8 @@ use Rattle.std.proofs.Common.{◌≡◌, ℕ, suc, ◌+◌, ◌<◌, ◌≤◌, 
 use Rattle.std.specs.List.{flat_map}
 use Rattle.std.proofs.lemmas.Bool.{ltb-false}
 use Rattle.coll_syntax.specs.declared.rules.Rule.{Rule}
-use Rattle.coll_table.specs.Table.{Collation}
-use Rattle.coll_table.specs.WellFormed.{IsWellFormed}
+use Rattle.coll_nodes.specs.Table.{Collation}
+use Rattle.coll_nodes.specs.WellFormed.{IsWellFormed}
 use Rattle.coll_key.specs.Elements.{elements_of, split, longest, beyond_first}
 use Rattle.coll_key.specs.LevelList.{items_of, items, directed, listed, level_list, level_lists_from, numbers_at}
 use Rattle.coll_key.specs.Ranks.{RanksValue, AreRanksOf, parts_of, part_numbers, part_with, ranked_text}

@@ -14,17 +14,17 @@ use Rattle.coll_syntax.specs.declared.identifiers.Id.{Id}
 use Rattle.coll_syntax.specs.declared.identifiers.Id.TheVariants.{Char, Named, Undefined}
 use Rattle.coll_syntax.specs.declared.weights.Weight.{Weight}
 use Rattle.coll_syntax.specs.declared.weights.Weight.TheVariants.{Ignore, Own, Names}
-use Rattle.coll_table.specs.PrintedParts.{char_bytes}
-use Rattle.coll_table.specs.Placement.{entry_at}
-use Rattle.coll_table.specs.Walks.{Met, MetSection, MetEntry, met, entry_met, entries_met}
-use Rattle.coll_table.specs.Table.{Collation, entries_of, ids_of, is_placed, is_symbol, names_of}
-use Rattle.coll_table.specs.WellFormed.{AreDistinct, HasWeights, IsWeighted, IsWellFormed}
-use Rattle.coll_table.specs.declared.declarations.Declaration.{Declaration}
-use Rattle.coll_table.specs.declared.declarations.Declaration.TheVariants as declaration
-use Rattle.coll_table.specs.declared.entries.Entry.{Entry}
-use Rattle.coll_table.proofs.EntryLemmas.{entry_there}
-use Rattle.coll_table.proofs.MetEntries.{met_all}
-use Rattle.coll_table.proofs.Sameness.{same_name_decides, same_id_decides}
+use Rattle.coll_print.specs.PrintedParts.{char_bytes}
+use Rattle.coll_nodes.specs.Placement.{entry_at}
+use Rattle.coll_nodes.specs.Walks.{Met, MetSection, MetEntry, met, entry_met, entries_met}
+use Rattle.coll_nodes.specs.Table.{Collation, entries_of, ids_of, is_placed, is_symbol, names_of}
+use Rattle.coll_nodes.specs.WellFormed.{AreDistinct, HasWeights, IsWeighted, IsWellFormed}
+use Rattle.coll_nodes.specs.declared.declarations.Declaration.{Declaration}
+use Rattle.coll_nodes.specs.declared.declarations.Declaration.TheVariants as declaration
+use Rattle.coll_nodes.specs.declared.entries.Entry.{Entry}
+use Rattle.coll_nodes.proofs.EntryLemmas.{entry_there}
+use Rattle.coll_draft.proofs.MetEntries.{met_all}
+use Rattle.coll_nodes.proofs.Sameness.{same_name_decides, same_id_decides}
 use Rattle.coll_key.specs.CompiledListing.{string_named, listed_id, listed_level, listed_line, listed_entry, listed_entries, listed_undefined}
 use Rattle.coll_key.specs.Elements.{element_placed}
 use Rattle.coll_key.specs.Rank.{known_rank}

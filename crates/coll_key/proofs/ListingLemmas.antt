@@ -8,8 +8,8 @@ use Rattle.coll_lex.specs.Devices.{AppendsFront}
 use Rattle.coll_lex.proofs.WritingLemmas.{AppendsFront-before, AppendsFront-after}
 use Rattle.coll_syntax.specs.declared.identifiers.Id.{Id}
 use Rattle.coll_syntax.specs.declared.weights.Weight.{Weight}
-use Rattle.coll_table.specs.Table.{Collation, entries_of}
-use Rattle.coll_table.proofs.PrintedParts.{left_begins}
+use Rattle.coll_nodes.specs.Table.{Collation, entries_of}
+use Rattle.coll_print.proofs.PrintedParts.{left_begins}
 use Rattle.coll_key.specs.CompiledListing.{compiled_listing, listing_head, listed_rule}
 use Rattle.coll_key.specs.ListingParts.{counts_bytes, entries_part, is_star, level_bytes, levels_bytes}
 use Rattle.coll_key.specs.Ranks.{RanksValue, compiled_weight}

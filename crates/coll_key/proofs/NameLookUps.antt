@@ -8,8 +8,8 @@ use Rattle.std.proofs.lemmas.Str.{encodes-chars}
 use Rattle.indexmap.specs.IndexMap.{insert_entry}
 use Rattle.coll_syntax.proofs.Spellings.{same_spelling}
 use Rattle.coll_syntax.specs.Identifier.{same_name}
-use Rattle.coll_table.proofs.Sameness.{same_name_decides, same_name_symmetric}
-use Rattle.coll_table.specs.LookUps.{characters_of}
+use Rattle.coll_nodes.proofs.Sameness.{same_name_decides, same_name_symmetric}
+use Rattle.coll_nodes.specs.LookUps.{characters_of}
 use Rattle.coll_key.specs.NameMaps.{named_numbers, AreKeys, IsText}
 use Rattle.coll_key.specs.Ranks.{number_named}
 

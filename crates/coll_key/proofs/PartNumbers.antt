@@ -11,12 +11,12 @@ use Rattle.coll_syntax.specs.declared.identifiers.Id.{Id}
 use Rattle.coll_syntax.specs.declared.identifiers.Id.TheVariants.{Char, Named, Undefined}
 use Rattle.coll_syntax.specs.declared.weights.Weight.{Weight}
 use Rattle.coll_syntax.specs.declared.weights.Weight.TheVariants.{Ignore, Own, Names}
-use Rattle.coll_table.specs.CanonicalText.{is_own}
-use Rattle.coll_table.specs.Placement.{entry_at}
-use Rattle.coll_table.specs.Table.{Collation, entries_of, is_placed}
-use Rattle.coll_table.specs.WellFormed.{IsWellFormed}
-use Rattle.coll_table.specs.declared.entries.Entry.{Entry}
-use Rattle.coll_table.proofs.Sameness.{same_id_decides}
+use Rattle.coll_print.specs.CanonicalText.{is_own}
+use Rattle.coll_nodes.specs.Placement.{entry_at}
+use Rattle.coll_nodes.specs.Table.{Collation, entries_of, is_placed}
+use Rattle.coll_nodes.specs.WellFormed.{IsWellFormed}
+use Rattle.coll_nodes.specs.declared.entries.Entry.{Entry}
+use Rattle.coll_nodes.proofs.Sameness.{same_id_decides}
 use Rattle.coll_key.specs.Elements.{Element, beyond_first, longest, longer, split, elements_of, elements_placed, element_text, part_id, begins_with}
 use Rattle.coll_key.specs.ElementChains.{Finds}
 use Rattle.coll_key.specs.LevelList.{number_of, numbers_at, weight_at, weights_or, weight_numbers, undefined_weights, code_point}

@@ -9,14 +9,14 @@ use Rattle.coll_syntax.specs.Identifier.{same_id, has_id}
 use Rattle.coll_syntax.specs.Proper.{IsElementText}
 use Rattle.coll_syntax.specs.declared.identifiers.Id.{Id}
 use Rattle.coll_syntax.specs.declared.identifiers.Id.TheVariants.{Char, Named, Undefined}
-use Rattle.coll_table.specs.Table.{Collation, entries_of, ids_of, texts_of}
-use Rattle.coll_table.specs.Walks.{Met, MetSection, MetEntry, met, entry_met, entries_met}
-use Rattle.coll_table.specs.WellFormed.{AreDistinct, IsWellFormed}
-use Rattle.coll_table.specs.declared.declarations.Declaration.{Declaration}
-use Rattle.coll_table.specs.declared.declarations.Declaration.TheVariants as declaration
-use Rattle.coll_table.specs.declared.entries.Entry.{Entry}
-use Rattle.coll_table.proofs.MetEntries.{met_all}
-use Rattle.coll_table.proofs.Sameness.{same_id_decides}
+use Rattle.coll_nodes.specs.Table.{Collation, entries_of, ids_of, texts_of}
+use Rattle.coll_nodes.specs.Walks.{Met, MetSection, MetEntry, met, entry_met, entries_met}
+use Rattle.coll_nodes.specs.WellFormed.{AreDistinct, IsWellFormed}
+use Rattle.coll_nodes.specs.declared.declarations.Declaration.{Declaration}
+use Rattle.coll_nodes.specs.declared.declarations.Declaration.TheVariants as declaration
+use Rattle.coll_nodes.specs.declared.entries.Entry.{Entry}
+use Rattle.coll_draft.proofs.MetEntries.{met_all}
+use Rattle.coll_nodes.proofs.Sameness.{same_id_decides}
 use Rattle.coll_key.specs.Elements.{element_placed}
 use Rattle.coll_key.specs.LevelList.{undefined_weights}
 use Rattle.coll_key.specs.Rank.{place_among, rank_unplaced, known_rank}

@@ -8,12 +8,12 @@ use Rattle.coll_syntax.specs.declared.identifiers.Id.TheVariants.{Char, Named, U
 use Rattle.coll_syntax.specs.declared.rules.Rule.{Rule}
 use Rattle.coll_syntax.specs.declared.weights.Weight.{Weight}
 use Rattle.coll_syntax.specs.declared.weights.Weight.TheVariants.{Ignore, Own, Names}
-use Rattle.coll_table.specs.CanonicalText.{spelled_rule}
-use Rattle.coll_table.specs.PrintedParts.{char_bytes}
-use Rattle.coll_table.specs.Table.{Collation, entries_of, is_symbol, is_placed}
-use Rattle.coll_table.specs.declared.declarations.Declaration.{Declaration}
-use Rattle.coll_table.specs.declared.declarations.Declaration.TheVariants as declaration
-use Rattle.coll_table.specs.declared.entries.Entry.{Entry}
+use Rattle.coll_print.specs.CanonicalText.{spelled_rule}
+use Rattle.coll_print.specs.PrintedParts.{char_bytes}
+use Rattle.coll_nodes.specs.Table.{Collation, entries_of, is_symbol, is_placed}
+use Rattle.coll_nodes.specs.declared.declarations.Declaration.{Declaration}
+use Rattle.coll_nodes.specs.declared.declarations.Declaration.TheVariants as declaration
+use Rattle.coll_nodes.specs.declared.entries.Entry.{Entry}
 use Rattle.coll_key.specs.LevelList.{undefined_weights}
 use Rattle.coll_key.specs.Rank.{known_rank}
 use Rattle.coll_key.specs.WrittenKey.{joined_by_spaces, level_end}

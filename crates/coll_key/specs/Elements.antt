@@ -3,9 +3,9 @@ use Rattle.std.specs.Prelude.{ℕ, zero, suc, ◌-◌, ◌==◌, ◌&&◌, nat_l
 use Rattle.std.specs.List.{flat_map}
 use Rattle.coll_syntax.specs.declared.identifiers.Id.{Id}
 use Rattle.coll_syntax.specs.declared.identifiers.Id.TheVariants.{Char, Named}
-use Rattle.coll_table.specs.Table.{Collation, is_placed}
-use Rattle.coll_table.specs.declared.declarations.Declaration.{Declaration}
-use Rattle.coll_table.specs.declared.declarations.Declaration.TheVariants as declaration
+use Rattle.coll_nodes.specs.Table.{Collation, is_placed}
+use Rattle.coll_nodes.specs.declared.declarations.Declaration.{Declaration}
+use Rattle.coll_nodes.specs.declared.declarations.Declaration.TheVariants as declaration
 
 -- a collating element: its name, and the string that it stands for
 pub record Element : Type 0 where

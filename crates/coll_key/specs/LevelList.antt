@@ -7,9 +7,9 @@ use Rattle.coll_syntax.specs.declared.identifiers.Id.TheVariants.{Char, Named, U
 use Rattle.coll_syntax.specs.declared.rules.Rule.{Rule}
 use Rattle.coll_syntax.specs.declared.weights.Weight.{Weight}
 use Rattle.coll_syntax.specs.declared.weights.Weight.TheVariants.{Ignore, Own, Names}
-use Rattle.coll_table.specs.Placement.{entry_at}
-use Rattle.coll_table.specs.Table.{Collation, entries_of, is_placed}
-use Rattle.coll_table.specs.declared.entries.Entry.{Entry}
+use Rattle.coll_nodes.specs.Placement.{entry_at}
+use Rattle.coll_nodes.specs.Table.{Collation, entries_of, is_placed}
+use Rattle.coll_nodes.specs.declared.entries.Entry.{Entry}
 use Rattle.coll_key.specs.Rank.{known_rank}
 
 -- how far the numbers of two ranks lie apart, which is more than any code point: 2 to the power 21

@@ -7,10 +7,10 @@ use Rattle.coll_syntax.specs.declared.identifiers.Id.{Id}
 use Rattle.coll_syntax.specs.declared.identifiers.Id.TheVariants.{Char, Named, Undefined}
 use Rattle.coll_syntax.specs.declared.weights.Weight.{Weight}
 use Rattle.coll_syntax.specs.declared.weights.Weight.TheVariants.{Ignore, Own, Names}
-use Rattle.coll_table.specs.PrintedParts.{char_bytes}
-use Rattle.coll_table.specs.Table.{Collation, entries_of}
-use Rattle.coll_table.specs.Walks.{Met, MetSection, MetEntry}
-use Rattle.coll_table.specs.declared.entries.Entry.{Entry}
+use Rattle.coll_print.specs.PrintedParts.{char_bytes}
+use Rattle.coll_nodes.specs.Table.{Collation, entries_of}
+use Rattle.coll_nodes.specs.Walks.{Met, MetSection, MetEntry}
+use Rattle.coll_nodes.specs.declared.entries.Entry.{Entry}
 use Rattle.coll_key.specs.CompiledListing.{listed_entries, listed_undefined}
 use Rattle.coll_key.specs.Ranks.{RanksValue, compiled_weight, last_string}
 use Rattle.coll_key.specs.WrittenKey.{level_end}

@@ -1,7 +1,7 @@
 -- Maps from texts to numbers, as look-ups by name keep them.
 use Rattle.std.specs.Prelude.{◌≡◌, ℕ, List, [], ◌∷◌, map, encode_utf8_all, string_bytes}
 use Rattle.std.specs.declared.string.String.{String}
-use Rattle.coll_table.specs.LookUps.{characters_of}
+use Rattle.coll_nodes.specs.LookUps.{characters_of}
 use Rattle.coll_key.specs.Ranks.{NamedNumber}
 
 -- the names of a map, and their numbers

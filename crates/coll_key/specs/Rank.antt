@@ -4,8 +4,8 @@ use Rattle.std.specs.Option.{option_map, option_or, unwrap_or}
 use Rattle.coll_syntax.specs.Identifier.{same_id}
 use Rattle.coll_syntax.specs.declared.identifiers.Id.{Id}
 use Rattle.coll_syntax.specs.declared.identifiers.Id.TheVariants.{Char, Named, Undefined}
-use Rattle.coll_table.specs.Table.{Collation, entries_of}
-use Rattle.coll_table.specs.declared.entries.Entry.{Entry}
+use Rattle.coll_nodes.specs.Table.{Collation, entries_of}
+use Rattle.coll_nodes.specs.declared.entries.Entry.{Entry}
 
 -- the place of an identifier among entries, from 1
 abbrev pub place_among : List Entry → Id → Option ℕ

@@ -7,9 +7,9 @@ use Rattle.coll_syntax.specs.declared.identifiers.Id.{Id}
 use Rattle.coll_syntax.specs.declared.identifiers.Id.TheVariants.{Char, Named, Undefined}
 use Rattle.coll_syntax.specs.declared.weights.Weight.{Weight}
 use Rattle.coll_syntax.specs.declared.weights.Weight.TheVariants.{Ignore, Own, Names}
-use Rattle.coll_table.specs.CanonicalText.{is_own}
-use Rattle.coll_table.specs.Table.{Collation, entries_of}
-use Rattle.coll_table.specs.declared.entries.Entry.{Entry}
+use Rattle.coll_print.specs.CanonicalText.{is_own}
+use Rattle.coll_nodes.specs.Table.{Collation, entries_of}
+use Rattle.coll_nodes.specs.declared.entries.Entry.{Entry}
 use Rattle.coll_key.specs.Elements.{Element, elements_placed, split}
 use Rattle.coll_key.specs.LevelList.{number_of, undefined_weights}
 use Rattle.coll_key.specs.Rank.{rank_of, known_rank}

@@ -1,8 +1,8 @@
 -- The sort key of a text (the project's own): lists of numbers whose order is that of texts.
 use Rattle.std.specs.Prelude.{◌≡◌, ℕ, List, [], ◌∷◌, ◌++◌}
 use Rattle.std.specs.List.{flat_map}
-use Rattle.coll_table.specs.Table.{Collation}
-use Rattle.coll_table.specs.WellFormed.{IsWellFormed}
+use Rattle.coll_nodes.specs.Table.{Collation}
+use Rattle.coll_nodes.specs.WellFormed.{IsWellFormed}
 use Rattle.coll_key.specs.TextOrder.{level_lists, list_order, order_of}
 
 -- the list of a level, with its end

@@ -4,7 +4,7 @@
 //! looked up is one piece of a list, and an ignored weight is an empty one.
 
 ghost use Rattle.std.specs.Prelude.{◌≡◌, ◌<◌, ◌≤◌, ◌-◌, ◌+◌, ◌*◌, ◌++◌, ◌∷◌, [], ℕ, suc, length, take, drop, map, IfOk, OnOk, OnErr, false, slice_index_or};
-ghost use Rattle.coll_table.specs.CanonicalText.{is_own};
+ghost use Rattle.coll_print.specs.CanonicalText.{is_own};
 ghost use Rattle.coll_syntax.specs.declared.identifiers.Id.TheVariants.{Undefined};
 ghost use Rattle.coll_key.specs.Ranks.{rank_or_zero, compiled_by, compiled_row_by};
 ghost use Rattle.coll_key.specs.RankLists.{IsLonger};

@@ -4,7 +4,7 @@
 //! texts is a law over the definitions alone.
 
 ghost use Rattle.std.specs.Prelude.{◌≡◌, ◌≢◌, ◌++◌, ℕ, List, chars, true, false, IfOk, IfErr, OnOk};
-ghost use Rattle.coll_table.specs.TableLayout.{collation};
+ghost use Rattle.coll_nodes.specs.TableLayout.{collation};
 ghost use Rattle.coll_key.specs.Cursors.{before};
 ghost use Rattle.coll_key.specs.KeyLimits.{is_too_long};
 ghost use Rattle.coll_key.specs.LevelList.{listed};

@@ -7,12 +7,12 @@ ghost use Rattle.std.specs.Prelude.{◌≡◌, ◌<◌, ◌≤◌, ◌+◌, ◌+
 ghost use Rattle.std.specs.List.{flat_map};
 ghost use Rattle.coll_lex.specs.Devices.{CountsErr, Sends};
 ghost use Rattle.coll_lex.specs.PhysicalLines.{line_feed};
-ghost use Rattle.coll_table.specs.CanonicalText.{spelled_rule};
-ghost use Rattle.coll_table.specs.PrintedParts.{char_bytes};
-ghost use Rattle.coll_table.specs.Table.{is_placed};
-ghost use Rattle.coll_table.specs.TableLayout.{collation};
-ghost use Rattle.coll_table.specs.WalkItems.{met_by};
-ghost use Rattle.coll_table.specs.Walks.{entry_met, entries_met};
+ghost use Rattle.coll_print.specs.CanonicalText.{spelled_rule};
+ghost use Rattle.coll_print.specs.PrintedParts.{char_bytes};
+ghost use Rattle.coll_nodes.specs.Table.{is_placed};
+ghost use Rattle.coll_nodes.specs.TableLayout.{collation};
+ghost use Rattle.coll_nodes.specs.WalkItems.{met_by};
+ghost use Rattle.coll_nodes.specs.Walks.{entry_met, entries_met};
 ghost use Rattle.coll_syntax.specs.declared.identifiers.Id.TheVariants.{Named, Undefined};
 ghost use Rattle.coll_key.specs.CompiledListing.{compiled_listing, listing_head, listed_rule, listed_undefined};
 ghost use Rattle.coll_key.specs.ListingParts.{spaced, spaced_number, weight_bytes, level_bytes, levels_ended, is_star, spelled_with, ranked_id, ranked_line, line_if_weighted, met_line, ranked_lines, HasFewWeights, count_bytes, counts_bytes, entries_part};

@@ -5,7 +5,7 @@
 //! sections (`AreRanksOf` of `specs/Ranks.antt`), and of a changed table it isn't.
 
 ghost use Rattle.std.specs.Prelude.{◌≡◌, ◌<◌, ◌≤◌, ◌∷◌, ℕ, [], chars, length, map, option_copied, Option, IfOk, MatchOption};
-ghost use Rattle.coll_table.specs.TableLayout.{collation};
+ghost use Rattle.coll_nodes.specs.TableLayout.{collation};
 
 use crate::compiled_weights::CompiledWeights;
 use crate::id_ranks::IdRanks;
@@ -35,7 +35,7 @@ impl Model for Ranks {
 }
 
 impl Ranks {
-    ghost use Rattle.coll_table.specs.Table.{Collation};
+    ghost use Rattle.coll_nodes.specs.Table.{Collation};
     ghost use Rattle.coll_key.specs.Rank.{rank_of};
     ghost use Rattle.coll_key.specs.Ranks.{AreRanksOf, rank_with, parts_of, part_numbers, added_to, added_at, compiled_weight, last_string};
 

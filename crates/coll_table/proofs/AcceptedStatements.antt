@@ -4,13 +4,13 @@ use Rattle.coll_order.proofs.Sameness.{by_test, not_both}
 use Rattle.coll_syntax.specs.Identifier.{has_name, same_name}
 use Rattle.coll_syntax.specs.declared.identifiers.Id.{Id}
 use Rattle.coll_syntax.specs.declared.statements.OrderLine.{OrderLine}
-use Rattle.coll_table.proofs.LayoutReads.{both_true}
-use Rattle.coll_table.proofs.SoundLines.{not_false, passed}
+use Rattle.coll_nodes.proofs.LayoutReads.{both_true}
+use Rattle.coll_draft.proofs.SoundLines.{not_false, passed}
 use Rattle.coll_table.specs.Delta.{all_moved, block_delta, block_result, ids_given, lines_refusal, looked_up, or_refused, reweight_delta, reweight_refusal, reweighted, section_delta, section_refusal, unless_refused, weight_ids_refusal}
-use Rattle.coll_table.specs.Drafts.{refused_if}
-use Rattle.coll_table.specs.Limits.{most_entries}
-use Rattle.coll_table.specs.Placement.{section_moved}
-use Rattle.coll_table.specs.Table.{Collation, entries_of, is_known, is_placed, section_names}
+use Rattle.coll_draft.specs.Drafts.{refused_if}
+use Rattle.coll_nodes.specs.Limits.{most_entries}
+use Rattle.coll_nodes.specs.Placement.{section_moved}
+use Rattle.coll_nodes.specs.Table.{Collation, entries_of, is_known, is_placed, section_names}
 use Rattle.coll_table.specs.declared.refusals.Refusal.{Refusal}
 use Rattle.coll_table.specs.declared.refusals.Refusal.TheVariants.{Full, NoSuchSection, NotDeclared, NotPlaced, SectionAfterItself, TargetNotPlaced}
 

@@ -21,23 +21,23 @@ use Rattle.coll_table.proofs.ItemWeights.{reweight_done}
 use Rattle.coll_table.proofs.ItemsDone.{AreDone, RecordDone, done_record, others_still, record_of, with_layout}
 use Rattle.coll_table.proofs.RecordTurns.{records_turn}
 use Rattle.coll_table.proofs.GrowthLemmas.{collation_grown, extends, has_nodes, none_added, same_rings, was_there}
-use Rattle.coll_table.proofs.LayoutReads.{both_true}
+use Rattle.coll_nodes.proofs.LayoutReads.{both_true}
 use Rattle.coll_table.proofs.PreparedLemmas.{as_many}
 use Rattle.coll_table.specs.Applied.{Applied, declaring}
 use Rattle.coll_table.specs.Delta.{all_moved, declaration_delta, declaration_refusal, delta, reweighted}
 use Rattle.coll_table.specs.Growth.{AddsLoose}
-use Rattle.coll_table.specs.Bodies.{IsLooseNode}
-use Rattle.coll_table.specs.Linking.{end_of_declarations}
-use Rattle.coll_table.specs.Placement.{section_moved}
+use Rattle.coll_nodes.specs.Bodies.{IsLooseNode}
+use Rattle.coll_nodes.specs.Linking.{end_of_declarations}
+use Rattle.coll_nodes.specs.Placement.{section_moved}
 use Rattle.coll_table.specs.Prepared.{ArePrepared, IsNodeFor, IsPreparedBlock, IsPreparedDeclaration, IsPreparedReweight, IsPreparedSection, weights_to}
 use Rattle.coll_table.specs.Record.{Extends, Fits, HasNodesOf, IsSame, KeepsLoose, added_by, added_nodes, statement_steps, turn}
-use Rattle.coll_table.specs.SoundLayouts.{IsTable}
-use Rattle.coll_table.specs.Table.{Collation, is_placed}
-use Rattle.coll_table.specs.TableLayout.{TableLayout, TableValue, collation, content_of}
+use Rattle.coll_nodes.specs.SoundLayouts.{IsTable}
+use Rattle.coll_nodes.specs.Table.{Collation, is_placed}
+use Rattle.coll_nodes.specs.TableLayout.{TableLayout, TableValue, collation, content_of}
 use Rattle.coll_table.specs.Turning.{steps_of, turned_on}
-use Rattle.coll_table.specs.WellFormed.{IsWellFormed}
-use Rattle.coll_table.specs.declared.declarations.Declaration.{Declaration}
-use Rattle.coll_table.specs.declared.declarations.Declaration.TheVariants as declaration
+use Rattle.coll_nodes.specs.WellFormed.{IsWellFormed}
+use Rattle.coll_nodes.specs.declared.declarations.Declaration.{Declaration}
+use Rattle.coll_nodes.specs.declared.declarations.Declaration.TheVariants as declaration
 use Rattle.coll_table.specs.declared.records.Item.{Item}
 use Rattle.coll_table.specs.declared.records.Record.{Record}
 

@@ -12,20 +12,20 @@ use Rattle.coll_syntax.specs.declared.identifiers.Id.{Id}
 use Rattle.coll_syntax.specs.declared.statements.OrderLine.{OrderLine}
 use Rattle.coll_syntax.specs.declared.weights.Weight.{Weight}
 use Rattle.coll_syntax.specs.declared.weights.Weight.TheVariants.{Own}
-use Rattle.coll_table.proofs.BuiltTables.{built_with}
+use Rattle.coll_draft.proofs.BuiltTables.{built_with}
 use Rattle.coll_table.proofs.DeltaRefusals.{Passes, passes, has_last, has_still}
-use Rattle.coll_table.proofs.EntryLemmas.{taken_out, others_without, distinct_without, all_without, none_without, length_without, distinct_after, all_after, length_after, has_after, entry_found, found_id, by_ids, to_ids}
-use Rattle.coll_table.proofs.Sameness.{same_id_decides, same_id_symmetric, same_id_itself}
-use Rattle.coll_table.proofs.SectionLemmas.{joined_moved, names_stay, as_many, first_stays}
-use Rattle.coll_table.proofs.SoundLines.{weights_are}
+use Rattle.coll_nodes.proofs.EntryLemmas.{taken_out, others_without, distinct_without, all_without, none_without, length_without, distinct_after, all_after, length_after, has_after, entry_found, found_id, by_ids, to_ids}
+use Rattle.coll_nodes.proofs.Sameness.{same_id_decides, same_id_symmetric, same_id_itself}
+use Rattle.coll_nodes.proofs.SectionLemmas.{joined_moved, names_stay, as_many, first_stays}
+use Rattle.coll_draft.proofs.SoundLines.{weights_are}
 use Rattle.coll_table.specs.Delta.{standing, block_entry, moved, all_moved, lines_refusal, line_refusal, ids_given}
-use Rattle.coll_table.specs.Entries.{ids_named, weight_ids, weights_of, kept_weight, given_weights, names_only, entry_of}
+use Rattle.coll_nodes.specs.Entries.{ids_named, weight_ids, weights_of, kept_weight, given_weights, names_only, entry_of}
 use Rattle.coll_table.specs.Judging.{entries_added, line_ids}
-use Rattle.coll_table.specs.Limits.{most_entries}
-use Rattle.coll_table.specs.Placement.{entry_at, entries_after, entries_without, without}
-use Rattle.coll_table.specs.Table.{Collation, Section, entries_of, ids_of, section_names, is_known, is_symbol, is_placed}
-use Rattle.coll_table.specs.WellFormed.{AreDistinct, IsKnown, IsWeighted, IsBuilt}
-use Rattle.coll_table.specs.declared.entries.Entry.{Entry}
+use Rattle.coll_nodes.specs.Limits.{most_entries}
+use Rattle.coll_nodes.specs.Placement.{entry_at, entries_after, entries_without, without}
+use Rattle.coll_nodes.specs.Table.{Collation, Section, entries_of, ids_of, section_names, is_known, is_symbol, is_placed}
+use Rattle.coll_nodes.specs.WellFormed.{AreDistinct, IsKnown, IsWeighted, IsBuilt}
+use Rattle.coll_nodes.specs.declared.entries.Entry.{Entry}
 
 -- what isn't there is apart from what is
 pub apart_when_new : (ids : List Id) (target id : Id) → has_id ids target ≡ true → has_id ids id ≡ false → same_id id target ≡ false

@@ -13,27 +13,28 @@ use Rattle.coll_syntax.specs.declared.rules.Rule.{Rule}
 use Rattle.coll_syntax.specs.declared.statements.OrderLine.{OrderLine}
 use Rattle.coll_syntax.specs.declared.statements.Statement.{Statement}
 use Rattle.coll_syntax.specs.declared.statements.Statement.TheVariants as statement
-use Rattle.coll_table.proofs.BuiltTables.{built_declared, built_with}
+use Rattle.coll_draft.proofs.BuiltTables.{built_declared, built_with}
 use Rattle.coll_table.proofs.DeltaPlacing.{MayFollow, has_all_moved, all_moved_rules, all_moved_built, all_named, all_front, entry_names}
 use Rattle.coll_table.proofs.DeltaRefusals.{unrefused, or_unrefused, weights_pass, placed_ids}
 use Rattle.coll_table.proofs.DeltaSections.{section_moved_number, section_moved_entries, section_moved_names, section_moved_ids, section_moved_has, all_entries_moved, first_unmoved}
-use Rattle.coll_table.proofs.EntryLemmas.{by_ids, to_ids}
-use Rattle.coll_table.proofs.LayoutReads.{both_true}
-use Rattle.coll_table.proofs.Sameness.{same_id_decides, same_id_itself}
-use Rattle.coll_table.proofs.SectionLemmas.{names_stay, as_many, first_stays}
-use Rattle.coll_table.proofs.SoundLines.{passed, not_false, weights_are}
+use Rattle.coll_nodes.proofs.EntryLemmas.{by_ids, to_ids}
+use Rattle.coll_nodes.proofs.LayoutReads.{both_true}
+use Rattle.coll_nodes.proofs.Sameness.{same_id_decides, same_id_itself}
+use Rattle.coll_nodes.proofs.SectionLemmas.{names_stay, as_many, first_stays}
+use Rattle.coll_draft.proofs.SoundLines.{passed, not_false, weights_are}
 use Rattle.coll_table.specs.Delta.{delta, or_refused, declaration_delta, declaration_refusal, section_delta, section_refusal, block_delta, block_result, looked_up, all_moved, lines_refusal, ids_given, weight_ids_refusal, reweight_delta, reweight_refusal, reweighted, weights_refusal}
-use Rattle.coll_table.specs.Drafts.{refused_if, has_text}
-use Rattle.coll_table.specs.Entries.{ids_named, weight_ids, given_weights, entry_of}
+use Rattle.coll_nodes.specs.Table.{has_text}
+use Rattle.coll_draft.specs.Drafts.{refused_if}
+use Rattle.coll_nodes.specs.Entries.{ids_named, weight_ids, given_weights, entry_of}
 use Rattle.coll_table.specs.Judging.{line_ids}
-use Rattle.coll_table.specs.Limits.{most_entries, most_declarations, most_sections}
-use Rattle.coll_table.specs.Placement.{with_entry, section_moved}
-use Rattle.coll_table.specs.SoundDrafts.{IsProperDeclaration}
-use Rattle.coll_table.specs.Table.{Collation, Section, name_of, text_of, entries_of, ids_of, joined_entries, section_names, is_declared, is_known, is_placed, is_symbol}
-use Rattle.coll_table.specs.WellFormed.{AreDistinct, IsKnown, IsWeighted, HasPlacedWeights, IsBuilt, IsWellFormed}
-use Rattle.coll_table.specs.declared.declarations.Declaration.{Declaration}
-use Rattle.coll_table.specs.declared.declarations.Declaration.TheVariants as declaration
-use Rattle.coll_table.specs.declared.entries.Entry.{Entry}
+use Rattle.coll_nodes.specs.Limits.{most_entries, most_declarations, most_sections}
+use Rattle.coll_nodes.specs.Placement.{with_entry, section_moved}
+use Rattle.coll_draft.specs.SoundDrafts.{IsProperDeclaration}
+use Rattle.coll_nodes.specs.Table.{Collation, Section, name_of, text_of, entries_of, ids_of, joined_entries, section_names, is_declared, is_known, is_placed, is_symbol}
+use Rattle.coll_nodes.specs.WellFormed.{AreDistinct, IsKnown, IsWeighted, HasPlacedWeights, IsBuilt, IsWellFormed}
+use Rattle.coll_nodes.specs.declared.declarations.Declaration.{Declaration}
+use Rattle.coll_nodes.specs.declared.declarations.Declaration.TheVariants as declaration
+use Rattle.coll_nodes.specs.declared.entries.Entry.{Entry}
 use Rattle.coll_table.specs.declared.refusals.Refusal.TheVariants.{DeclaredTwice, NotDeclared, StringTwice, Full, TargetNotPlaced, NoSuchSection, SectionAfterItself, NotPlaced, NoWeights}
 
 -- Declarations.

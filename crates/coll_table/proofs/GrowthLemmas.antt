@@ -8,16 +8,16 @@ use Rattle.coll_order.specs.declared.places.NodeId.{NodeId}
 use Rattle.coll_order.specs.declared.places.RingId.{RingId}
 use Rattle.coll_order.proofs.ListLemmas.{nor, or_first, or_second}
 use Rattle.coll_order.proofs.Sameness.{by_test, not_both, same_node_is, same_node_itself}
-use Rattle.coll_table.proofs.LayoutReads.{in_rings}
-use Rattle.coll_table.proofs.NodeLists.{same_read}
+use Rattle.coll_nodes.proofs.LayoutReads.{in_rings}
+use Rattle.coll_nodes.proofs.NodeLists.{same_read}
 use Rattle.coll_syntax.specs.declared.rules.Rule.{Rule}
-use Rattle.coll_table.specs.Bodies.{BodyValue, IsLooseNode, Makes, value_of}
+use Rattle.coll_nodes.specs.Bodies.{BodyValue, IsLooseNode, Makes, value_of}
 use Rattle.coll_table.specs.Growth.{AddsLoose}
-use Rattle.coll_table.specs.Linking.{nodes_without}
+use Rattle.coll_nodes.specs.Linking.{nodes_without}
 use Rattle.coll_table.specs.Record.{Extends, HasNodesOf, without_nodes}
-use Rattle.coll_table.specs.TableLayout.{TableValue, MadeNode, collation, content_of, content_among, contents_in, entry_in, section_in, if_any, declared_at, sections_at, declarations_ring, sections_ring, declaration_in}
-use Rattle.coll_table.specs.declared.contents.Content.{Content}
-use Rattle.coll_table.specs.declared.contents.Content.TheVariants as content
+use Rattle.coll_nodes.specs.TableLayout.{TableValue, MadeNode, collation, content_of, content_among, contents_in, entry_in, section_in, if_any, declared_at, sections_at, declarations_ring, sections_ring, declaration_in}
+use Rattle.coll_nodes.specs.declared.contents.Content.{Content}
+use Rattle.coll_nodes.specs.declared.contents.Content.TheVariants as content
 
 -- without none of them the nodes are all there
 kept_all : (nodes : List MadeNode) → nodes_without [] nodes ≡ nodes

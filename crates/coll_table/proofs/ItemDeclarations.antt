@@ -9,29 +9,30 @@ use Rattle.coll_order.specs.declared.places.Place.{Place}
 use Rattle.coll_order.proofs.ListLemmas.{rings_without_absent}
 use Rattle.coll_order.proofs.Sameness.{by_test, not_both}
 use Rattle.coll_syntax.specs.Identifier.{same_name, has_name}
-use Rattle.coll_table.proofs.BodyReads.{name_found, text_found}
+use Rattle.coll_nodes.proofs.BodyReads.{name_found, text_found}
 use Rattle.coll_table.proofs.ItemPlaces.{finds_once, node_by}
 use Rattle.coll_table.proofs.ItemRings.{linked_anew, section_still}
 use Rattle.coll_table.proofs.ItemsDone.{AreDone}
-use Rattle.coll_table.proofs.LayoutEnds.{end_place}
-use Rattle.coll_table.proofs.LayoutReads.{declared_read, read_known, sections_read}
-use Rattle.coll_table.proofs.NodeLists.{same_read}
-use Rattle.coll_table.proofs.RingPlaces.{distinct_ring, end_on, get_put, get_put_other, place_off, put_last}
-use Rattle.coll_table.proofs.Sameness.{same_name_decides}
-use Rattle.coll_table.proofs.SoundLines.{passed}
-use Rattle.coll_table.specs.Bodies.{IsLooseNode, with_link, without_link}
+use Rattle.coll_draft.proofs.LayoutEnds.{end_place}
+use Rattle.coll_nodes.proofs.LayoutReads.{declared_read, read_known, sections_read}
+use Rattle.coll_nodes.proofs.NodeLists.{same_read}
+use Rattle.coll_nodes.proofs.RingPlaces.{distinct_ring, end_on, get_put, get_put_other, place_off, put_last}
+use Rattle.coll_nodes.proofs.Sameness.{same_name_decides}
+use Rattle.coll_draft.proofs.SoundLines.{passed}
+use Rattle.coll_nodes.specs.Bodies.{IsLooseNode, with_link, without_link}
 use Rattle.coll_table.specs.Delta.{declaration_refusal}
-use Rattle.coll_table.specs.Drafts.{has_text}
-use Rattle.coll_table.specs.Linking.{end_of_declarations}
-use Rattle.coll_table.specs.SoundBodies.{Finds, has_key, is_place_of, names_in, read_at, ring_at, texts_in}
-use Rattle.coll_table.specs.SoundLayouts.{IsSoundLayout}
-use Rattle.coll_table.specs.Table.{Section, is_declared, name_of, text_of, texts_of}
-use Rattle.coll_table.specs.TableLayout.{TableLayout, TableValue, collation, content_of, declaration_in, declared_at, section_in, sections_at}
-use Rattle.coll_table.specs.Turning.{AreNew, CanGo, CanTurnOn, ItemGoes, Suits, placed_at, placed_items, steps_between, steps_of, turned_on}
-use Rattle.coll_table.specs.declared.contents.Content.{Content}
-use Rattle.coll_table.specs.declared.contents.Content.TheVariants as content
-use Rattle.coll_table.specs.declared.declarations.Declaration.{Declaration}
-use Rattle.coll_table.specs.declared.declarations.Declaration.TheVariants.{Element, Symbol}
+use Rattle.coll_nodes.specs.Table.{has_text}
+use Rattle.coll_nodes.specs.Linking.{end_of_declarations}
+use Rattle.coll_nodes.specs.SoundBodies.{Finds, has_key, is_place_of, names_in, read_at, ring_at, texts_in}
+use Rattle.coll_nodes.specs.SoundLayouts.{IsSoundLayout}
+use Rattle.coll_nodes.specs.Table.{Section, is_declared, name_of, text_of, texts_of}
+use Rattle.coll_nodes.specs.TableLayout.{TableLayout, TableValue, collation, content_of, declaration_in, declared_at, section_in, sections_at}
+use Rattle.coll_nodes.specs.Moving.{AreNew, CanGo, Suits}
+use Rattle.coll_table.specs.Turning.{CanTurnOn, ItemGoes, placed_at, placed_items, steps_between, steps_of, turned_on}
+use Rattle.coll_nodes.specs.declared.contents.Content.{Content}
+use Rattle.coll_nodes.specs.declared.contents.Content.TheVariants as content
+use Rattle.coll_nodes.specs.declared.declarations.Declaration.{Declaration}
+use Rattle.coll_nodes.specs.declared.declarations.Declaration.TheVariants.{Element, Symbol}
 use Rattle.coll_table.specs.declared.records.Item.{Item}
 use Rattle.coll_table.specs.declared.refusals.Refusal.TheVariants.{DeclaredTwice, StringTwice}
 

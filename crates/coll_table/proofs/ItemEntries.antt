@@ -11,22 +11,23 @@ use Rattle.coll_order.proofs.Sameness.{by_test, not_both, same_node_is, same_nod
 use Rattle.coll_syntax.specs.Identifier.{same_id, has_id}
 use Rattle.coll_syntax.specs.declared.identifiers.Id.{Id}
 use Rattle.coll_syntax.specs.declared.weights.Weight.{Weight}
-use Rattle.coll_table.proofs.EntryMoves.{Tells, take_read, put_read}
+use Rattle.coll_nodes.proofs.EntryMoves.{Tells, take_read, put_read}
 use Rattle.coll_table.proofs.ItemPlaces.{finds_once, node_by}
 use Rattle.coll_table.proofs.ItemRings.{anew_other, anew_put, before_taken}
-use Rattle.coll_table.proofs.LayoutMoves.{changed_twice, declared_stays, found_entry, found_tells, ids_read, not_begun, not_declared, sections_changed}
-use Rattle.coll_table.proofs.LayoutReads.{and_true, entries_read, in_rings, read_known}
-use Rattle.coll_table.proofs.Sameness.{same_id_decides, same_id_itself}
-use Rattle.coll_table.proofs.TurningNodes.{content_weighed, weighed_if}
-use Rattle.coll_table.specs.Placement.{entries_after, entries_without, placed_after, without as sections_without}
-use Rattle.coll_table.specs.SoundBodies.{IsShaped, has_key, ids_in, read_at, ring_at}
-use Rattle.coll_table.specs.SoundLayouts.{IsSoundLayout}
-use Rattle.coll_table.specs.Table.{ids_of}
-use Rattle.coll_table.specs.TableLayout.{TableLayout, MadeNode, content_among, content_of, if_any, entry_in, declared_at, sections_at}
-use Rattle.coll_table.specs.Turning.{item_on, moved_rings, weighed, weighed_nodes}
-use Rattle.coll_table.specs.declared.contents.Content.{Content}
-use Rattle.coll_table.specs.declared.contents.Content.TheVariants as content
-use Rattle.coll_table.specs.declared.entries.Entry.{Entry}
+use Rattle.coll_nodes.proofs.LayoutMoves.{changed_twice, declared_stays, found_entry, found_tells, ids_read, not_begun, not_declared, sections_changed}
+use Rattle.coll_nodes.proofs.LayoutReads.{and_true, entries_read, in_rings, read_known}
+use Rattle.coll_nodes.proofs.Sameness.{same_id_decides, same_id_itself}
+use Rattle.coll_nodes.proofs.TurningNodes.{content_weighed, weighed_if}
+use Rattle.coll_nodes.specs.Placement.{entries_after, entries_without, placed_after, without as sections_without}
+use Rattle.coll_nodes.specs.SoundBodies.{IsShaped, has_key, ids_in, read_at, ring_at}
+use Rattle.coll_nodes.specs.SoundLayouts.{IsSoundLayout}
+use Rattle.coll_nodes.specs.Table.{ids_of}
+use Rattle.coll_nodes.specs.TableLayout.{TableLayout, MadeNode, content_among, content_of, if_any, entry_in, declared_at, sections_at}
+use Rattle.coll_nodes.specs.Moving.{moved_rings, weighed, weighed_nodes}
+use Rattle.coll_table.specs.Turning.{item_on}
+use Rattle.coll_nodes.specs.declared.contents.Content.{Content}
+use Rattle.coll_nodes.specs.declared.contents.Content.TheVariants as content
+use Rattle.coll_nodes.specs.declared.entries.Entry.{Entry}
 use Rattle.coll_table.specs.declared.records.Item.{Item}
 
 -- Weights of nodes.

@@ -12,32 +12,33 @@ use Rattle.coll_syntax.specs.Identifier.{same_id, has_id}
 use Rattle.coll_syntax.specs.declared.identifiers.Id.{Id}
 use Rattle.coll_syntax.specs.declared.statements.OrderLine.{OrderLine}
 use Rattle.coll_syntax.specs.declared.weights.Weight.{Weight}
-use Rattle.coll_table.proofs.BodyReads.{entry_known, id_found}
+use Rattle.coll_nodes.proofs.BodyReads.{entry_known, id_found}
 use Rattle.coll_table.proofs.DeltaPlacing.{apart_when_new, lines_stay}
 use Rattle.coll_table.proofs.DeltaRefusals.{has_last, has_still, passes}
-use Rattle.coll_table.proofs.EndedDrafts.{neither_found}
-use Rattle.coll_table.proofs.EntryLemmas.{entry_there}
+use Rattle.coll_draft.proofs.EndedDrafts.{neither_found}
+use Rattle.coll_nodes.proofs.EntryLemmas.{entry_there}
 use Rattle.coll_table.proofs.ItemEntries.{IsEntryOf, entries_apart, entry_with, entry_with_id, item_puts, loose_entry, placed_entry, put_declared, put_key, put_keys, put_others, put_sections}
 use Rattle.coll_table.proofs.ItemPlaces.{entry_goes, finds_once, loose_suits, new_out, node_by, once_new, placed_standing, standing_suits, stands as stands_at}
 use Rattle.coll_table.proofs.ItemsDone.{AreDone, with_layout}
-use Rattle.coll_table.proofs.LayoutReads.{both_true}
-use Rattle.coll_table.proofs.Sameness.{same_id_decides, same_id_itself}
-use Rattle.coll_table.proofs.SoundLines.{passed}
+use Rattle.coll_nodes.proofs.LayoutReads.{both_true}
+use Rattle.coll_nodes.proofs.Sameness.{same_id_decides, same_id_itself}
+use Rattle.coll_draft.proofs.SoundLines.{passed}
 use Rattle.coll_table.proofs.TurningSound.{item_on_sound}
-use Rattle.coll_table.specs.Bodies.{without_link}
+use Rattle.coll_nodes.specs.Bodies.{without_link}
 use Rattle.coll_table.specs.Delta.{all_moved, block_entry, line_refusal, lines_refusal, moved, standing, weights_refusal}
-use Rattle.coll_table.specs.Entries.{entry_of, given_weights, kept_weights, weights_of}
-use Rattle.coll_table.specs.Placement.{entry_at, placed_after, without}
+use Rattle.coll_nodes.specs.Entries.{entry_of, given_weights, kept_weights, weights_of}
+use Rattle.coll_nodes.specs.Placement.{entry_at, placed_after, without}
 use Rattle.coll_table.specs.Prepared.{ArePrepared, IsNodeFor, IsPreparedLine, made_entry, weights_to}
 use Rattle.coll_table.specs.Record.{line_steps, lines_steps}
-use Rattle.coll_table.specs.SoundBodies.{has_key, ids_in}
-use Rattle.coll_table.specs.SoundLayouts.{IsSoundLayout}
-use Rattle.coll_table.specs.Table.{Collation, Section, entries_of, is_known, is_placed, is_placed_in, is_symbol}
-use Rattle.coll_table.specs.TableLayout.{TableLayout, TableValue, collation, content_of, declared_at, sections_at}
-use Rattle.coll_table.specs.Turning.{AreNew, CanTurnOn, IsAt, ItemGoes, Suits, item_on, placed_at, placed_items, steps_between, steps_of, turned_on}
-use Rattle.coll_table.specs.declared.contents.Content.TheVariants as content
-use Rattle.coll_table.specs.declared.declarations.Declaration.{Declaration}
-use Rattle.coll_table.specs.declared.entries.Entry.{Entry}
+use Rattle.coll_nodes.specs.SoundBodies.{has_key, ids_in}
+use Rattle.coll_nodes.specs.SoundLayouts.{IsSoundLayout}
+use Rattle.coll_nodes.specs.Table.{Collation, Section, entries_of, is_known, is_placed, is_placed_in, is_symbol}
+use Rattle.coll_nodes.specs.TableLayout.{TableLayout, TableValue, collation, content_of, declared_at, sections_at}
+use Rattle.coll_nodes.specs.Moving.{AreNew, IsAt, Suits}
+use Rattle.coll_table.specs.Turning.{CanTurnOn, ItemGoes, item_on, placed_at, placed_items, steps_between, steps_of, turned_on}
+use Rattle.coll_nodes.specs.declared.contents.Content.TheVariants as content
+use Rattle.coll_nodes.specs.declared.declarations.Declaration.{Declaration}
+use Rattle.coll_nodes.specs.declared.entries.Entry.{Entry}
 use Rattle.coll_table.specs.declared.records.Item.{Item}
 use Rattle.coll_table.specs.declared.refusals.Refusal.TheVariants.{NotDeclared, SymbolWithWeights, TwiceInBlock}
 

@@ -13,16 +13,17 @@ use Rattle.coll_order.proofs.RingLemmas.{length_rings_without}
 use Rattle.coll_order.proofs.Sameness.{by_test, not_both, same_node_is, same_node_itself, same_place_itself}
 use Rattle.coll_syntax.specs.Identifier.{same_name, same_id}
 use Rattle.coll_syntax.specs.declared.identifiers.Id.{Id}
-use Rattle.coll_table.proofs.LayoutMoves.{found_ring, get_without}
-use Rattle.coll_table.proofs.LayoutReads.{and_true, both_true, declaration_is, entry_is, in_rings, owned_low, read_known, section_at}
-use Rattle.coll_table.specs.Bodies.{without_link}
-use Rattle.coll_table.specs.SoundBodies.{Finds, IsOwned, IsPlaceIn, has_key, ids_in, is_place_of, names_in, read_at, ring_at, rings_in, same_ring, section_names_in, texts_in}
-use Rattle.coll_table.specs.SoundLayouts.{AreOnce, IsSoundLayout}
-use Rattle.coll_table.specs.TableLayout.{TableLayout, content_of}
-use Rattle.coll_table.specs.Turning.{AreNew, CanGo, IsApart, IsAt, MayBeLoose, Suits, placed_at}
-use Rattle.coll_table.specs.declared.contents.Content.{Content}
-use Rattle.coll_table.specs.declared.contents.Content.TheVariants as content
-use Rattle.coll_table.specs.declared.entries.Entry.{Entry}
+use Rattle.coll_nodes.proofs.LayoutMoves.{found_ring, get_without}
+use Rattle.coll_nodes.proofs.LayoutReads.{and_true, both_true, declaration_is, entry_is, in_rings, owned_low, read_known, section_at}
+use Rattle.coll_nodes.specs.Bodies.{without_link}
+use Rattle.coll_nodes.specs.SoundBodies.{Finds, IsOwned, IsPlaceIn, has_key, ids_in, is_place_of, names_in, read_at, ring_at, rings_in, same_ring, section_names_in, texts_in}
+use Rattle.coll_nodes.specs.SoundLayouts.{AreOnce, IsSoundLayout}
+use Rattle.coll_nodes.specs.TableLayout.{TableLayout, content_of}
+use Rattle.coll_nodes.specs.Moving.{AreNew, CanGo, IsApart, IsAt, MayBeLoose, Suits}
+use Rattle.coll_table.specs.Turning.{placed_at}
+use Rattle.coll_nodes.specs.declared.contents.Content.{Content}
+use Rattle.coll_nodes.specs.declared.contents.Content.TheVariants as content
+use Rattle.coll_nodes.specs.declared.entries.Entry.{Entry}
 
 -- Nodes by their keys.
 

@@ -9,16 +9,17 @@ use Rattle.coll_order.specs.declared.places.RingId.{RingId}
 use Rattle.coll_order.proofs.ListLemmas.{has_without, has_without_itself, without_absent}
 use Rattle.coll_order.proofs.RingLemmas.{length_rings_without}
 use Rattle.coll_order.proofs.Sameness.{by_test, not_both, same_node_is}
-use Rattle.coll_table.proofs.LayoutMoves.{get_without}
-use Rattle.coll_table.proofs.LayoutReads.{entries_read, read_known, section_at}
-use Rattle.coll_table.proofs.RingPlaces.{get_put, get_put_other}
-use Rattle.coll_table.proofs.TurningNodes.{weighed_none}
-use Rattle.coll_table.specs.Bodies.{with_link, without_link}
-use Rattle.coll_table.specs.SoundBodies.{IsShaped, read_at, ring_at}
-use Rattle.coll_table.specs.TableLayout.{TableLayout, MadeNode, entries_in, entry_in, section_in}
-use Rattle.coll_table.specs.Turning.{item_on, moved_rings, weighed_nodes}
-use Rattle.coll_table.specs.declared.contents.Content.TheVariants as content
-use Rattle.coll_table.specs.declared.entries.Entry.{Entry}
+use Rattle.coll_nodes.proofs.LayoutMoves.{get_without}
+use Rattle.coll_nodes.proofs.LayoutReads.{entries_read, read_known, section_at}
+use Rattle.coll_nodes.proofs.RingPlaces.{get_put, get_put_other}
+use Rattle.coll_nodes.proofs.TurningNodes.{weighed_none}
+use Rattle.coll_nodes.specs.Bodies.{with_link, without_link}
+use Rattle.coll_nodes.specs.SoundBodies.{IsShaped, read_at, ring_at}
+use Rattle.coll_nodes.specs.TableLayout.{TableLayout, MadeNode, entries_in, entry_in, section_in}
+use Rattle.coll_nodes.specs.Moving.{moved_rings, weighed_nodes}
+use Rattle.coll_table.specs.Turning.{item_on}
+use Rattle.coll_nodes.specs.declared.contents.Content.TheVariants as content
+use Rattle.coll_nodes.specs.declared.entries.Entry.{Entry}
 use Rattle.coll_table.specs.declared.records.Item.{Item}
 
 -- an item without weights links its node anew

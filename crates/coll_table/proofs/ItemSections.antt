@@ -17,22 +17,23 @@ use Rattle.coll_syntax.specs.Identifier.{same_name}
 use Rattle.coll_table.proofs.ItemPlaces.{apart_out, place_out, placed_standing, standing_suits, stands}
 use Rattle.coll_table.proofs.ItemRings.{anew_other, anew_put, before_taken, linked_anew, section_still}
 use Rattle.coll_table.proofs.ItemsDone.{AreDone}
-use Rattle.coll_table.proofs.LayoutMoves.{declared_stays, get_without}
-use Rattle.coll_table.proofs.LayoutReads.{and_true, begun_covers, both_true, in_rings, read_known, section_at, sections_read}
-use Rattle.coll_table.proofs.NodeLists.{any_from, same_read}
-use Rattle.coll_table.proofs.RingPlaces.{distinct_ring, in_one}
-use Rattle.coll_table.proofs.Sameness.{neither, same_name_decides}
+use Rattle.coll_nodes.proofs.LayoutMoves.{declared_stays, get_without}
+use Rattle.coll_nodes.proofs.LayoutReads.{and_true, begun_covers, both_true, in_rings, read_known, section_at, sections_read}
+use Rattle.coll_nodes.proofs.NodeLists.{any_from, same_read}
+use Rattle.coll_nodes.proofs.RingPlaces.{distinct_ring, in_one}
+use Rattle.coll_nodes.proofs.Sameness.{neither, same_name_decides}
 use Rattle.coll_table.proofs.TurningRings.{once_without}
-use Rattle.coll_table.proofs.WalkShapes.{members}
-use Rattle.coll_table.specs.Bodies.{with_link, without_link}
-use Rattle.coll_table.specs.Placement.{has_section_name, section_moved, sections_after, sections_named, sections_without}
-use Rattle.coll_table.specs.SoundBodies.{has_key, read_at, ring_at, section_names_in}
-use Rattle.coll_table.specs.SoundLayouts.{IsSoundLayout}
-use Rattle.coll_table.specs.Table.{Section, named}
-use Rattle.coll_table.specs.TableLayout.{TableLayout, TableValue, collation, declared_at, entries_in, section_in, sections_at}
-use Rattle.coll_table.specs.Turning.{CanGo, CanTurnOn, ItemGoes, placed_at, placed_items, steps_between, steps_of, turned_on}
-use Rattle.coll_table.specs.declared.contents.Content.TheVariants as content
-use Rattle.coll_table.specs.declared.declarations.Declaration.{Declaration}
+use Rattle.coll_nodes.proofs.WalkShapes.{members}
+use Rattle.coll_nodes.specs.Bodies.{with_link, without_link}
+use Rattle.coll_nodes.specs.Placement.{has_section_name, section_moved, sections_after, sections_named, sections_without}
+use Rattle.coll_nodes.specs.SoundBodies.{has_key, read_at, ring_at, section_names_in}
+use Rattle.coll_nodes.specs.SoundLayouts.{IsSoundLayout}
+use Rattle.coll_nodes.specs.Table.{Section, named}
+use Rattle.coll_nodes.specs.TableLayout.{TableLayout, TableValue, collation, declared_at, entries_in, section_in, sections_at}
+use Rattle.coll_nodes.specs.Moving.{CanGo}
+use Rattle.coll_table.specs.Turning.{CanTurnOn, ItemGoes, placed_at, placed_items, steps_between, steps_of, turned_on}
+use Rattle.coll_nodes.specs.declared.contents.Content.TheVariants as content
+use Rattle.coll_nodes.specs.declared.declarations.Declaration.{Declaration}
 use Rattle.coll_table.specs.declared.records.Item.{Item}
 
 -- Sections of a name.

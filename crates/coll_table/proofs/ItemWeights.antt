@@ -11,23 +11,24 @@ use Rattle.coll_syntax.specs.declared.statements.OrderLine.{OrderLine}
 use Rattle.coll_table.proofs.ItemEntries.{IsEntryOf, entry_with, itself_weighed, others_weighed, placed_entry, weighed_entry}
 use Rattle.coll_table.proofs.ItemLines.{entry_done, no_symbol}
 use Rattle.coll_table.proofs.ItemsDone.{AreDone}
-use Rattle.coll_table.proofs.LayoutMoves.{declared_stays, sections_changed}
-use Rattle.coll_table.proofs.LayoutReads.{both_true, entries_read, in_rings, read_known}
-use Rattle.coll_table.proofs.NodeLists.{map_read, same_read}
-use Rattle.coll_table.proofs.Sameness.{neither, same_id_itself}
-use Rattle.coll_table.proofs.SoundLines.{passed}
+use Rattle.coll_nodes.proofs.LayoutMoves.{declared_stays, sections_changed}
+use Rattle.coll_nodes.proofs.LayoutReads.{both_true, entries_read, in_rings, read_known}
+use Rattle.coll_nodes.proofs.NodeLists.{map_read, same_read}
+use Rattle.coll_nodes.proofs.Sameness.{neither, same_id_itself}
+use Rattle.coll_draft.proofs.SoundLines.{passed}
 use Rattle.coll_table.specs.Delta.{reweight_refusal, reweighted, standing, weights_refusal}
-use Rattle.coll_table.specs.Entries.{entry_of}
-use Rattle.coll_table.specs.Placement.{entry_at, with_entry}
+use Rattle.coll_nodes.specs.Entries.{entry_of}
+use Rattle.coll_nodes.specs.Placement.{entry_at, with_entry}
 use Rattle.coll_table.specs.Prepared.{weights_to}
-use Rattle.coll_table.specs.SoundBodies.{IsShaped, has_key, ids_in, read_at, ring_at}
-use Rattle.coll_table.specs.SoundLayouts.{IsSoundLayout}
-use Rattle.coll_table.specs.Table.{Section, entries_of, ids_of, is_known, is_placed}
-use Rattle.coll_table.specs.TableLayout.{TableLayout, TableValue, collation, content_of, entry_in, if_any, declared_at, sections_at}
-use Rattle.coll_table.specs.Turning.{CanTurnOn, ItemGoes, item_on, moved_rings, placed_at, placed_items, steps_between, steps_of, turned_on}
-use Rattle.coll_table.specs.declared.contents.Content.TheVariants as content
-use Rattle.coll_table.specs.declared.declarations.Declaration.{Declaration}
-use Rattle.coll_table.specs.declared.entries.Entry.{Entry}
+use Rattle.coll_nodes.specs.SoundBodies.{IsShaped, has_key, ids_in, read_at, ring_at}
+use Rattle.coll_nodes.specs.SoundLayouts.{IsSoundLayout}
+use Rattle.coll_nodes.specs.Table.{Section, entries_of, ids_of, is_known, is_placed}
+use Rattle.coll_nodes.specs.TableLayout.{TableLayout, TableValue, collation, content_of, entry_in, if_any, declared_at, sections_at}
+use Rattle.coll_nodes.specs.Moving.{moved_rings}
+use Rattle.coll_table.specs.Turning.{CanTurnOn, ItemGoes, item_on, placed_at, placed_items, steps_between, steps_of, turned_on}
+use Rattle.coll_nodes.specs.declared.contents.Content.TheVariants as content
+use Rattle.coll_nodes.specs.declared.declarations.Declaration.{Declaration}
+use Rattle.coll_nodes.specs.declared.entries.Entry.{Entry}
 use Rattle.coll_table.specs.declared.records.Item.{Item}
 use Rattle.coll_table.specs.declared.refusals.Refusal.TheVariants.{NoWeights, NotDeclared, NotPlaced}
 

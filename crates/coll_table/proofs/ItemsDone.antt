@@ -10,11 +10,12 @@ use Rattle.coll_table.proofs.ItemEntries.{others_weighed}
 use Rattle.coll_table.proofs.TurningRings.{is_in_relinked}
 use Rattle.coll_table.specs.Record.{CanTurn, Fits, IsSame, turn, turned, turned_layout}
 use Rattle.coll_table.specs.RecordLaws.{RecordsTurnBack}
-use Rattle.coll_table.specs.SoundLayouts.{IsSoundLayout, IsTable}
-use Rattle.coll_table.specs.Table.{Collation}
-use Rattle.coll_table.specs.TableLayout.{TableLayout, TableValue, collation, content_of, declared_at, sections_at}
-use Rattle.coll_table.specs.Turning.{CanDo, item_on, items_on, moved_rings, placed_items, steps_of, turned_on}
-use Rattle.coll_table.specs.WellFormed.{IsWellFormed}
+use Rattle.coll_nodes.specs.SoundLayouts.{IsSoundLayout, IsTable}
+use Rattle.coll_nodes.specs.Table.{Collation}
+use Rattle.coll_nodes.specs.TableLayout.{TableLayout, TableValue, collation, content_of, declared_at, sections_at}
+use Rattle.coll_nodes.specs.Moving.{moved_rings}
+use Rattle.coll_table.specs.Turning.{CanDo, item_on, items_on, placed_items, steps_of, turned_on}
+use Rattle.coll_nodes.specs.WellFormed.{IsWellFormed}
 use Rattle.coll_table.specs.declared.records.Item.{Item}
 use Rattle.coll_table.specs.declared.records.Record.{Record}
 

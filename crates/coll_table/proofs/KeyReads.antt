@@ -6,13 +6,13 @@ use Rattle.coll_order.specs.declared.places.NodeId.{NodeId}
 use Rattle.coll_order.proofs.Sameness.{by_test, not_both}
 use Rattle.coll_syntax.specs.Identifier.{same_id, same_name, has_name}
 use Rattle.coll_syntax.specs.declared.identifiers.Id.{Id}
-use Rattle.coll_table.proofs.BodyReads.{ids_of_node}
-use Rattle.coll_table.proofs.LayoutReads.{and_true, both_true, in_rings, placed_from, placed_to, section_names_read}
-use Rattle.coll_table.proofs.NodeLists.{any_from, any_map}
-use Rattle.coll_table.specs.SoundBodies.{IsShaped, has_key, ids_in, read_at, ring_at, section_names_in}
-use Rattle.coll_table.specs.Table.{is_placed, is_placed_in, joined_entries, section_names}
-use Rattle.coll_table.specs.TableLayout.{TableLayout, TableValue, collation, content_of, sections_at}
-use Rattle.coll_table.specs.declared.entries.Entry.{Entry}
+use Rattle.coll_nodes.proofs.BodyReads.{ids_of_node}
+use Rattle.coll_nodes.proofs.LayoutReads.{and_true, both_true, in_rings, placed_from, placed_to, section_names_read}
+use Rattle.coll_nodes.proofs.NodeLists.{any_from, any_map}
+use Rattle.coll_nodes.specs.SoundBodies.{IsShaped, has_key, ids_in, read_at, ring_at, section_names_in}
+use Rattle.coll_nodes.specs.Table.{is_placed, is_placed_in, joined_entries, section_names}
+use Rattle.coll_nodes.specs.TableLayout.{TableLayout, TableValue, collation, content_of, sections_at}
+use Rattle.coll_nodes.specs.declared.entries.Entry.{Entry}
 
 module _ (layout : TableLayout) (shaped : IsShaped layout) where
   among : (id : Id) → is_placed_in (sections_at layout) id ≡ list_any (λ (entry : Entry). same_id id entry.id) (joined_entries (sections_at layout))

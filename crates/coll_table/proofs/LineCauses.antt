@@ -5,16 +5,16 @@ use Rattle.coll_syntax.specs.declared.identifiers.Id.{Id}
 use Rattle.coll_syntax.specs.declared.statements.OrderLine.{OrderLine}
 use Rattle.coll_syntax.specs.declared.lines.TableLine.{TableLine}
 use Rattle.coll_syntax.specs.declared.lines.TableLine.TheVariants as line
-use Rattle.coll_table.specs.declared.declarations.Declaration.{Declaration}
-use Rattle.coll_table.specs.declared.declarations.Declaration.TheVariants as declaration
-use Rattle.coll_table.specs.declared.entries.Entry.{Entry}
-use Rattle.coll_table.specs.Table.{Section, joined_entries}
-use Rattle.coll_table.specs.Entries.{ids_named}
-use Rattle.coll_table.specs.Drafts.{Numbered, DraftState, refused_if, declaration_cause, section_cause, section_cause_if, order_cause, cause_after, weight_cause, ids_cause, at_line, entries_fault, fault_at_end, line_fault}
+use Rattle.coll_nodes.specs.declared.declarations.Declaration.{Declaration}
+use Rattle.coll_nodes.specs.declared.declarations.Declaration.TheVariants as declaration
+use Rattle.coll_nodes.specs.declared.entries.Entry.{Entry}
+use Rattle.coll_nodes.specs.Table.{Section, joined_entries}
+use Rattle.coll_nodes.specs.Entries.{ids_named}
+use Rattle.coll_draft.specs.Drafts.{Numbered, DraftState, refused_if, declaration_cause, section_cause, section_cause_if, order_cause, cause_after, weight_cause, ids_cause, at_line, entries_fault, fault_at_end, line_fault}
 use Rattle.coll_table.specs.SoundLoaders.{IsLineCause}
-use Rattle.coll_table.specs.declared.load_faults.LoadFault.{LoadFault}
-use Rattle.coll_table.specs.declared.load_faults.LoadCause.{LoadCause}
-use Rattle.coll_table.specs.declared.load_faults.LoadCause.TheVariants.{OutOfMemory}
+use Rattle.coll_draft.specs.declared.load_faults.LoadFault.{LoadFault}
+use Rattle.coll_draft.specs.declared.load_faults.LoadCause.{LoadCause}
+use Rattle.coll_draft.specs.declared.load_faults.LoadCause.TheVariants.{OutOfMemory}
 
 abbrev OwnCause : Option LoadCause → Type 0
 OwnCause cause = IfSome cause IsLineCause

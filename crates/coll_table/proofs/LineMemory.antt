@@ -8,11 +8,11 @@ use Rattle.coll_lex.specs.declared.faults.LexFault.TheVariants as lex
 use Rattle.coll_lex.specs.declared.tokens.Chars.{Chars}
 use Rattle.coll_lex.specs.declared.tokens.Line.{Line}
 use Rattle.coll_lex.proofs.LineFaults.{directive_spared}
-use Rattle.coll_table.specs.LoadFaults.{lex_cause}
-use Rattle.coll_table.specs.Loading.{LoaderState, by_outside}
-use Rattle.coll_table.specs.declared.load_faults.LoadFault.{LoadFault}
-use Rattle.coll_table.specs.declared.load_faults.LoadCause.{LoadCause}
-use Rattle.coll_table.specs.declared.load_faults.LoadCause.TheVariants.{Lex, OutOfMemory}
+use Rattle.coll_draft.specs.LoadFaults.{lex_cause}
+use Rattle.coll_draft.specs.Loading.{LoaderState, by_outside}
+use Rattle.coll_draft.specs.declared.load_faults.LoadFault.{LoadFault}
+use Rattle.coll_draft.specs.declared.load_faults.LoadCause.{LoadCause}
+use Rattle.coll_draft.specs.declared.load_faults.LoadCause.TheVariants.{Lex, OutOfMemory}
 
 -- Before the category.
 

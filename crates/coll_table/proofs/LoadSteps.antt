@@ -10,13 +10,13 @@ use Rattle.coll_lex.proofs.LineEnds.{fed-count, fed-room}
 use Rattle.coll_syntax.specs.TableLines.{table_line}
 use Rattle.coll_syntax.specs.declared.lines.TableLine.{TableLine}
 use Rattle.coll_syntax.specs.declared.syntax_faults.SyntaxFault.{SyntaxFault}
-use Rattle.coll_table.specs.Drafts.{Numbered, draft_of, table_of, line_fault, is_end}
-use Rattle.coll_table.specs.Loading.{LoaderState, first_loader, draft_after, by_outside, by_fed, by_read, taken_line, by_where, unless_faulty, loaded_line}
-use Rattle.coll_table.specs.Reading.{Outcome, Decided, Undecided, at_fault, accepted, line_judged, by_grammar, by_tokens, outcome_within, outcome_before}
-use Rattle.coll_table.specs.declared.load_faults.LoadFault.{LoadFault}
-use Rattle.coll_table.specs.declared.load_faults.LoadCause.TheVariants.{Lex, NoCategory, NoEnd}
-use Rattle.coll_table.proofs.DraftSteps.{draft_more}
-use Rattle.coll_table.proofs.EndedDrafts.{unchanged_at_end}
+use Rattle.coll_draft.specs.Drafts.{Numbered, draft_of, table_of, line_fault, is_end}
+use Rattle.coll_draft.specs.Loading.{LoaderState, first_loader, draft_after, by_outside, by_fed, by_read, taken_line, by_where, unless_faulty, loaded_line}
+use Rattle.coll_draft.specs.Reading.{Outcome, Decided, Undecided, at_fault, accepted, line_judged, by_grammar, by_tokens, outcome_within, outcome_before}
+use Rattle.coll_draft.specs.declared.load_faults.LoadFault.{LoadFault}
+use Rattle.coll_draft.specs.declared.load_faults.LoadCause.TheVariants.{Lex, NoCategory, NoEnd}
+use Rattle.coll_draft.proofs.DraftSteps.{draft_more}
+use Rattle.coll_draft.proofs.EndedDrafts.{unchanged_at_end}
 use Rattle.coll_table.proofs.LineCounts.{outside_count, outside_room}
 
 -- The definition of reading, one line on.

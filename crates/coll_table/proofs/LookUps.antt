@@ -7,7 +7,7 @@ use Rattle.std.specs.declared.string.String.{String}
 use Rattle.std.proofs.lemmas.List.{map-append}
 use Rattle.coll_syntax.proofs.Spellings.{same_spelling}
 use Rattle.coll_syntax.specs.Identifier.{same_name, has_name}
-use Rattle.coll_table.specs.LookUps.{characters_of, all_characters_of, AreTexts, with_name}
+use Rattle.coll_nodes.specs.LookUps.{characters_of, all_characters_of, AreTexts, with_name}
 
 module _ {Y : Type 0} where
   -- a text is found by its bytes where its characters are found

@@ -14,15 +14,15 @@ use Rattle.coll_syntax.specs.declared.identifiers.Id.{Id}
 use Rattle.coll_syntax.specs.declared.statements.OrderLine.{OrderLine}
 use Rattle.coll_syntax.specs.declared.weights.Weight.{Weight}
 use Rattle.coll_table.proofs.GrowthLemmas.{collation_grown, has_nodes, joined, linked_same, none_added, same_rings}
-use Rattle.coll_table.proofs.LayoutReads.{both_true, and_true}
+use Rattle.coll_nodes.proofs.LayoutReads.{both_true, and_true}
 use Rattle.coll_table.specs.Growth.{AddsLoose}
 use Rattle.coll_table.proofs.KeyReads.{key_placed, no_key_placed}
 use Rattle.coll_table.specs.Prepared.{ArePrepared, IsNodeFor, IsPreparedLine, made_entry, weights_to}
 use Rattle.coll_table.specs.Record.{added_by, added_nodes}
-use Rattle.coll_table.specs.SoundBodies.{IsShaped, has_key, ids_in, read_at}
-use Rattle.coll_table.specs.Table.{Collation, is_placed}
-use Rattle.coll_table.specs.TableLayout.{TableLayout, TableValue, collation, content_of, if_any}
-use Rattle.coll_table.specs.declared.contents.Content.TheVariants.{Placed}
+use Rattle.coll_nodes.specs.SoundBodies.{IsShaped, has_key, ids_in, read_at}
+use Rattle.coll_nodes.specs.Table.{Collation, is_placed}
+use Rattle.coll_nodes.specs.TableLayout.{TableLayout, TableValue, collation, content_of, if_any}
+use Rattle.coll_nodes.specs.declared.contents.Content.TheVariants.{Placed}
 use Rattle.coll_table.specs.declared.records.Item.{Item}
 
 -- the node that the next line goes behind

@@ -19,18 +19,18 @@ use Rattle.coll_syntax.specs.declared.lines.TableLine.TheVariants as line
 use Rattle.coll_syntax.specs.declared.rules.Rule.{Rule}
 use Rattle.coll_syntax.specs.declared.syntax_faults.SyntaxFault.{SyntaxFault}
 use Rattle.coll_syntax.proofs.ProperLines.{table_row-proper}
-use Rattle.coll_table.specs.Drafts.{Numbered, DraftState, draft_of, table_of, rules_given, rules_differ, section_cause, section_cause_if, cause_after, at_line, fault_at_end, line_fault}
-use Rattle.coll_table.specs.Loading.{LoaderState, first_loader, rules_after, with_section_if, draft_with, by_outside, by_fed, by_read, taken_line, by_where, unless_faulty, loaded_line, early_end, loaded, past_line, answer_to}
-use Rattle.coll_table.specs.Reading.{TextsAreWellFormed}
-use Rattle.coll_table.specs.SoundDrafts.{IsSoundDraft}
-use Rattle.coll_table.specs.Table.{Collation, entries_of}
-use Rattle.coll_table.specs.WellFormed.{IsBuilt, IsWellFormed, IsWeighted}
-use Rattle.coll_table.specs.declared.declarations.Declaration.TheVariants as declaration
-use Rattle.coll_table.specs.declared.load_faults.LoadCause.{LoadCause}
-use Rattle.coll_table.specs.declared.load_faults.LoadCause.TheVariants.{RulesDiffer, OutsideOrder}
-use Rattle.coll_table.specs.declared.load_faults.LoadFault.{LoadFault}
-use Rattle.coll_table.proofs.EndedDrafts.{unchanged_at_end, well_formed_at_end}
-use Rattle.coll_table.proofs.SoundLines.{passed, sound_declared, sound_section, sound_entry, may_be_put}
+use Rattle.coll_draft.specs.Drafts.{Numbered, DraftState, draft_of, table_of, rules_given, rules_differ, section_cause, section_cause_if, cause_after, at_line, fault_at_end, line_fault}
+use Rattle.coll_draft.specs.Loading.{LoaderState, first_loader, rules_after, with_section_if, draft_with, by_outside, by_fed, by_read, taken_line, by_where, unless_faulty, loaded_line, early_end, loaded, past_line, answer_to}
+use Rattle.coll_draft.specs.Reading.{TextsAreWellFormed}
+use Rattle.coll_draft.specs.SoundDrafts.{IsSoundDraft}
+use Rattle.coll_nodes.specs.Table.{Collation, entries_of}
+use Rattle.coll_nodes.specs.WellFormed.{IsBuilt, IsWellFormed, IsWeighted}
+use Rattle.coll_nodes.specs.declared.declarations.Declaration.TheVariants as declaration
+use Rattle.coll_draft.specs.declared.load_faults.LoadCause.{LoadCause}
+use Rattle.coll_draft.specs.declared.load_faults.LoadCause.TheVariants.{RulesDiffer, OutsideOrder}
+use Rattle.coll_draft.specs.declared.load_faults.LoadFault.{LoadFault}
+use Rattle.coll_draft.proofs.EndedDrafts.{unchanged_at_end, well_formed_at_end}
+use Rattle.coll_draft.proofs.SoundLines.{passed, sound_declared, sound_section, sound_entry, may_be_put}
 use Rattle.coll_table.proofs.LinesRead.{lines_read}
 
 -- Each accepted line keeps what the lines say together sound.

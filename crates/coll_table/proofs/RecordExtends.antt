@@ -9,23 +9,24 @@ use Rattle.coll_order.specs.declared.places.Place.{Place}
 use Rattle.coll_order.proofs.ListLemmas.{is_in_without, is_in_without_itself}
 use Rattle.coll_order.proofs.Sameness.{by_test, not_both, same_node_is}
 use Rattle.coll_syntax.specs.declared.weights.Weight.{Weight}
-use Rattle.coll_table.proofs.LayoutMoves.{declared_stays, sections_changed}
-use Rattle.coll_table.proofs.LayoutReads.{entries_read, in_rings}
-use Rattle.coll_table.proofs.NodeLists.{same_read}
+use Rattle.coll_nodes.proofs.LayoutMoves.{declared_stays, sections_changed}
+use Rattle.coll_nodes.proofs.LayoutReads.{entries_read, in_rings}
+use Rattle.coll_nodes.proofs.NodeLists.{same_read}
 use Rattle.coll_table.proofs.TurningBack.{back_and_on, on_and_back}
-use Rattle.coll_table.proofs.TurningKeys.{IsAlike, bare_if, stand_alike}
-use Rattle.coll_table.proofs.TurningNodes.{content_weighed, weighed_if}
+use Rattle.coll_nodes.proofs.TurningKeys.{IsAlike, bare_if, stand_alike}
+use Rattle.coll_nodes.proofs.TurningNodes.{content_weighed, weighed_if}
 use Rattle.coll_table.proofs.TurningSound.{after_item, item_on_sound}
 use Rattle.coll_table.proofs.TurningSteps.{names_linked}
-use Rattle.coll_table.specs.Bodies.{without_link}
+use Rattle.coll_nodes.specs.Bodies.{without_link}
 use Rattle.coll_table.specs.Record.{Extends, HasNodesOf, CanTurn, turn, turned_layout}
 use Rattle.coll_table.specs.RecordLaws.{RecordsFitWider, RecordsFitNarrower, WiderReadsAlike}
-use Rattle.coll_table.specs.SoundBodies.{ring_at, read_at}
-use Rattle.coll_table.specs.SoundLayouts.{IsSoundLayout}
-use Rattle.coll_table.specs.TableLayout.{TableLayout, TableValue, collation, content_of, declared_at, sections_at, entries_in, entry_in, if_any}
-use Rattle.coll_table.specs.Turning.{CanTurnBack, CanTurnOn, IsAt, ItemGoes, Suits, item_on, moved_rings, turned_back, turned_on}
-use Rattle.coll_table.specs.WellFormed.{IsWellFormed}
-use Rattle.coll_table.specs.declared.contents.Content.{Content}
+use Rattle.coll_nodes.specs.SoundBodies.{ring_at, read_at}
+use Rattle.coll_nodes.specs.SoundLayouts.{IsSoundLayout}
+use Rattle.coll_nodes.specs.TableLayout.{TableLayout, TableValue, collation, content_of, declared_at, sections_at, entries_in, entry_in, if_any}
+use Rattle.coll_nodes.specs.Moving.{IsAt, Suits, moved_rings}
+use Rattle.coll_table.specs.Turning.{CanTurnBack, CanTurnOn, ItemGoes, item_on, turned_back, turned_on}
+use Rattle.coll_nodes.specs.WellFormed.{IsWellFormed}
+use Rattle.coll_nodes.specs.declared.contents.Content.{Content}
 use Rattle.coll_table.specs.declared.records.Item.{Item}
 use Rattle.coll_table.specs.declared.records.Record.{Record}
 

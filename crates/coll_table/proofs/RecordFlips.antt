@@ -4,11 +4,11 @@ use Rattle.std.proofs.lemmas.List.{take-append-le}
 use Rattle.std.proofs.Math.Seq.{take-length}
 use Rattle.coll_syntax.specs.declared.rules.Rule.{Rule}
 use Rattle.coll_table.proofs.RecordTurns.{records_turn}
-use Rattle.coll_table.specs.Bodies.{BodyValue, value_of}
+use Rattle.coll_nodes.specs.Bodies.{BodyValue, value_of}
 use Rattle.coll_table.specs.Record.{Fits, IsSame, turn, turned, turned_items, turned_layout}
-use Rattle.coll_table.specs.SoundLayouts.{IsTable}
-use Rattle.coll_table.specs.TableLayout.{TableLayout, TableValue, collation}
-use Rattle.coll_table.specs.WellFormed.{IsWellFormed}
+use Rattle.coll_nodes.specs.SoundLayouts.{IsTable}
+use Rattle.coll_nodes.specs.TableLayout.{TableLayout, TableValue, collation}
+use Rattle.coll_nodes.specs.WellFormed.{IsWellFormed}
 use Rattle.coll_table.specs.declared.records.Item.{Item}
 use Rattle.coll_table.specs.declared.records.Record.{Record}
 

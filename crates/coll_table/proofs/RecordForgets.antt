@@ -8,12 +8,12 @@ use Rattle.coll_order.proofs.ListLemmas.{or_second}
 use Rattle.coll_order.proofs.Sameness.{by_test, not_both, same_node_is}
 use Rattle.coll_syntax.specs.declared.rules.Rule.{Rule}
 use Rattle.coll_table.proofs.RecordExtends.{same_collation}
-use Rattle.coll_table.specs.Bodies.{BodyValue, value_of}
-use Rattle.coll_table.specs.Linking.{nodes_without}
+use Rattle.coll_nodes.specs.Bodies.{BodyValue, value_of}
+use Rattle.coll_nodes.specs.Linking.{nodes_without}
 use Rattle.coll_table.specs.Record.{AreLoose, added_by, added_nodes, dropped_nodes, item_added, without_loose, without_nodes}
-use Rattle.coll_table.specs.SoundLayouts.{IsTable}
-use Rattle.coll_table.specs.TableLayout.{MadeNode, TableLayout, TableValue, collation, content_among}
-use Rattle.coll_table.specs.WellFormed.{IsWellFormed}
+use Rattle.coll_nodes.specs.SoundLayouts.{IsTable}
+use Rattle.coll_nodes.specs.TableLayout.{MadeNode, TableLayout, TableValue, collation, content_among}
+use Rattle.coll_nodes.specs.WellFormed.{IsWellFormed}
 use Rattle.coll_table.specs.declared.records.Item.{Item}
 use Rattle.coll_table.specs.declared.records.Record.{Record}
 

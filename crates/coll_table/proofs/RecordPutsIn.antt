@@ -6,10 +6,10 @@ use Rattle.coll_order.specs.declared.places.NodeId.{NodeId}
 use Rattle.coll_order.specs.declared.places.Place.{Place}
 use Rattle.coll_order.proofs.Sameness.{by_test, not_both, same_node_is}
 use Rattle.coll_table.proofs.TurningSound.{lands, made_alike, stays_linked}
-use Rattle.coll_table.specs.Bodies.{IsLooseNode}
+use Rattle.coll_nodes.specs.Bodies.{IsLooseNode}
 use Rattle.coll_table.specs.Record.{AreLoose, CanTurn, added_by, added_nodes, turn, turned_layout}
 use Rattle.coll_table.specs.RecordLaws.{UndonePutIn}
-use Rattle.coll_table.specs.TableLayout.{TableLayout}
+use Rattle.coll_nodes.specs.TableLayout.{TableLayout}
 use Rattle.coll_table.specs.Turning.{CanGoOn, CanTurnOn, ItemGoes, item_on, turned_on}
 use Rattle.coll_table.specs.declared.records.Item.{Item}
 

@@ -3,10 +3,10 @@ use Rattle.std.proofs.Common.{◌≡◌, ◌≤◌, Bool, true, false, not, List
 use Rattle.coll_table.proofs.TurningBack.{back_and_on, on_and_back, steps_back, steps_on, length_back, length_on}
 use Rattle.coll_table.specs.Record.{CanTurn, turn, turned, turned_items, turned_layout}
 use Rattle.coll_table.specs.RecordLaws.{RecordsTurnBack}
-use Rattle.coll_table.specs.SoundLayouts.{IsSoundLayout}
-use Rattle.coll_table.specs.TableLayout.{TableLayout, TableValue, collation}
+use Rattle.coll_nodes.specs.SoundLayouts.{IsSoundLayout}
+use Rattle.coll_nodes.specs.TableLayout.{TableLayout, TableValue, collation}
 use Rattle.coll_table.specs.Turning.{steps_of}
-use Rattle.coll_table.specs.WellFormed.{IsWellFormed}
+use Rattle.coll_nodes.specs.WellFormed.{IsWellFormed}
 use Rattle.coll_table.specs.declared.records.Item.{Item}
 
 -- items that can be turned give a sound layout, can be turned again, and give back the layout

@@ -11,16 +11,16 @@ use Rattle.coll_lex.specs.declared.faults.LexFault.TheVariants as lex
 use Rattle.coll_lex.specs.declared.faults.ReadStop.{ReadStop}
 use Rattle.coll_lex.specs.declared.faults.ReadStop.TheVariants as stop
 use Rattle.coll_syntax.specs.declared.syntax_faults.SyntaxFault.TheVariants as syntax
-use Rattle.coll_table.specs.Table.{Collation}
-use Rattle.coll_table.specs.TableLayout.{TableValue, collation}
-use Rattle.coll_table.specs.Drafts.{Numbered, table_of, at_line}
-use Rattle.coll_table.specs.Loading.{LoaderState, first_loader, loaded_line, loaded}
+use Rattle.coll_nodes.specs.Table.{Collation}
+use Rattle.coll_nodes.specs.TableLayout.{TableValue, collation}
+use Rattle.coll_draft.specs.Drafts.{Numbered, table_of, at_line}
+use Rattle.coll_draft.specs.Loading.{LoaderState, first_loader, loaded_line, loaded}
 use Rattle.coll_table.specs.Loads.{with_feeds, stop_fault, IsUndecided, FaultSays, Loads, counted_by, CountsFault}
-use Rattle.coll_table.specs.Reading.{Outcome, Decided, outcome_of, answer_at_end, reads}
+use Rattle.coll_draft.specs.Reading.{Outcome, Decided, outcome_of, answer_at_end, reads}
 use Rattle.coll_table.specs.SoundLoaders.{IsLineCause}
-use Rattle.coll_table.specs.declared.load_faults.LoadFault.{LoadFault}
-use Rattle.coll_table.specs.declared.load_faults.LoadCause.{LoadCause}
-use Rattle.coll_table.specs.declared.load_faults.LoadCause.TheVariants.{Lex, Syntax, ReadFault, OutOfMemory}
+use Rattle.coll_draft.specs.declared.load_faults.LoadFault.{LoadFault}
+use Rattle.coll_draft.specs.declared.load_faults.LoadCause.{LoadCause}
+use Rattle.coll_draft.specs.declared.load_faults.LoadCause.TheVariants.{Lex, Syntax, ReadFault, OutOfMemory}
 use Rattle.coll_table.proofs.LoadEnds.{loaded_ended, ends_here, undecided_here, long_line}
 use Rattle.coll_table.proofs.LoadSteps.{outcome_from, StandsAfter, CountsOne, LeadsOn, Judged, stands_first, from_ended, judged}
 use Rattle.coll_table.proofs.TextSteps.{IsUnread, gives_first, was_last, stops_long, stops_short}

@@ -7,15 +7,16 @@ use Rattle.coll_order.proofs.ListLemmas.{is_in_without_itself}
 use Rattle.coll_order.proofs.RingLemmas.{place_from_put}
 use Rattle.coll_order.proofs.Sameness.{same_node_itself}
 use Rattle.coll_syntax.specs.declared.weights.Weight.{Weight}
-use Rattle.coll_table.proofs.TurningKeys.{IsAlike, stand_alike}
-use Rattle.coll_table.proofs.TurningNodes.{content_weighed, weighed_back, weighed_bare, weighed_if}
+use Rattle.coll_nodes.proofs.TurningKeys.{IsAlike, stand_alike}
+use Rattle.coll_nodes.proofs.TurningNodes.{content_weighed, weighed_back, weighed_bare, weighed_if}
 use Rattle.coll_table.proofs.TurningRings.{goes_back, without_relinked}
 use Rattle.coll_table.proofs.TurningSound.{after_item, item_back_sound, item_on_sound, place_for_among, reweighed_same}
-use Rattle.coll_table.specs.Bodies.{without_link}
-use Rattle.coll_table.specs.SoundLayouts.{IsSoundLayout}
-use Rattle.coll_table.specs.TableLayout.{TableLayout, content_of}
-use Rattle.coll_table.specs.Turning.{CanGo, CanTurnBack, CanTurnOn, IsAt, ItemGoes, Suits, exchanged, items_back, items_on, item_back, item_on, steps_between, steps_of, turned_back, turned_on, weighed, with_exchanged}
-use Rattle.coll_table.specs.declared.contents.Content.{Content}
+use Rattle.coll_nodes.specs.Bodies.{without_link}
+use Rattle.coll_nodes.specs.SoundLayouts.{IsSoundLayout}
+use Rattle.coll_nodes.specs.TableLayout.{TableLayout, content_of}
+use Rattle.coll_nodes.specs.Moving.{CanGo, IsAt, Suits, exchanged, weighed}
+use Rattle.coll_table.specs.Turning.{CanTurnBack, CanTurnOn, ItemGoes, items_back, items_on, item_back, item_on, steps_between, steps_of, turned_back, turned_on, with_exchanged}
+use Rattle.coll_nodes.specs.declared.contents.Content.{Content}
 use Rattle.coll_table.specs.declared.records.Item.{Item}
 
 -- what a node is that gets other weights

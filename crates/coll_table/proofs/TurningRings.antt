@@ -11,11 +11,11 @@ use Rattle.coll_order.specs.declared.places.Place.TheVariants.{Head, After}
 use Rattle.coll_order.proofs.ListLemmas.{neither, or_first, or_second, is_on, is_among, has_without, has_without_itself, has_put, put_nowhere, rings_without_absent, is_in_without, is_in_without_itself}
 use Rattle.coll_order.proofs.RingLemmas.{among_after, among_earlier, length_rings_with, length_rings_without, rings_without_put, rings_put_back, rings_put_nowhere, is_in_put}
 use Rattle.coll_order.proofs.Sameness.{by_test, not_both, same_node_is, other_node_turned}
-use Rattle.coll_table.proofs.LayoutMoves.{get_without}
-use Rattle.coll_table.proofs.RingPlaces.{get_put_other, head_after}
-use Rattle.coll_table.specs.SoundBodies.{is_place_of}
-use Rattle.coll_table.specs.TableLayout.{TableLayout}
-use Rattle.coll_table.specs.Turning.{IsAt, relinked}
+use Rattle.coll_nodes.proofs.LayoutMoves.{get_without}
+use Rattle.coll_nodes.proofs.RingPlaces.{get_put_other, head_after}
+use Rattle.coll_nodes.specs.SoundBodies.{is_place_of}
+use Rattle.coll_nodes.specs.TableLayout.{TableLayout}
+use Rattle.coll_nodes.specs.Moving.{IsAt, relinked}
 
 -- a list without a node has none twice
 distinct_without : (node : NodeId) (nodes : List NodeId) → AreDistinct nodes → AreDistinct (without node nodes)

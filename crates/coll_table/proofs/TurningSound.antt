@@ -14,19 +14,20 @@ use Rattle.coll_order.proofs.RingLemmas.{is_in_put_itself}
 use Rattle.coll_order.proofs.Sameness.{by_test, not_both, same_node_is}
 use Rattle.coll_syntax.specs.Identifier.{same_name, same_id}
 use Rattle.coll_syntax.specs.declared.weights.Weight.{Weight}
-use Rattle.coll_table.proofs.LayoutMoves.{get_without}
-use Rattle.coll_table.proofs.LayoutReads.{both_true, owned_high, read_known}
-use Rattle.coll_table.proofs.RingPlaces.{in_some, place_off}
-use Rattle.coll_table.proofs.TurningKeys.{IsAlike, AreSame, some_alike, once_alike, shaped_alike, names_bare, texts_bare, sections_bare, ids_bare}
-use Rattle.coll_table.proofs.TurningNodes.{content_weighed, named_weighed, weighed_if, weighed_same}
+use Rattle.coll_nodes.proofs.LayoutMoves.{get_without}
+use Rattle.coll_nodes.proofs.LayoutReads.{both_true, owned_high, read_known}
+use Rattle.coll_nodes.proofs.RingPlaces.{in_some, place_off}
+use Rattle.coll_nodes.proofs.TurningKeys.{IsAlike, AreSame, some_alike, once_alike, shaped_alike, names_bare, texts_bare, sections_bare, ids_bare}
+use Rattle.coll_nodes.proofs.TurningNodes.{content_weighed, named_weighed, weighed_if, weighed_same}
 use Rattle.coll_table.proofs.TurningRings.{among_ring, is_in_relinked, length_relinked, once_relinked, once_without, ring_put, ring_relinked}
-use Rattle.coll_table.specs.Bodies.{without_link}
-use Rattle.coll_table.specs.SoundBodies.{read_at, ring_at, has_key, names_in, texts_in, section_names_in, rings_in, ids_in, same_ring, is_place_of, IsPlaceIn, IsDeclaration, IsSection, IsEntry, IsOwned, IsShaped}
-use Rattle.coll_table.specs.SoundLayouts.{AreOnce, IsSoundLayout}
-use Rattle.coll_table.specs.TableLayout.{TableLayout, content_of}
-use Rattle.coll_table.specs.Turning.{AreNew, CanGo, IsApart, IsAt, IsPlaceFor, ItemGoes, MayStand, item_back, item_on, moved_rings, relinked, weighed_nodes}
-use Rattle.coll_table.specs.declared.contents.Content.{Content}
-use Rattle.coll_table.specs.declared.contents.Content.TheVariants as content
+use Rattle.coll_nodes.specs.Bodies.{without_link}
+use Rattle.coll_nodes.specs.SoundBodies.{read_at, ring_at, has_key, names_in, texts_in, section_names_in, rings_in, ids_in, same_ring, is_place_of, IsPlaceIn, IsDeclaration, IsSection, IsEntry, IsOwned, IsShaped}
+use Rattle.coll_nodes.specs.SoundLayouts.{AreOnce, IsSoundLayout}
+use Rattle.coll_nodes.specs.TableLayout.{TableLayout, content_of}
+use Rattle.coll_nodes.specs.Moving.{AreNew, CanGo, IsApart, IsAt, IsPlaceFor, MayStand, moved_rings, relinked, weighed_nodes}
+use Rattle.coll_table.specs.Turning.{ItemGoes, item_back, item_on}
+use Rattle.coll_nodes.specs.declared.contents.Content.{Content}
+use Rattle.coll_nodes.specs.declared.contents.Content.TheVariants as content
 use Rattle.coll_table.specs.declared.records.Item.{Item}
 
 -- Weights.

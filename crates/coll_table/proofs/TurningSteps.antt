@@ -10,11 +10,12 @@ use Rattle.coll_order.specs.declared.places.NodeId.{NodeId}
 use Rattle.coll_order.specs.declared.places.Place.{Place}
 use Rattle.coll_order.proofs.ListLemmas.{rings_without_absent}
 use Rattle.coll_table.proofs.TurningSound.{at_linked}
-use Rattle.coll_table.specs.Bodies.{IsLooseNode, with_link}
+use Rattle.coll_nodes.specs.Bodies.{IsLooseNode, with_link}
 use Rattle.coll_table.specs.Record.{CanTurn, more_steps, turned_items}
-use Rattle.coll_table.specs.SoundLayouts.{IsSoundLayout}
-use Rattle.coll_table.specs.TableLayout.{TableLayout, content_of}
-use Rattle.coll_table.specs.Turning.{CanDo, CanGo, CanGoBack, CanGoOn, CanTurnBack, CanTurnOn, IsAt, ItemGoes, Suits, item_back, item_on, item_steps, items_back, items_on, moved_rings, placed_at, placed_item, placed_items, steps_between, steps_of, turned_back, turned_on, with_exchanged}
+use Rattle.coll_nodes.specs.SoundLayouts.{IsSoundLayout}
+use Rattle.coll_nodes.specs.TableLayout.{TableLayout, content_of}
+use Rattle.coll_nodes.specs.Moving.{CanGo, IsAt, Suits, moved_rings}
+use Rattle.coll_table.specs.Turning.{CanDo, CanGoBack, CanGoOn, CanTurnBack, CanTurnOn, ItemGoes, item_back, item_on, item_steps, items_back, items_on, placed_at, placed_item, placed_items, steps_between, steps_of, turned_back, turned_on, with_exchanged}
 use Rattle.coll_table.specs.declared.records.Item.{Item}
 
 -- a node that an item in force names stands in a ring

@@ -4,10 +4,10 @@ use Rattle.coll_syntax.specs.declared.statements.Statement.{Statement}
 use Rattle.coll_syntax.specs.declared.statements.Statement.TheVariants as statement
 use Rattle.coll_table.specs.Delta.{delta}
 use Rattle.coll_table.specs.Record.{Extends, Fits, KeepsLoose, statement_steps, turn}
-use Rattle.coll_table.specs.TableLayout.{TableValue, collation}
+use Rattle.coll_nodes.specs.TableLayout.{TableValue, collation}
 use Rattle.coll_table.specs.Turning.{steps_of}
-use Rattle.coll_table.specs.declared.declarations.Declaration.{Declaration}
-use Rattle.coll_table.specs.declared.declarations.Declaration.TheVariants.{Symbol, Element}
+use Rattle.coll_nodes.specs.declared.declarations.Declaration.{Declaration}
+use Rattle.coll_nodes.specs.declared.declarations.Declaration.TheVariants.{Symbol, Element}
 use Rattle.coll_table.specs.declared.records.Record.{Record}
 
 -- a table was rewritten by a statement: it is the statement's delta; the record is in force, fits, and turns it back, but for

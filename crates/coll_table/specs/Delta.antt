@@ -8,14 +8,15 @@ use Rattle.coll_syntax.specs.declared.identifiers.Id.{Id}
 use Rattle.coll_syntax.specs.declared.statements.OrderLine.{OrderLine}
 use Rattle.coll_syntax.specs.declared.statements.Statement.{Statement}
 use Rattle.coll_syntax.specs.declared.statements.Statement.TheVariants as statement
-use Rattle.coll_table.specs.Drafts.{has_text, refused_if}
-use Rattle.coll_table.specs.Entries.{entry_of, given_weights, weight_ids}
-use Rattle.coll_table.specs.Limits.{most_declarations, most_entries}
-use Rattle.coll_table.specs.Placement.{without, placed_after, entry_at, with_entry, section_moved}
-use Rattle.coll_table.specs.Table.{Collation, entries_of, section_names, name_of, text_of, is_declared, is_known, is_placed, is_symbol}
-use Rattle.coll_table.specs.declared.declarations.Declaration.{Declaration}
-use Rattle.coll_table.specs.declared.declarations.Declaration.TheVariants as declaration
-use Rattle.coll_table.specs.declared.entries.Entry.{Entry}
+use Rattle.coll_nodes.specs.Table.{has_text}
+use Rattle.coll_draft.specs.Drafts.{refused_if}
+use Rattle.coll_nodes.specs.Entries.{entry_of, given_weights, weight_ids}
+use Rattle.coll_nodes.specs.Limits.{most_declarations, most_entries}
+use Rattle.coll_nodes.specs.Placement.{without, placed_after, entry_at, with_entry, section_moved}
+use Rattle.coll_nodes.specs.Table.{Collation, entries_of, section_names, name_of, text_of, is_declared, is_known, is_placed, is_symbol}
+use Rattle.coll_nodes.specs.declared.declarations.Declaration.{Declaration}
+use Rattle.coll_nodes.specs.declared.declarations.Declaration.TheVariants as declaration
+use Rattle.coll_nodes.specs.declared.entries.Entry.{Entry}
 use Rattle.coll_table.specs.declared.refusals.Refusal.{Refusal}
 use Rattle.coll_table.specs.declared.refusals.Refusal.TheVariants.{DeclaredTwice, NotDeclared, SymbolWithWeights, TooManyWeights, WeightNotPlaced, StringTwice, Full, TargetNotPlaced, TwiceInBlock, NoSuchSection, SectionAfterItself, NotPlaced, NoWeights}
 

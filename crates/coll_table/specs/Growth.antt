@@ -2,7 +2,7 @@
 use Rattle.std.specs.Prelude.{◌≡◌, List}
 use Rattle.coll_order.specs.declared.places.NodeId.{NodeId}
 use Rattle.coll_table.specs.Record.{AreLoose, without_nodes}
-use Rattle.coll_table.specs.TableLayout.{TableValue}
+use Rattle.coll_nodes.specs.TableLayout.{TableValue}
 
 -- a table is another one with some loose nodes added: without them it is the other
 pub record AddsLoose (old new : TableValue) (added : List NodeId) : Type 0 where

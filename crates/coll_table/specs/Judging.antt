@@ -4,8 +4,8 @@ use Rattle.std.specs.Option.{option_or}
 use Rattle.coll_syntax.specs.Identifier.{has_id}
 use Rattle.coll_syntax.specs.declared.identifiers.Id.{Id}
 use Rattle.coll_syntax.specs.declared.statements.OrderLine.{OrderLine}
-use Rattle.coll_table.specs.Drafts.{refused_if}
-use Rattle.coll_table.specs.Table.{Collation, is_known, is_placed}
+use Rattle.coll_draft.specs.Drafts.{refused_if}
+use Rattle.coll_nodes.specs.Table.{Collation, is_known, is_placed}
 use Rattle.coll_table.specs.declared.refusals.Refusal.{Refusal}
 use Rattle.coll_table.specs.declared.refusals.Refusal.TheVariants.{NotDeclared, WeightNotPlaced}
 

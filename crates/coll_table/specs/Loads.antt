@@ -6,13 +6,13 @@ use Rattle.coll_lex.specs.PhysicalLines.{line_feed, lines_of, IsInLine}
 use Rattle.coll_lex.specs.declared.faults.LexFault.TheVariants as lex
 use Rattle.coll_lex.specs.declared.faults.ReadStop.{ReadStop}
 use Rattle.coll_lex.specs.declared.faults.ReadStop.TheVariants as stop
-use Rattle.coll_table.specs.TableLayout.{TableValue, collation}
-use Rattle.coll_table.specs.Drafts.{at_line}
-use Rattle.coll_table.specs.Reading.{Outcome, Decided, Undecided, outcome_of, reads}
+use Rattle.coll_nodes.specs.TableLayout.{TableValue, collation}
+use Rattle.coll_draft.specs.Drafts.{at_line}
+use Rattle.coll_draft.specs.Reading.{Outcome, Decided, Undecided, outcome_of, reads}
 use Rattle.coll_syntax.specs.declared.syntax_faults.SyntaxFault.TheVariants as syntax
-use Rattle.coll_table.specs.declared.load_faults.LoadFault.{LoadFault}
-use Rattle.coll_table.specs.declared.load_faults.LoadCause.{LoadCause}
-use Rattle.coll_table.specs.declared.load_faults.LoadCause.TheVariants.{Lex, Syntax, ReadFault, OutOfMemory}
+use Rattle.coll_draft.specs.declared.load_faults.LoadFault.{LoadFault}
+use Rattle.coll_draft.specs.declared.load_faults.LoadCause.{LoadCause}
+use Rattle.coll_draft.specs.declared.load_faults.LoadCause.TheVariants.{Lex, Syntax, ReadFault, OutOfMemory}
 
 -- lines with their line feeds, one after another
 abbrev pub with_feeds : List (List ℕ) → List ℕ

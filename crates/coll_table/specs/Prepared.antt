@@ -7,14 +7,14 @@ use Rattle.coll_syntax.specs.Identifier.{same_id, same_name}
 use Rattle.coll_syntax.specs.declared.identifiers.Id.{Id}
 use Rattle.coll_syntax.specs.declared.statements.OrderLine.{OrderLine}
 use Rattle.coll_syntax.specs.declared.weights.Weight.{Weight}
-use Rattle.coll_table.specs.Entries.{entry_of, kept_weights}
-use Rattle.coll_table.specs.Linking.{end_of_declarations}
-use Rattle.coll_table.specs.SoundBodies.{has_key, ids_in, section_names_in}
-use Rattle.coll_table.specs.Table.{Collation, is_placed}
-use Rattle.coll_table.specs.TableLayout.{TableLayout, content_of}
-use Rattle.coll_table.specs.declared.contents.Content.TheVariants.{Declared, Placed}
-use Rattle.coll_table.specs.declared.declarations.Declaration.{Declaration}
-use Rattle.coll_table.specs.declared.entries.Entry.{Entry}
+use Rattle.coll_nodes.specs.Entries.{entry_of, kept_weights}
+use Rattle.coll_nodes.specs.Linking.{end_of_declarations}
+use Rattle.coll_nodes.specs.SoundBodies.{has_key, ids_in, section_names_in}
+use Rattle.coll_nodes.specs.Table.{Collation, is_placed}
+use Rattle.coll_nodes.specs.TableLayout.{TableLayout, content_of}
+use Rattle.coll_nodes.specs.declared.contents.Content.TheVariants.{Declared, Placed}
+use Rattle.coll_nodes.specs.declared.declarations.Declaration.{Declaration}
+use Rattle.coll_nodes.specs.declared.entries.Entry.{Entry}
 use Rattle.coll_table.specs.declared.records.Item.{Item}
 
 -- the weights that go to an entry, if its line gives any

@@ -8,13 +8,13 @@ use Rattle.coll_order.specs.declared.places.Place.{Place}
 use Rattle.coll_syntax.specs.declared.statements.OrderLine.{OrderLine}
 use Rattle.coll_syntax.specs.declared.statements.Statement.{Statement}
 use Rattle.coll_syntax.specs.declared.statements.Statement.TheVariants as statement
-use Rattle.coll_table.specs.Bodies.{IsLooseNode}
-use Rattle.coll_table.specs.Linking.{nodes_without}
-use Rattle.coll_table.specs.Table.{Collation, is_placed}
-use Rattle.coll_table.specs.TableLayout.{TableLayout, TableValue, collation, content_of}
+use Rattle.coll_nodes.specs.Bodies.{IsLooseNode}
+use Rattle.coll_nodes.specs.Linking.{nodes_without}
+use Rattle.coll_nodes.specs.Table.{Collation, is_placed}
+use Rattle.coll_nodes.specs.TableLayout.{TableLayout, TableValue, collation, content_of}
 use Rattle.coll_table.specs.Turning.{turned_back, turned_on, items_back, items_on, CanTurnBack, CanTurnOn}
-use Rattle.coll_table.specs.WellFormed.{IsWellFormed}
-use Rattle.coll_table.specs.declared.contents.Content.{Content}
+use Rattle.coll_nodes.specs.WellFormed.{IsWellFormed}
+use Rattle.coll_nodes.specs.declared.contents.Content.{Content}
 use Rattle.coll_table.specs.declared.records.Item.{Item}
 use Rattle.coll_table.specs.declared.records.Record.{Record}
 

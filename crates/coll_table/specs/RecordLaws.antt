@@ -3,10 +3,10 @@ use Rattle.std.specs.Prelude.{◌≡◌, true, false}
 use Rattle.coll_order.specs.Layout.{is_in}
 use Rattle.coll_order.specs.Lists.{has_node}
 use Rattle.coll_order.specs.declared.places.NodeId.{NodeId}
-use Rattle.coll_table.specs.Bodies.{IsLooseNode}
+use Rattle.coll_nodes.specs.Bodies.{IsLooseNode}
 use Rattle.coll_table.specs.Record.{AreLoose, Extends, Fits, added_nodes, turn, turned}
-use Rattle.coll_table.specs.SoundLayouts.{IsTable}
-use Rattle.coll_table.specs.TableLayout.{TableValue, collation}
+use Rattle.coll_nodes.specs.SoundLayouts.{IsTable}
+use Rattle.coll_nodes.specs.TableLayout.{TableValue, collation}
 use Rattle.coll_table.specs.Turning.{steps_of}
 use Rattle.coll_table.specs.declared.records.Record.{Record}
 

@@ -10,17 +10,18 @@ ghost use Rattle.coll_syntax.specs.declared.statements.Statement.TheVariants as 
 ghost use Rattle.coll_table.specs.Applied.{Applied, declaring};
 ghost use Rattle.coll_table.specs.Delta.{delta};
 ghost use Rattle.coll_table.specs.Record.{Extends, Fits, KeepsLoose, statement_steps, turn};
-ghost use Rattle.coll_table.specs.TableLayout.{collation};
+ghost use Rattle.coll_nodes.specs.TableLayout.{collation};
 ghost use Rattle.coll_table.specs.Turning.{CanDo, items_on, placed_items, steps_of, turned_on};
-ghost use Rattle.coll_table.specs.WellFormed.{IsWellFormed};
+ghost use Rattle.coll_nodes.specs.WellFormed.{IsWellFormed};
 ghost use Rattle.coll_table.specs.declared.refusals.Refusal.TheVariants.{OutOfMemory};
 
 mod judging;
 mod preparing;
 
 use crate::turning::do_items;
-use crate::{Declaration, Item, Record, Refusal, Table};
+use crate::{Item, Record, Refusal, Table};
 use coll_lex::{ListBuf, TextBuf};
+use coll_nodes::Declaration;
 use coll_syntax::{Id, OrderLine, Statement};
 use std::alloc::AllocError;
 

@@ -9,15 +9,15 @@ ghost use Rattle.std.specs.Prelude.{◌≡◌, ◌≢◌, false, None, Ok, Err, 
 ghost use Rattle.coll_lex.specs.LogicalLines.{number_of, fed, outside, takes_memory};
 ghost use Rattle.coll_lex.specs.Names.{AreTokens};
 ghost use Rattle.coll_syntax.specs.TableLines.{table_line};
-ghost use Rattle.coll_table.specs.Loading.{LinesAreRead};
+ghost use Rattle.coll_draft.specs.Loading.{LinesAreRead};
 ghost use Rattle.coll_table.specs.SoundLoaders.{IsLineCause, MayTake};
-ghost use Rattle.coll_table.specs.declared.load_faults.LoadFault.{LoadFault};
-ghost use Rattle.coll_table.specs.TableLayout.{collation};
-ghost use Rattle.coll_table.specs.WellFormed.{IsWellFormed};
-ghost use Rattle.coll_table.specs.declared.load_faults.LoadCause.TheVariants.{OutOfMemory};
+ghost use Rattle.coll_draft.specs.declared.load_faults.LoadFault.{LoadFault};
+ghost use Rattle.coll_nodes.specs.TableLayout.{collation};
+ghost use Rattle.coll_nodes.specs.WellFormed.{IsWellFormed};
+ghost use Rattle.coll_draft.specs.declared.load_faults.LoadCause.TheVariants.{OutOfMemory};
 
-use crate::drafts::Draft;
-use crate::{LoadCause, LoadFault, Table};
+use crate::Table;
+use coll_draft::{Draft, LoadCause, LoadFault};
 use coll_lex::{LexFault, Lexer, Line};
 use coll_syntax::parse_table_line;
 use std::alloc::{AllocError, Global};
@@ -41,7 +41,7 @@ pub struct Loader {
 }
 
 impl Model for Loader {
-    ghost use Rattle.coll_table.specs.Loading.{LoaderState};
+    ghost use Rattle.coll_draft.specs.Loading.{LoaderState};
     ghost use Rattle.coll_table.specs.SoundLoaders.{IsSoundLoader};
 
     ghost Value = { LoaderState };
@@ -52,7 +52,7 @@ impl Model for Loader {
 }
 
 impl Loader {
-    ghost use Rattle.coll_table.specs.Loading.{LoaderState, first_loader, loaded_line, loaded, by_where, by_outside, by_fed, by_read, early_end};
+    ghost use Rattle.coll_draft.specs.Loading.{LoaderState, first_loader, loaded_line, loaded, by_where, by_outside, by_fed, by_read, early_end};
 
     /// A loader before the first line.
     pub fn new(alloc: Global) -> Result<Loader, AllocError>
@@ -75,7 +75,7 @@ impl Loader {
     /// The first fault is stored, want of memory as any other, and each later call answers it again. Behind the end of the
     /// category nothing is looked at. Memory is taken in the category alone, and there where the lexer takes it or a line has
     /// tokens. A line that is refused doesn't end the category.
-    #[tactic(auto, unfolding(crate::specs::Loading::loaded_line))]
+    #[tactic(auto, unfolding(coll_draft::specs::Loading::loaded_line))]
     pub fn line(&mut self, line: &[u8]) -> Result<(), LoadFault>
         ensures ok { OnOk result (loaded_line self.old line.now ≡ Ok self.new) }
         ensures err { IfErr result (λ fault. fault.cause ≢ OutOfMemory → loaded_line self.old line.now ≡ Err fault) }
@@ -112,7 +112,7 @@ impl Loader {
 
     /// The table, where the category has ended; otherwise the fault that is stored, or that of a text that ends here. It takes
     /// no memory.
-    #[tactic(auto, unfolding(crate::specs::Loading::loaded))]
+    #[tactic(auto, unfolding(coll_draft::specs::Loading::loaded))]
     pub fn finish(self) -> Result<Table, LoadFault>
         ensures ok { IfOk result (λ table. loaded self ≡ Ok (collation table)) }
         ensures err { IfErr result (λ fault. loaded self ≡ Err fault) }
@@ -123,7 +123,8 @@ impl Loader {
             return Err(fault);
         }
         if self.ended {
-            return Ok(self.draft.into_table());
+            let (rules, body) = self.draft.into_parts();
+            return Ok(Table { rules, body });
         }
         Err(self.early_end())
     }

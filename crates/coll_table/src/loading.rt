@@ -6,11 +6,12 @@
 
 ghost use Rattle.std.specs.Prelude.{◌≡◌, IfOk};
 ghost use Rattle.coll_table.specs.Loads.{Loads, CountsFault, stop_fault};
-ghost use Rattle.coll_table.specs.Reading.{TextsAreWellFormed};
-ghost use Rattle.coll_table.specs.TableLayout.{collation};
-ghost use Rattle.coll_table.specs.WellFormed.{IsWellFormed};
+ghost use Rattle.coll_draft.specs.Reading.{TextsAreWellFormed};
+ghost use Rattle.coll_nodes.specs.TableLayout.{collation};
+ghost use Rattle.coll_nodes.specs.WellFormed.{IsWellFormed};
 
-use crate::{LoadCause, LoadFault, Loader, Table};
+use crate::{Loader, Table};
+use coll_draft::{LoadCause, LoadFault};
 use coll_lex::{LexFault, LineReader, ReadStop, Source};
 use std::alloc::Global;
 

@@ -20,7 +20,7 @@ pub struct Names {
 
 impl Model for Names {
     ghost use Rattle.std.specs.Prelude.{List, ℕ};
-    ghost use Rattle.coll_table.specs.LookUps.{all_characters_of, AreTexts};
+    ghost use Rattle.coll_nodes.specs.LookUps.{all_characters_of, AreTexts};
 
     ghost Value = { List (List ℕ) };
 
@@ -30,7 +30,7 @@ impl Model for Names {
 }
 
 impl Names {
-    ghost use Rattle.coll_table.specs.LookUps.{with_name};
+    ghost use Rattle.coll_nodes.specs.LookUps.{with_name};
 
     /// No names. It takes no memory.
     pub fn new(alloc: Global) -> Names

@@ -23,7 +23,7 @@ pub struct Places {
 impl Model for Places {
     ghost use Rattle.std.specs.Prelude.{List};
     ghost use Rattle.coll_syntax.specs.declared.identifiers.Id.{Id};
-    ghost use Rattle.coll_table.specs.LookUps.{places_of};
+    ghost use Rattle.coll_nodes.specs.LookUps.{places_of};
 
     ghost Value = { List Id };
 
@@ -31,7 +31,7 @@ impl Model for Places {
 }
 
 impl Places {
-    ghost use Rattle.coll_table.specs.LookUps.{AddsId};
+    ghost use Rattle.coll_nodes.specs.LookUps.{AddsId};
 
     /// No identifiers. It takes no memory.
     pub fn new(alloc: Global) -> Places

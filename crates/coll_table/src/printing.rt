@@ -1,18 +1,17 @@
-//! The canonical text of a table: how it is written, and that it is read back.
+//! The canonical text of a table, written.
 //!
-//! The text is `text` of `specs/CanonicalText.antt`: its lines, each with its line feed. A new kind of line, or another
-//! spelling, is a case there first.
+//! The text is `text` of coll_print, `specs/CanonicalText.antt`, which spells its lines; here a table is taken apart for it.
 
 ghost use Rattle.std.specs.Prelude.{◌++◌, codes};
 ghost use Rattle.std.specs.List.{flat_map};
 ghost use Rattle.coll_lex.specs.Devices.{CountsErr, Sends};
-ghost use Rattle.coll_table.specs.CanonicalText.{line_bytes, rules_line, text, PrintedTablesAreReadBack};
-ghost use Rattle.coll_table.specs.PrintedParts.{declaration_bytes, met_bytes, category_bytes, order_bytes, sections_bytes};
-ghost use Rattle.coll_table.specs.TableLayout.{collation};
+ghost use Rattle.coll_print.specs.CanonicalText.{line_bytes, rules_line, text};
+ghost use Rattle.coll_print.specs.PrintedParts.{category_bytes, order_bytes, sections_bytes};
+ghost use Rattle.coll_nodes.specs.TableLayout.{collation};
 
-use crate::spelled_lines::{write_declaration, write_met, write_rules_line};
-use crate::{Declared, Table, Walk};
+use crate::Table;
 use coll_lex::{Sink, WriteStop, write_bytes};
+use coll_print::{write_declarations, write_rules_line, write_walk};
 
 impl Table {
     /// Writes the canonical text. It takes no memory.
@@ -26,13 +25,6 @@ impl Table {
         write_category(out, self)
     }
 }
-
-/// The law of printing: the canonical text of a well-formed table is read, by `reads`, as that table.
-///
-/// It does nothing; its contract is the law.
-pub fn printed_tables_are_read_back()
-    ensures { PrintedTablesAreReadBack }
-{}
 
 // Writes the lines of the category behind the one that begins it.
 fn write_category<W: Sink>(out: &mut W, table: &Table) -> Result<(), WriteStop>
@@ -59,32 +51,4 @@ fn write_sections<W: Sink>(out: &mut W, table: &Table) -> Result<(), WriteStop>
 {
     write_walk(out, table.walk())?;
     write_bytes(out, b"order_end\nEND LC_COLLATE\n")
-}
-
-// Writes a line for each declaration.
-fn write_declarations<W: Sink>(out: &mut W, declared: Declared<'_>) -> Result<(), WriteStop>
-    ensures sent { Sends (W.taken out.old) (W.taken out.new) (flat_map declaration_bytes declared.entry) result }
-    ensures errors { CountsErr (W.failed out.old) (W.failed out.new) result }
-{
-    let mut left = declared;
-    'declared: while let Some(item) = left.next() {
-        if let Err(stop) = write_declaration(out, item) {
-            return Err(stop);
-        }
-    }
-    Ok(())
-}
-
-// Writes a line for each section with a name, and for each entry.
-fn write_walk<W: Sink>(out: &mut W, walk: Walk<'_>) -> Result<(), WriteStop>
-    ensures sent { Sends (W.taken out.old) (W.taken out.new) (flat_map met_bytes walk.entry) result }
-    ensures errors { CountsErr (W.failed out.old) (W.failed out.new) result }
-{
-    let mut left = walk;
-    'walk: while let Some(item) = left.next() {
-        if let Err(stop) = write_met(out, item) {
-            return Err(stop);
-        }
-    }
-    Ok(())
 }

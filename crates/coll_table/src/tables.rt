@@ -6,8 +6,7 @@
 
 ghost use Rattle.std.specs.Prelude.{◌≡◌, length, option_copied, IfOk};
 
-use crate::Entry;
-use crate::bodies::Body;
+use coll_nodes::{Body, Declared, Entry, Walk};
 use coll_syntax::{Id, Rule, Rules};
 use std::alloc::{AllocError, Global};
 use std::marker::Model;
@@ -20,9 +19,9 @@ pub struct Table {
 }
 
 impl Model for Table {
-    ghost use Rattle.coll_table.specs.Bodies.{value_of};
-    ghost use Rattle.coll_table.specs.TableLayout.{TableValue, collation};
-    ghost use Rattle.coll_table.specs.WellFormed.{IsWellFormed};
+    ghost use Rattle.coll_nodes.specs.Bodies.{value_of};
+    ghost use Rattle.coll_nodes.specs.TableLayout.{TableValue, collation};
+    ghost use Rattle.coll_nodes.specs.WellFormed.{IsWellFormed};
 
     ghost Value = { TableValue };
 
@@ -32,14 +31,15 @@ impl Model for Table {
 }
 
 impl Table {
-    ghost use Rattle.coll_table.specs.Placement.{entry_at};
-    ghost use Rattle.coll_table.specs.SoundLayouts.{IsTable};
-    ghost use Rattle.coll_table.specs.Table.{entries_of, is_known, is_placed, is_symbol};
-    ghost use Rattle.coll_table.specs.TableLayout.{collation};
-    ghost use Rattle.coll_table.specs.WellFormed.{IsWellFormed};
+    ghost use Rattle.coll_nodes.specs.Placement.{entry_at};
+    ghost use Rattle.coll_nodes.specs.SoundLayouts.{IsTable};
+    ghost use Rattle.coll_nodes.specs.Table.{entries_of, is_known, is_placed, is_symbol};
+    ghost use Rattle.coll_nodes.specs.TableLayout.{collation};
+    ghost use Rattle.coll_nodes.specs.Walks.{met};
+    ghost use Rattle.coll_nodes.specs.WellFormed.{IsWellFormed};
 
     /// The rules of its levels, one to four.
-    #[tactic(auto, unfolding(crate::specs::TableLayout::collation))]
+    #[tactic(auto, unfolding(coll_nodes::specs::TableLayout::collation))]
     pub fn rules(&self) -> &[Rule]
         ensures { result.now ≡ (collation self.now).rules }
     {
@@ -47,7 +47,7 @@ impl Table {
     }
 
     /// The number of entries, in all sections together.
-    #[tactic(auto, unfolding(crate::specs::TableLayout::collation))]
+    #[tactic(auto, unfolding(coll_nodes::specs::TableLayout::collation))]
     pub fn len(&self) -> usize
         ensures { result ≡ length (entries_of (collation self.now)) }
     {
@@ -55,7 +55,7 @@ impl Table {
     }
 
     /// The number of declarations.
-    #[tactic(auto, unfolding(crate::specs::TableLayout::collation))]
+    #[tactic(auto, unfolding(coll_nodes::specs::TableLayout::collation))]
     pub fn declared_len(&self) -> usize
         ensures { result ≡ length (collation self.now).declared }
     {
@@ -63,7 +63,7 @@ impl Table {
     }
 
     /// The number of sections, the first, which has no name, counted.
-    #[tactic(auto, unfolding(crate::specs::TableLayout::collation))]
+    #[tactic(auto, unfolding(coll_nodes::specs::TableLayout::collation))]
     pub fn section_len(&self) -> usize
         ensures { result ≡ length (collation self.now).sections }
     {
@@ -71,18 +71,33 @@ impl Table {
     }
 
     /// The entry of an identifier, if it has one.
-    #[tactic(auto, unfolding(crate::specs::TableLayout::collation))]
+    #[tactic(auto, unfolding(coll_nodes::specs::TableLayout::collation))]
     pub fn entry(&self, id: &Id) -> Option<&Entry>
         ensures { option_copied result ≡ entry_at (entries_of (collation self.now)) id.now }
     {
         self.body.entry(id)
     }
 
+    /// A walk through the sections and entries, in order. It takes no memory.
+    pub fn walk(&self) -> Walk<'_>
+        ensures { result ≡ met (collation self.now).sections }
+    {
+        self.check_table();
+        self.body.walk()
+    }
+
+    /// The declarations, in order. It takes no memory.
+    pub fn declared(&self) -> Declared<'_>
+        ensures { result ≡ (collation self.now).declared }
+    {
+        self.body.declared()
+    }
+
     /// The number of ring steps that its changes have taken, modulo 2 to the power 64.
     pub fn steps(&self) -> u64
         ensures { result ≡ self.now.steps }
     {
-        self.body.nodes().steps()
+        self.body.steps()
     }
 
     /// A copy, in new memory, which has taken as many ring steps.
@@ -112,7 +127,7 @@ impl Table {
     }
 
     /// Whether an identifier stands in the table.
-    #[tactic(auto, unfolding(crate::specs::TableLayout::collation))]
+    #[tactic(auto, unfolding(coll_nodes::specs::TableLayout::collation))]
     pub(crate) fn is_placed(&self, id: &Id) -> bool
         ensures { result ≡ is_placed (collation self.now) id.now }
     {
@@ -120,7 +135,7 @@ impl Table {
     }
 
     /// Whether an identifier may be used: a name has to be declared.
-    #[tactic(auto, unfolding(crate::specs::TableLayout::collation))]
+    #[tactic(auto, unfolding(coll_nodes::specs::TableLayout::collation))]
     pub(crate) fn is_known(&self, id: &Id) -> bool
         ensures { result ≡ is_known (collation self.now).declared id.now }
     {
@@ -128,7 +143,7 @@ impl Table {
     }
 
     /// Whether an identifier is a collating symbol.
-    #[tactic(auto, unfolding(crate::specs::TableLayout::collation))]
+    #[tactic(auto, unfolding(coll_nodes::specs::TableLayout::collation))]
     pub(crate) fn is_symbol(&self, id: &Id) -> bool
         ensures { result ≡ is_symbol (collation self.now).declared id.now }
     {

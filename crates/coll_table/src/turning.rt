@@ -6,12 +6,13 @@
 
 ghost use Rattle.std.specs.Prelude.{◌≡◌, ◌<◌, ◌≤◌, ◌^◌, IsSome, length, not};
 ghost use Rattle.coll_table.specs.Record.{AreLoose, CanTurn, added_nodes, item_added, more_steps, turned_items, turned_layout, without_loose};
-ghost use Rattle.coll_table.specs.TableLayout.{content_of};
-ghost use Rattle.coll_table.specs.Turning.{CanDo, CanGoBack, CanGoOn, CanTurnBack, ItemGoes, exchanged, item_back, item_on, item_steps, items_back, items_on, moved_rings, placed_item, placed_items, steps_between, steps_of, turned_back, turned_on, weighed_nodes, with_exchanged};
+ghost use Rattle.coll_nodes.specs.TableLayout.{content_of};
+ghost use Rattle.coll_nodes.specs.Moving.{exchanged, moved_rings, weighed_nodes};
+ghost use Rattle.coll_table.specs.Turning.{CanDo, CanGoBack, CanGoOn, CanTurnBack, ItemGoes, item_back, item_on, item_steps, items_back, items_on, placed_item, placed_items, steps_between, steps_of, turned_back, turned_on, with_exchanged};
 
-use crate::bodies::Body;
 use crate::{Item, Record, Table};
 use coll_lex::ListBuf;
+use coll_nodes::Body;
 use coll_order::{NodeId, Place};
 use coll_syntax::Weight;
 
@@ -235,5 +236,5 @@ fn drop_if_added(body: &mut Body, item: &Item)
 fn check_steps(body: &Body)
     ensures { body.now.steps < 2 ^ 64 }
 {
-    let _steps = body.nodes().steps();
+    let _steps = body.steps();
 }

@@ -1,7 +1,7 @@
 //! Tests of `coll_key`: ranks, sort keys and how they are written, the order of texts, and the compiled listing.
 
 ghost use Rattle.coll_key.specs.Ranks.{AreRanksOf};
-ghost use Rattle.coll_table.specs.TableLayout.{collation};
+ghost use Rattle.coll_nodes.specs.TableLayout.{collation};
 
 use crate::assertions::{assert_same, assert_text};
 use crate::long_texts::repeated_text;

@@ -7,7 +7,7 @@ ghost use Rattle.std.specs.Prelude.{◌≡◌, option_map, option_to_list, IfSom
 ghost use Rattle.coll_units.specs.DeltaReading.{delta_end};
 ghost use Rattle.coll_syntax.specs.Proper.{IsProper};
 ghost use Rattle.coll_table.specs.Delta.{delta as delta_of};
-ghost use Rattle.coll_table.specs.TableLayout.{collation};
+ghost use Rattle.coll_nodes.specs.TableLayout.{collation};
 ghost use Rattle.coll_bench.specs.BatchOutcome.{delta_fault_in, judged_at, rewritten};
 ghost use Rattle.coll_bench.specs.BatchReading.{ReadsDelta, CountsDelta, WritesNone, FailsAs, line_taken, starved_in, stopped_in};
 ghost use Rattle.coll_bench.specs.BatchRuns.{ending_of};

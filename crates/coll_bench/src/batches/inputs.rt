@@ -1,7 +1,7 @@
 //! The inputs of a batch are read: the table, and then the delta files in their order, each of which rewrites it.
 
 ghost use Rattle.std.specs.Prelude.{◌≡◌, ◌≤◌, ◌<◌, ◌∷◌, length, map, IfErr};
-ghost use Rattle.coll_table.specs.TableLayout.{collation};
+ghost use Rattle.coll_nodes.specs.TableLayout.{collation};
 ghost use Rattle.coll_bench.specs.BatchOutcome.{table_fault as fault_of_table};
 ghost use Rattle.coll_bench.specs.BatchReading.{ReadsInputs, ReadsDeltas, CountsDeltas, WritesNone};
 ghost use Rattle.coll_bench.specs.BatchRuns.{CountsInputs};

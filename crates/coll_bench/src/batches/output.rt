@@ -8,10 +8,10 @@ ghost use Rattle.coll_key.specs.CompiledListing.{compiled_listing};
 ghost use Rattle.coll_key.specs.KeyLimits.{is_too_long};
 ghost use Rattle.coll_key.specs.Ranks.{AreRanksOf};
 ghost use Rattle.coll_key.specs.TextOrder.{order_of};
-ghost use Rattle.coll_table.specs.TableLayout.{collation};
+ghost use Rattle.coll_nodes.specs.TableLayout.{collation};
 ghost use Rattle.coll_bench.specs.BatchOutcome.{batch_output, texts_of, is_any_too_long, key_line};
 ghost use Rattle.coll_bench.specs.BatchWriting.{Outputs, CountsOutput, as_written, starved_key};
-ghost use Rattle.coll_table.specs.CanonicalText.{text};
+ghost use Rattle.coll_print.specs.CanonicalText.{text};
 ghost use Rattle.coll_bench.specs.Replies.{checked_line, order_word};
 
 use super::Batch;

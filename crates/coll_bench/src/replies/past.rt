@@ -4,7 +4,7 @@
 
 ghost use Rattle.std.specs.Prelude.{◌++◌, ◌∷◌, [], codes, decimal};
 ghost use Rattle.coll_lex.specs.Devices.{CountsErr, Sends};
-ghost use Rattle.coll_table.specs.PrintedParts.{id_bytes};
+ghost use Rattle.coll_print.specs.PrintedParts.{id_bytes};
 ghost use Rattle.coll_bench.specs.Replies.{history_count, history_line, history_lines, history_listing, name_bytes, spaced, statement_words};
 
 use super::{write_spaced, write_words};

@@ -8,19 +8,20 @@ ghost use Rattle.std.specs.Prelude.{◌≡◌, ◌≢◌, ◌∷◌, [], IsOk, O
 ghost use Rattle.std.specs.List.{flat_map};
 ghost use Rattle.coll_syntax.specs.Proper.{IsProper};
 ghost use Rattle.coll_table.specs.Delta.{block_delta, declaration_refusal, delta, ids_given, line_refusal, lines_refusal, reweight_delta, reweight_refusal, section_refusal, weights_refusal};
-ghost use Rattle.coll_table.specs.Drafts.{refused_if};
-ghost use Rattle.coll_table.specs.Entries.{given_weights, weight_ids};
+ghost use Rattle.coll_draft.specs.Drafts.{refused_if};
+ghost use Rattle.coll_nodes.specs.Entries.{given_weights, weight_ids};
 ghost use Rattle.coll_table.specs.Judging.{entries_added, HaveSame, id_refusal, ids_refusal, line_ids};
-ghost use Rattle.coll_table.specs.Limits.{most_declarations};
-ghost use Rattle.coll_table.specs.LookUps.{AddsId};
-ghost use Rattle.coll_table.specs.TableLayout.{collation};
-ghost use Rattle.coll_table.specs.declared.declarations.Declaration.TheVariants as declaration;
+ghost use Rattle.coll_nodes.specs.Limits.{most_declarations};
+ghost use Rattle.coll_nodes.specs.LookUps.{AddsId};
+ghost use Rattle.coll_nodes.specs.TableLayout.{collation};
+ghost use Rattle.coll_nodes.specs.declared.declarations.Declaration.TheVariants as declaration;
 ghost use Rattle.coll_table.specs.declared.refusals.Refusal.TheVariants.{Full, OutOfMemory};
 
-use crate::line_weights::given_len;
 use crate::places::Places;
-use crate::{MOST_DECLARATIONS, MOST_ENTRIES, Refusal, Table};
+use crate::{Refusal, Table};
+use coll_draft::given_len;
 use coll_lex::TextBuf;
+use coll_nodes::{MOST_DECLARATIONS, MOST_ENTRIES};
 use coll_syntax::{Id, OrderLine, Statement, Weight};
 
 /// What the lines of a block say together.
@@ -55,7 +56,7 @@ impl Table {
     }
 
     /// Why the declaration of a collating symbol is refused, if it is.
-    #[tactic(auto, unfolding(crate::specs::TableLayout::collation))]
+    #[tactic(auto, unfolding(coll_nodes::specs::TableLayout::collation))]
     fn symbol_refusal(&self, name: &TextBuf) -> Option<Refusal>
         ensures { result ≡ declaration_refusal (collation self.now) (declaration.Symbol name.now) }
     {
@@ -66,7 +67,7 @@ impl Table {
     }
 
     /// Why the declaration of a collating element is refused, if it is.
-    #[tactic(auto, unfolding(crate::specs::TableLayout::collation))]
+    #[tactic(auto, unfolding(coll_nodes::specs::TableLayout::collation))]
     fn element_refusal(&self, name: &TextBuf, text: &TextBuf) -> Option<Refusal>
         ensures { result ≡ declaration_refusal (collation self.now) (declaration.Element name.now text.now) }
     {
@@ -80,7 +81,7 @@ impl Table {
     }
 
     /// Why one declaration more is refused, if it is.
-    #[tactic(auto, unfolding(crate::specs::TableLayout::collation))]
+    #[tactic(auto, unfolding(coll_nodes::specs::TableLayout::collation))]
     fn room_refusal(&self) -> Option<Refusal>
         ensures { result ≡ refused_if (nat_le most_declarations (length (collation self.now).declared)) Full None }
     {
@@ -91,7 +92,7 @@ impl Table {
     }
 
     /// Why a section isn't moved, if it isn't.
-    #[tactic(auto, unfolding(crate::specs::TableLayout::collation))]
+    #[tactic(auto, unfolding(coll_nodes::specs::TableLayout::collation))]
     fn section_refusal(&self, moved: &TextBuf, after: &TextBuf) -> Option<Refusal>
         ensures { result ≡ section_refusal (collation self.now) moved.now after.now }
     {

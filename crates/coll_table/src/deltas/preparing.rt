@@ -10,15 +10,15 @@ ghost use Rattle.coll_syntax.specs.Identifier.{has_name};
 ghost use Rattle.coll_table.specs.Growth.{AddsLoose};
 ghost use Rattle.coll_table.specs.Prepared.{ArePrepared, IsPreparedBlock, IsPreparedDeclaration, IsPreparedLine, IsPreparedReweight, IsPreparedSection, made_entry, weights_to};
 ghost use Rattle.coll_table.specs.Record.{AreLoose, added_by, added_nodes, without_nodes};
-ghost use Rattle.coll_table.specs.Table.{is_placed, is_symbol, section_names};
-ghost use Rattle.coll_table.specs.TableLayout.{collation, content_of};
-ghost use Rattle.coll_table.specs.Turning.{MayBeLoose};
-ghost use Rattle.coll_table.specs.declared.contents.Content.TheVariants as content;
+ghost use Rattle.coll_nodes.specs.Table.{is_placed, is_symbol, section_names};
+ghost use Rattle.coll_nodes.specs.TableLayout.{collation, content_of};
+ghost use Rattle.coll_nodes.specs.Moving.{MayBeLoose};
+ghost use Rattle.coll_nodes.specs.declared.contents.Content.TheVariants as content;
 
-use crate::contents::Content;
-use crate::line_weights::kept_weights;
-use crate::{Declaration, Entry, Item, Record, Table};
+use crate::{Item, Record, Table};
+use coll_draft::kept_weights;
 use coll_lex::{ListBuf, TextBuf};
+use coll_nodes::{Content, Declaration, Entry};
 use coll_order::{NodeId, Place};
 use coll_syntax::{Id, OrderLine, Weight};
 use std::alloc::AllocError;
@@ -174,7 +174,7 @@ impl Table {
     {
         let weights = self.default_weights(id)?;
         let id = id.clone()?;
-        self.make(Content::Placed(Entry { id, weights }))
+        self.make(Content::Placed(Entry::new(id, weights)))
     }
 
     /// The weights that a new entry is made with: its own at each level, and none for a collating symbol.

@@ -2,7 +2,7 @@
 use Rattle.std.proofs.Common.{◌≡◌, reverse, sym, ap, ◌∙◌, subst, refl}
 use Rattle.coll_bench.specs.Kept.{added_by_all}
 use Rattle.coll_table.specs.Record.{AreLoose, Extends, dropped_nodes}
-use Rattle.coll_table.specs.TableLayout.{TableValue}
+use Rattle.coll_nodes.specs.TableLayout.{TableValue}
 use Rattle.coll_bench.proofs.GivenUp.{extends_on, extends_self, extends_without, in_order, loose_first, loose_later, steps_without}
 use Rattle.coll_bench.proofs.histories.give_up.Goals as goal
 

@@ -1,6 +1,6 @@
 -- The reply to a command is what its call answered, or what the table or the history has to say.
 use Rattle.std.proofs.Common.{codes, refl, ap, ◌∙◌}
-use Rattle.coll_table.specs.CanonicalText.{text}
+use Rattle.coll_print.specs.CanonicalText.{text}
 use Rattle.coll_bench.specs.Histories.{table_now, taken_back, put_again}
 use Rattle.coll_bench.specs.Replies.{listing, checked_line, history_listing}
 use Rattle.coll_units.specs.declared.session_lines.Command.TheVariants as command

@@ -1,7 +1,7 @@
 use Rattle.std.proofs.Common.{◌++◌, length, codes}
 use Rattle.coll_lex.proofs.WritingLemmas.{AppendsFront-before, Sends-after, Sends-stopped}
-use Rattle.coll_table.specs.Table.{entries_of}
-use Rattle.coll_table.specs.TableLayout.{collation}
+use Rattle.coll_nodes.specs.Table.{entries_of}
+use Rattle.coll_nodes.specs.TableLayout.{collation}
 use Rattle.coll_bench.specs.Replies.{count_part, declared_part, checked_line}
 use Rattle.coll_bench.proofs.replies.write_checked.Goals as goal
 

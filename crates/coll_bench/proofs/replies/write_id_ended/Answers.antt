@@ -1,6 +1,6 @@
 use Rattle.std.proofs.Common.{[], ◌∷◌, ◌++◌}
 use Rattle.coll_lex.proofs.WritingLemmas.{AppendsFront-before, Sends-after, Sends-stopped}
-use Rattle.coll_table.specs.PrintedParts.{id_bytes}
+use Rattle.coll_print.specs.PrintedParts.{id_bytes}
 use Rattle.coll_bench.proofs.replies.write_id_ended.Goals as goal
 
 pub returns-in_err-write_id-clause-sent : goal.returns-in_err-write_id-clause-sent

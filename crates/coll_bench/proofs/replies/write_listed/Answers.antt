@@ -1,6 +1,6 @@
 use Rattle.std.proofs.Common.{◌≡◌, [], ◌∷◌, ◌++◌, decimal, ◌∙◌}
 use Rattle.coll_lex.proofs.WritingLemmas.{AppendsFront-before, Sends-after, Sends-stopped}
-use Rattle.coll_table.specs.PrintedParts.{id_bytes}
+use Rattle.coll_print.specs.PrintedParts.{id_bytes}
 use Rattle.coll_bench.specs.Replies.{listed_line}
 use Rattle.coll_bench.proofs.replies.write_listed.Goals as goal
 

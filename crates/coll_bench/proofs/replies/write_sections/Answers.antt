@@ -1,6 +1,6 @@
 use Rattle.std.proofs.Common.{◌++◌, length, codes}
 use Rattle.coll_lex.proofs.WritingLemmas.{AppendsFront-before, Sends-after, Sends-stopped}
-use Rattle.coll_table.specs.TableLayout.{collation}
+use Rattle.coll_nodes.specs.TableLayout.{collation}
 use Rattle.coll_bench.specs.Replies.{count_part, levels_part}
 use Rattle.coll_bench.proofs.replies.write_sections.Goals as goal
 

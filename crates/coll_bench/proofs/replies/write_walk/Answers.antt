@@ -3,9 +3,9 @@ use Rattle.std.proofs.Common.{◌≡◌, ◌≤◌, ◌+◌, ◌++◌, [], ℕ, 
 use Rattle.std.proofs.KnownBytes.{Appends-nil, Appends-trans}
 use Rattle.coll_lex.proofs.WritingLemmas.{AppendsFront-after, AppendsFront-before}
 use Rattle.coll_lex.specs.Devices.{AppendsFront}
-use Rattle.coll_table.specs.TableLayout.{collation}
-use Rattle.coll_table.specs.Walks.{Met, met}
-use Rattle.coll_table.specs.WalkItems.{met_by}
+use Rattle.coll_nodes.specs.TableLayout.{collation}
+use Rattle.coll_nodes.specs.Walks.{Met, met}
+use Rattle.coll_nodes.specs.WalkItems.{met_by}
 use Rattle.coll_bench.specs.Replies.{listed_sections}
 use Rattle.coll_bench.specs.Listing.{listed_met, met_line, rank_after}
 use Rattle.coll_bench.proofs.ListingLemmas.{sections_listed, length-met, met_more, met_none, rank-after}

@@ -1,7 +1,7 @@
 use Rattle.std.proofs.Common.{◌≡◌, ℕ, ◌-◌, List, Some, None}
 use Rattle.coll_lex.specs.LineReading.{unread}
 use Rattle.coll_lex.specs.Limits.{most_lines}
-use Rattle.coll_table.specs.TableLayout.{collation}
+use Rattle.coll_nodes.specs.TableLayout.{collation}
 use Rattle.coll_bench.specs.Underway.{Underway}
 use Rattle.coll_bench.proofs.runs.run_session.Given as goal
 

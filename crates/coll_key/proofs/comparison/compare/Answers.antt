@@ -1,5 +1,5 @@
 use Rattle.std.proofs.Common.{◌≡◌, ◌∙◌, chars, false, sym}
-use Rattle.coll_table.specs.TableLayout.{collation}
+use Rattle.coll_nodes.specs.TableLayout.{collation}
 use Rattle.coll_key.specs.KeyLimits.{is_too_long}
 use Rattle.coll_key.specs.Ranks.{parts_of, part_numbers}
 use Rattle.coll_key.proofs.LevelLemmas.{few_parts}

@@ -1,5 +1,5 @@
 use Rattle.std.proofs.Common.{◌≡◌, ◌∙◌, chars, false, ap}
-use Rattle.coll_table.specs.TableLayout.{collation}
+use Rattle.coll_nodes.specs.TableLayout.{collation}
 use Rattle.coll_key.specs.KeyLimits.{is_too_long}
 use Rattle.coll_key.specs.WrittenKey.{has_key_form}
 use Rattle.coll_key.proofs.KeyForm.{key_form}

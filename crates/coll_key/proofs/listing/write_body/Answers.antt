@@ -1,10 +1,10 @@
 -- The rules, and the entries.
 use Rattle.std.proofs.Common.{◌++◌, refl}
 use Rattle.std.specs.List.{flat_map}
-use Rattle.coll_table.specs.TableLayout.{collation}
+use Rattle.coll_nodes.specs.TableLayout.{collation}
 use Rattle.coll_key.specs.CompiledListing.{listed_rule}
 use Rattle.coll_key.specs.ListingParts.{entries_part}
-use Rattle.coll_table.proofs.PrintedParts.{stops_first, writes_rest}
+use Rattle.coll_print.proofs.PrintedParts.{stops_first, writes_rest}
 use Rattle.coll_key.proofs.listing.write_body.Goals as goal
 
 pub returns-in_err-write_rules-clause-sent : goal.returns-in_err-write_rules-clause-sent

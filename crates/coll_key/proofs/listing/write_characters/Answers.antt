@@ -4,8 +4,8 @@ use Rattle.std.specs.Str.{chars}
 use Rattle.std.proofs.lemmas.Iterator.{YieldsList-from_chars}
 use Rattle.std.proofs.lemmas.Iterator.Consumers.{YieldsList-turn, YieldsList-end}
 use Rattle.std.proofs.lemmas.List.{length_push, drop_all}
-use Rattle.coll_table.specs.PrintedParts.{char_bytes}
-use Rattle.coll_table.proofs.PrintedParts.{left_begins, written_front, written_more, written_all}
+use Rattle.coll_print.specs.PrintedParts.{char_bytes}
+use Rattle.coll_print.proofs.PrintedParts.{left_begins, written_front, written_more, written_all}
 use Rattle.coll_key.proofs.listing.write_characters.Goals as goal
 
 pub returns-in-Err-clause-sent : goal.returns-in-Err-clause-sent

@@ -1,8 +1,8 @@
 -- What is written and what is left are the whole.
 use Rattle.std.proofs.Common.{◌≡◌, drop, length}
 use Rattle.std.specs.Prelude.{chars}
-use Rattle.coll_table.specs.PrintedParts.{char_bytes}
-use Rattle.coll_table.proofs.PrintedParts.{HasWritten}
+use Rattle.coll_print.specs.PrintedParts.{char_bytes}
+use Rattle.coll_print.proofs.PrintedParts.{HasWritten}
 use Rattle.coll_key.proofs.listing.write_characters.Given as goal
 
 abbrev pub invariant-loop-c : goal.invariant-loop-c

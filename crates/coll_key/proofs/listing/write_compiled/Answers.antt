@@ -1,11 +1,11 @@
 -- The first line, and those behind it.
 use Rattle.std.proofs.Common.{◌++◌}
 use Rattle.std.specs.List.{flat_map}
-use Rattle.coll_table.specs.TableLayout.{collation}
+use Rattle.coll_nodes.specs.TableLayout.{collation}
 use Rattle.coll_key.specs.CompiledListing.{compiled_listing, listing_head, listed_rule}
 use Rattle.coll_key.specs.ListingParts.{entries_part}
 use Rattle.coll_key.proofs.ListingLemmas.{listing_parts}
-use Rattle.coll_table.proofs.PrintedParts.{stops_first, writes_rest}
+use Rattle.coll_print.proofs.PrintedParts.{stops_first, writes_rest}
 use Rattle.coll_key.proofs.listing.write_compiled.Goals as goal
 
 pub returns-in_err-write_head-clause-sent : goal.returns-in_err-write_head-clause-sent

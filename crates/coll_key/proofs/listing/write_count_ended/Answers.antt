@@ -1,9 +1,9 @@
 -- The number of entries, and the end of the line.
 use Rattle.std.proofs.Common.{[], ◌∷◌, length, refl}
-use Rattle.coll_table.specs.TableLayout.{collation}
-use Rattle.coll_table.specs.Table.{entries_of}
+use Rattle.coll_nodes.specs.TableLayout.{collation}
+use Rattle.coll_nodes.specs.Table.{entries_of}
 use Rattle.coll_key.specs.ListingParts.{spaced_number, count_bytes}
-use Rattle.coll_table.proofs.PrintedParts.{stops_first, writes_rest}
+use Rattle.coll_print.proofs.PrintedParts.{stops_first, writes_rest}
 use Rattle.coll_key.proofs.listing.write_count_ended.Goals as goal
 
 pub returns-in_err-write_spaced_number-clause-sent : goal.returns-in_err-write_spaced_number-clause-sent

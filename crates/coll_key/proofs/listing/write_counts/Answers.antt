@@ -1,8 +1,8 @@
 -- The number of levels, and that of entries.
 use Rattle.std.proofs.Common.{length, refl}
-use Rattle.coll_table.specs.TableLayout.{collation}
+use Rattle.coll_nodes.specs.TableLayout.{collation}
 use Rattle.coll_key.specs.ListingParts.{spaced_number, count_bytes, counts_bytes}
-use Rattle.coll_table.proofs.PrintedParts.{stops_first, writes_rest}
+use Rattle.coll_print.proofs.PrintedParts.{stops_first, writes_rest}
 use Rattle.coll_key.proofs.listing.write_counts.Goals as goal
 
 pub returns-in_err-write_spaced_number-clause-sent : goal.returns-in_err-write_spaced_number-clause-sent

@@ -1,8 +1,8 @@
 -- UNDEFINED, and the last line.
 use Rattle.std.proofs.Common.{◌++◌, codes, refl}
-use Rattle.coll_table.specs.TableLayout.{collation}
+use Rattle.coll_nodes.specs.TableLayout.{collation}
 use Rattle.coll_key.specs.CompiledListing.{listed_undefined}
-use Rattle.coll_table.proofs.PrintedParts.{stops_first, writes_rest}
+use Rattle.coll_print.proofs.PrintedParts.{stops_first, writes_rest}
 use Rattle.coll_key.proofs.listing.write_end.Goals as goal
 
 pub returns-in_err-write_unplaced-clause-sent : goal.returns-in_err-write_unplaced-clause-sent

@@ -1,8 +1,8 @@
 -- The entries, and what stands behind them.
 use Rattle.std.proofs.Common.{List, ℕ, ◌++◌, codes, ap}
-use Rattle.coll_table.specs.TableLayout.{collation}
-use Rattle.coll_table.specs.Walks.{entries_met}
-use Rattle.coll_table.proofs.PrintedParts.{stops_first, writes_rest}
+use Rattle.coll_nodes.specs.TableLayout.{collation}
+use Rattle.coll_nodes.specs.Walks.{entries_met}
+use Rattle.coll_print.proofs.PrintedParts.{stops_first, writes_rest}
 use Rattle.coll_key.specs.CompiledListing.{listed_undefined}
 use Rattle.coll_key.specs.ListingParts.{entries_part, ranked_lines}
 use Rattle.coll_key.proofs.ListedLines.{fit_met, lines_are_listed}

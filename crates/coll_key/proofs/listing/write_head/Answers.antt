@@ -1,9 +1,9 @@
 -- The version, and the counts.
 use Rattle.std.proofs.Common.{codes}
-use Rattle.coll_table.specs.TableLayout.{collation}
+use Rattle.coll_nodes.specs.TableLayout.{collation}
 use Rattle.coll_key.specs.CompiledListing.{listing_head}
 use Rattle.coll_key.specs.ListingParts.{counts_bytes}
-use Rattle.coll_table.proofs.PrintedParts.{stops_first, writes_rest}
+use Rattle.coll_print.proofs.PrintedParts.{stops_first, writes_rest}
 use Rattle.coll_key.proofs.ListingLemmas.{head_parts}
 use Rattle.coll_key.proofs.listing.write_head.Goals as goal
 

@@ -2,7 +2,7 @@
 use Rattle.std.proofs.Common.{refl}
 use Rattle.coll_key.specs.WrittenKey.{level_end}
 use Rattle.coll_key.specs.ListingParts.{is_star, level_bytes, spaced, weight_bytes}
-use Rattle.coll_table.proofs.PrintedParts.{stops_first, writes_rest}
+use Rattle.coll_print.proofs.PrintedParts.{stops_first, writes_rest}
 use Rattle.coll_key.proofs.listing.write_level.Goals as goal
 
 pub returns-in_err-write_weight-clause-sent : goal.returns-in_err-write_weight-clause-sent

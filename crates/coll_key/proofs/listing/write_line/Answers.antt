@@ -1,7 +1,7 @@
 -- The rank with its identifier, and the levels.
 use Rattle.std.proofs.Common.{refl}
 use Rattle.coll_key.specs.ListingParts.{levels_ended, ranked_id, ranked_line}
-use Rattle.coll_table.proofs.PrintedParts.{stops_first, writes_rest}
+use Rattle.coll_print.proofs.PrintedParts.{stops_first, writes_rest}
 use Rattle.coll_key.proofs.listing.write_line.Goals as goal
 
 pub returns-in_err-write_ranked_id-clause-sent : goal.returns-in_err-write_ranked_id-clause-sent

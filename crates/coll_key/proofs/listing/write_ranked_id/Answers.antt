@@ -1,7 +1,7 @@
 -- The rank, and the identifier.
 use Rattle.std.proofs.Common.{decimal, refl}
 use Rattle.coll_key.specs.ListingParts.{ranked_id, spaced, spelled_with}
-use Rattle.coll_table.proofs.PrintedParts.{stops_first, writes_rest}
+use Rattle.coll_print.proofs.PrintedParts.{stops_first, writes_rest}
 use Rattle.coll_key.proofs.listing.write_ranked_id.Goals as goal
 
 pub returns-in_err-write_number-clause-sent : goal.returns-in_err-write_number-clause-sent

@@ -1,8 +1,8 @@
 -- The rule, and the end of the line.
 use Rattle.std.proofs.Common.{[], ◌∷◌, ◌++◌, refl}
 use Rattle.std.specs.Prelude.{encode_utf8_all}
-use Rattle.coll_table.specs.CanonicalText.{spelled_rule}
-use Rattle.coll_table.proofs.PrintedParts.{stops_first, writes_rest}
+use Rattle.coll_print.specs.CanonicalText.{spelled_rule}
+use Rattle.coll_print.proofs.PrintedParts.{stops_first, writes_rest}
 use Rattle.coll_key.proofs.listing.write_rule_ended.Goals as goal
 
 pub returns-in_err-write_rule-clause-sent : goal.returns-in_err-write_rule-clause-sent

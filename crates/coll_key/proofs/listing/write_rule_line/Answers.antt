@@ -1,9 +1,9 @@
 -- The word, and the rule.
 use Rattle.std.proofs.Common.{[], ◌∷◌, ◌++◌, codes, refl}
 use Rattle.std.specs.Prelude.{encode_utf8_all}
-use Rattle.coll_table.specs.CanonicalText.{spelled_rule}
+use Rattle.coll_print.specs.CanonicalText.{spelled_rule}
 use Rattle.coll_key.specs.CompiledListing.{listed_rule}
-use Rattle.coll_table.proofs.PrintedParts.{stops_first, writes_rest}
+use Rattle.coll_print.proofs.PrintedParts.{stops_first, writes_rest}
 use Rattle.coll_key.proofs.listing.write_rule_line.Goals as goal
 
 pub returns-in_err-write_bytes-clause-sent : goal.returns-in_err-write_bytes-clause-sent

@@ -1,7 +1,7 @@
 -- A space, and the spelling.
 use Rattle.std.proofs.Common.{codes, refl}
 use Rattle.coll_key.specs.ListingParts.{spaced, spelled_with}
-use Rattle.coll_table.proofs.PrintedParts.{stops_first, writes_rest}
+use Rattle.coll_print.proofs.PrintedParts.{stops_first, writes_rest}
 use Rattle.coll_key.proofs.listing.write_spaced_id.Goals as goal
 
 pub returns-in_err-write_bytes-clause-sent : goal.returns-in_err-write_bytes-clause-sent

@@ -2,7 +2,7 @@
 use Rattle.std.proofs.Common.{codes, refl}
 use Rattle.std.specs.Prelude.{decimal}
 use Rattle.coll_key.specs.ListingParts.{spaced_number}
-use Rattle.coll_table.proofs.PrintedParts.{stops_first, writes_rest}
+use Rattle.coll_print.proofs.PrintedParts.{stops_first, writes_rest}
 use Rattle.coll_key.proofs.listing.write_spaced_number.Goals as goal
 
 pub returns-in_err-write_bytes-clause-sent : goal.returns-in_err-write_bytes-clause-sent

@@ -6,8 +6,8 @@ use Rattle.std.proofs.KnownBytes.{Appends-nil}
 use Rattle.coll_syntax.specs.declared.identifiers.Id.TheVariants.{Undefined}
 use Rattle.coll_syntax.specs.declared.rules.Rule.{Rule}
 use Rattle.coll_syntax.specs.declared.weights.Weight.TheVariants.{Own}
-use Rattle.coll_table.specs.TableLayout.{collation}
-use Rattle.coll_table.proofs.PrintedParts.{sends_same}
+use Rattle.coll_nodes.specs.TableLayout.{collation}
+use Rattle.coll_print.proofs.PrintedParts.{sends_same}
 use Rattle.coll_key.specs.CompiledListing.{listed_undefined}
 use Rattle.coll_key.specs.ListingParts.{ranked_line}
 use Rattle.coll_key.proofs.ListedLines.{undefined_is_entry, undefined_is_listed, own_levels}

@@ -1,8 +1,8 @@
 -- Each item that is an entry is one line, with the next rank.
 use Rattle.std.proofs.Common.{◌≤◌, ◌+◌, length, refl, sym, subst, ◌∙◌}
 use Rattle.coll_lex.proofs.WritingLemmas.{Sends-stopped}
-use Rattle.coll_table.specs.WalkItems.{met_by}
-use Rattle.coll_table.specs.Walks.{entry_met, entries_met}
+use Rattle.coll_nodes.specs.WalkItems.{met_by}
+use Rattle.coll_nodes.specs.Walks.{entry_met, entries_met}
 use Rattle.coll_key.specs.ListingParts.{met_line, ranked_lines}
 use Rattle.coll_key.proofs.ListedLines.{fits_later, lines_next}
 use Rattle.coll_key.proofs.ListingLemmas.{left_front, left_more}

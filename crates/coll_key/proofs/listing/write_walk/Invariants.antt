@@ -1,6 +1,6 @@
 -- What is written and what is left are the whole, and a rank is left for each entry.
 use Rattle.std.proofs.Common.{◌≡◌, ◌≤◌, ◌+◌, All, length}
-use Rattle.coll_table.specs.Walks.{entries_met}
+use Rattle.coll_nodes.specs.Walks.{entries_met}
 use Rattle.coll_key.specs.ListingParts.{ranked_lines, HasFewWeights}
 use Rattle.coll_key.proofs.ListingLemmas.{IsLeft}
 use Rattle.coll_key.proofs.listing.write_walk.Given as goal

@@ -1,7 +1,7 @@
 -- What is put in, and what is left, is the whole.
 use Rattle.std.proofs.Common.{◌≡◌, ◌++◌}
 use Rattle.std.specs.List.{flat_map}
-use Rattle.coll_table.specs.Walks.{entries_met}
+use Rattle.coll_nodes.specs.Walks.{entries_met}
 use Rattle.coll_key.specs.Ranks.{rank_or_zero, compiled_entry}
 use Rattle.coll_key.proofs.ranking.compile_walk.Given as goal
 

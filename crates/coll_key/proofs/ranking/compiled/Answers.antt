@@ -1,5 +1,5 @@
 -- The weights of UNDEFINED, and then those of all entries.
-use Rattle.coll_table.specs.TableLayout.{collation}
+use Rattle.coll_nodes.specs.TableLayout.{collation}
 use Rattle.coll_key.proofs.RankingLemmas.{weights_of_table}
 use Rattle.coll_key.proofs.ranking.compiled.Goals as goal
 

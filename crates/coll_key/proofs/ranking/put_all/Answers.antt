@@ -1,7 +1,7 @@
 -- Each declaration that is an element with a rank is put behind the others.
 use Rattle.std.proofs.Common.{All, subst}
 use Rattle.std.proofs.lemmas.List.Elements.{All-tail}
-use Rattle.coll_table.specs.WalkItems.{declared_by}
+use Rattle.coll_nodes.specs.WalkItems.{declared_by}
 use Rattle.coll_key.specs.Ranking.{HasString}
 use Rattle.coll_key.proofs.RankingLemmas.{put_more, few_more}
 use Rattle.coll_key.proofs.ranking.put_all.Goals as goal

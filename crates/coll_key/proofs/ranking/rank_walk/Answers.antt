@@ -1,6 +1,6 @@
 -- Each item that is an entry has the next rank.
 use Rattle.std.proofs.Common.{◌∙◌}
-use Rattle.coll_table.specs.WalkItems.{met_by}
+use Rattle.coll_nodes.specs.WalkItems.{met_by}
 use Rattle.coll_key.proofs.RankingLemmas.{counted_met, ranked_met}
 use Rattle.coll_key.proofs.ranking.rank_walk.Goals as goal
 

@@ -2,7 +2,7 @@
 use Rattle.std.proofs.Common.{◌≡◌, ◌+◌, length}
 use Rattle.std.specs.Option.{option_or}
 use Rattle.coll_syntax.specs.declared.identifiers.Id.{Id}
-use Rattle.coll_table.specs.Walks.{entries_met}
+use Rattle.coll_nodes.specs.Walks.{entries_met}
 use Rattle.coll_key.specs.Ranking.{last_place}
 use Rattle.coll_key.specs.Ranks.{rank_with}
 use Rattle.coll_key.proofs.ranking.rank_walk.Given as goal

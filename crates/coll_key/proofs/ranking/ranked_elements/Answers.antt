@@ -1,8 +1,8 @@
 -- The elements that have a rank are those placed.
 use Rattle.std.proofs.Common.{◌≡◌, List, ◌++◌, All, IfOk, sym, subst, ap₂, ◌∙◌}
 use Rattle.std.specs.List.{flat_map}
-use Rattle.coll_table.specs.TableLayout.{collation}
-use Rattle.coll_table.specs.declared.declarations.Declaration.{Declaration}
+use Rattle.coll_nodes.specs.TableLayout.{collation}
+use Rattle.coll_nodes.specs.declared.declarations.Declaration.{Declaration}
 use Rattle.coll_key.specs.Ranking.{HasString, ranked_declared}
 use Rattle.coll_key.specs.Ranks.{RankedElement}
 use Rattle.coll_key.proofs.RankingLemmas.{have_strings, elements_ranked}

@@ -2,8 +2,8 @@
 use Rattle.std.proofs.Common.{◌<◌, sym, ap, subst, ◌∙◌}
 use Rattle.std.specs.Option.{option_or}
 use Rattle.coll_syntax.specs.declared.identifiers.Id.{Id}
-use Rattle.coll_table.specs.TableLayout.{collation}
-use Rattle.coll_table.specs.Walks.{entries_met}
+use Rattle.coll_nodes.specs.TableLayout.{collation}
+use Rattle.coll_nodes.specs.Walks.{entries_met}
 use Rattle.coll_key.specs.Ranking.{last_place}
 use Rattle.coll_key.specs.Ranks.{RanksById, rank_with}
 use Rattle.coll_key.proofs.RankingLemmas.{few_met, ranks_of_table}

@@ -1,9 +1,9 @@
 -- The declarations, and the order.
 use Rattle.std.proofs.Common.{refl}
 use Rattle.std.specs.List.{flat_map}
-use Rattle.coll_table.specs.PrintedParts.{declaration_bytes, order_bytes, category_bytes}
-use Rattle.coll_table.specs.TableLayout.{collation}
-use Rattle.coll_table.proofs.PrintedParts.{stops_first, writes_rest}
+use Rattle.coll_print.specs.PrintedParts.{declaration_bytes, order_bytes, category_bytes}
+use Rattle.coll_nodes.specs.TableLayout.{collation}
+use Rattle.coll_print.proofs.PrintedParts.{stops_first, writes_rest}
 use Rattle.coll_table.proofs.printing.write_category.Goals as goal
 
 pub returns-in_err-write_declarations-clause-sent : goal.returns-in_err-write_declarations-clause-sent

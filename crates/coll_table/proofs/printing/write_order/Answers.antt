@@ -1,9 +1,9 @@
 -- The rules, and the sections.
 use Rattle.std.proofs.Common.{refl}
-use Rattle.coll_table.specs.CanonicalText.{rules_line, line_bytes}
-use Rattle.coll_table.specs.PrintedParts.{sections_bytes, order_bytes}
-use Rattle.coll_table.specs.TableLayout.{collation}
-use Rattle.coll_table.proofs.PrintedParts.{stops_first, writes_rest}
+use Rattle.coll_print.specs.CanonicalText.{rules_line, line_bytes}
+use Rattle.coll_print.specs.PrintedParts.{sections_bytes, order_bytes}
+use Rattle.coll_nodes.specs.TableLayout.{collation}
+use Rattle.coll_print.proofs.PrintedParts.{stops_first, writes_rest}
 use Rattle.coll_table.proofs.printing.write_order.Goals as goal
 
 pub returns-in_err-write_rules_line-clause-sent : goal.returns-in_err-write_rules_line-clause-sent

@@ -1,10 +1,10 @@
 -- The sections, and the end.
 use Rattle.std.proofs.Common.{codes, refl}
 use Rattle.std.specs.List.{flat_map}
-use Rattle.coll_table.specs.Walks.{met}
-use Rattle.coll_table.specs.PrintedParts.{met_bytes, sections_bytes}
-use Rattle.coll_table.specs.TableLayout.{collation}
-use Rattle.coll_table.proofs.PrintedParts.{stops_first, writes_rest}
+use Rattle.coll_nodes.specs.Walks.{met}
+use Rattle.coll_print.specs.PrintedParts.{met_bytes, sections_bytes}
+use Rattle.coll_nodes.specs.TableLayout.{collation}
+use Rattle.coll_print.proofs.PrintedParts.{stops_first, writes_rest}
 use Rattle.coll_table.proofs.printing.write_sections.Goals as goal
 
 pub returns-in_err-write_walk-clause-sent : goal.returns-in_err-write_walk-clause-sent

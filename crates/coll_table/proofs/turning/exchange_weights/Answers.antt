@@ -1,7 +1,7 @@
 -- Where no weights are given, nothing changes.
 use Rattle.std.proofs.Common.{ap, sym, ◌∙◌}
-use Rattle.coll_table.proofs.TurningNodes.{weighed_none}
-use Rattle.coll_table.specs.Turning.{weighed_nodes}
+use Rattle.coll_nodes.proofs.TurningNodes.{weighed_none}
+use Rattle.coll_nodes.specs.Moving.{weighed_nodes}
 use Rattle.coll_table.proofs.turning.exchange_weights.Goals as goal
 
 pub returns-in_default-clause-nodes : goal.returns-in_default-clause-nodes

@@ -1,7 +1,7 @@
 -- Each way out of the reading is what the text says.
 use Rattle.std.proofs.Common.{◌≡◌, List, ℕ, Ok, arith, refl, sym, subst, ◌∙◌, ap}
 use Rattle.coll_lex.specs.LineReading.{ReaderState, no_line}
-use Rattle.coll_table.specs.TableLayout.{collation}
+use Rattle.coll_nodes.specs.TableLayout.{collation}
 use Rattle.coll_table.proofs.TextLoading.{gives_line, gives_none}
 use Rattle.coll_units.specs.DeltaReading.{DeltaState, first_delta}
 use Rattle.coll_bench.specs.BatchReading.{FailsAs, line_taken}

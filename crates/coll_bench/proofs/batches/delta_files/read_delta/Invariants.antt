@@ -1,7 +1,7 @@
 -- The lines so far decide nothing; each is one of the most lines that a text may have.
 use Rattle.std.proofs.Common.{◌≡◌, ◌-◌, false, None}
 use Rattle.coll_lex.specs.Limits.{most_lines}
-use Rattle.coll_table.specs.TableLayout.{collation}
+use Rattle.coll_nodes.specs.TableLayout.{collation}
 use Rattle.coll_bench.proofs.DeltaTexts.{OnWay}
 use Rattle.coll_bench.proofs.batches.delta_files.read_delta.Given as goal
 

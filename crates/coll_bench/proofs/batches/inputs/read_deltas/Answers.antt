@@ -1,7 +1,7 @@
 -- Each delta file gives a table, or is at fault.
 use Rattle.std.proofs.Common.{◌≡◌, ◌+◌, ℕ, List, Option, map, drop, Err, refl, sym, ap, subst, arith, ◌∙◌}
 use Rattle.std.specs.Prelude.{slice_get, slice_set}
-use Rattle.coll_table.specs.TableLayout.{collation}
+use Rattle.coll_nodes.specs.TableLayout.{collation}
 use Rattle.coll_bench.specs.BatchReading.{CountsDelta}
 use Rattle.coll_bench.specs.BatchRuns.{ending_of}
 use Rattle.coll_bench.proofs.BatchInputs.{none_after, one_more, fails_all, counts_all}

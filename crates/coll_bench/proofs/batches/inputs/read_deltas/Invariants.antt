@@ -1,6 +1,6 @@
 -- The delta files so far give the table; the others are as they were.
 use Rattle.std.proofs.Common.{◌≡◌, List, ℕ, map, take, drop, Some, Ok}
-use Rattle.coll_table.specs.TableLayout.{collation}
+use Rattle.coll_nodes.specs.TableLayout.{collation}
 use Rattle.coll_bench.specs.BatchOutcome.{after_deltas}
 use Rattle.coll_bench.proofs.batches.inputs.read_deltas.Given as goal
 

@@ -1,6 +1,6 @@
 -- The table, and then the delta files behind it.
 use Rattle.std.proofs.Common.{◌≡◌, List, ℕ, map, ◌∙◌, sym, subst}
-use Rattle.coll_table.specs.TableLayout.{TableValue, collation}
+use Rattle.coll_nodes.specs.TableLayout.{TableValue, collation}
 use Rattle.coll_bench.specs.BatchReading.{ReadsInputs}
 use Rattle.coll_bench.specs.declared.faults.RunFault.{RunFault}
 use Rattle.std.specs.Prelude.{Result, Err}

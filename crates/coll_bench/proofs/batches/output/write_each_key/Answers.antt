@@ -1,7 +1,7 @@
 -- Each key is one part.
 use Rattle.std.proofs.Common.{◌+◌, drop, ◌∙◌}
-use Rattle.coll_table.specs.TableLayout.{collation}
-use Rattle.coll_table.proofs.PrintedParts.{left_begins, written_front, written_more}
+use Rattle.coll_nodes.specs.TableLayout.{collation}
+use Rattle.coll_print.proofs.PrintedParts.{left_begins, written_front, written_more}
 use Rattle.coll_bench.specs.BatchOutcome.{key_line}
 use Rattle.coll_bench.proofs.batches.output.write_each_key.Goals as goal
 

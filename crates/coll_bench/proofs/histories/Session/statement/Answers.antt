@@ -4,8 +4,8 @@ use Rattle.coll_table.specs.Delta.{delta}
 use Rattle.coll_bench.specs.Histories.{History, SessionValue, judged}
 use Rattle.coll_bench.specs.Kept.{added_by_all, history_of, uncounted, Leads}
 use Rattle.coll_table.specs.Record.{AreLoose}
-use Rattle.coll_table.specs.Table.{Collation}
-use Rattle.coll_table.specs.TableLayout.{collation}
+use Rattle.coll_nodes.specs.Table.{Collation}
+use Rattle.coll_nodes.specs.TableLayout.{collation}
 use Rattle.coll_bench.specs.declared.faults.BenchFault.TheVariants.{Table, HistoryFull}
 use Rattle.coll_bench.specs.declared.histories.Kept.{Kept}
 use Rattle.coll_bench.proofs.GivenUp.{undone_loose, loose_kept}

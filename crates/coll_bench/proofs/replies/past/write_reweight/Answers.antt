@@ -1,5 +1,5 @@
 use Rattle.std.proofs.Common.{[], ◌∷◌, ◌++◌, codes}
-use Rattle.coll_table.specs.PrintedParts.{id_bytes}
+use Rattle.coll_print.specs.PrintedParts.{id_bytes}
 use Rattle.coll_lex.proofs.WritingLemmas.{Sends-after}
 use Rattle.coll_bench.proofs.ReplyLemmas.{stopped_at_first}
 use Rattle.coll_bench.proofs.replies.past.write_reweight.Goals as goal

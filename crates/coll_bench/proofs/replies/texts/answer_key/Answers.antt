@@ -1,6 +1,6 @@
 -- The key that was given is written, or its refusal.
 use Rattle.std.proofs.Common.{◌≡◌, sym, ap, ◌∙◌}
-use Rattle.coll_table.specs.Table.{Collation}
+use Rattle.coll_nodes.specs.Table.{Collation}
 use Rattle.coll_key.specs.KeyLimits.{is_too_long}
 use Rattle.coll_key.specs.SortKey.{key_of}
 use Rattle.coll_bench.specs.Histories.{table_now}

@@ -1,7 +1,7 @@
 -- A text goes last where its name does.
 use Rattle.std.proofs.Common.{sym, ap, ◌∙◌, chars}
 use Rattle.std.proofs.lemmas.Str.{encodes-chars}
-use Rattle.coll_table.specs.LookUps.{all_characters_of, with_name}
+use Rattle.coll_nodes.specs.LookUps.{all_characters_of, with_name}
 use Rattle.coll_table.proofs.LookUps.{inserted_name, inserted_are}
 use Rattle.coll_table.proofs.names.Names.insert.Goals as goal
 

@@ -2,7 +2,7 @@
 use Rattle.std.proofs.Common.{◌≡◌, drop}
 use Rattle.coll_table.specs.Delta.{ids_given}
 use Rattle.coll_table.specs.Judging.{ids_refusal}
-use Rattle.coll_table.specs.TableLayout.{collation}
+use Rattle.coll_nodes.specs.TableLayout.{collation}
 use Rattle.coll_table.proofs.tables.Table.all_given_refusal.Given as goal
 
 abbrev pub invariant-loop-line : goal.invariant-loop-line

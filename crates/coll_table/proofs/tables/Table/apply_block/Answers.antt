@@ -1,7 +1,7 @@
 -- A block is prepared, and carried out.
 use Rattle.coll_syntax.specs.declared.statements.Statement.TheVariants as statement
 use Rattle.coll_table.specs.Delta.{delta}
-use Rattle.coll_table.specs.TableLayout.{collation}
+use Rattle.coll_nodes.specs.TableLayout.{collation}
 use Rattle.coll_table.proofs.AcceptedStatements.{block_accepted}
 use Rattle.coll_table.proofs.AppliedStatements.{IsReady, applied, block_ready, ready_well_formed}
 use Rattle.coll_table.proofs.tables.Table.apply_block.Goals as goal

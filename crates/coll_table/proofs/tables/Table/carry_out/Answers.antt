@@ -1,8 +1,8 @@
 -- The table that results is well formed.
 use Rattle.std.proofs.Common.{◌≡◌, subst, sym, ap, ◌∙◌}
-use Rattle.coll_table.specs.TableLayout.{TableLayout, TableValue, collation, declared_at, sections_at}
+use Rattle.coll_nodes.specs.TableLayout.{TableLayout, TableValue, collation, declared_at, sections_at}
 use Rattle.coll_table.specs.Turning.{turned_on}
-use Rattle.coll_table.specs.WellFormed.{IsWellFormed}
+use Rattle.coll_nodes.specs.WellFormed.{IsWellFormed}
 use Rattle.coll_table.proofs.tables.Table.carry_out.Goals as goal
 
 pub invariant_of-self : goal.invariant_of-self

@@ -1,6 +1,6 @@
 -- The table and the record are those of the turn.
 use Rattle.coll_table.proofs.RecordFlips.{IsFlipped, flipped_body}
-use Rattle.coll_table.specs.Bodies.{value_of}
+use Rattle.coll_nodes.specs.Bodies.{value_of}
 use Rattle.coll_table.proofs.tables.Table.flip.Goals as goal
 
 -- once the record is turned

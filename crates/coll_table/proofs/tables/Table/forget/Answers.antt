@@ -1,10 +1,10 @@
 -- The table is the one without the nodes that an undone record would put in again.
 use Rattle.std.proofs.Common.{◌≡◌, subst, sym}
 use Rattle.coll_table.proofs.RecordForgets.{forgotten_body, kept_nodes, well_formed_without}
-use Rattle.coll_table.specs.Bodies.{value_of}
+use Rattle.coll_nodes.specs.Bodies.{value_of}
 use Rattle.coll_table.specs.Record.{dropped_nodes, without_nodes}
-use Rattle.coll_table.specs.TableLayout.{TableValue, collation}
-use Rattle.coll_table.specs.WellFormed.{IsWellFormed}
+use Rattle.coll_nodes.specs.TableLayout.{TableValue, collation}
+use Rattle.coll_nodes.specs.WellFormed.{IsWellFormed}
 use Rattle.coll_table.proofs.tables.Table.forget.Goals as goal
 
 pub returns-then-not-kept : goal.returns-then-not-kept

@@ -1,6 +1,6 @@
 -- What is placed was declared.
 use Rattle.std.proofs.Common.{sym, ◌∙◌}
-use Rattle.coll_table.specs.TableLayout.{collation}
+use Rattle.coll_nodes.specs.TableLayout.{collation}
 use Rattle.coll_table.proofs.DeltaJudged.{placed_unrefused}
 use Rattle.coll_table.proofs.tables.Table.id_refusal.Goals as goal
 

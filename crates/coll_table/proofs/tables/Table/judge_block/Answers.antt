@@ -1,9 +1,9 @@
 -- The lines decide, then the number of entries, then the identifiers in the weights.
 use Rattle.std.proofs.Common.{◌≡◌, ◌<◌, ◌≤◌, ◌-◌, length, sym, ap, ◌∙◌, arith}
 use Rattle.coll_table.specs.Delta.{all_moved, block_delta, unless_refused}
-use Rattle.coll_table.specs.Limits.{most_entries}
-use Rattle.coll_table.specs.Table.{entries_of}
-use Rattle.coll_table.specs.TableLayout.{collation}
+use Rattle.coll_nodes.specs.Limits.{most_entries}
+use Rattle.coll_nodes.specs.Table.{entries_of}
+use Rattle.coll_nodes.specs.TableLayout.{collation}
 use Rattle.coll_table.proofs.DeltaJudged.{judged_ok, judged_err, judged_memory, entries_refused, weights_decide}
 use Rattle.coll_table.proofs.tables.Table.judge_block.Goals as goal
 

@@ -1,8 +1,8 @@
 -- A line more is judged.
 use Rattle.std.proofs.Common.{◌≡◌, ◌+◌, ◌∙◌, sym, not, cond, ap, Bool, true, false, arith}
 use Rattle.std.proofs.lemmas.Result.{err_from_is_err_and}
-use Rattle.coll_table.specs.Table.{is_placed}
-use Rattle.coll_table.specs.TableLayout.{collation}
+use Rattle.coll_nodes.specs.Table.{is_placed}
+use Rattle.coll_nodes.specs.TableLayout.{collation}
 use Rattle.coll_table.proofs.DeltaLines.{judging_refused, judging_more, judging_few}
 use Rattle.coll_table.proofs.tables.Table.judge_lines.Goals.{then-not-is_placed, else-not-is_placed}
 use Rattle.coll_table.proofs.tables.Table.judge_lines.Goals as goal

@@ -1,5 +1,5 @@
 -- The lines before a place have been judged.
-use Rattle.coll_table.specs.TableLayout.{collation}
+use Rattle.coll_nodes.specs.TableLayout.{collation}
 use Rattle.coll_table.proofs.DeltaLines.{Judging}
 use Rattle.coll_table.proofs.tables.Table.judge_lines.Given as goal
 

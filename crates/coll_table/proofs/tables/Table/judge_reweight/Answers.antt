@@ -2,9 +2,9 @@
 use Rattle.std.proofs.Common.{sym, ap, ◌∙◌}
 use Rattle.std.specs.List.{flat_map}
 use Rattle.coll_table.specs.Delta.{reweight_delta, reweighted, unless_refused}
-use Rattle.coll_table.specs.Entries.{given_weights, weight_ids}
+use Rattle.coll_nodes.specs.Entries.{given_weights, weight_ids}
 use Rattle.coll_table.specs.Judging.{ids_refusal}
-use Rattle.coll_table.specs.TableLayout.{collation}
+use Rattle.coll_nodes.specs.TableLayout.{collation}
 use Rattle.coll_table.proofs.DeltaJudged.{judged_ok, judged_err, reweight_judged}
 use Rattle.coll_table.proofs.tables.Table.judge_reweight.Goals as goal
 

@@ -1,9 +1,9 @@
 -- A loose node is added, so that the table stands for what it stood for.
 use Rattle.std.proofs.Common.{◌∷◌, [], subst, sym}
-use Rattle.coll_table.specs.Bodies.{value_of}
+use Rattle.coll_nodes.specs.Bodies.{value_of}
 use Rattle.coll_table.specs.Growth.{AddsLoose}
-use Rattle.coll_table.specs.TableLayout.{TableValue}
-use Rattle.coll_table.specs.WellFormed.{IsWellFormed}
+use Rattle.coll_nodes.specs.TableLayout.{TableValue}
+use Rattle.coll_nodes.specs.WellFormed.{IsWellFormed}
 use Rattle.coll_table.proofs.GrowthLemmas.{collation_grown, made_added}
 use Rattle.coll_table.proofs.tables.Table.make.Goals as goal
 

@@ -1,7 +1,7 @@
 -- A section move is prepared, and carried out.
 use Rattle.coll_syntax.specs.declared.statements.Statement.TheVariants as statement
 use Rattle.coll_table.specs.Delta.{delta}
-use Rattle.coll_table.specs.TableLayout.{collation}
+use Rattle.coll_nodes.specs.TableLayout.{collation}
 use Rattle.coll_table.proofs.AcceptedStatements.{section_accepted}
 use Rattle.coll_table.proofs.AppliedStatements.{IsReady, applied, ready_well_formed, section_adds, section_ready}
 use Rattle.coll_table.proofs.tables.Table.move_section.Goals as goal

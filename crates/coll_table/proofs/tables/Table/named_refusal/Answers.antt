@@ -1,9 +1,9 @@
 -- Each turn of the loop leaves the first refusal among what is left, or finds it.
 use Rattle.std.proofs.Common.{refl}
-use Rattle.coll_table.specs.Entries.{weight_ids}
+use Rattle.coll_nodes.specs.Entries.{weight_ids}
 use Rattle.coll_table.specs.Judging.{id_refusal, ids_refusal}
-use Rattle.coll_table.specs.TableLayout.{collation}
-use Rattle.coll_table.proofs.FirstCauses.{first_found, first_left}
+use Rattle.coll_nodes.specs.TableLayout.{collation}
+use Rattle.coll_draft.proofs.FirstCauses.{first_found, first_left}
 use Rattle.coll_table.proofs.tables.Table.named_refusal.Goals as goal
 
 pub returns-in-Some : goal.returns-in-Some

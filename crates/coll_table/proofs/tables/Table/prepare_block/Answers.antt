@@ -3,8 +3,8 @@ use Rattle.std.proofs.Common.{◌≡◌, true, false, subst}
 use Rattle.coll_order.specs.declared.places.NodeId.{NodeId}
 use Rattle.coll_syntax.specs.Identifier.{same_id}
 use Rattle.coll_table.specs.Record.{added_nodes}
-use Rattle.coll_table.specs.SoundBodies.{IsShaped, has_key, ids_in}
-use Rattle.coll_table.specs.TableLayout.{TableValue, collation}
+use Rattle.coll_nodes.specs.SoundBodies.{IsShaped, has_key, ids_in}
+use Rattle.coll_nodes.specs.TableLayout.{TableValue, collation}
 use Rattle.coll_table.proofs.KeyReads.{placed_has_node}
 use Rattle.coll_table.proofs.PreparedLemmas.{key_kept}
 use Rattle.coll_table.proofs.tables.Table.prepare_block.Goals as goal

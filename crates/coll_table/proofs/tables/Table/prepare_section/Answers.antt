@@ -2,8 +2,8 @@
 use Rattle.std.proofs.Common.{◌≡◌, false, subst}
 use Rattle.coll_order.specs.declared.places.NodeId.{NodeId}
 use Rattle.coll_syntax.specs.Identifier.{same_name}
-use Rattle.coll_table.specs.SoundBodies.{IsShaped, has_key, section_names_in}
-use Rattle.coll_table.specs.TableLayout.{TableValue}
+use Rattle.coll_nodes.specs.SoundBodies.{IsShaped, has_key, section_names_in}
+use Rattle.coll_nodes.specs.TableLayout.{TableValue}
 use Rattle.coll_table.proofs.KeyReads.{named_has_node}
 use Rattle.coll_table.proofs.tables.Table.prepare_section.Goals as goal
 

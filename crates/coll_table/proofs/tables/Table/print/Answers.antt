@@ -1,9 +1,9 @@
 -- The lines before the category, and the category.
 use Rattle.std.proofs.Common.{codes}
-use Rattle.coll_table.specs.CanonicalText.{text}
-use Rattle.coll_table.specs.PrintedParts.{category_bytes}
-use Rattle.coll_table.specs.TableLayout.{collation}
-use Rattle.coll_table.proofs.PrintedParts.{stops_first, writes_rest, text_parts}
+use Rattle.coll_print.specs.CanonicalText.{text}
+use Rattle.coll_print.specs.PrintedParts.{category_bytes}
+use Rattle.coll_nodes.specs.TableLayout.{collation}
+use Rattle.coll_print.proofs.PrintedParts.{stops_first, writes_rest, text_parts}
 use Rattle.coll_table.proofs.tables.Table.print.Goals as goal
 
 pub returns-in_err-write_bytes-clause-sent : goal.returns-in_err-write_bytes-clause-sent

@@ -1,8 +1,8 @@
 -- A table's sections are those of its body.
 use Rattle.std.proofs.Common.{ap, ◌∙◌}
-use Rattle.coll_table.specs.TableLayout.{TableValue, collation, sections_at}
-use Rattle.coll_table.specs.Walks.{met}
-use Rattle.coll_table.proofs.WalkShapes.{first_alone}
+use Rattle.coll_nodes.specs.TableLayout.{TableValue, collation, sections_at}
+use Rattle.coll_nodes.specs.Walks.{met}
+use Rattle.coll_nodes.proofs.WalkShapes.{first_alone}
 use Rattle.coll_table.proofs.tables.Table.walk.Goals as goal
 
 pub walk-requires : goal.walk-requires

@@ -1,0 +1,11 @@
+pub mod BuilderSteps
+pub mod BuiltTables
+pub mod DraftSteps
+pub mod EndedDrafts
+pub mod EntryWeights
+pub mod FirstCauses
+pub mod LayoutEnds
+pub mod MetEntries
+pub mod RuleLists
+pub mod SoundLines
+pub mod WeightCauses

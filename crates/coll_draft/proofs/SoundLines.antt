@@ -1,0 +1,126 @@
+-- A draft stays sound with each line that is accepted.
+use Rattle.std.proofs.Common.{◌≡◌, ℕ, ◌+◌, ◌≤◌, ◌-◌, Bool, true, false, ◌&&◌, not, if◌then◌else◌, List, [], ◌∷◌, ◌++◌, length, map, replicate, Option, Some, None, sym, ap, subst, ◌∙◌, refl, arith, length-append}
+use Rattle.std.specs.Prelude.{All, IsSome, is_some, nat_le, nat_lt}
+use Rattle.std.proofs.lemmas.Bool.{false≢true, leb-false, ltb-false}
+use Rattle.std.proofs.lemmas.List.{length-map, length-replicate}
+use Rattle.std.proofs.lemmas.List.Elements.{All-nil, All-append, All-map, All-replicate, All-weaker}
+use Rattle.coll_lex.specs.Names.{IsName}
+use Rattle.coll_syntax.specs.Identifier.{has_name}
+use Rattle.coll_syntax.specs.Proper.{IsProperWeight, AreProperWeights, IsProperLine}
+use Rattle.coll_syntax.specs.declared.identifiers.Id.{Id}
+use Rattle.coll_syntax.specs.declared.statements.OrderLine.{OrderLine}
+use Rattle.coll_syntax.specs.declared.weights.Weight.{Weight}
+use Rattle.coll_syntax.specs.declared.weights.Weight.TheVariants.{Own}
+use Rattle.coll_draft.proofs.BuiltTables.{built_declared, built_section, built_entry, entries_with_section, entries_with_last}
+use Rattle.coll_nodes.specs.Table.{has_text}
+use Rattle.coll_draft.specs.Drafts.{DraftState, table_of, refused_if, declaration_cause, section_cause, order_cause, levels_of}
+use Rattle.coll_nodes.specs.Entries.{names_only, kept_weight, kept_weights, given_weights, weights_of, entry_of}
+use Rattle.coll_nodes.specs.Limits.{most_entries, most_declarations, most_sections}
+use Rattle.coll_draft.specs.Loading.{with_section, with_declaration, with_entry}
+use Rattle.coll_draft.specs.SoundDrafts.{IsSoundDraft, IsProperDeclaration, MayBePut}
+use Rattle.coll_nodes.specs.Table.{name_of, text_of, joined_entries, section_names, is_declared, is_known, is_placed_in, is_symbol}
+use Rattle.coll_nodes.specs.WellFormed.{IsKeptWeight, HasWeights}
+use Rattle.coll_nodes.specs.declared.declarations.Declaration.{Declaration}
+use Rattle.coll_nodes.specs.declared.entries.Entry.{Entry}
+use Rattle.coll_draft.specs.declared.load_faults.LoadCause.TheVariants.{NotDeclared, PlacedTwice, SymbolWithWeights, TooManyWeights, StringTwice, Full}
+
+-- where nothing is refused the test doesn't hold, and what follows doesn't refuse either
+pub passed : {C : Type 0} (test : Bool) (cause : C) (later : Option C) → refused_if test cause later ≡ None → (test ≡ false) × (later ≡ None)
+passed true cause later e = cc
+passed false cause later e = (refl, e)
+
+-- with one more declaration
+pub sound_declared : (d : DraftState) (new : Declaration) → IsSoundDraft d → IsProperDeclaration new → declaration_cause d.declared new ≡ None → IsSoundDraft (with_declaration d new)
+sound_declared d new sound proper accepted =
+    let absent = passed (is_declared d.declared (name_of new)) _ _ accepted in
+    let no_text = passed (has_text d.declared (text_of new)) StringTwice (refused_if (nat_le most_declarations (length d.declared)) Full None) absent.1 in
+    let room = passed (nat_le most_declarations (length d.declared)) Full None no_text.1 in
+    record {
+      built = built_declared (table_of d) new sound.built proper absent.0 no_text.0 (leb-false most_declarations (length d.declared) room.0);
+      started = sound.started;
+      none_before = sound.none_before;
+      some_levels = sound.some_levels;
+      numbered = sound.numbered;
+    }
+
+-- with one more section
+pub sound_section : (d : DraftState) (name : List ℕ) → IsSoundDraft d → IsName name → section_cause d name ≡ None → IsSoundDraft (record d { sections = with_section d.sections name })
+sound_section d name sound is accepted =
+    let absent = passed (has_name (section_names d.sections) name) _ _ accepted in
+    let room = passed (nat_le most_sections (length d.sections)) Full None absent.1 in
+    record {
+      built = built_section (table_of d) name sound.built is absent.0 (leb-false most_sections (length d.sections) room.0);
+      started = sound.started;
+      none_before = λ none. entries_with_section d.sections name ∙ sound.none_before none;
+      some_levels = sound.some_levels;
+      numbered = sound.numbered ∙ ap length (sym (entries_with_section d.sections name));
+    }
+
+-- with one more entry
+pub sound_entry : (d : DraftState) (number : ℕ) (entry : Entry) → IsSoundDraft d → MayBePut d entry → IsSoundDraft (with_entry d number entry)
+sound_entry d number entry sound may = record {
+  built = built_entry (table_of d) entry sound.built may.id may.new may.known may.weighted may.room;
+  started = sound.started;
+  none_before = λ none. absurd (false≢true (subst IsSome none may.rules));
+  some_levels = sound.some_levels;
+  numbered =
+      let more : joined_entries (with_entry d number entry).sections ≡ joined_entries d.sections ++ entry ∷ [] = entries_with_last d.sections entry sound.built.first_unnamed in
+      let same = sound.numbered in
+      length-append d.numbers (number ∷ []) ∙ (ap (λ n. n + 1) same ∙ (sym (length-append (joined_entries d.sections) (entry ∷ [])) ∙ ap length (sym more)));
+}
+
+-- a weight that is kept is none that names only the entry
+kept_is : (id : Id) (weight : Weight) → IsProperWeight weight → IsKeptWeight id (kept_weight id weight)
+kept_is id weight proper = by_test (names_only id weight) refl where
+  by_test : (b : Bool) → names_only id weight ≡ b → IsKeptWeight id (if b then Own else weight)
+  by_test true e = (tt, refl)
+  by_test false e = (proper, e)
+
+-- the weights that an entry keeps are such
+kept_are : (levels : ℕ) (id : Id) (given : List Weight) → All IsProperWeight given → All (IsKeptWeight id) (kept_weights levels id given)
+kept_are levels id given proper =
+    All-append (IsKeptWeight id) (map (kept_weight id) given) (replicate (levels - length given) Own)
+    (All-map (IsKeptWeight id) (kept_weight id) given (All-weaker IsProperWeight (λ weight. IsKeptWeight id (kept_weight id weight)) (kept_is id) given proper))
+    (All-replicate (IsKeptWeight id) (levels - length given) Own (tt, refl))
+
+-- there is one for each level
+length-kept : (levels : ℕ) (id : Id) (given : List Weight) → length given ≤ levels → length (kept_weights levels id given) ≡ levels
+length-kept levels id given few = omega (arith, length-append (map (kept_weight id) given) (replicate (levels - length given) Own), length-map given (kept_weight id), length-replicate (levels - length given) Own)
+
+-- the weights that a proper line gives are proper
+given_are : (weights : Option (List Weight)) → AreProperWeights weights → All IsProperWeight (given_weights weights)
+given_are None h = All-nil IsProperWeight
+given_are (Some weights) h = h.1
+
+-- the entry of a line has the weights that it is to have
+pub weights_are : (levels : ℕ) (symbol : Bool) (line : OrderLine) → IsProperLine line → length (given_weights line.weights) ≤ levels → HasWeights levels symbol (record { id = line.id; weights = weights_of levels symbol line })
+weights_are levels true line proper few = refl
+weights_are levels false line proper few =
+    (length-kept levels line.id (given_weights line.weights) few, kept_are levels line.id (given_weights line.weights) (given_are line.weights proper.1))
+
+-- what is not false is true
+pub not_false : (b : Bool) → not b ≡ false → b ≡ true
+not_false true e = refl
+not_false false e = cc
+
+-- the entry of a line that is accepted may be put behind all others
+pub may_be_put : (d : DraftState) (line : OrderLine) → IsSoundDraft d → IsProperLine line → order_cause d line ≡ None → MayBePut d (entry_of (levels_of d.rules) d.declared line)
+may_be_put d line sound proper accepted =
+    let full = refused_if (nat_le most_entries (length (joined_entries d.sections))) Full None in
+    let few = refused_if (nat_lt (levels_of d.rules) (length (given_weights line.weights))) TooManyWeights full in
+    let plain = refused_if (is_symbol d.declared line.id && is_some line.weights) SymbolWithWeights few in
+    let fresh = refused_if (is_placed_in d.sections line.id) PlacedTwice plain in
+    let in_order = passed (not d.order_open) _ _ accepted in
+    let known = passed (not (is_known d.declared line.id)) NotDeclared fresh in_order.1 in
+    let new = passed (is_placed_in d.sections line.id) PlacedTwice plain known.1 in
+    let weighs = passed (is_symbol d.declared line.id && is_some line.weights) SymbolWithWeights few new.1 in
+    let levels = passed (nat_lt (levels_of d.rules) (length (given_weights line.weights))) TooManyWeights full weighs.1 in
+    let room = passed (nat_le most_entries (length (joined_entries d.sections))) Full None levels.1 in
+    record {
+      rules = sound.started (not_false d.order_open in_order.0);
+      id = proper.0;
+      new = new.0;
+      known = not_false (is_known d.declared line.id) known.0;
+      weighted = weights_are (levels_of d.rules) (is_symbol d.declared line.id) line proper (ltb-false (levels_of d.rules) (length (given_weights line.weights)) levels.0);
+      room = leb-false most_entries (length (joined_entries d.sections)) room.0;
+    }

@@ -1,0 +1,13 @@
+-- An element behind all declarations.
+use Rattle.coll_nodes.specs.declared.declarations.Declaration.TheVariants.{Element}
+use Rattle.coll_draft.proofs.BuilderSteps.{declared_place, declared_builder, declared_parts}
+use Rattle.coll_draft.proofs.building.Builder.declare_element.Goals as goal
+
+pub declare_element-requires-clause-place : goal.declare_element-requires-clause-place
+declare_element-requires-clause-place c = declared_place c.self.inside.body.layout c.declared_end.result c.check_layout.ensures.shaped c.declared_end.ensures
+
+pub invariant_of-self-2 : goal.invariant_of-self-2
+invariant_of-self-2 c = declared_builder c.self.inside.body.layout c.declare_element.new.self.layout c.in_ok-declare_element.field-0 c.self.inside.sections_end c.self.inside.entries_end c.check_layout.ensures.laid.once c.check_layout.ensures.shaped c.self.invariant (Element c.args.name c.args.text) c.declared_end.result c.declared_end.ensures c.in_ok-declare_element.ensures.ok
+
+pub returns-clause-ok : goal.returns-clause-ok
+returns-clause-ok c = rw (← c.self.view_is) (declared_parts c.self.inside.body.layout c.declare_element.new.self.layout c.in_ok-declare_element.field-0 c.self.inside.sections_end c.self.inside.entries_end c.check_layout.ensures.laid.once c.check_layout.ensures.shaped c.self.invariant (Element c.args.name c.args.text) c.declared_end.result c.declared_end.ensures c.in_ok-declare_element.ensures.ok)

@@ -1,0 +1,13 @@
+-- A symbol behind all declarations.
+use Rattle.coll_nodes.specs.declared.declarations.Declaration.TheVariants.{Symbol}
+use Rattle.coll_draft.proofs.BuilderSteps.{declared_place, declared_builder, declared_parts}
+use Rattle.coll_draft.proofs.building.Builder.declare_symbol.Goals as goal
+
+pub declare_symbol-requires-clause-place : goal.declare_symbol-requires-clause-place
+declare_symbol-requires-clause-place c = declared_place c.self.inside.body.layout c.declared_end.result c.check_layout.ensures.shaped c.declared_end.ensures
+
+pub invariant_of-self-2 : goal.invariant_of-self-2
+invariant_of-self-2 c = declared_builder c.self.inside.body.layout c.declare_symbol.new.self.layout c.in_ok-declare_symbol.field-0 c.self.inside.sections_end c.self.inside.entries_end c.check_layout.ensures.laid.once c.check_layout.ensures.shaped c.self.invariant (Symbol c.args.name) c.declared_end.result c.declared_end.ensures c.in_ok-declare_symbol.ensures.ok
+
+pub returns-clause-ok : goal.returns-clause-ok
+returns-clause-ok c = rw (← c.self.view_is) (declared_parts c.self.inside.body.layout c.declare_symbol.new.self.layout c.in_ok-declare_symbol.field-0 c.self.inside.sections_end c.self.inside.entries_end c.check_layout.ensures.laid.once c.check_layout.ensures.shaped c.self.invariant (Symbol c.args.name) c.declared_end.result c.declared_end.ensures c.in_ok-declare_symbol.ensures.ok)

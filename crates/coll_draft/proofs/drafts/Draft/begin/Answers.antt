@@ -1,0 +1,13 @@
+-- A draft with one more section is sound.
+use Rattle.std.proofs.Common.{ap, sym, subst, ◌∙◌}
+use Rattle.coll_draft.specs.Building.{Parts}
+use Rattle.coll_draft.specs.Drafts.{DraftState, section_cause}
+use Rattle.coll_draft.specs.SoundDrafts.{IsSoundDraft}
+use Rattle.coll_draft.proofs.SoundLines.{sound_section}
+use Rattle.coll_draft.proofs.drafts.Draft.begin.Goals as goal
+
+pub invariant_of-self-2 : goal.invariant_of-self-2
+invariant_of-self-2 c =
+    let s = c.self.inside in
+    subst (λ (b : Parts). IsSoundDraft (record { order_open = s.order_open; rules = s.rules; declared = b.declared; sections = b.sections; numbers = s.numbers.items })) (sym c.in_ok-begin_section.ensures.ok)
+    (sound_section _ c.args.name c.self.invariant c.requires (ap (λ (d : DraftState). section_cause d c.args.name) c.self.view_is ∙ sym c.in_default.ensures))

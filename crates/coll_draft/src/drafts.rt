@@ -1,0 +1,490 @@
+//! The table that is being read.
+//!
+//! A `Draft` keeps of the lines accepted so far what the next one is judged by (`DraftState` of `specs/Drafts.antt`): whether an
+//! order is open, the rules, and a table that grows, with the number of the line of each entry. Each method judges one kind
+//! of line, as `cause_after` does. After a refusal the draft is given up. What may stand where is changed in
+//! `specs/Drafts.antt` first.
+
+ghost use Rattle.std.specs.Prelude.{◌≡◌, ◌≢◌, true, false, [], length, Some, None, IfOk, IfErr, OnOk};
+ghost use Rattle.std.specs.List.{flat_map};
+ghost use Rattle.coll_lex.specs.Names.{IsName};
+ghost use Rattle.coll_syntax.specs.Proper.{IsProperTableLine, IsProperLine, IsNameIfGiven, AreRulesIfGiven};
+ghost use Rattle.coll_syntax.specs.declared.lines.TableLine.TheVariants.{OrderStart, OrderEnd, Section, EndCategory, Order};
+ghost use Rattle.coll_nodes.specs.Table.{has_text};
+ghost use Rattle.coll_draft.specs.Drafts.{is_end, levels_of};
+ghost use Rattle.coll_draft.specs.Loading.{rules_after};
+ghost use Rattle.coll_draft.specs.SoundDrafts.{IsSoundDraft, IsProperDeclaration, MayBePut};
+ghost use Rattle.coll_nodes.specs.Table.{name_of, text_of};
+ghost use Rattle.coll_nodes.specs.WellFormed.{IsWellFormed};
+ghost use Rattle.coll_nodes.specs.Bodies.{value_of};
+ghost use Rattle.coll_nodes.specs.TableLayout.{collation};
+ghost use Rattle.coll_draft.specs.declared.load_faults.LoadCause.TheVariants.{OutOfMemory};
+
+use crate::building::Builder;
+use crate::line_weights::{given_len, kept_weights};
+use crate::{LoadCause, LoadFault};
+use coll_lex::{ListBuf, TextBuf};
+use coll_nodes::{
+    Body, Declaration, Entry, MOST_DECLARATIONS, MOST_ENTRIES, MOST_SECTIONS, Walk, WalkItem,
+};
+use coll_syntax::{Id, OrderLine, Rule, Rules, TableLine, Weight};
+use std::alloc::{AllocError, Global};
+use std::marker::Model;
+
+/// A table that is being read.
+#[derive(Debug, Drop)]
+pub struct Draft {
+    // Whether an order is open.
+    order_open: bool,
+    // The rules, from the first `order_start` on.
+    rules: Option<Rules>,
+    // What is declared, and the sections.
+    builder: Builder,
+    // The number of the line of each entry, in order.
+    numbers: Vec<u32>,
+    // Where the weights of an entry grow.
+    alloc: Global,
+}
+
+impl Model for Draft {
+    ghost use Rattle.coll_draft.specs.Drafts.{DraftState};
+    ghost use Rattle.coll_draft.specs.SoundDrafts.{IsSoundDraft};
+
+    ghost Value = { DraftState };
+
+    ghost view = { λ d. record { order_open = d.order_open; rules = d.rules; declared = d.builder.declared; sections = d.builder.sections; numbers = d.numbers.items } };
+
+    ghost invariant = { λ d. IsSoundDraft (record { order_open = d.order_open; rules = d.rules; declared = d.builder.declared; sections = d.builder.sections; numbers = d.numbers.items }) };
+}
+
+impl Draft {
+    ghost use Rattle.coll_nodes.specs.Entries.{entry_of, weight_ids};
+    ghost use Rattle.coll_draft.specs.Drafts.{draft_of, line_fault, table_of, cause_after, weights_fault, entries_fault, declaration_cause, section_cause, section_cause_if, order_cause, rules_differ, weight_cause, ids_cause};
+    ghost use Rattle.coll_nodes.specs.Walks.{entries_met};
+    ghost use Rattle.coll_draft.specs.Loading.{draft_after, draft_with, with_declaration, with_section, with_section_if, with_entry};
+
+    /// A draft before the first line.
+    pub fn new(alloc: Global) -> Result<Draft, AllocError>
+        ensures { IfOk result (λ draft. draft ≡ draft_of []) }
+    {
+        let builder = Builder::new(alloc)?;
+        Ok(Draft {
+            order_open: false,
+            rules: None,
+            builder,
+            numbers: Vec::new(alloc),
+            alloc,
+        })
+    }
+
+    /// Judges one more line, which has this number, and keeps what it says. The answer tells whether it ends the category.
+    #[tactic(auto, unfolding(crate::specs::Drafts::line_fault, crate::specs::Loading::draft_with))]
+    pub fn take(&mut self, number: u32, line: TableLine) -> Result<bool, LoadFault>
+        requires proper { IsProperTableLine line }
+        ensures ok { OnOk result (line_fault self.old (record { number = number; line = line }) ≡ None) }
+        ensures after { OnOk result (self.new ≡ draft_after self.old (record { number = number; line = line })) }
+        ensures ended { IfOk result (λ ended. ended ≡ is_end line) }
+        ensures well_formed { IfOk result (λ ended. ended ≡ true → IsWellFormed (table_of self.new)) }
+        ensures err { IfErr result (λ fault. fault.cause ≢ OutOfMemory → line_fault self.old (record { number = number; line = line }) ≡ Some fault) }
+    {
+        let ends = ends_category(&line);
+        match self.keep(number, line) {
+            Ok(()) => {}
+            Err(cause) => return Err(LoadFault {
+                line: number,
+                cause,
+            }),
+        }
+        if !ends {
+            return Ok(false);
+        }
+        self.judge_weights()?;
+        self.check();
+        Ok(true)
+    }
+
+    /// The rules and the body of the table read.
+    pub fn into_parts(self) -> (Rules, Body)
+        requires { IsWellFormed (table_of self) }
+        ensures { collation (value_of result.0 result.1) ≡ table_of self }
+    {
+        let Draft { rules, builder, .. } = self;
+        let Some(rules) = rules else {
+            unreachable!();
+        };
+        (rules, builder.into_body())
+    }
+
+    /// Judges a line by those before it, weights aside, and keeps what it says.
+    #[tactic(auto, unfolding(crate::specs::Loading::draft_with))]
+    fn keep(&mut self, number: u32, line: TableLine) -> Result<(), LoadCause>
+        requires proper { IsProperTableLine line }
+        ensures ok { OnOk result (cause_after self.old line ≡ None) }
+        ensures after { OnOk result (self.new ≡ draft_with self.old number line) }
+        ensures err { IfErr result (λ cause. cause ≢ OutOfMemory → cause_after self.old line ≡ Some cause) }
+    {
+        match line {
+            TableLine::Symbol(name) => self.declare(Declaration::Symbol(name)),
+            TableLine::Element { name, text } => self.declare(Declaration::Element { name, text }),
+            TableLine::OrderStart { section, rules } => self.start(section, rules),
+            TableLine::OrderEnd => self.stop(),
+            TableLine::Section(name) => self.section(name),
+            TableLine::Script => Ok(()),
+            TableLine::EndCategory => self.end(),
+            TableLine::Order(order) => self.place(number, order),
+        }
+    }
+
+    /// `collating-symbol` and `collating-element`.
+    fn declare(&mut self, new: Declaration) -> Result<(), LoadCause>
+        requires { IsProperDeclaration new }
+        ensures ok { OnOk result (declaration_cause self.old.declared new ≡ None) }
+        ensures after { OnOk result (self.new ≡ with_declaration self.old new) }
+        ensures err { IfErr result (λ cause. cause ≢ OutOfMemory → declaration_cause self.old.declared new ≡ Some cause) }
+    {
+        if let Some(cause) = self.declaration_cause(&new) {
+            return Err(cause);
+        }
+        self.builder.declare(new)?;
+        Ok(())
+    }
+
+    /// Why a declaration is refused, if it is.
+    fn declaration_cause(&self, new: &Declaration) -> Option<LoadCause>
+        ensures { result ≡ declaration_cause self.now.declared new.now }
+    {
+        if self.builder.declares(declared_name(new)) {
+            return Some(LoadCause::DeclaredTwice);
+        }
+        if has_text_of(&self.builder, new) {
+            return Some(LoadCause::StringTwice);
+        }
+        if self.builder.declared_len() >= MOST_DECLARATIONS {
+            return Some(LoadCause::Full);
+        }
+        None
+    }
+
+    /// `order_start`: a section may begin, and the rules stand from the first one on.
+    fn start(&mut self, section: Option<TextBuf>, rules: Option<Rules>) -> Result<(), LoadCause>
+        requires name { IsNameIfGiven section }
+        requires rules { AreRulesIfGiven rules }
+        ensures ok { OnOk result (cause_after self.old (OrderStart section rules) ≡ None) }
+        ensures after { OnOk result (self.new ≡ record self.old { order_open = true; rules = rules_after self.old.rules rules; sections = with_section_if self.old.sections section }) }
+        ensures err { IfErr result (λ cause. cause ≢ OutOfMemory → cause_after self.old (OrderStart section rules) ≡ Some cause) }
+    {
+        if self.rules_differ(&rules) {
+            return Err(LoadCause::RulesDiffer);
+        }
+        self.begin_if_named(section)?;
+        self.open_order(rules);
+        Ok(())
+    }
+
+    /// Whether rules are given, and differ from those of the table.
+    fn rules_differ(&self, given: &Option<Rules>) -> bool
+        ensures { result ≡ rules_differ self.now.rules given.now }
+    {
+        match (&self.rules, given) {
+            (Some(rules), Some(given)) => !rules.is_same(given),
+            _ => false,
+        }
+    }
+
+    /// An order is open from here on, with these rules if there are none yet.
+    fn open_order(&mut self, given: Option<Rules>)
+        requires { AreRulesIfGiven given }
+        ensures { self.new ≡ record self.old { order_open = true; rules = rules_after self.old.rules given } }
+    {
+        let rules = first_rules(self.rules.take(), given);
+        self.rules = Some(rules);
+        self.order_open = true;
+    }
+
+    /// A section begins, if a name is given.
+    fn begin_if_named(&mut self, name: Option<TextBuf>) -> Result<(), LoadCause>
+        requires { IsNameIfGiven name }
+        ensures ok { OnOk result (section_cause_if self.old name ≡ None) }
+        ensures after { OnOk result (self.new ≡ record self.old { sections = with_section_if self.old.sections name }) }
+        ensures err { IfErr result (λ cause. cause ≢ OutOfMemory → section_cause_if self.old name ≡ Some cause) }
+    {
+        match name {
+            Some(name) => self.begin(name),
+            None => Ok(()),
+        }
+    }
+
+    /// A section begins.
+    fn begin(&mut self, name: TextBuf) -> Result<(), LoadCause>
+        requires { IsName name }
+        ensures ok { OnOk result (section_cause self.old name ≡ None) }
+        ensures after { OnOk result (self.new ≡ record self.old { sections = with_section self.old.sections name }) }
+        ensures err { IfErr result (λ cause. cause ≢ OutOfMemory → section_cause self.old name ≡ Some cause) }
+    {
+        if let Some(cause) = self.section_cause(&name) {
+            return Err(cause);
+        }
+        self.builder.begin_section(name)?;
+        Ok(())
+    }
+
+    /// Why a section that begins is refused, if it is.
+    fn section_cause(&self, name: &TextBuf) -> Option<LoadCause>
+        ensures { result ≡ section_cause self.now name.now }
+    {
+        if self.builder.has_section(name) {
+            return Some(LoadCause::SectionTwice);
+        }
+        if self.builder.section_len() >= MOST_SECTIONS {
+            return Some(LoadCause::Full);
+        }
+        None
+    }
+
+    /// `order_end`.
+    fn stop(&mut self) -> Result<(), LoadCause>
+        ensures ok { OnOk result (cause_after self.old OrderEnd ≡ None) }
+        ensures after { OnOk result (self.new ≡ record self.old { order_open = false }) }
+        ensures err { IfErr result (λ cause. cause_after self.old OrderEnd ≡ Some cause) }
+    {
+        if !self.order_open {
+            return Err(LoadCause::OutsideOrder);
+        }
+        self.order_open = false;
+        Ok(())
+    }
+
+    /// `section`.
+    fn section(&mut self, name: TextBuf) -> Result<(), LoadCause>
+        requires { IsName name }
+        ensures ok { OnOk result (cause_after self.old (Section name) ≡ None) }
+        ensures after { OnOk result (self.new ≡ record self.old { sections = with_section self.old.sections name }) }
+        ensures err { IfErr result (λ cause. cause ≢ OutOfMemory → cause_after self.old (Section name) ≡ Some cause) }
+    {
+        if !self.order_open {
+            return Err(LoadCause::OutsideOrder);
+        }
+        self.begin(name)?;
+        Ok(())
+    }
+
+    /// `END LC_COLLATE`, the weights aside.
+    fn end(&self) -> Result<(), LoadCause>
+        ensures ok { OnOk result (cause_after self.now EndCategory ≡ None) }
+        ensures err { IfErr result (λ cause. cause_after self.now EndCategory ≡ Some cause) }
+    {
+        if self.order_open {
+            return Err(LoadCause::OutsideOrder);
+        }
+        if self.rules.is_none() {
+            return Err(LoadCause::NoRules);
+        }
+        Ok(())
+    }
+
+    /// An order line, which has this number.
+    fn place(&mut self, number: u32, line: OrderLine) -> Result<(), LoadCause>
+        requires { IsProperLine line }
+        ensures ok { OnOk result (order_cause self.old line ≡ None) }
+        ensures after { OnOk result (self.new ≡ with_entry self.old number (entry_of (levels_of self.old.rules) self.old.declared line)) }
+        ensures err { IfErr result (λ cause. cause ≢ OutOfMemory → order_cause self.old line ≡ Some cause) }
+    {
+        if let Some(cause) = self.order_cause(&line) {
+            return Err(cause);
+        }
+        self.check();
+        let entry = self.entry_of(line)?;
+        self.put(number, entry)?;
+        Ok(())
+    }
+
+    /// What holds of every draft. It does nothing; its contract says so.
+    fn check(&self)
+        ensures { IsSoundDraft self.now }
+    {
+        let _ = &self.order_open;
+    }
+
+    /// Why an order line is refused, if it is.
+    fn order_cause(&self, line: &OrderLine) -> Option<LoadCause>
+        ensures { result ≡ order_cause self.now line.now }
+    {
+        if !self.order_open {
+            return Some(LoadCause::OutsideOrder);
+        }
+        if !self.builder.is_known(&line.id) {
+            return Some(LoadCause::NotDeclared);
+        }
+        if self.builder.is_placed(&line.id) {
+            return Some(LoadCause::PlacedTwice);
+        }
+        if self.builder.is_symbol(&line.id) && line.weights.is_some() {
+            return Some(LoadCause::SymbolWithWeights);
+        }
+        if given_len(&line.weights) > levels(&self.rules) {
+            return Some(LoadCause::TooManyWeights);
+        }
+        if self.builder.len() >= MOST_ENTRIES {
+            return Some(LoadCause::Full);
+        }
+        None
+    }
+
+    /// The entry of an order line.
+    fn entry_of(&self, line: OrderLine) -> Result<Entry, AllocError>
+        ensures { IfOk result (λ entry. entry ≡ entry_of (levels_of self.now.rules) self.now.declared line) }
+    {
+        let OrderLine { id, weights } = line;
+        if self.builder.is_symbol(&id) {
+            let weights = ListBuf::new(Vec::new(self.alloc));
+            return Ok(Entry::new(id, weights));
+        }
+        let weights = kept_weights(self.alloc, levels(&self.rules), &id, weights)?;
+        Ok(Entry::new(id, weights))
+    }
+
+    /// Puts an entry last, with the number of its line.
+    fn put(&mut self, number: u32, entry: Entry) -> Result<(), AllocError>
+        requires { MayBePut self.old entry }
+        ensures { OnOk result (self.new ≡ with_entry self.old number entry) }
+    {
+        self.numbers.reserve(1)?;
+        self.builder.place_last(entry)?;
+        self.numbers.push_reserved(number);
+        Ok(())
+    }
+
+    /// Why an identifier in a weight is refused, if it is: what is placed was declared, so a second look is taken only at
+    /// what isn't.
+    fn weight_cause(&self, id: &Id) -> Option<LoadCause>
+        ensures { result ≡ weight_cause self.now.declared self.now.sections id.now }
+    {
+        if self.builder.is_placed(id) {
+            return None;
+        }
+        if self.builder.is_known(id) {
+            return Some(LoadCause::WeightNotPlaced);
+        }
+        Some(LoadCause::NotDeclared)
+    }
+
+    /// Why the first of these identifiers that is refused in a weight is.
+    fn ids_cause(&self, ids: &[Id]) -> Option<LoadCause>
+        ensures { result ≡ ids_cause self.now.declared self.now.sections ids.now }
+    {
+        for id in ids {
+            if let Some(cause) = self.weight_cause(id) {
+                return Some(cause);
+            }
+        }
+        None
+    }
+
+    /// Why a weight is refused, if it is.
+    fn named_cause(&self, weight: &Weight) -> Option<LoadCause>
+        ensures { result ≡ ids_cause self.now.declared self.now.sections (weight_ids weight.now) }
+    {
+        match weight {
+            Weight::Names(ids) => self.ids_cause(ids.get()),
+            _ => None,
+        }
+    }
+
+    /// Why the first of these weights that is refused is.
+    fn weights_cause(&self, weights: &[Weight]) -> Option<LoadCause>
+        ensures { result ≡ ids_cause self.now.declared self.now.sections (flat_map weight_ids weights.now) }
+    {
+        for weight in weights {
+            if let Some(cause) = self.named_cause(weight) {
+                return Some(cause);
+            }
+        }
+        None
+    }
+
+    /// Judges the weights of all entries, where the category ends.
+    fn judge_weights(&self) -> Result<(), LoadFault>
+        ensures ok { OnOk result (weights_fault self.now ≡ None) }
+        ensures err { IfErr result (λ fault. weights_fault self.now ≡ Some fault) }
+    {
+        self.judge_met(&self.numbers, self.builder.walk())
+    }
+
+    /// Judges the weights of the entries that a walk meets, each with the number of its line.
+    fn judge_met(&self, mut numbers: &[u32], walk: Walk<'_>) -> Result<(), LoadFault>
+        requires { length numbers.now ≡ length (entries_met walk) }
+        ensures ok { OnOk result (entries_fault self.now numbers.now (entries_met walk.entry) ≡ None) }
+        ensures err { IfErr result (λ fault. entries_fault self.now numbers.now (entries_met walk.entry) ≡ Some fault) }
+    {
+        for item in walk {
+            let entry = match item {
+                WalkItem::Section(_) => continue,
+                WalkItem::Entry(entry) => entry,
+            };
+            let Some((number, later)) = numbers.split_first() else {
+                unreachable!();
+            };
+            if let Some(cause) = self.weights_cause(entry.weights()) {
+                return Err(LoadFault {
+                    line: *number,
+                    cause,
+                });
+            }
+            numbers = later;
+        }
+        Ok(())
+    }
+}
+
+/// Whether a line ends the category.
+fn ends_category(line: &TableLine) -> bool
+    ensures { result ≡ is_end line.now }
+{
+    matches!(line, TableLine::EndCategory)
+}
+
+/// The name that a declaration declares.
+fn declared_name(new: &Declaration) -> &TextBuf
+    ensures { result.now ≡ name_of new.now }
+{
+    match new {
+        Declaration::Symbol(name) => name,
+        Declaration::Element { name, text: _ } => name,
+    }
+}
+
+/// Whether a declaration is of an element whose string an earlier one has.
+fn has_text_of(builder: &Builder, new: &Declaration) -> bool
+    ensures { result ≡ has_text builder.now.declared (text_of new.now) }
+{
+    match new {
+        Declaration::Symbol(_) => false,
+        Declaration::Element { name: _, text } => builder.has_text(text),
+    }
+}
+
+/// The rules that stand, or else those given; one level, compared forward, where none are given.
+fn first_rules(rules: Option<Rules>, given: Option<Rules>) -> Rules
+    ensures { Some result ≡ rules_after rules given }
+{
+    if let Some(rules) = rules {
+        return rules;
+    }
+    match given {
+        Some(given) => given,
+        None => Rules::one(Rule {
+            backward: false,
+            position: false,
+        }),
+    }
+}
+
+/// The number of levels.
+fn levels(rules: &Option<Rules>) -> usize
+    ensures { result ≡ levels_of rules.now }
+{
+    match rules {
+        Some(rules) => rules.get().len(),
+        None => 0,
+    }
+}

@@ -1,0 +1,21 @@
+//! The table that is being read: the lines of a category, each judged by those before it.
+//!
+//! A `Draft` takes the lines that `coll_syntax` reads, and gives the rules and the body of the table that they say. A way through
+//! the crate, each file with its definitions in `specs/`:
+//!
+//! - `load_faults`: why a table text is refused (`LoadFaults`);
+//! - `building`: a body that grows (`Building`);
+//! - `line_weights`: the weights that an entry keeps of its line;
+//! - `drafts`: the lines, judged (`Drafts`, `SoundDrafts`).
+//!
+//! What a whole text says is defined here as well, for all who speak of it (`Loading`, `Reading`).
+#![tactic(auto)]
+
+mod building;
+mod drafts;
+mod line_weights;
+mod load_faults;
+
+pub use drafts::Draft;
+pub use line_weights::{given_len, kept_weights};
+pub use load_faults::{LoadCause, LoadFault};

@@ -1,0 +1,10 @@
+-- A string is found where an element has it.
+use Rattle.std.proofs.Common.{is_some, ap, sym, ◌∙◌}
+use Rattle.coll_nodes.specs.NodeLookUps.{node_named}
+use Rattle.coll_nodes.proofs.BodyReads.{text_found}
+use Rattle.coll_nodes.proofs.bodies.Body.has_text.Goals as goal
+
+pub returns : goal.returns
+returns c = rw (← c.self.view_is)
+    (c.is_some.ensures ∙ (ap (λ found. is_some found) c.find.ensures
+    ∙ sym (text_found c.self.inside.nodes.layout c.self.invariant.shaped (node_named c.self.inside.keys.texts) c.args.text.now c.self.invariant.found.texts)))

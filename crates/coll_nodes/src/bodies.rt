@@ -1,0 +1,331 @@
+//! The body of a table: what it declares, its sections and their entries, as nodes in rings.
+//!
+//! A `Body` has the nodes, look-ups by hash, and counts. Contracts see its layout (`specs/Bodies.antt`), from which
+//! `declared_at` and `sections_at` of `specs/TableLayout.antt` read the table. What stands in which ring, and that the look-ups
+//! find just the nodes that stand in a ring, is said in `specs/SoundBodies.antt` and `specs/BodyInvariant.antt`. Here it is read,
+//! and gets declarations, sections and entries; what is done with one node is in `linking`. A new kind of node is a new ring, and
+//! a look-up where it has a key.
+
+ghost use Rattle.std.specs.Prelude.{◌≡◌, ◌∷◌, ◌++◌, [], Some, None, false, length, ◌+◌, IfOk, OnOk, OnErr, option_copied};
+ghost use Rattle.coll_syntax.specs.Identifier.{has_name};
+ghost use Rattle.coll_nodes.specs.SoundBodies.{declares_a_symbol, entry_if};
+
+mod linking;
+
+use crate::contents::Content;
+use crate::counts::Counts;
+use crate::node_keys::NodeKeys;
+use crate::nodes::Nodes;
+use crate::{Declaration, Entry};
+use coll_lex::TextBuf;
+use coll_order::{NodeId, Place, RingId};
+use coll_syntax::Id;
+use std::alloc::{AllocError, Global};
+use std::marker::Model;
+
+/// The body of a table.
+#[derive(Debug, Drop)]
+pub struct Body {
+    nodes: Nodes,
+    /// The ring of the declarations.
+    declarations: RingId,
+    /// The ring of the sections.
+    sections: RingId,
+    /// The nodes by their keys.
+    keys: NodeKeys,
+    /// The place behind the last declaration.
+    declared_end: Place,
+    counts: Counts,
+}
+
+impl Model for Body {
+    ghost use Rattle.coll_nodes.specs.Bodies.{BodyValue};
+    ghost use Rattle.coll_nodes.specs.BodyInvariant.{IsSoundBody};
+
+    ghost Value = { BodyValue };
+
+    ghost view = { λ b. b.nodes };
+
+    ghost invariant = { λ b. IsSoundBody b.nodes.layout b.declarations b.sections b.keys b.declared_end b.counts };
+}
+
+// Whether a node declares a collating symbol.
+fn is_symbol_node(node: &Content) -> bool
+    ensures { result ≡ declares_a_symbol node.now }
+{
+    match node {
+        Content::Declared(Declaration::Symbol(_)) => true,
+        _ => false,
+    }
+}
+
+// The entry that a node is.
+fn entry_of(node: &Content) -> Option<&Entry>
+    ensures { option_copied result ≡ entry_if node.now }
+{
+    match node {
+        Content::Placed(entry) => Some(entry),
+        _ => None,
+    }
+}
+
+impl Body {
+    ghost use Rattle.coll_order.specs.Changes.{one_step_more};
+    ghost use Rattle.coll_nodes.specs.Bodies.{IsLaidOut};
+    ghost use Rattle.coll_nodes.specs.Table.{has_text};
+    ghost use Rattle.coll_nodes.specs.Placement.{entry_at};
+    ghost use Rattle.coll_nodes.specs.SoundLayouts.{IsSoundLayout};
+    ghost use Rattle.coll_nodes.specs.SoundBodies.{IsShaped, IsPlaceIn, IsEntryPlace, Adds, with_empty_ring};
+    ghost use Rattle.std.specs.List.{list_any};
+    ghost use Rattle.coll_nodes.specs.declared.declarations.Declaration.TheVariants.{Symbol, Element};
+    ghost use Rattle.coll_nodes.specs.Table.{declares_symbol, name_of, text_of, texts_of, is_declared, is_known, is_symbol, is_placed_in, section_names, joined_entries};
+    ghost use Rattle.coll_nodes.specs.TableLayout.{declared_at, sections_at, declarations_ring, sections_ring};
+    ghost use Rattle.coll_nodes.specs.declared.contents.Content.TheVariants as content;
+
+    /// Nothing declared, and no section.
+    pub fn new(alloc: Global) -> Result<Body, AllocError>
+        ensures layout { IfOk result (λ body. body.layout ≡ record { rings = [] ∷ [] ∷ []; nodes = [] }) }
+        ensures steps { IfOk result (λ body. body.steps ≡ 0) }
+    {
+        let mut nodes = Nodes::new(alloc);
+        let declarations = nodes.new_ring()?;
+        let sections = nodes.new_ring()?;
+        Ok(Body {
+            nodes,
+            declarations,
+            sections,
+            keys: NodeKeys::new(alloc),
+            declared_end: Place::Head(declarations),
+            counts: Counts::new(),
+        })
+    }
+
+    /// A copy, in new memory, in which each node has its name.
+    pub fn try_copy(&self, alloc: Global) -> Result<Body, AllocError>
+        ensures { IfOk result (λ copy. copy ≡ self.now) }
+    {
+        let nodes = self.nodes.try_copy(alloc)?;
+        let keys = self.keys.try_copy(alloc)?;
+        Ok(Body {
+            nodes,
+            declarations: self.declarations,
+            sections: self.sections,
+            keys,
+            declared_end: self.declared_end,
+            counts: self.counts,
+        })
+    }
+
+    /// Where it takes memory.
+    pub fn alloc(&self) -> Global {
+        self.keys.names.alloc()
+    }
+
+    /// The nodes.
+    pub(crate) fn nodes(&self) -> &Nodes
+        ensures { result.now ≡ self.now }
+    {
+        &self.nodes
+    }
+
+    /// The number of ring steps that its changes have taken, modulo 2 to the power 64.
+    pub fn steps(&self) -> u64
+        ensures { result ≡ self.now.steps }
+    {
+        self.nodes.steps()
+    }
+
+    /// The ring of the declarations.
+    pub fn declarations(&self) -> RingId
+        ensures { result ≡ declarations_ring }
+    {
+        self.declarations
+    }
+
+    /// The ring of the sections.
+    pub fn sections(&self) -> RingId
+        ensures { result ≡ sections_ring }
+    {
+        self.sections
+    }
+
+    /// What holds of the layout of every body.
+    ///
+    /// It does nothing but hand the facts to callers.
+    pub fn check_layout(&self)
+        ensures laid { IsLaidOut self.now.layout }
+        ensures shaped { IsShaped self.now.layout }
+        ensures sound { IsSoundLayout self.now.layout }
+    {
+        self.nodes.check_named();
+        self.nodes.check_layout();
+    }
+
+    /// Whether a name is declared.
+    pub fn declares(&self, name: &TextBuf) -> bool
+        ensures { result ≡ is_declared (declared_at self.now.layout) name.now }
+    {
+        self.keys.names.find(name).is_some()
+    }
+
+    /// Whether a collating element has this string.
+    pub fn has_text(&self, text: &TextBuf) -> bool
+        ensures { result ≡ has_name (texts_of (declared_at self.now.layout)) text.now }
+    {
+        self.keys.texts.find(text).is_some()
+    }
+
+    /// Whether a section has this name.
+    pub fn has_section(&self, name: &TextBuf) -> bool
+        ensures { result ≡ has_name (section_names (sections_at self.now.layout)) name.now }
+    {
+        self.keys.sections.find(name).is_some()
+    }
+
+    /// Whether an identifier stands in a section.
+    pub fn is_placed(&self, id: &Id) -> bool
+        ensures { result ≡ is_placed_in (sections_at self.now.layout) id.now }
+    {
+        self.keys.placed.find(id).is_some()
+    }
+
+    /// Whether an identifier may be used: a name has to be declared.
+    pub fn is_known(&self, id: &Id) -> bool
+        ensures { result ≡ is_known (declared_at self.now.layout) id.now }
+    {
+        match id {
+            Id::Named(name) => self.declares(name),
+            _ => true,
+        }
+    }
+
+    /// Whether an identifier is a collating symbol.
+    pub fn is_symbol(&self, id: &Id) -> bool
+        ensures { result ≡ is_symbol (declared_at self.now.layout) id.now }
+    {
+        match id {
+            Id::Named(name) => self.is_symbol_name(name),
+            _ => false,
+        }
+    }
+
+    // Whether a name is declared as a collating symbol.
+    fn is_symbol_name(&self, name: &TextBuf) -> bool
+        ensures { result ≡ list_any (declares_symbol name.now) (declared_at self.now.layout) }
+    {
+        self.nodes.check_layout();
+        match self.keys.names.find(name) {
+            Some(node) => is_symbol_node(self.nodes.content(node)),
+            None => false,
+        }
+    }
+
+    /// The entry of an identifier, if it has one.
+    pub fn entry(&self, id: &Id) -> Option<&Entry>
+        ensures { option_copied result ≡ entry_at (joined_entries (sections_at self.now.layout)) id.now }
+    {
+        self.nodes.check_layout();
+        match self.keys.placed.find(id) {
+            Some(node) => entry_of(self.nodes.content(node)),
+            None => None,
+        }
+    }
+
+    /// The number of declarations.
+    pub fn declared_len(&self) -> usize
+        ensures { result ≡ length (declared_at self.now.layout) }
+    {
+        self.counts.declarations
+    }
+
+    /// The number of sections.
+    pub fn section_len(&self) -> usize
+        ensures { result ≡ length (sections_at self.now.layout) }
+    {
+        self.counts.sections
+    }
+
+    /// The number of entries, in all sections together.
+    pub fn entry_len(&self) -> usize
+        ensures { result ≡ length (joined_entries (sections_at self.now.layout)) }
+    {
+        self.counts.entries
+    }
+
+    /// Puts a declaration of a collating symbol directly after a place.
+    pub fn declare_symbol(&mut self, name: TextBuf, place: Place) -> Result<NodeId, AllocError>
+        requires name { is_declared (declared_at self.old.layout) name ≡ false }
+        requires place { IsPlaceIn self.old.layout 0 place }
+        ensures ok { IfOk result (λ node. Adds self.old.layout self.new.layout node (content.Declared (Symbol name)) place) }
+        ensures steps { OnOk result (self.new.steps ≡ one_step_more self.old.steps) }
+        ensures err { OnErr result (self.new ≡ self.old) }
+    {
+        self.check_layout();
+        let node = self.make(Content::Declared(Declaration::Symbol(name)))?;
+        self.put_in(node, place);
+        Ok(node)
+    }
+
+    /// Puts a declaration of a collating element directly after a place.
+    pub fn declare_element(
+        &mut self,
+        name: TextBuf,
+        text: TextBuf,
+        place: Place,
+    ) -> Result<NodeId, AllocError>
+        requires name { is_declared (declared_at self.old.layout) name ≡ false }
+        requires text { has_name (texts_of (declared_at self.old.layout)) text ≡ false }
+        requires place { IsPlaceIn self.old.layout 0 place }
+        ensures ok { IfOk result (λ node. Adds self.old.layout self.new.layout node (content.Declared (Element name text)) place) }
+        ensures steps { OnOk result (self.new.steps ≡ one_step_more self.old.steps) }
+        ensures err { OnErr result (self.new ≡ self.old) }
+    {
+        self.check_layout();
+        let node = self.make(Content::Declared(Declaration::Element { name, text }))?;
+        self.put_in(node, place);
+        Ok(node)
+    }
+
+    /// Begins a section without a name directly after a place, and answers its node and its ring.
+    pub fn begin_unnamed(&mut self, place: Place) -> Result<(NodeId, RingId), AllocError>
+        requires place { IsPlaceIn self.old.layout 1 place }
+        ensures ok { IfOk result (λ begun. Adds (with_empty_ring self.old.layout) self.new.layout begun.0 (content.Begun None begun.1) place) }
+        ensures ring { IfOk result (λ begun. begun.1.index ≡ length self.old.layout.rings) }
+        ensures steps { OnOk result (self.new.steps ≡ one_step_more self.old.steps) }
+        ensures err { OnErr result (self.new ≡ self.old) }
+    {
+        self.check_layout();
+        let (node, ring) = self.make_section(None)?;
+        self.put_in(node, place);
+        Ok((node, ring))
+    }
+
+    /// Begins a section directly after a place, and answers its node and its ring.
+    pub fn begin(&mut self, name: TextBuf, place: Place) -> Result<(NodeId, RingId), AllocError>
+        requires name { has_name (section_names (sections_at self.old.layout)) name ≡ false }
+        requires place { IsPlaceIn self.old.layout 1 place }
+        ensures ok { IfOk result (λ begun. Adds (with_empty_ring self.old.layout) self.new.layout begun.0 (content.Begun (Some name) begun.1) place) }
+        ensures ring { IfOk result (λ begun. begun.1.index ≡ length self.old.layout.rings) }
+        ensures steps { OnOk result (self.new.steps ≡ one_step_more self.old.steps) }
+        ensures err { OnErr result (self.new ≡ self.old) }
+    {
+        self.check_layout();
+        let (node, ring) = self.make_section(Some(name))?;
+        self.put_in(node, place);
+        Ok((node, ring))
+    }
+
+    /// Puts an entry directly after a place.
+    pub fn place(&mut self, entry: Entry, place: Place) -> Result<NodeId, AllocError>
+        requires id { is_placed_in (sections_at self.old.layout) entry.id ≡ false }
+        requires place { IsEntryPlace self.old.layout place }
+        ensures ok { IfOk result (λ node. Adds self.old.layout self.new.layout node (content.Placed entry) place) }
+        ensures steps { OnOk result (self.new.steps ≡ one_step_more self.old.steps) }
+        ensures err { OnErr result (self.new ≡ self.old) }
+    {
+        self.check_layout();
+        let node = self.make(Content::Placed(entry))?;
+        self.put_in(node, place);
+        Ok(node)
+    }
+}

@@ -1,0 +1,168 @@
+//! Nodes of a body that are made, put in, taken out, moved, weighed anew and dropped.
+//!
+//! A node is made loose, and its keys are reserved with it, so that it can be put in and taken out any number of times without
+//! memory: a key that came into a look-up stays for good. Whoever puts a node in or takes it out sets the look-ups with it; a
+//! node that is moved keeps them. A section is moved, and never loose.
+
+ghost use Rattle.std.specs.Prelude.{◌≡◌, ◌∷◌, [], Some, None, IsSome, false, true, IfOk, OnErr};
+ghost use Rattle.coll_nodes.specs.BodyInvariant.{end_with as end_with_node, end_without as end_without_node};
+ghost use Rattle.coll_order.specs.Changes.{one_step_more};
+ghost use Rattle.coll_order.specs.Layout.{is_in, place_from};
+
+use super::Body;
+use crate::contents::Content;
+use coll_lex::{ListBuf, TextBuf};
+use coll_order::{NodeId, Place, RingId};
+use coll_syntax::{Id, Weight};
+use std::alloc::AllocError;
+
+// Where a list ends once a node was put directly after a place.
+fn end_with(end: Place, place: Place, node: NodeId) -> Place
+    ensures { result ≡ end_with_node end place node }
+{
+    if place == end {
+        Place::After(node)
+    } else {
+        end
+    }
+}
+
+// Where a list ends once a node was taken out that stood directly after a place.
+fn end_without(end: Place, node: NodeId, place: Place) -> Place
+    ensures { result ≡ end_without_node end node place }
+{
+    if end == Place::After(node) {
+        place
+    } else {
+        end
+    }
+}
+
+impl Body {
+    ghost use Rattle.coll_syntax.specs.Identifier.{same_id, same_name};
+    ghost use Rattle.coll_nodes.specs.Bodies.{IsLooseNode, Makes, MakesSection, with_link, without_link};
+    ghost use Rattle.coll_nodes.specs.Linking.{IsFoundBy, end_of_declarations, nodes_without};
+    ghost use Rattle.coll_nodes.specs.SoundBodies.{ids_in, section_names_in};
+    ghost use Rattle.coll_nodes.specs.TableLayout.{content_of};
+    ghost use Rattle.coll_nodes.specs.Moving.{MayBeLoose, Suits, exchanged, weighed_nodes};
+
+    /// The node of an identifier that stands in a section.
+    pub fn entry_node(&self, id: &Id) -> Option<NodeId>
+        ensures { IsFoundBy same_id ids_in self.now.layout id.now result }
+    {
+        self.keys.placed.find(id)
+    }
+
+    /// The node of a section.
+    pub fn section_node(&self, name: &TextBuf) -> Option<NodeId>
+        ensures { IsFoundBy same_name section_names_in self.now.layout name.now result }
+    {
+        self.keys.sections.find(name)
+    }
+
+    /// The place behind the last declaration.
+    pub fn declared_end(&self) -> Place
+        ensures { result ≡ end_of_declarations self.now.layout }
+    {
+        self.declared_end
+    }
+
+    /// Makes a loose node, and reserves its keys.
+    pub fn make(&mut self, node: Content) -> Result<NodeId, AllocError>
+        requires may { MayBeLoose node }
+        ensures made { IfOk result (λ made. Makes self.old.layout self.new.layout made node) }
+        ensures apart { IfOk result (λ made. is_in self.old.layout.rings made ≡ false) }
+        ensures dropped { IfOk result (λ made. nodes_without (made ∷ []) self.new.layout.nodes ≡ self.old.layout.nodes) }
+        ensures rings { self.new.layout.rings ≡ self.old.layout.rings }
+        ensures steps { self.new.steps ≡ self.old.steps }
+        ensures err { OnErr result (self.new ≡ self.old) }
+    {
+        self.nodes.check_layout();
+        self.keys.reserve(&node)?;
+        self.nodes.make(node)
+    }
+
+    /// Makes a loose node that is a section, with a ring for its entries, and reserves its name. It has to be put in.
+    pub(super) fn make_section(
+        &mut self,
+        name: Option<TextBuf>,
+    ) -> Result<(NodeId, RingId), AllocError>
+        ensures made { IfOk result (λ made. MakesSection self.old.layout self.new.layout name made) }
+        ensures steps { self.new.steps ≡ self.old.steps }
+        ensures err { OnErr result (self.new ≡ self.old) }
+    {
+        self.nodes.check_layout();
+        self.keys.reserve_section(&name)?;
+        self.nodes.make_section(name)
+    }
+
+    /// Puts a loose node directly after a place.
+    pub fn put_in(&mut self, node: NodeId, place: Place)
+        requires loose { IsLooseNode self.old.layout node }
+        requires suits { Suits self.old.layout node (Some place) }
+        ensures layout { self.new.layout ≡ with_link self.old.layout node place }
+        ensures steps { self.new.steps ≡ one_step_more self.old.steps }
+    {
+        self.nodes.check_layout();
+        self.nodes.check_few();
+        let content = self.nodes.content(node);
+        self.keys.set(content, Some(node));
+        self.counts = self.counts.with(content);
+        self.nodes.link(node, place);
+        self.declared_end = end_with(self.declared_end, place, node);
+    }
+
+    /// Takes a node out of its ring, and answers what stood directly before it.
+    pub fn take_out(&mut self, node: NodeId) -> Place
+        requires linked { is_in self.old.layout.rings node ≡ true }
+        requires suits { Suits self.old.layout node None }
+        ensures place { place_from 0 self.old.layout.rings node ≡ Some result }
+        ensures layout { self.new.layout ≡ without_link self.old.layout node }
+        ensures steps { self.new.steps ≡ one_step_more self.old.steps }
+    {
+        self.nodes.check_layout();
+        let place = self.nodes.unlink(node);
+        let content = self.nodes.content(node);
+        self.keys.set(content, None);
+        self.counts = self.counts.without(content);
+        self.declared_end = end_without(self.declared_end, node, place);
+        place
+    }
+
+    /// Moves a node directly after a place, and answers what stood directly before it.
+    pub fn relink(&mut self, node: NodeId, place: Place) -> Place
+        requires linked { is_in self.old.layout.rings node ≡ true }
+        requires suits { Suits (without_link self.old.layout node) node (Some place) }
+        ensures place { place_from 0 self.old.layout.rings node ≡ Some result }
+        ensures layout { self.new.layout ≡ with_link (without_link self.old.layout node) node place }
+        ensures steps { self.new.steps ≡ one_step_more (one_step_more self.old.steps) }
+    {
+        self.nodes.check_layout();
+        let from = self.nodes.unlink(node);
+        self.nodes.link(node, place);
+        let end = end_without(self.declared_end, node, from);
+        self.declared_end = end_with(end, place, node);
+        from
+    }
+
+    /// Exchanges the weights of an entry with these. What isn't an entry, and the weights, then stay.
+    pub fn exchange(&mut self, node: NodeId, weights: &mut ListBuf<Weight>)
+        requires made { IsSome (content_of self.old.layout node) }
+        ensures nodes { self.new.layout ≡ record self.old.layout { nodes = weighed_nodes node (Some weights.old) self.old.layout.nodes } }
+        ensures weights { Some weights.new ≡ exchanged (Some weights.old) (content_of self.old.layout node) }
+        ensures steps { self.new.steps ≡ self.old.steps }
+    {
+        self.nodes.check_layout();
+        self.nodes.exchange(node, weights);
+    }
+
+    /// Drops a loose node, whose name a later node may get.
+    pub fn drop_loose(&mut self, node: NodeId)
+        requires loose { IsLooseNode self.old.layout node }
+        ensures layout { self.new.layout ≡ record self.old.layout { nodes = nodes_without (node ∷ []) self.old.layout.nodes } }
+        ensures steps { self.new.steps ≡ self.old.steps }
+    {
+        self.nodes.check_layout();
+        self.nodes.drop_loose(node);
+    }
+}

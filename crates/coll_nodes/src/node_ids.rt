@@ -1,0 +1,107 @@
+//! Nodes by identifier, with look-ups by hash.
+//!
+//! A `NodeIds` says which node an identifier leads to: a name by `NodeNames`, a character by a look-up of its own. An identifier
+//! that leads to none may stay as a key. A new kind of identifier is a look-up more.
+
+ghost use Rattle.std.specs.Prelude.{◌≡◌, true, None, Some, IfOk, OnOk, OnErr};
+
+use super::node_names::NodeNames;
+use coll_order::NodeId;
+use coll_syntax::Id;
+use indexmap::IndexMap;
+use std::alloc::{AllocError, Global};
+use std::marker::Model;
+
+/// Nodes by identifier.
+#[derive(Debug, Drop)]
+pub(crate) struct NodeIds {
+    names: NodeNames,
+    characters: IndexMap<char, Option<NodeId>>,
+    undefined: Option<NodeId>,
+}
+
+impl Model for NodeIds {
+    ghost use Rattle.coll_nodes.specs.NodeLookUps.{NodesById};
+    ghost use Rattle.coll_nodes.specs.NodeMaps.{chars_lead};
+
+    ghost Value = { NodesById };
+
+    ghost view = { λ n. record { names = n.names; characters = chars_lead n.characters.entries; undefined = n.undefined } };
+}
+
+impl NodeIds {
+    ghost use Rattle.coll_nodes.specs.NodeLookUps.{no_nodes, node_with, is_id_key, SetsId, AddsIdKey, LeadAlike, KeepIdKeys};
+
+    /// No identifiers. It takes no memory.
+    pub(crate) fn new(alloc: Global) -> NodeIds
+        ensures { result ≡ no_nodes }
+    {
+        NodeIds {
+            names: NodeNames::new(alloc),
+            characters: IndexMap::new(alloc),
+            undefined: None,
+        }
+    }
+
+    /// The node that an identifier leads to.
+    pub(crate) fn find(&self, id: &Id) -> Option<NodeId>
+        ensures { result ≡ node_with self.now id.now }
+    {
+        match id {
+            Id::Char(c) => match self.characters.get(c) {
+                Some(node) => *node,
+                None => None,
+            },
+            Id::Named(name) => self.names.find(name),
+            Id::Undefined => self.undefined,
+        }
+    }
+
+    /// Makes an identifier a key, so that it can be `set`. It leads to where it led.
+    pub(crate) fn reserve(&mut self, id: &Id) -> Result<(), AllocError>
+        ensures ok { OnOk result (LeadAlike self.old self.new) }
+        ensures keys { OnOk result (AddsIdKey self.old self.new id.now) }
+        ensures err { OnErr result (self.new ≡ self.old) }
+    {
+        match id {
+            Id::Char(c) => {
+                let node = self.find(id);
+                self.characters.insert(*c, node)?;
+            }
+            Id::Named(name) => self.names.reserve(name)?,
+            Id::Undefined => (),
+        }
+        Ok(())
+    }
+
+    /// Makes an identifier that is a key lead to a node, or to none. It takes no memory.
+    pub(crate) fn set(&mut self, id: &Id, node: Option<NodeId>)
+        requires { is_id_key self.old id.now ≡ true }
+        ensures set { SetsId self.old self.new id.now node }
+        ensures keys { KeepIdKeys self.old self.new }
+    {
+        match id {
+            Id::Char(c) => {
+                let Some(place) = self.characters.get_mut(c) else {
+                    unreachable!();
+                };
+                *place = node;
+            }
+            Id::Named(name) => self.names.set(name, node),
+            Id::Undefined => self.undefined = node,
+        }
+    }
+
+    /// A copy, in new memory.
+    pub(crate) fn try_copy(&self, alloc: Global) -> Result<NodeIds, AllocError>
+        ensures { IfOk result (λ copy. copy ≡ self.now) }
+    {
+        let names = self.names.try_copy(alloc)?;
+        let characters = self.characters.clone()?;
+        Ok(NodeIds {
+            names,
+            characters,
+            undefined: self.undefined,
+        })
+    }
+}

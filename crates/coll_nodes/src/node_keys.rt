@@ -1,0 +1,116 @@
+//! Nodes by their keys: a declaration by its name and its string, a section by its name, an entry by its identifier.
+//!
+//! A `NodeKeys` has a look-up for each kind of key, and reads of a node what it is found by (`specs/KeyedNodes.antt`). A key that
+//! came in stays for good, so that its node can be found again, or not any more, without memory. A new kind of key is a look-up
+//! more, and a case here.
+
+ghost use Rattle.std.specs.Prelude.{◌≡◌, IfOk, OnOk, OnErr};
+ghost use Rattle.coll_nodes.specs.KeyedNodes.{no_keys, HasKeysOf, HasKeyOfSection, KeepsKeys, LeadsAlike, SetsKeys, SetsSection};
+
+use crate::Declaration;
+use crate::contents::Content;
+use crate::node_ids::NodeIds;
+use crate::node_names::NodeNames;
+use coll_lex::TextBuf;
+use coll_order::NodeId;
+use std::alloc::{AllocError, Global};
+
+/// Nodes by their keys.
+#[derive(Debug, Drop)]
+pub(crate) struct NodeKeys {
+    /// The declarations by their names.
+    pub(crate) names: NodeNames,
+    /// The collating elements by their strings.
+    pub(crate) texts: NodeNames,
+    /// The sections by their names.
+    pub(crate) sections: NodeNames,
+    /// The entries by their identifiers.
+    pub(crate) placed: NodeIds,
+}
+
+impl NodeKeys {
+    /// No keys. It takes no memory.
+    pub(crate) fn new(alloc: Global) -> NodeKeys
+        ensures { result ≡ no_keys }
+    {
+        NodeKeys {
+            names: NodeNames::new(alloc),
+            texts: NodeNames::new(alloc),
+            sections: NodeNames::new(alloc),
+            placed: NodeIds::new(alloc),
+        }
+    }
+
+    /// A copy, in new memory.
+    pub(crate) fn try_copy(&self, alloc: Global) -> Result<NodeKeys, AllocError>
+        ensures { IfOk result (λ copy. copy ≡ self.now) }
+    {
+        let names = self.names.try_copy(alloc)?;
+        let texts = self.texts.try_copy(alloc)?;
+        let sections = self.sections.try_copy(alloc)?;
+        let placed = self.placed.try_copy(alloc)?;
+        Ok(NodeKeys {
+            names,
+            texts,
+            sections,
+            placed,
+        })
+    }
+
+    /// Makes what a node is found by keys, so that it can be `set`. Each key leads to where it led.
+    pub(crate) fn reserve(&mut self, node: &Content) -> Result<(), AllocError>
+        ensures leads { LeadsAlike self.old self.new }
+        ensures keeps { KeepsKeys self.old self.new }
+        ensures keys { OnOk result (HasKeysOf self.new node.now) }
+    {
+        match node {
+            Content::Declared(Declaration::Symbol(name)) => self.names.reserve(name),
+            Content::Declared(Declaration::Element { name, text }) => {
+                self.names.reserve(name)?;
+                self.texts.reserve(text)
+            }
+            Content::Begun { name, .. } => self.reserve_section(name),
+            Content::Placed(entry) => self.placed.reserve(&entry.id),
+        }
+    }
+
+    /// Makes the name of a section a key, so that it can be `set`. Each key leads to where it led.
+    pub(crate) fn reserve_section(&mut self, name: &Option<TextBuf>) -> Result<(), AllocError>
+        ensures leads { LeadsAlike self.old self.new }
+        ensures keeps { KeepsKeys self.old self.new }
+        ensures keys { OnOk result (HasKeyOfSection self.new name.now) }
+    {
+        match name {
+            Some(name) => self.sections.reserve(name),
+            None => Ok(()),
+        }
+    }
+
+    /// Makes what a node is found by lead to a node, or to none. It takes no memory.
+    pub(crate) fn set(&mut self, content: &Content, node: Option<NodeId>)
+        requires keys { HasKeysOf self.old content.now }
+        ensures set { SetsKeys self.old self.new content.now node }
+        ensures keeps { KeepsKeys self.old self.new }
+    {
+        match content {
+            Content::Declared(Declaration::Symbol(name)) => self.names.set(name, node),
+            Content::Declared(Declaration::Element { name, text }) => {
+                self.names.set(name, node);
+                self.texts.set(text, node);
+            }
+            Content::Begun { name, .. } => self.set_section(name, node),
+            Content::Placed(entry) => self.placed.set(&entry.id, node),
+        }
+    }
+
+    // Makes the name of a section lead to a node, or to none, if it has one.
+    fn set_section(&mut self, name: &Option<TextBuf>, node: Option<NodeId>)
+        requires keys { HasKeyOfSection self.old name.now }
+        ensures set { SetsSection self.old self.new name.now node }
+        ensures keeps { KeepsKeys self.old self.new }
+    {
+        if let Some(name) = name {
+            self.sections.set(name, node);
+        }
+    }
+}

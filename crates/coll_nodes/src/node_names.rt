@@ -1,0 +1,101 @@
+//! Nodes by name, with a look-up by hash.
+//!
+//! A `NodeNames` says which node a name leads to. A name that leads to none may stay as a key, so that it can lead to a node
+//! later without taking memory. How a name is found, and in which order names are kept, may change.
+
+ghost use Rattle.std.specs.Prelude.{◌≡◌, [], true, None, Some, IfOk, OnOk, OnErr};
+
+use coll_lex::TextBuf;
+use coll_order::NodeId;
+use indexmap::IndexMap;
+use std::alloc::{AllocError, Global};
+use std::marker::Model;
+
+/// Nodes by name.
+#[derive(Debug, Drop)]
+pub(crate) struct NodeNames {
+    names: IndexMap<String, Option<NodeId>>,
+    alloc: Global,
+}
+
+impl Model for NodeNames {
+    ghost use Rattle.std.specs.Prelude.{List, ℕ};
+    ghost use Rattle.coll_nodes.specs.NodeLookUps.{Leading};
+    ghost use Rattle.coll_nodes.specs.NodeMaps.{names_lead, AreKeys, IsText};
+
+    ghost Value = { List (Leading (List ℕ)) };
+
+    ghost view = { λ n. names_lead n.names.entries };
+
+    ghost invariant = { λ n. AreKeys IsText n.names.entries };
+}
+
+impl NodeNames {
+    ghost use Rattle.coll_nodes.specs.NodeLookUps.{node_named, is_name_key, SetsName, AddsNameKey, LeadNamesAlike, KeepNameKeys};
+
+    /// No names. It takes no memory.
+    pub(crate) fn new(alloc: Global) -> NodeNames
+        ensures { result ≡ [] }
+    {
+        NodeNames {
+            names: IndexMap::new(alloc),
+            alloc,
+        }
+    }
+
+    /// Where it takes memory.
+    pub(crate) fn alloc(&self) -> Global {
+        self.alloc
+    }
+
+    /// The node that a name leads to.
+    pub(crate) fn find(&self, name: &TextBuf) -> Option<NodeId>
+        ensures { result ≡ node_named self.now name.now }
+    {
+        match self.names.get(name.get()) {
+            Some(node) => *node,
+            None => None,
+        }
+    }
+
+    /// Makes a name a key, so that it can be `set`. It leads to where it led.
+    pub(crate) fn reserve(&mut self, name: &TextBuf) -> Result<(), AllocError>
+        ensures ok { OnOk result (LeadNamesAlike self.old self.new) }
+        ensures keys { OnOk result (AddsNameKey self.old self.new name.now) }
+        ensures err { OnErr result (self.new ≡ self.old) }
+    {
+        let node = self.find(name);
+        self.put(name, node)
+    }
+
+    /// Makes a name that is a key lead to a node, or to none. It takes no memory.
+    pub(crate) fn set(&mut self, name: &TextBuf, node: Option<NodeId>)
+        requires { is_name_key self.old name.now ≡ true }
+        ensures set { SetsName self.old self.new name.now node }
+        ensures keys { KeepNameKeys self.old self.new }
+    {
+        let Some(place) = self.names.get_mut(name.get()) else {
+            unreachable!();
+        };
+        *place = node;
+    }
+
+    /// A copy, in new memory.
+    pub(crate) fn try_copy(&self, alloc: Global) -> Result<NodeNames, AllocError>
+        ensures { IfOk result (λ copy. copy ≡ self.now) }
+    {
+        let names = self.names.clone()?;
+        Ok(NodeNames { names, alloc })
+    }
+
+    // Makes a name a key, and lead to this.
+    fn put(&mut self, name: &TextBuf, node: Option<NodeId>) -> Result<(), AllocError>
+        ensures ok { OnOk result (SetsName self.old self.new name.now node) }
+        ensures keys { OnOk result (AddsNameKey self.old self.new name.now) }
+        ensures err { OnErr result (self.new ≡ self.old) }
+    {
+        let text = String::from_str(self.alloc, name.get())?;
+        self.names.insert(text, node)?;
+        Ok(())
+    }
+}

@@ -1,0 +1,8 @@
+pub mod PrintedDrafts
+pub mod PrintedLines
+pub mod PrintedParts
+pub mod PrintedReading
+pub mod PrintedSpellings
+pub mod PrintedTables
+pub mod PrintedTexts
+pub mod PrintedTokens

@@ -1,0 +1,143 @@
+-- The canonical text of a table is read as that table.
+use Rattle.std.proofs.Common.{◌≡◌, ℕ, suc, ◌+◌, ◌<◌, ◌≤◌, Bool, true, false, List, [], ◌∷◌, ◌++◌, length, map, codes, Some, None, sym, ap, subst, ◌∙◌, refl, arith, append_assoc, length-append}
+use Rattle.std.specs.Prelude.{All, encode_utf8_all}
+use Rattle.std.specs.List.{flat_map}
+use Rattle.std.proofs.lemmas.List.{map-append, length-map}
+use Rattle.std.proofs.lemmas.List.Elements.{All-nil, All-cons, All-head, All-tail, All-append, All-weaker}
+use Rattle.coll_lex.specs.Limits.{most_lines}
+use Rattle.coll_lex.specs.Names.{IsName}
+use Rattle.coll_lex.specs.PhysicalLines.{IsInLine, lines_of}
+use Rattle.coll_syntax.specs.Proper.{IsId, IsElementText, IsProperWeight}
+use Rattle.coll_syntax.specs.declared.lines.TableLine.TheVariants as line
+use Rattle.coll_nodes.specs.declared.declarations.Declaration.{Declaration}
+use Rattle.coll_nodes.specs.declared.declarations.Declaration.TheVariants as declaration
+use Rattle.coll_nodes.specs.declared.entries.Entry.{Entry}
+use Rattle.coll_nodes.specs.Table.{Collation, names_of, texts_of, joined_entries, ids_of, section_names, is_symbol}
+use Rattle.coll_nodes.specs.WellFormed.{IsKeptWeight, HasWeights, IsWeighted, IsWellFormed}
+use Rattle.coll_nodes.specs.Limits.{most_entries, most_declarations, most_sections}
+use Rattle.coll_nodes.specs.Walks.{Met, MetSection, MetEntry, met, entry_met}
+use Rattle.coll_draft.proofs.MetEntries.{met_all}
+use Rattle.coll_draft.specs.Reading.{answer_at_end, outcome_of, reads}
+use Rattle.coll_print.specs.CanonicalText.{declaration_line, rules_line, met_line, opening_lines, canonical_lines, line_bytes, text, PrintedTablesAreReadBack}
+use Rattle.coll_print.proofs.PrintedTokens.{declaration_read}
+use Rattle.coll_print.proofs.PrintedDrafts.{name_met, met_read, names_met, names_of_first, said, said_leads}
+use Rattle.coll_print.proofs.PrintedSpellings.{is_clean}
+use Rattle.coll_print.proofs.PrintedLines.{IsSpelledDeclaration, IsSpelledEntry, declaration_says, rules_say, entry_says, section_says, order_end_says, category_end_says}
+use Rattle.coll_print.proofs.PrintedTexts.{in_line}
+use Rattle.coll_print.proofs.PrintedReading.{bytes_of, SayAll, say_append, say_members, say_one, lines_decide, opening_decides, lines_of_feeds, says_in_line, say_in_line}
+
+-- What a well-formed table is made of.
+
+-- its declarations
+declarations_spelled : (declared : List Declaration) → All IsName (names_of declared) → All IsElementText (texts_of declared) → All IsSpelledDeclaration declared
+declarations_spelled [] names texts = All-nil IsSpelledDeclaration
+declarations_spelled (declaration.Symbol name ∷ later) names texts =
+    All-cons IsSpelledDeclaration (declaration.Symbol name) later
+    (record { name = All-head IsName name (names_of later) names; texts = All-nil IsElementText })
+    (declarations_spelled later (All-tail IsName name (names_of later) names) texts)
+declarations_spelled (declaration.Element name chars ∷ later) names texts =
+    All-cons IsSpelledDeclaration (declaration.Element name chars) later
+    (record { name = All-head IsName name (names_of later) names; texts = All-cons IsElementText chars [] (All-head IsElementText chars (texts_of later) texts) (All-nil IsElementText) })
+    (declarations_spelled later (All-tail IsName name (names_of later) names) (All-tail IsElementText chars (texts_of later) texts))
+
+-- an entry
+entry_spelled : (levels : ℕ) (declared : List Declaration) (e : Entry) → levels ≤ 4 → IsId e.id → IsWeighted levels declared e → IsSpelledEntry e
+entry_spelled levels declared e few is h = by_kind (is_symbol declared e.id) h where
+  by_kind : (symbol : Bool) → HasWeights levels symbol e → IsSpelledEntry e
+  by_kind true h = record { id = is; weights = subst (All IsProperWeight) (sym h) (All-nil IsProperWeight); few = omega (arith, ap length h) }
+  by_kind false h = record { id = is; weights = All-weaker (IsKeptWeight e.id) IsProperWeight (λ w kept. kept.0) e.weights h.1; few = omega (arith, h.0) }
+
+entries_spelled : (levels : ℕ) (declared : List Declaration) (entries : List Entry) → levels ≤ 4 → All IsId (ids_of entries) → All (IsWeighted levels declared) entries → All IsSpelledEntry entries
+entries_spelled levels declared [] few ids weighted = All-nil IsSpelledEntry
+entries_spelled levels declared (e ∷ entries) few ids weighted =
+    All-cons IsSpelledEntry e entries
+    (entry_spelled levels declared e few (All-head IsId e.id (ids_of entries) ids) (All-head (IsWeighted levels declared) e entries weighted))
+    (entries_spelled levels declared entries few (All-tail IsId e.id (ids_of entries) ids) (All-tail (IsWeighted levels declared) e entries weighted))
+
+-- what is met on a walk
+met_say : (ms : List Met) → All IsName (flat_map name_met ms) → All IsSpelledEntry (flat_map entry_met ms) → SayAll (map met_line ms) (map met_read ms)
+unfolding SayAll name_met met_read
+met_say [] names entries = tt
+met_say (MetSection name ∷ ms) names entries = (section_says name (All-head IsName name (flat_map name_met ms) names), met_say ms (All-tail IsName name (flat_map name_met ms) names) entries)
+met_say (MetEntry e ∷ ms) names entries = (entry_says e (All-head IsSpelledEntry e (flat_map entry_met ms) entries), met_say ms names (All-tail IsSpelledEntry e (flat_map entry_met ms) entries))
+
+count_met : (ms : List Met) → length ms ≡ length (flat_map entry_met ms) + length (flat_map name_met ms)
+unfolding name_met
+count_met [] = omega arith
+count_met (MetSection name ∷ ms) = omega (arith, count_met ms)
+count_met (MetEntry e ∷ ms) = omega (arith, count_met ms)
+
+-- The lines behind the opening ones, but for the last.
+
+body_lines : Collation → List (List ℕ)
+body_lines table = map declaration_line table.declared ++ (rules_line table.rules ∷ (map met_line (met table.sections) ++ codes "order_end" ∷ []))
+
+module _ (table : Collation) (w : IsWellFormed table) where
+  -- each says what is read of it
+  body_says : SayAll (body_lines table) (said table)
+  unfolding body_lines said
+  body_says =
+      let names = subst (All IsName) (sym (names_met table.sections)) (names_of_first table.sections w.built.first_unnamed).0 in
+      let spelled = entries_spelled (length table.rules) table.declared (joined_entries table.sections) w.built.few_levels w.built.ids w.built.weighted in
+      let entries = subst (All IsSpelledEntry) (sym (met_all table.sections)) spelled in
+      say_append (map declaration_line table.declared) (rules_line table.rules ∷ (map met_line (met table.sections) ++ codes "order_end" ∷ [])) (map declaration_read table.declared) (line.OrderStart None (Some table.rules) ∷ (map met_read (met table.sections) ++ line.OrderEnd ∷ []))
+      (say_members declaration_line declaration_read IsSpelledDeclaration declaration_says table.declared (declarations_spelled table.declared w.built.names w.built.texts))
+      (say_append (rules_line table.rules ∷ []) (map met_line (met table.sections) ++ codes "order_end" ∷ []) (line.OrderStart None (Some table.rules) ∷ []) (map met_read (met table.sections) ++ line.OrderEnd ∷ [])
+      (say_one (rules_line table.rules) (line.OrderStart None (Some table.rules)) (rules_say table.rules w.some_levels w.built.few_levels))
+      (say_append (map met_line (met table.sections)) (codes "order_end" ∷ []) (map met_read (met table.sections)) (line.OrderEnd ∷ []) (met_say (met table.sections) names entries)
+      (say_one (codes "order_end") line.OrderEnd order_end_says)))
+
+  -- they are few
+  body_is_short : 3 + length (body_lines table) < most_lines
+  unfolding body_lines
+  body_is_short =
+      let ms = met table.sections in
+      let back = map met_line ms ++ codes "order_end" ∷ [] in
+      let entries : length (flat_map entry_met ms) ≡ length (joined_entries table.sections) = ap length (met_all table.sections) in
+      let names : length (flat_map name_met ms) ≡ length (section_names table.sections) = ap length (names_met table.sections) in
+      let sections : suc (length (section_names table.sections)) ≡ length table.sections = (names_of_first table.sections w.built.first_unnamed).1 in
+      let few_entries : length (joined_entries table.sections) ≤ most_entries = w.built.few_entries in
+      let few_declarations : length table.declared ≤ most_declarations = w.built.few_declarations in
+      let few_sections : length table.sections ≤ most_sections = w.built.few_sections in
+      let behind : length back ≡ length ms + 1 = length-append (map met_line ms) (codes "order_end" ∷ []) ∙ ap (λ n. n + 1) (length-map ms met_line) in
+      let front : length (map declaration_line table.declared) ≡ length table.declared = length-map table.declared declaration_line in
+      omega (arith, length-append (map declaration_line table.declared) (rules_line table.rules ∷ back), count_met ms)
+
+-- The text.
+
+-- the canonical lines are the opening ones, these, and the last
+lines_in_parts : (table : Collation) → canonical_lines table ≡ opening_lines ++ (body_lines table ++ codes "END LC_COLLATE" ∷ [])
+unfolding canonical_lines body_lines
+lines_in_parts table =
+    let front = map declaration_line table.declared in
+    let middle = map met_line (met table.sections) in
+    let last : List (List ℕ) = codes "END LC_COLLATE" ∷ [] in
+    ap (λ back. opening_lines ++ back)
+    (ap (λ back. front ++ (rules_line table.rules ∷ back)) (sym (append_assoc middle (codes "order_end" ∷ []) last))
+    ∙ sym (append_assoc front (rules_line table.rules ∷ (middle ++ codes "order_end" ∷ [])) last))
+
+-- no line feed is in the opening lines
+opening_in_line : All IsInLine (bytes_of opening_lines)
+unfolding is_clean
+opening_in_line =
+    All-cons IsInLine (encode_utf8_all (codes "comment_char %")) (bytes_of (codes "escape_char /" ∷ codes "LC_COLLATE" ∷ [])) (in_line (codes "comment_char %") refl)
+    (All-cons IsInLine (encode_utf8_all (codes "escape_char /")) (bytes_of (codes "LC_COLLATE" ∷ [])) (in_line (codes "escape_char /") refl)
+    (All-cons IsInLine (encode_utf8_all (codes "LC_COLLATE")) [] (in_line (codes "LC_COLLATE") refl) (All-nil IsInLine)))
+
+-- the canonical text of a well-formed table is read as that table
+pub printed_tables_are_read_back : PrintedTablesAreReadBack
+unfolding text reads
+printed_tables_are_read_back table w =
+    let last : List ℕ = codes "END LC_COLLATE" in
+    let body = body_lines table in
+    let says = body_says table w in
+    let parts : bytes_of (canonical_lines table) ≡ bytes_of opening_lines ++ (bytes_of body ++ encode_utf8_all last ∷ []) =
+    ap bytes_of (lines_in_parts table) ∙ map-append encode_utf8_all opening_lines (body ++ last ∷ []) ∙ ap (λ back. bytes_of opening_lines ++ back) (map-append encode_utf8_all body (last ∷ [])) in
+    let last_in_line : All IsInLine (encode_utf8_all last ∷ []) = All-cons IsInLine (encode_utf8_all last) [] (says_in_line last line.EndCategory category_end_says) (All-nil IsInLine) in
+    let in_lines : All IsInLine (bytes_of opening_lines ++ (bytes_of body ++ encode_utf8_all last ∷ [])) =
+    All-append IsInLine (bytes_of opening_lines) (bytes_of body ++ encode_utf8_all last ∷ []) opening_in_line
+    (All-append IsInLine (bytes_of body) (encode_utf8_all last ∷ []) (say_in_line body (said table) says) last_in_line) in
+    let lines : lines_of (flat_map line_bytes (canonical_lines table)) ≡ bytes_of opening_lines ++ (bytes_of body ++ encode_utf8_all last ∷ []) =
+    lines_of_feeds (canonical_lines table) (subst (All IsInLine) (sym parts) in_lines) ∙ parts in
+    let decides = lines_decide table [] 3 body (said table) last says category_end_says (said_leads table w 4) (body_is_short table w) in
+    ap (answer_at_end (length (lines_of (flat_map line_bytes (canonical_lines table))))) (ap (outcome_of true) lines ∙ opening_decides (bytes_of body ++ encode_utf8_all last ∷ []) ∙ decides)

@@ -1,0 +1,2 @@
+pub mod CanonicalText
+pub mod PrintedParts

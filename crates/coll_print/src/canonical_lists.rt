@@ -1,0 +1,49 @@
+//! The lines of a table's declarations, and those of its sections and entries; and the law of printing.
+//!
+//! The whole text is `text` of `specs/CanonicalText.antt`: its lines, each with its line feed. A new kind of line, or another
+//! spelling, is a case there first.
+
+ghost use Rattle.std.specs.Prelude.{◌++◌};
+ghost use Rattle.std.specs.List.{flat_map};
+ghost use Rattle.coll_lex.specs.Devices.{CountsErr, Sends};
+ghost use Rattle.coll_print.specs.CanonicalText.{PrintedTablesAreReadBack};
+ghost use Rattle.coll_print.specs.PrintedParts.{declaration_bytes, met_bytes};
+
+use crate::spelled_lines::{write_declaration, write_met};
+use coll_lex::{Sink, WriteStop};
+use coll_nodes::{Declared, Walk};
+
+/// Writes a line for each declaration.
+pub fn write_declarations<W: Sink>(out: &mut W, declared: Declared<'_>) -> Result<(), WriteStop>
+    ensures sent { Sends (W.taken out.old) (W.taken out.new) (flat_map declaration_bytes declared.entry) result }
+    ensures errors { CountsErr (W.failed out.old) (W.failed out.new) result }
+{
+    let mut left = declared;
+    'declared: while let Some(item) = left.next() {
+        if let Err(stop) = write_declaration(out, item) {
+            return Err(stop);
+        }
+    }
+    Ok(())
+}
+
+/// Writes a line for each section with a name, and for each entry.
+pub fn write_walk<W: Sink>(out: &mut W, walk: Walk<'_>) -> Result<(), WriteStop>
+    ensures sent { Sends (W.taken out.old) (W.taken out.new) (flat_map met_bytes walk.entry) result }
+    ensures errors { CountsErr (W.failed out.old) (W.failed out.new) result }
+{
+    let mut left = walk;
+    'walk: while let Some(item) = left.next() {
+        if let Err(stop) = write_met(out, item) {
+            return Err(stop);
+        }
+    }
+    Ok(())
+}
+
+/// The law of printing: the canonical text of a well-formed table is read, by `reads`, as that table.
+///
+/// It does nothing; its contract is the law.
+pub fn printed_tables_are_read_back()
+    ensures { PrintedTablesAreReadBack }
+{}

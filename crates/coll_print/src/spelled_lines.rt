@@ -1,0 +1,176 @@
+//! The lines of declarations, of sections and of the rules, written to a device.
+//!
+//! Each function writes one part of a line, and a line is one part behind another (`specs/PrintedParts.antt`). What is spelled how
+//! is `specs/CanonicalText.antt`. None of this takes memory.
+
+ghost use Rattle.std.specs.Prelude.{[], ◌∷◌, ◌++◌, chars, encode_utf8_all, codes};
+ghost use Rattle.std.specs.List.{flat_map};
+ghost use Rattle.coll_lex.specs.Characters.{quotation_mark};
+ghost use Rattle.coll_lex.specs.Devices.{CountsErr, Sends};
+ghost use Rattle.coll_lex.specs.PhysicalLines.{line_feed};
+ghost use Rattle.coll_lex.specs.Spelling.{spelled_symbol};
+ghost use Rattle.coll_print.specs.CanonicalText.{spelled_rule, spelled_joined, rules_line, line_bytes};
+ghost use Rattle.coll_print.specs.PrintedParts.{char_bytes, behind_bytes, declaration_bytes, met_bytes, symbol_bytes, text_bytes, element_bytes};
+ghost use Rattle.coll_nodes.specs.WalkItems.{met_by, declared_by};
+
+use crate::spelled_entries::write_entry;
+use coll_lex::{Sink, WriteStop, write_bytes, write_char, write_symbol};
+use coll_nodes::{DeclaredItem, WalkItem};
+use coll_syntax::Rule;
+
+/// Writes the line of a declaration.
+pub(crate) fn write_declaration<W: Sink>(
+    out: &mut W,
+    item: DeclaredItem<'_>,
+) -> Result<(), WriteStop>
+    ensures sent { Sends (W.taken out.old) (W.taken out.new) (declaration_bytes (declared_by item.entry)) result }
+    ensures errors { CountsErr (W.failed out.old) (W.failed out.new) result }
+{
+    match item {
+        DeclaredItem::Symbol(name) => write_named(out, b"collating-symbol ", name),
+        DeclaredItem::Element(name, text) => write_element(out, name, text),
+    }
+}
+
+/// Writes the line of what one meets on a walk: that which begins a section, or that of an entry.
+pub(crate) fn write_met<W: Sink>(out: &mut W, item: WalkItem<'_>) -> Result<(), WriteStop>
+    ensures sent { Sends (W.taken out.old) (W.taken out.new) (met_bytes (met_by item.entry)) result }
+    ensures errors { CountsErr (W.failed out.old) (W.failed out.new) result }
+{
+    match item {
+        WalkItem::Section(name) => write_named(out, b"section ", name),
+        WalkItem::Entry(entry) => write_entry(out, entry),
+    }
+}
+
+// Writes a line of a word and a name.
+fn write_named<W: Sink>(out: &mut W, word: &[u8], name: &str) -> Result<(), WriteStop>
+    ensures sent { Sends (W.taken out.old) (W.taken out.new) (word.now ++ (symbol_bytes (chars name.now) ++ line_feed ∷ [])) result }
+    ensures errors { CountsErr (W.failed out.old) (W.failed out.new) result }
+{
+    write_bytes(out, word)?;
+    write_name_ended(out, name)
+}
+
+// Writes a name, and the line's end.
+fn write_name_ended<W: Sink>(out: &mut W, name: &str) -> Result<(), WriteStop>
+    ensures sent { Sends (W.taken out.old) (W.taken out.new) (symbol_bytes (chars name.now) ++ line_feed ∷ []) result }
+    ensures errors { CountsErr (W.failed out.old) (W.failed out.new) result }
+{
+    write_symbol(out, name)?;
+    write_bytes(out, b"\n")
+}
+
+// Writes the line of a collating element.
+fn write_element<W: Sink>(out: &mut W, name: &str, text: &str) -> Result<(), WriteStop>
+    ensures sent { Sends (W.taken out.old) (W.taken out.new) (codes "collating-element " ++ element_bytes (chars name.now) (chars text.now)) result }
+    ensures errors { CountsErr (W.failed out.old) (W.failed out.new) result }
+{
+    write_bytes(out, b"collating-element ")?;
+    write_element_named(out, name, text)
+}
+
+// Writes the name of a collating element, and its string.
+fn write_element_named<W: Sink>(out: &mut W, name: &str, text: &str) -> Result<(), WriteStop>
+    ensures sent { Sends (W.taken out.old) (W.taken out.new) (element_bytes (chars name.now) (chars text.now)) result }
+    ensures errors { CountsErr (W.failed out.old) (W.failed out.new) result }
+{
+    write_symbol(out, name)?;
+    write_from(out, text)
+}
+
+// Writes the string of a collating element, and the line's end.
+fn write_from<W: Sink>(out: &mut W, text: &str) -> Result<(), WriteStop>
+    ensures sent { Sends (W.taken out.old) (W.taken out.new) (codes " from \"" ++ text_bytes (chars text.now)) result }
+    ensures errors { CountsErr (W.failed out.old) (W.failed out.new) result }
+{
+    write_bytes(out, b" from \"")?;
+    write_text_ended(out, text)
+}
+
+// Writes the characters of a string, the mark that closes it, and the line's end.
+fn write_text_ended<W: Sink>(out: &mut W, text: &str) -> Result<(), WriteStop>
+    ensures sent { Sends (W.taken out.old) (W.taken out.new) (text_bytes (chars text.now)) result }
+    ensures errors { CountsErr (W.failed out.old) (W.failed out.new) result }
+{
+    write_text(out, text)?;
+    write_bytes(out, b"\"\n")
+}
+
+// Writes each character by its code point.
+fn write_text<W: Sink>(out: &mut W, text: &str) -> Result<(), WriteStop>
+    ensures sent { Sends (W.taken out.old) (W.taken out.new) (flat_map char_bytes (chars text.now)) result }
+    ensures errors { CountsErr (W.failed out.old) (W.failed out.new) result }
+{
+    for c in text.chars() {
+        if let Err(stop) = write_char(out, c) {
+            return Err(stop);
+        }
+    }
+    Ok(())
+}
+
+/// Writes the line of the rules.
+pub fn write_rules_line<W: Sink>(out: &mut W, rules: &[Rule]) -> Result<(), WriteStop>
+    ensures sent { Sends (W.taken out.old) (W.taken out.new) (line_bytes (rules_line rules.now)) result }
+    ensures errors { CountsErr (W.failed out.old) (W.failed out.new) result }
+{
+    write_bytes(out, b"order_start ")?;
+    write_rules_ended(out, rules)
+}
+
+// Writes the rules, and the line's end.
+fn write_rules_ended<W: Sink>(out: &mut W, rules: &[Rule]) -> Result<(), WriteStop>
+    ensures sent { Sends (W.taken out.old) (W.taken out.new) (encode_utf8_all (spelled_joined spelled_rule rules.now []) ++ line_feed ∷ []) result }
+    ensures errors { CountsErr (W.failed out.old) (W.failed out.new) result }
+{
+    write_rules(out, rules)?;
+    write_bytes(out, b"\n")
+}
+
+// Writes rules with a semicolon between them.
+fn write_rules<W: Sink>(out: &mut W, rules: &[Rule]) -> Result<(), WriteStop>
+    ensures sent { Sends (W.taken out.old) (W.taken out.new) (encode_utf8_all (spelled_joined spelled_rule rules.now [])) result }
+    ensures errors { CountsErr (W.failed out.old) (W.failed out.new) result }
+{
+    let Some((first, later)) = rules.split_first() else {
+        return Ok(());
+    };
+    write_rule(out, *first)?;
+    write_later_rules(out, later)
+}
+
+// Writes rules with a semicolon before each.
+fn write_later_rules<W: Sink>(out: &mut W, rules: &[Rule]) -> Result<(), WriteStop>
+    ensures sent { Sends (W.taken out.old) (W.taken out.new) (flat_map (behind_bytes spelled_rule) rules.now) result }
+    ensures errors { CountsErr (W.failed out.old) (W.failed out.new) result }
+{
+    for rule in rules {
+        if let Err(stop) = write_rule_behind(out, *rule) {
+            return Err(stop);
+        }
+    }
+    Ok(())
+}
+
+// Writes a semicolon and a rule.
+fn write_rule_behind<W: Sink>(out: &mut W, rule: Rule) -> Result<(), WriteStop>
+    ensures sent { Sends (W.taken out.old) (W.taken out.new) (behind_bytes spelled_rule rule) result }
+    ensures errors { CountsErr (W.failed out.old) (W.failed out.new) result }
+{
+    write_bytes(out, b";")?;
+    write_rule(out, rule)
+}
+
+// Writes a rule.
+fn write_rule<W: Sink>(out: &mut W, rule: Rule) -> Result<(), WriteStop>
+    ensures sent { Sends (W.taken out.old) (W.taken out.new) (encode_utf8_all (spelled_rule rule [])) result }
+    ensures errors { CountsErr (W.failed out.old) (W.failed out.new) result }
+{
+    match (rule.backward, rule.position) {
+        (false, false) => write_bytes(out, b"forward"),
+        (false, true) => write_bytes(out, b"forward,position"),
+        (true, false) => write_bytes(out, b"backward"),
+        (true, true) => write_bytes(out, b"backward,position"),
+    }
+}

@@ -1,6 +1,0 @@
--- A body's declarations are what a walk through them meets.
-use Rattle.coll_table.proofs.WalkShapes.{has_declarations}
-use Rattle.coll_table.proofs.bodies.Body.declared.Goals as goal
-
-pub new-requires-clause-declared : goal.new-requires-clause-declared
-new-requires-clause-declared c = rw c.nodes.ensures (has_declarations c.args.self.now.layout c.check_layout.ensures.shaped)

@@ -1,6 +1,0 @@
--- A body's sections are what a walk meets.
-use Rattle.coll_table.proofs.WalkShapes.{has_sections}
-use Rattle.coll_table.proofs.bodies.Body.walk.Goals as goal
-
-pub new-requires-clause-sections : goal.new-requires-clause-sections
-new-requires-clause-sections c = rw c.nodes.ensures (has_sections c.args.self.now.layout c.check_layout.ensures.shaped c.requires)

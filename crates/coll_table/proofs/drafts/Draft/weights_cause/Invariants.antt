@@ -1,8 +1,0 @@
-use Rattle.std.proofs.Common.{◌≡◌, drop}
-use Rattle.std.specs.List.{flat_map}
-use Rattle.coll_table.specs.Drafts.{ids_cause}
-use Rattle.coll_table.specs.Entries.{weight_ids}
-use Rattle.coll_table.proofs.drafts.Draft.weights_cause.Given as goal
-
-abbrev pub invariant-loop-weight : goal.invariant-loop-weight
-invariant-loop-weight l = ids_cause l.self.declared l.self.sections (flat_map weight_ids (drop l.weight-index l.weights)) ≡ ids_cause l.self.declared l.self.sections (flat_map weight_ids l.weights)
