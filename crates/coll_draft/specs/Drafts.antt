@@ -1,6 +1,6 @@
 -- What the lines of a category say together, and which line may follow them (POSIX.1-2017, 7.3.2).
 use Rattle.std.specs.Prelude.{◌&&◌, ℕ, Bool, true, false, if◌then◌else◌, not, nat_le, nat_lt, is_some, is_none, List, [], ◌∷◌, ◌++◌, length, fold, Option, Some, None}
-use Rattle.std.specs.List.{flat_map, list_any}
+use Rattle.std.specs.List.{flat_map}
 use Rattle.std.specs.Option.{option_or, option_map}
 use Rattle.coll_syntax.specs.Identifier.{has_name}
 use Rattle.coll_syntax.specs.declared.identifiers.Id.{Id}

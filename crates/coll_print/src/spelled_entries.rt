@@ -20,8 +20,9 @@ pub(crate) fn write_entry<W: Sink>(out: &mut W, entry: &Entry) -> Result<(), Wri
     ensures sent { Sends (W.taken out.old) (W.taken out.new) (line_bytes (entry_line entry.now)) result }
     ensures errors { CountsErr (W.failed out.old) (W.failed out.new) result }
 {
-    write_id(out, entry.id())?;
-    write_weights_ended(out, entry.id(), entry.weights())
+    let id = entry.id();
+    write_id(out, id)?;
+    write_weights_ended(out, id, entry.weights())
 }
 
 // Writes the weights behind an identifier, and the line's end.

@@ -1,5 +1,4 @@
 -- The parts are those of the layout.
-use Rattle.std.proofs.Common.{sym}
 use Rattle.coll_draft.proofs.building.Builder.into_body.Goals as goal
 
 pub returns : goal.returns
