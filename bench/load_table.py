@@ -23,7 +23,15 @@ import sys
 import tempfile
 
 ROOT = os.path.dirname(os.path.dirname(os.path.abspath(__file__)))
-CRATES = ("coll_lex", "coll_order", "coll_syntax", "coll_table")
+CRATES = (
+    "coll_lex",
+    "coll_order",
+    "coll_syntax",
+    "coll_nodes",
+    "coll_draft",
+    "coll_print",
+    "coll_table",
+)
 DECLARATIONS = 82_000
 ENTRIES = 105_000
 SECTIONS = 23
