@@ -1,6 +1,6 @@
 //! Sessions that meet a limit.
 
-use crate::assertions::{assert_same, assert_that};
+use crate::assertions::{assert_same, assert_text};
 use crate::long_texts::repeated;
 use crate::sessions::run;
 use coll_bench::{Fault, MOST_REMAINING, RunFault};
@@ -8,8 +8,8 @@ use coll_lex::{Counted, LexFault, MOST_LINE_BYTES};
 use std::alloc::{AllocError, Global};
 use std::process::Abort;
 
-// Asserts what a session over this text answers, and with which replies it ends.
-fn assert_ends(
+// Asserts what a session over this text answers, and what it writes.
+fn assert_written(
     rt: &impl Abort,
     alloc: Global,
     text: &[u8],
@@ -18,9 +18,9 @@ fn assert_ends(
 ) {
     let mut output = Counted::new(Vec::new(alloc));
     let given = run(rt, alloc, &mut Counted::new(text), &mut output);
-    assert_same(rt, replies, given, answer);
+    assert_same(rt, "the answer", given, answer);
     let written = output.device().as_slice();
-    assert_that(rt, replies, written.ends_with(replies.as_bytes()));
+    assert_text(rt, alloc, written, replies.as_bytes());
 }
 
 const LINE_TOO_LONG: RunFault = RunFault {
@@ -42,7 +42,17 @@ fn a_line_too_long_drops_the_open_block_and_ends_the_session(rt: HostRuntime) {
         b"\n:list\n",
     );
     let replies = "refused 10 LineTooLong\n";
-    assert_ends(&rt, rt.alloc(), &text, Err(LINE_TOO_LONG), replies);
+    assert_written(&rt, rt.alloc(), &text, Err(LINE_TOO_LONG), replies);
+}
+
+// The replies to one block more than may remain, and to an undo.
+fn full_history_replies(alloc: Global) -> Result<String, AllocError> {
+    let mut replies = String::new(alloc);
+    for remaining in 1..=MOST_REMAINING {
+        write!(replies, "ok {remaining}\n")?;
+    }
+    replies.push_str("refused 66 HistoryFull\nundone 65534\n")?;
+    Ok(replies)
 }
 
 // One block more than may remain, and then one is taken back.
@@ -50,8 +60,8 @@ fn a_line_too_long_drops_the_open_block_and_ends_the_session(rt: HostRuntime) {
 fn a_full_history_refuses_a_statement(rt: HostRuntime) {
     let block = b"reorder-after <U0061>\nreorder-end\n";
     let text = repeated(&rt, rt.alloc(), b"", block, MOST_REMAINING + 1, b":undo\n");
-    let replies = "ok 65535\nrefused 66 HistoryFull\nundone 65534\n";
-    assert_ends(&rt, rt.alloc(), &text, Ok(()), replies);
+    let replies = full_history_replies(rt.alloc()).expect(&rt, "the replies");
+    assert_written(&rt, rt.alloc(), &text, Ok(()), replies.as_str());
 }
 
 // The lines of so many characters, from U+10000 on, as a text behind another.
@@ -80,6 +90,6 @@ const BLOCKS: &[(u32, &str)] = &[
 fn a_block_has_4096_order_lines(rt: HostRuntime) {
     for (count, replies) in BLOCKS {
         let text = block_text(rt.alloc(), *count).expect(&rt, "a text");
-        assert_ends(&rt, rt.alloc(), text.as_bytes(), Ok(()), replies);
+        assert_written(&rt, rt.alloc(), text.as_bytes(), Ok(()), replies);
     }
 }
