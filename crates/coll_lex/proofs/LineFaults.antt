@@ -236,10 +236,14 @@ fed-not_starved s line fault e = second_fails (lex_fault_number fault == 9) (lex
 directive_fault : (special : Chars) (line : List ℕ) (fault : LexFault) → directive special line ≡ Some (Err fault) → is_no_line_fault fault ≡ false
 directive_fault special line fault e = sym (ap (λ (d : Option (Result Chars LexFault)). asked_dangles d) e) ∙ directive_faults special line
 
--- a directive never wants memory
+-- a directive never wants memory by itself
+pub directive-not_starved : (special : Chars) (line : List ℕ) (fault : LexFault) → directive special line ≡ Some (Err fault) → (lex_fault_number fault == 70) ≡ false
+directive-not_starved special line fault e = second_fails (lex_fault_number fault == 9) (lex_fault_number fault == 70) (directive_fault special line fault e)
+
+-- so want of memory is never its fault
 pub directive_spared : (special : Chars) (line : List ℕ) (fault : LexFault) → directive special line ≡ Some (Err fault) → fault ≡ OutOfMemory → ⊥
 directive_spared special line fault e want =
-    let f = rw want at (directive_fault special line fault e) in cc
+    let f = rw want at (directive-not_starved special line fault e) in cc
 
 full_cases : (long : Bool) (answer : Result (Option Line × LexerState) LexFault) (fault : LexFault)
     → unless_fault (if long then Some LineTooLong else (if true then Some TooManyLines else None)) answer ≡ Err fault → (fault ≡ LineTooLong) ⊎ (fault ≡ TooManyLines)
