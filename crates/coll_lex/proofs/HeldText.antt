@@ -1,5 +1,5 @@
 -- The open line of a lexer is text, at the beginning of a text and after each line.
-use Rattle.std.proofs.Common.{◌≡◌, ℕ, Bool, true, false, List, [], ◌∷◌, length, chars, IsUtf8, All, Option, Some, None, Result, Ok, Err, refl, sym, subst}
+use Rattle.std.proofs.Common.{◌≡◌, ℕ, Bool, true, false, List, [], ◌∷◌, chars, IsUtf8, All, Option, Some, None, Result, Ok, Err, refl, sym, subst}
 use Rattle.std.proofs.lemmas.Bool.{cond_both}
 use Rattle.std.proofs.lemmas.List.Elements.{All-nil, All-cons, All-append}
 use Rattle.std.proofs.lemmas.Str.{IsUtf8-from_is_utf8}
@@ -8,7 +8,7 @@ use Rattle.coll_lex.specs.PhysicalLines.{without_return}
 use Rattle.coll_lex.specs.Marked.{is_joined}
 use Rattle.coll_lex.specs.Tokens.{Stop, AtFault, AtComment, AtEnd, InSymbol, InString}
 use Rattle.coll_lex.specs.Directives.{directive}
-use Rattle.coll_lex.specs.LogicalLines.{OpenLine, LexerState, first_state, lines_before, extended, dropped, whole, answer_at, reading_in, directive_where, fed_as, line_fault, fed_text, unless_fault, fed, outside_as, outside, state_by}
+use Rattle.coll_lex.specs.LogicalLines.{OpenLine, LexerState, first_state, lines_before, extended, dropped, whole, answer_at, reading_in, directive_where, fed_as, line_fault, fed_text, unless_fault, fed, outside, state_by}
 use Rattle.coll_lex.specs.Lexer.{lines_in, line_in}
 use Rattle.coll_lex.specs.Names.{HoldsText, LexersHoldText}
 use Rattle.coll_lex.specs.declared.tokens.Chars.{Chars}
@@ -17,6 +17,7 @@ use Rattle.coll_lex.specs.declared.tokens.Token.{Token}
 use Rattle.coll_lex.specs.declared.logical_lines.Open.{Open}
 use Rattle.coll_lex.specs.declared.faults.LexFault.{LexFault}
 use Rattle.coll_lex.specs.declared.faults.LexFault.TheVariants.{NotUtf8}
+use Rattle.coll_lex.proofs.OutsideLines.{outside-closed}
 
 -- one more line of text
 extended_text : (s : LexerState) (line : List ℕ) → HoldsText s → IsUtf8 (without_return line) → All IsUtf8 (extended s line).lines
@@ -78,19 +79,6 @@ fed_as_leaves next o line None e h =
 fed_leaves : (s : LexerState) (line : List ℕ) → HoldsText s → LeavesText (fed s line)
 fed_leaves s line h = fed_by LeavesText s line h (λ fault. tt) (λ d lines. fed_as_leaves (dropped s) (extended s line) (without_return line) d refl lines)
 
--- a line before the category
-
-outside_as_leaves : (next : LexerState) (line : List ℕ) (d : Option (Result Chars LexFault)) → next.line ≡ None → LeavesText (outside_as next line d)
-outside_as_leaves next line (Some (Ok special)) e = nothing_open next e
-outside_as_leaves next line (Some (Err fault)) e = tt
-outside_as_leaves next line None e = nothing_open next e
-
-outside_leaves : (s : LexerState) (line : List ℕ) → LeavesText (outside s line)
-unfolding outside
-outside_leaves s line =
-    let text = without_return line in
-    unless_by LeavesText (line_fault s.count (length line)) (outside_as (dropped s) text (directive s.special text)) (λ fault. tt) (outside_as_leaves (dropped s) text (directive s.special text) refl)
-
 -- the law
 
 pub first-text : HoldsText first_state
@@ -103,7 +91,7 @@ pub fed-text : (s after : LexerState) (line : List ℕ) (answer : Option Line) �
 fed-text s after line answer h e = subst LeavesText e (fed_leaves s line h)
 
 pub outside-text : (s after : LexerState) (line : List ℕ) (begins : Bool) → outside s line ≡ Ok (begins, after) → HoldsText after
-outside-text s after line begins e = subst LeavesText e (outside_leaves s line)
+outside-text s after line begins e = nothing_open after (outside-closed s after line begins e)
 
 pub lexers_text : LexersHoldText
 lexers_text = record { at_first = first-text; after_line = fed-text; after_outside = outside-text; after_fault = dropped-text }

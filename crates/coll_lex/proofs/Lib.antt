@@ -14,6 +14,7 @@ pub mod SymbolLemmas
 pub mod LineEnds
 pub mod FeedLemmas
 pub mod LineFaults
+pub mod OutsideLines
 pub mod CharacterLemmas
 pub mod HeldText
 pub mod NameLemmas

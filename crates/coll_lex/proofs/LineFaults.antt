@@ -3,6 +3,7 @@
 use Rattle.std.proofs.Common.{◌≡◌, ℕ, zero, suc, Bool, true, false, List, [], ◌∷◌, length, map, Option, Some, None, Result, Ok, Err, refl, sym, ap, ◌∙◌, inl, inr, eq-eqb}
 use Rattle.std.specs.Prelude.{◌⊎◌, ◌==◌, ◌||◌, nat_lt, if◌then◌else◌, chars}
 use Rattle.std.specs.Str.{is_utf8}
+use Rattle.std.proofs.lemmas.Bool.{or_parts}
 use Rattle.coll_lex.specs.Characters.{quotation_mark}
 use Rattle.coll_lex.specs.Kinds.{Kind, kind_of, ends_word}
 use Rattle.coll_lex.specs.Kinds as kind
@@ -216,30 +217,26 @@ fed-line_fault s line fault e =
     ∙ unless_faults (line_fault s.count (extended s line).bytes) (fed_text (dropped s) (extended s line) text d) (line_faults s.count (extended s line).bytes)
     (fed_text_faults (dropped s) (extended s line) text d (where_faults s.line (directive s.special text) (directive_faults s.special text)))
 
-first_fails : (a b : Bool) → (a || b) ≡ false → a ≡ false
-first_fails true b e = e
-first_fails false b e = refl
-
-second_fails : (a b : Bool) → (a || b) ≡ false → b ≡ false
-second_fails true b e = cc
-second_fails false b e = e
-
 -- a line that is handed in has never the fault of a text's end
 pub fed-not_dangling : (s : LexerState) (line : List ℕ) (fault : LexFault) → fed s line ≡ Err fault → (lex_fault_number fault == 9) ≡ false
-fed-not_dangling s line fault e = first_fails (lex_fault_number fault == 9) (lex_fault_number fault == 70) (fed-line_fault s line fault e)
+fed-not_dangling s line fault e = (or_parts (lex_fault_number fault == 9) (lex_fault_number fault == 70) (fed-line_fault s line fault e)).0
 
 -- a line that is handed in never wants memory by itself
 pub fed-not_starved : (s : LexerState) (line : List ℕ) (fault : LexFault) → fed s line ≡ Err fault → (lex_fault_number fault == 70) ≡ false
-fed-not_starved s line fault e = second_fails (lex_fault_number fault == 9) (lex_fault_number fault == 70) (fed-line_fault s line fault e)
+fed-not_starved s line fault e = (or_parts (lex_fault_number fault == 9) (lex_fault_number fault == 70) (fed-line_fault s line fault e)).1
 
 -- a directive is at fault as such
 directive_fault : (special : Chars) (line : List ℕ) (fault : LexFault) → directive special line ≡ Some (Err fault) → is_no_line_fault fault ≡ false
 directive_fault special line fault e = sym (ap (λ (d : Option (Result Chars LexFault)). asked_dangles d) e) ∙ directive_faults special line
 
--- a directive never wants memory
+-- a directive never wants memory by itself
+pub directive-not_starved : (special : Chars) (line : List ℕ) (fault : LexFault) → directive special line ≡ Some (Err fault) → (lex_fault_number fault == 70) ≡ false
+directive-not_starved special line fault e = (or_parts (lex_fault_number fault == 9) (lex_fault_number fault == 70) (directive_fault special line fault e)).1
+
+-- so want of memory is never its fault
 pub directive_spared : (special : Chars) (line : List ℕ) (fault : LexFault) → directive special line ≡ Some (Err fault) → fault ≡ OutOfMemory → ⊥
 directive_spared special line fault e want =
-    let f = rw want at (directive_fault special line fault e) in cc
+    let f = rw want at (directive-not_starved special line fault e) in cc
 
 full_cases : (long : Bool) (answer : Result (Option Line × LexerState) LexFault) (fault : LexFault)
     → unless_fault (if long then Some LineTooLong else (if true then Some TooManyLines else None)) answer ≡ Err fault → (fault ≡ LineTooLong) ⊎ (fault ≡ TooManyLines)

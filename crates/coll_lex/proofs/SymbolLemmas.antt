@@ -2,6 +2,7 @@
 use Rattle.std.proofs.Common.{◌≡◌, ◌≢◌, ℕ, ◌<◌, ◌≤◌, min, zero, suc, ◌==◌, ◌&&◌, ◌||◌, not, nat_le, Bool, true, false, if◌then◌else◌, List, [], ◌∷◌, length, get_or, chars, IsUtf8, IsAscii, encode_utf8_all, Option, Some, None, option_map, Ok, Err, refl, ap, sym, ◌∙◌, arith, inl, inr}
 use Rattle.std.specs.List.{list_all}
 use lib.Utf8.{scalar}
+use Rattle.std.proofs.lemmas.Bool.{and_parts}
 use Rattle.std.proofs.lemmas.Bool.Decides.{nat_tests, leb_tells}
 use Rattle.std.proofs.lemmas.Str.{encodes-chars, encodes_same, encodes-IsAscii}
 use Rattle.coll_lex.specs.Blanks.{is_blank}
@@ -11,22 +12,14 @@ use Rattle.coll_lex.specs.declared.faults.LexFault.TheVariants.{EmptySymbol, Bad
 use Rattle.coll_lex.specs.declared.tokens.Piece.TheVariants as piece
 use Rattle.coll_lex.specs.declared.names.TheConstants.{PAST_CODE_POINTS}
 
-both_left : (a b : Bool) → (a && b) ≡ true → a ≡ true
-both_left true b e = refl
-both_left false b e = e
-
-both_right : (a b : Bool) → (a && b) ≡ true → b ≡ true
-both_right true b e = e
-both_right false b e = cc
-
 -- a hexadecimal digit is an ASCII character
 hex_digit_small : (c : ℕ) → is_hex_digit c ≡ true → c < 128
 hex_digit_small c e = grind (arith, nat_tests)
 
 digits_small : (ds : List ℕ) (i : ℕ) → list_all is_hex_digit ds ≡ true → get_or ds i 0 < 128
 digits_small [] i e = omega arith
-digits_small (d ∷ ds) zero e = hex_digit_small d (both_left (is_hex_digit d) (list_all is_hex_digit ds) e)
-digits_small (d ∷ ds) (suc i) e = digits_small ds i (both_right (is_hex_digit d) (list_all is_hex_digit ds) e)
+digits_small (d ∷ ds) zero e = hex_digit_small d (and_parts (is_hex_digit d) (list_all is_hex_digit ds) e).0
+digits_small (d ∷ ds) (suc i) e = digits_small ds i (and_parts (is_hex_digit d) (list_all is_hex_digit ds) e).1
 
 -- whether `U` and digits are spelled
 spells_code : List ℕ → Bool
@@ -44,8 +37,8 @@ code_small : (cs : List ℕ) → spells_code cs ≡ true → IsAscii cs
 unfolding spells_code
 code_small [] e = λ i. omega arith
 code_small (c ∷ cs) e =
-    let digits = both_right (c == 85) (are_digits cs) e in
-    cons_small c cs (first_small c (both_left (c == 85) (are_digits cs) e)) (λ i. digits_small cs i (both_right (nat_le 4 (length cs) && nat_le (length cs) 8) (list_all is_hex_digit cs) digits))
+    let parts = and_parts (c == 85) (are_digits cs) e in
+    cons_small c cs (first_small c parts.0) (λ i. digits_small cs i (and_parts (nat_le 4 (length cs) && nat_le (length cs) 8) (list_all is_hex_digit cs) parts.1).1)
 
 code_none : (cs : List ℕ) → spells_code cs ≡ false → code_point_of cs ≡ None
 unfolding spells_code

@@ -1,8 +1,8 @@
 -- The units of a block, above the recursion: its lines are gathered one after another, and the line that ends it makes
 -- one unit of them.
-use Rattle.std.proofs.Common.{◌≡◌, ℕ, Bool, true, false, List, [], ◌∷◌, ◌++◌, Some, None, Result, Ok, Err, refl, sym, ap, ◌∙◌, append-nil, append_assoc}
-use Rattle.std.specs.Prelude.{◌&&◌}
+use Rattle.std.proofs.Common.{◌≡◌, ℕ, Bool, true, List, [], ◌∷◌, ◌++◌, Some, None, Result, Ok, Err, refl, sym, ap, ◌∙◌, append-nil, append_assoc}
 use Rattle.std.specs.List.{list_all}
+use Rattle.std.proofs.lemmas.Bool.{and_parts}
 use Rattle.std.proofs.lemmas.Grind.{flat_map-append}
 use Rattle.coll_lex.specs.declared.faults.LexFault.{LexFault}
 use Rattle.coll_syntax.specs.declared.identifiers.Id.{Id}
@@ -44,14 +44,6 @@ stays_one ends block line later stay = by_heard line.number line.heard stay
 commands-cons : (line : HeardLine) (body : List HeardLine) → commands_refused_in (line ∷ body) ≡ commands_refused_in (line ∷ []) ++ commands_refused_in body
 commands-cons line body = flat_map-append (λ (l : HeardLine). command_refused_by l.number l.heard) (line ∷ []) body
 
-both_first : (a b : Bool) → (a && b) ≡ true → a ≡ true
-both_first true b e = refl
-both_first false b e = e
-
-both_second : (a b : Bool) → (a && b) ≡ true → b ≡ true
-both_second true b e = e
-both_second false b e = absurd cc
-
 abbrev all_stay : List HeardLine → Bool
 all_stay lines = list_all (λ (line : HeardLine). stays line.heard) lines
 
@@ -59,8 +51,8 @@ all_stay lines = list_all (λ (line : HeardLine). stays line.heard) lines
 stay_all : (ends : Bool) (block : BlockLines) (body later : List HeardLine) → AllStay body → units ends (Some block) (body ++ later) ≡ commands_refused_in body ++ units ends (Some (with_lines block body)) later
 stay_all ends block [] later all = ap (λ (ls : List HeardLine). units ends (Some (record { line = block.line; target = block.target; lines = ls })) later) (sym (append-nil block.lines))
 stay_all ends block (line ∷ body) later all =
-    let first : stays line.heard ≡ true = both_first (stays line.heard) (all_stay body) all in
-    let others : AllStay body = both_second (stays line.heard) (all_stay body) all in
+    let first : stays line.heard ≡ true = (and_parts (stays line.heard) (all_stay body) all).0 in
+    let others : AllStay body = (and_parts (stays line.heard) (all_stay body) all).1 in
     stays_one ends block line (body ++ later) first
     ∙ ap (λ (us : Units). commands_refused_in (line ∷ []) ++ us) (stay_all ends (with_line block line) body later others)
     ∙ sym (append_assoc (commands_refused_in (line ∷ [])) (commands_refused_in body) (units ends (Some (with_lines (with_line block line) body)) later))

@@ -1,8 +1,8 @@
 -- The unit of a block, by its lines: its statement where nothing spoils it, and else the fault that decides.
-use Rattle.std.proofs.Common.{◌≡◌, ℕ, ◌+◌, ◌≤◌, Bool, true, false, List, [], ◌∷◌, ◌++◌, length, Option, Some, None, Ok, Err, refl, sym, ap, ◌∙◌, arith, append-nil, append_assoc, length-append}
-use Rattle.std.specs.Prelude.{◌&&◌, if◌then◌else◌}
+use Rattle.std.proofs.Common.{◌≡◌, ℕ, ◌+◌, ◌≤◌, Bool, true, List, [], ◌∷◌, ◌++◌, length, Option, Some, None, Ok, Err, refl, sym, ap, ◌∙◌, arith, append-nil, append_assoc, length-append}
+use Rattle.std.specs.Prelude.{if◌then◌else◌}
 use Rattle.std.specs.List.{list_all}
-use Rattle.std.proofs.lemmas.Bool.{lt-leb}
+use Rattle.std.proofs.lemmas.Bool.{lt-leb, and_parts}
 use Rattle.std.proofs.lemmas.Grind.{flat_map-append}
 use Rattle.coll_syntax.specs.declared.syntax_faults.SyntaxFault.TheVariants as syntax
 use Rattle.coll_syntax.specs.declared.statements.OrderLine.{OrderLine}
@@ -18,14 +18,6 @@ use Rattle.coll_units.specs.declared.units.FaultAt.{FaultAt}
 abbrev all_taken : List HeardLine → Bool
 all_taken lines = list_all (λ (line : HeardLine). is_taken line.heard) lines
 
-both_first : (a b : Bool) → (a && b) ≡ true → a ≡ true
-both_first true b e = refl
-both_first false b e = e
-
-both_second : (a b : Bool) → (a && b) ≡ true → b ≡ true
-both_second true b e = e
-both_second false b e = absurd cc
-
 taken_wants_none : (n : ℕ) (h : Heard) → is_taken h ≡ true → want_by n h ≡ None
 taken_wants_none n (heard.Stops f) taken = refl
 taken_wants_none n (heard.Refused o f) taken = absurd cc
@@ -40,8 +32,8 @@ no_want : (lines : List HeardLine) → all_taken lines ≡ true → first_want l
 unfolding first_want
 no_want [] all = refl
 no_want (line ∷ lines) all =
-    ap (λ (w : Option ℕ). or_else w (first_want lines)) (taken_wants_none line.number line.heard (both_first (is_taken line.heard) (all_taken lines) all))
-    ∙ no_want lines (both_second (is_taken line.heard) (all_taken lines) all)
+    ap (λ (w : Option ℕ). or_else w (first_want lines)) (taken_wants_none line.number line.heard (and_parts (is_taken line.heard) (all_taken lines) all).0)
+    ∙ no_want lines (and_parts (is_taken line.heard) (all_taken lines) all).1
 
 -- a line that isn't refused spoils nothing where there is room for it
 taken_spoils_none : (orders n : ℕ) (h : Heard) → is_taken h ≡ true → orders + length (order_by h) ≤ most_block_lines → spoils_by orders n h ≡ None
@@ -75,8 +67,8 @@ no_spoiler before (line ∷ lines) all few =
     let more : length (orders_in (before ++ line ∷ [])) ≡ length (orders_in before) + length (orders_in (line ∷ [])) = orders-append before (line ∷ []) in
     let here : length (orders_in before) + own ≤ most_block_lines = omega (arith, few, split) in
     let next : length (orders_in (before ++ line ∷ [])) + rest ≤ most_block_lines = omega (arith, few, split, more, one) in
-    ap (λ (s : Option FaultAt). or_else s (first_spoiler (before ++ line ∷ []) lines)) (taken_spoils_none (length (orders_in before)) line.number line.heard (both_first (is_taken line.heard) (all_taken lines) all) here)
-    ∙ no_spoiler (before ++ line ∷ []) lines (both_second (is_taken line.heard) (all_taken lines) all) next
+    ap (λ (s : Option FaultAt). or_else s (first_spoiler (before ++ line ∷ []) lines)) (taken_spoils_none (length (orders_in before)) line.number line.heard (and_parts (is_taken line.heard) (all_taken lines) all).0 here)
+    ∙ no_spoiler (before ++ line ∷ []) lines (and_parts (is_taken line.heard) (all_taken lines) all).1 next
 
 pub block_states : BlockStates
 unfolding block_unit

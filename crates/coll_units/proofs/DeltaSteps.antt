@@ -1,13 +1,15 @@
 -- What the lines of a delta file that are still to come say, from where a reader stands: each line that is handed in leaves it
 -- as it is.
-use Rattle.std.proofs.Common.{◌≡◌, ◌≢◌, ◌⊎◌, inl, inr, ⊎_elim, ℕ, ◌+◌, ◌<◌, ◌≤◌, Bool, true, false, if◌then◌else◌, List, [], ◌∷◌, ◌++◌, map, min, Option, Some, None, Result, Ok, Err, sym, ap, subst, ◌∙◌, refl, arith, eq-eqb}
+use Rattle.std.proofs.Common.{◌≡◌, ◌⊎◌, inl, inr, ⊎_elim, ℕ, ◌≤◌, Bool, true, false, if◌then◌else◌, List, [], ◌∷◌, ◌++◌, map, Option, Some, None, Result, Ok, Err, sym, ap, subst, ◌∙◌, refl, arith}
 use Rattle.std.proofs.lemmas.Bool.{false≢true}
 use Rattle.std.specs.Prelude.{option_map, option_to_list}
 use Rattle.coll_lex.specs.Limits.{most_lines}
 use Rattle.coll_lex.specs.LogicalLines.{LexerState, number_of, first_line, dropped, fed, outside, served, state_by, lines_by, logical_lines}
 use Rattle.coll_lex.specs.declared.tokens.Line.{Line}
 use Rattle.coll_lex.specs.declared.faults.LexFault.{LexFault}
-use Rattle.coll_lex.proofs.LineEnds.{fed-count, fed-room}
+use Rattle.coll_lex.proofs.LineEnds.{fed-one}
+pub use Rattle.coll_lex.proofs.LineEnds.{CountsOne}
+use Rattle.coll_lex.proofs.OutsideLines.{outside-one, outside-closed}
 use Rattle.coll_units.specs.SessionLines.{opening_of, tokens_heard, fault_heard, delta_file_heard}
 use Rattle.coll_units.specs.Hearing.{heard_by, heard_in}
 use Rattle.coll_units.specs.Units.{BlockLines, units_at, block_after}
@@ -26,7 +28,6 @@ use Rattle.coll_units.specs.declared.unit_faults.UnitFault.TheVariants as fault
 use Rattle.coll_units.specs.declared.units.FaultAt.{FaultAt}
 use Rattle.coll_units.proofs.BlockLemmas.{kept_step, units_step}
 use Rattle.coll_units.proofs.DeltaBlocks.{fault_step, ended_step}
-use Rattle.coll_units.proofs.DeltaOutside.{outside_skipped}
 use Rattle.coll_units.proofs.DeltaTaking.{physical_by, fault_heard_is, unspoiled_after}
 
 -- The definition, one line on.
@@ -85,10 +86,6 @@ pub record StandsAfter (block : Option BlockLines) (s : DeltaState) : Type 0 whe
   pub closed : s.begun ≡ false → s.lexer.line ≡ None
   pub few : s.lexer.count ≤ most_lines
 
--- one physical line more was handed to the lexer, which takes no more than the most lines of a text
-abbrev pub CountsOne : LexerState → LexerState → Type 0
-CountsOne old new = (old.count < most_lines) × (new.count ≡ old.count + 1)
-
 -- a line was taken, and what the later ones say is said behind what was given for it
 pub record LeadsOn (block : Option BlockLines) (s : DeltaState) (taken : List ℕ) (given : List StatementAt) (after : DeltaState) : Type 0 where
   pub next : Option BlockLines
@@ -119,12 +116,6 @@ from_within ends block s lines e f = rw e (rw f refl)
 
 pub from_before : (ends : Bool) (block : Option BlockLines) (s : DeltaState) (lines : List (List ℕ)) → s.ended ≡ false → s.begun ≡ false → outcome_from ends block s lines ≡ outcome_before ends s.lexer lines
 from_before ends block s lines e f = rw e (rw f refl)
-
--- what is counted of a line that is taken
-counts_one : (old new : LexerState) → new.count ≡ min (old.count + 1) most_lines → old.count ≤ most_lines → (old.count ≡ most_lines → ⊥) → CountsOne old new
-counts_one old new a few room =
-    let ne : old.count ≢ most_lines = room in
-    (omega arith, omega arith)
 
 -- a line that the lexer refuses is at fault
 at_fault : (b : Option OpenBlock) (n : ℕ) (o : Opening) (f : LexFault) → kept_fault_under b (record { number = n; heard = fault_heard o f }) ≡ None → ⊥
@@ -157,8 +148,7 @@ module _ (block : Option BlockLines) (s : DeltaState) (taken : List ℕ) (stands
     -- before the category
     judged_outside : (r : Result (Bool × LexerState) LexFault) → s.begun ≡ false → outside s.lexer taken ≡ r → Judged block s taken (by_outside s r)
     judged_outside (Ok (true, after)) none e =
-        let skipped = outside_skipped s.lexer after taken true e in
-        let counts = counts_one s.lexer after skipped.counted stands.few (λ full. false≢true (sym skipped.room ∙ eq-eqb s.lexer.count most_lines full)) in
+        let counts = outside-one s.lexer after taken true e stands.few in
         inl (record {
           next = block;
           stands = record { stored = stands.stored; sound = stands.sound; faultless = stands.faultless; none_before = λ n. absurd (false≢true (sym n)); closed = λ n. absurd (false≢true (sym n)); few = omega (arith, counts.0, counts.1) };
@@ -171,11 +161,10 @@ module _ (block : Option BlockLines) (s : DeltaState) (taken : List ℕ) (stands
               ∙ sym (from_within ends block (record s { lexer = after; begun = true }) lines going refl)));
         })
     judged_outside (Ok (false, after)) none e =
-        let skipped = outside_skipped s.lexer after taken false e in
-        let counts = counts_one s.lexer after skipped.counted stands.few (λ full. false≢true (sym skipped.room ∙ eq-eqb s.lexer.count most_lines full)) in
+        let counts = outside-one s.lexer after taken false e stands.few in
         inl (record {
           next = block;
-          stands = record { stored = stands.stored; sound = stands.sound; faultless = stands.faultless; none_before = λ n. stands.none_before none; closed = λ n. skipped.closed; few = omega (arith, counts.0, counts.1) };
+          stands = record { stored = stands.stored; sound = stands.sound; faultless = stands.faultless; none_before = λ n. stands.none_before none; closed = λ n. outside-closed s.lexer after taken false e; few = omega (arith, counts.0, counts.1) };
           went_on = λ n. going;
           counts = λ n. counts;
           says = λ ends lines.
@@ -271,7 +260,7 @@ module _ (block : Option BlockLines) (s : DeltaState) (taken : List ℕ) (stands
       judged_within = by_answer (fed s.lexer taken) refl
         where
           counts : (answer : Option Line) (after : LexerState) → fed s.lexer taken ≡ Ok (answer, after) → CountsOne s.lexer after
-          counts answer after e = counts_one s.lexer after (fed-count s.lexer taken answer after e) stands.few (fed-room s.lexer taken answer after e)
+          counts answer after e = fed-one s.lexer taken answer after e stands.few
 
           heard_as : Result (Option Line × LexerState) LexFault → Option HeardLine
           heard_as r = heard_by false (number_of s.lexer) (opening_of (first_line s.lexer taken)) r

@@ -8,6 +8,7 @@ use Rattle.coll_lex.specs.LogicalLines.{LexerState, number_of, first_line, fed, 
 use Rattle.coll_lex.specs.declared.tokens.Line.{Line}
 use Rattle.coll_lex.specs.declared.faults.LexFault.{LexFault}
 use Rattle.coll_lex.specs.declared.faults.LexFault.TheVariants as lex
+use Rattle.coll_lex.proofs.LineEnds.{fed-takes}
 use Rattle.coll_lex.proofs.LineFaults.{fed-not_starved}
 use Rattle.coll_syntax.specs.declared.statements.OrderLine.{OrderLine}
 use Rattle.coll_units.specs.SessionLines.{opening_of, fault_heard}
@@ -33,7 +34,6 @@ use Rattle.coll_units.specs.declared.unit_faults.UnitFault.{UnitFault}
 use Rattle.coll_units.specs.declared.unit_faults.UnitFault.TheVariants as fault
 use Rattle.coll_units.specs.declared.units.FaultAt.{FaultAt}
 use Rattle.coll_units.specs.declared.units.SessionUnit.{SessionUnit}
-use Rattle.coll_units.proofs.HearingLemmas.{whole_takes}
 use Rattle.coll_units.proofs.PhysicalTaking.{served_fed}
 
 abbrev pub Answer : Type 0
@@ -284,7 +284,7 @@ module _ (s : LexerState) (line : List ℕ) where
     where
       by_answer : (r : Result (Option Line × LexerState) LexFault) → served starved s line ≡ r → IsWantingIf block (heard_by false (number_of s) (opening_of (first_line s line)) r) → takes_memory s line ≡ true
       by_answer (Ok (None, after)) e want = absurd want
-      by_answer (Ok (Some given, after)) e want = whole_takes s after line given (served_fed starved s line (Some given, after) e)
+      by_answer (Ok (Some given, after)) e want = fed-takes s line given after (served_fed starved s line (Some given, after) e)
       by_answer (Err f) e want = refused_takes starved f e (fault_wants block (number_of s) (opening_of (first_line s line)) f want)
 
   pub physical_takes : (block : Option OpenBlock) (starved : Bool) (new : LexerState) (h : HeardLine) (r : Answer) → Hears false starved s new line (Some h) → IfErr r (λ f. wants_memory f.cause ≡ true → IsWanting block h) → IfErr r (λ f. wants_memory f.cause ≡ true → IsTrue (takes_memory s line))

@@ -1,21 +1,19 @@
 -- What is heard of a line, by its characters and by the lexer's answer.
-use Rattle.std.proofs.Common.{◌≡◌, ℕ, Bool, true, false, List, length, Some, None, Option, Ok, Err, refl, sym, ap, ◌∙◌}
+use Rattle.std.proofs.Common.{◌≡◌, ℕ, Bool, true, false, List, Some, None, Option, Ok, Err, refl, sym, ap, ◌∙◌}
 use Rattle.std.specs.Bool.{IsTrue}
 use Rattle.std.proofs.lemmas.Bool.{false≢true}
 use Rattle.std.proofs.Common.{◌≢◌, inl, inr, ⊎_elim}
 use Rattle.std.specs.Prelude.{◌⊎◌, IfOk, OnErr, Result, if◌then◌else◌, option_map, is_some}
 use Rattle.coll_lex.specs.PhysicalLines.{without_return}
-use Rattle.coll_lex.specs.LogicalLines.{OpenLine, LexerState, pending, number_of, extended, first_line, dropped, fed, outside, outside_as, unless_fault, line_fault, needs_memory, takes_memory, served, state_by}
-use Rattle.coll_lex.specs.Directives.{directive}
-use Rattle.coll_lex.specs.declared.tokens.Chars.{Chars}
+use Rattle.coll_lex.specs.LogicalLines.{OpenLine, LexerState, pending, number_of, extended, first_line, dropped, fed, outside, takes_memory, served, state_by}
 use Rattle.coll_lex.specs.declared.tokens.Line.{Line}
 use Rattle.coll_lex.specs.declared.faults.LexFault.{LexFault}
 use Rattle.coll_lex.specs.declared.faults.LexFault.TheVariants as lex
 use Rattle.coll_lex.proofs.LineSteps.{first_line-fresh, first_line-continued, fed-open}
-use Rattle.coll_lex.proofs.LineEnds.{fed-whole}
+use Rattle.coll_lex.proofs.LineEnds.{fed-number, fed-takes, fed-whole}
+use Rattle.coll_lex.proofs.OutsideLines.{outside-closed}
 use Rattle.coll_units.specs.SessionLines.{opening_of, tokens_heard, fault_heard}
 use Rattle.coll_units.specs.Hearing.{OpensAs, heard_by, heard_in, Hears, no_memory, HearsTokens}
-use Rattle.coll_units.proofs.LineNumbers.{fed_number}
 use Rattle.coll_units.specs.declared.session_lines.Opening.{Opening}
 use Rattle.coll_units.specs.declared.session_lines.Heard.{Heard}
 use Rattle.coll_units.specs.declared.session_lines.HeardLine.{HeardLine}
@@ -108,15 +106,10 @@ hears_none commands s after line e =
 heard_whole : (commands : Bool) (s after : LexerState) (line : List ℕ) (opening : Opening) (given : Line) (heard : HeardLine) → opening ≡ opening_of (first_line s line) → fed s line ≡ Ok (Some given, after) → heard ≡ numbered (number_of s) (tokens_heard commands opening given.tokens) → Hears commands false s after line (Some heard)
 unfolding served heard_in
 heard_whole commands s after line opening given heard is e was = record {
-  heard_is = ap Some was ∙ ap (λ (n : ℕ). Some (numbered n (tokens_heard commands opening given.tokens))) (sym (fed_number s line given after e))
+  heard_is = ap Some was ∙ ap (λ (n : ℕ). Some (numbered n (tokens_heard commands opening given.tokens))) (sym (fed-number s line given after e))
       ∙ ap (λ (o : Opening). Some (numbered given.number (tokens_heard commands o given.tokens))) is ∙ ap (heard_by commands (number_of s) (opening_of (first_line s line))) (sym e);
   stands = ap (state_by s) (sym e);
 }
-
--- memory may be taken for a line with a token
-pub whole_takes : (s after : LexerState) (line : List ℕ) (given : Line) → fed s line ≡ Ok (Some given, after) → takes_memory s line ≡ true
-unfolding takes_memory
-whole_takes s after line given e = ap needs_memory e
 
 -- a line that ends a logical line, where memory may be refused for what it says
 pub hears_whole : (commands : Bool) (s after : LexerState) (line : List ℕ) (opening : Opening) (given : Line) (h : Heard) (number : ℕ) → opening ≡ opening_of (first_line s line) → number ≡ number_of s → fed s line ≡ Ok (Some given, after)
@@ -128,26 +121,10 @@ hears_whole commands s after line opening given h number is number_is e was = by
 
     by_choice : (starved : Bool) → h ≡ (if starved then no_memory opening else tokens_heard commands opening given.tokens) → (memory : Bool) × Hears commands memory s after line (Some (numbered number h))
     by_choice true was =
-        (true, heard_starved commands s after line opening (numbered number h) is (fed-whole s line given after e) (at ∙ ap (numbered (number_of s)) was) (whole_takes s after line given e))
+        (true, heard_starved commands s after line opening (numbered number h) is (fed-whole s line given after e) (at ∙ ap (numbered (number_of s)) was) (fed-takes s line given after e))
     by_choice false was = (false, heard_whole commands s after line opening given (numbered number h) is e (at ∙ ap (numbered (number_of s)) was))
-
--- the logical line that is open after an answer
-abbrev open_after : Result (Bool × LexerState) LexFault → Option OpenLine
-open_after (Ok answer) = answer.1.line
-open_after (Err fault) = None
-
-outside_as-none : (next : LexerState) (line : List ℕ) (asked : Option (Result Chars LexFault)) → next.line ≡ None → open_after (outside_as next line asked) ≡ None
-outside_as-none next line (Some (Ok special)) none = none
-outside_as-none next line (Some (Err fault)) none = refl
-outside_as-none next line None none = none
-
-unless_none : (fault : Option LexFault) (answer : Result (Bool × LexerState) LexFault) → open_after answer ≡ None → open_after (unless_fault fault answer) ≡ None
-unless_none None answer none = none
-unless_none (Some fault) answer none = refl
 
 -- a line before the category leaves no logical line open
 pub outside_drops : (s after : LexerState) (line : List ℕ) (r : Result Bool LexFault) → IfOk r (λ begins. outside s line ≡ Ok (begins, after)) → OnErr r (after ≡ dropped s) → after.line ≡ None
-unfolding outside
-outside_drops s after line (Ok begins) ok err =
-    sym (ap open_after ok) ∙ unless_none (line_fault s.count (length line)) (outside_as (dropped s) (without_return line) (directive s.special (without_return line))) (outside_as-none (dropped s) (without_return line) (directive s.special (without_return line)) refl)
+outside_drops s after line (Ok begins) ok err = outside-closed s after line begins ok
 outside_drops s after line (Err fault) ok err = ap (λ (t : LexerState). t.line) err

@@ -4,10 +4,8 @@ pub mod BlockUnits
 pub mod CommandLemmas
 pub mod DeltaBlocks
 pub mod DeltaLinesRead
-pub mod DeltaOutside
 pub mod DeltaSteps
 pub mod DeltaTaking
 pub mod HearingLemmas
-pub mod LineNumbers
 pub mod PhysicalTaking
 pub mod TakingLemmas

@@ -5,13 +5,12 @@ use Rattle.coll_lex.specs.LogicalLines.{LexerState, number_of, first_line, fed, 
 use Rattle.coll_lex.specs.declared.tokens.Line.{Line}
 use Rattle.coll_lex.specs.declared.faults.LexFault.{LexFault}
 use Rattle.coll_lex.specs.declared.faults.LexFault.TheVariants as lex
-use Rattle.coll_lex.proofs.LineEnds.{fed-whole}
+use Rattle.coll_lex.proofs.LineEnds.{fed-number, fed-takes, fed-whole}
 use Rattle.coll_units.specs.SessionLines.{opening_of, fault_heard}
 use Rattle.coll_units.specs.Hearing.{heard_by, heard_in, Hears, no_memory}
 use Rattle.coll_units.specs.Units.{stop_of}
 use Rattle.coll_units.specs.Taking.{line_if, IsOrder, TakesHearing, units_or_last, line_units, line_block, Answers, TakesPhysical}
-use Rattle.coll_units.proofs.LineNumbers.{fed_number}
-use Rattle.coll_units.proofs.HearingLemmas.{numbered, heard_starved, whole_takes}
+use Rattle.coll_units.proofs.HearingLemmas.{numbered, heard_starved}
 use Rattle.coll_units.specs.declared.hearing.Hearing.{Hearing}
 use Rattle.coll_units.specs.declared.open_blocks.OpenBlock.{OpenBlock}
 use Rattle.coll_units.specs.declared.session_lines.Opening.{Opening}
@@ -73,7 +72,7 @@ refused_later starved old new line h hears opening order =
     let e : fed old line ≡ Ok (Some given, after) = served_fed starved old line (Some given, after) w.2.is in
     let stands : new ≡ after = hears.stands ∙ ap (state_by old) w.2.is in
     heard_starved true old new line h.opening (line_if true h) opening (stands ∙ fed-whole old line given after e)
-    (ap (λ (n : ℕ). numbered n (no_memory h.opening)) (w.2.numbers ∙ fed_number old line given after e)) (whole_takes old after line given e)
+    (ap (λ (n : ℕ). numbered n (no_memory h.opening)) (w.2.numbers ∙ fed-number old line given after e)) (fed-takes old line given after e)
 
 -- a line that was heard and taken
 pub physical_taken : (starved refused : Bool) (old new : LexerState) (line : List ℕ) (h : Hearing) (block after : Option OpenBlock) (unit : Option SessionUnit)

@@ -170,9 +170,8 @@ fn refused_by_lexer(opening: Opening, fault: LexFault) -> Heard
     ensures proper { IsProperHeard result }
 {
     match fault {
-        LexFault::LineTooLong | LexFault::TooManyLines | LexFault::DanglingEscape => {
-            Heard::Stops(fault)
-        }
+        LexFault::DanglingEscape => Heard::Stops(fault),
+        _ if fault.ends_text() => Heard::Stops(fault),
         _ => Heard::Refused(opening, UnitFault::Lex(fault)),
     }
 }
