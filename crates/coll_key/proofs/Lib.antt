@@ -1,7 +1,7 @@
-pub mod CursorLemmas
 pub mod DirectionLemmas
 pub mod ElementBeginnings
 pub mod ElementChains
+pub mod ForwardLemmas
 pub mod KeyForm
 pub mod KeyOrder
 pub mod LevelLemmas
