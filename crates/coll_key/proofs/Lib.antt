@@ -11,6 +11,7 @@ pub mod LongestElements
 pub mod NameLookUps
 pub mod OrderLemmas
 pub mod PartNumbers
+pub mod PushingSteps
 pub mod RankListLemmas
 pub mod RankingLemmas
 pub mod Tests

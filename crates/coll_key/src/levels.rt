@@ -68,7 +68,7 @@ fn push_part(
 ) -> Result<u64, AllocError>
     requires { gaps < 65_536 }
     ensures few { IfOk result (λ after. after ≤ gaps + 1) }
-    ensures numbers { IfOk result (λ after. (later : List (Option ℕ)) → key.old.items ++ listed position gaps (items_of (directed backward (map (added_to weight.added) weight.ranks.now)) ++ later) ≡ key.new.items ++ listed position after later) }
+    ensures numbers { IfOk result (λ after. (later : List (Option ℕ)) → key.old.items ++ listed position gaps (items_of (directed backward (map (added_to weight.entry.added) weight.entry.ranks.now)) ++ later) ≡ key.new.items ++ listed position after later) }
 {
     let Some((first, others)) = split_towards(weight.ranks, backward) else {
         return Ok(gaps + 1);
@@ -102,12 +102,7 @@ fn push_others(
 
 // Puts a number behind a key, with `position` behind its position.
 #[inline(always)]
-fn push_number(
-    key: &mut Vec<u64>,
-    position: bool,
-    gaps: u64,
-    number: u64,
-) -> Result<(), AllocError>
+fn push_number(key: &mut Vec<u64>, position: bool, gaps: u64, number: u64) -> Result<(), AllocError>
     requires { gaps < 65_536 }
     ensures { OnOk result ((list : List ℕ) → key.old.items ++ position_of position gaps ++ number ∷ list ≡ key.new.items ++ list) }
 {

@@ -88,11 +88,7 @@ impl Ranks {
 
     /// Two texts behind characters that both begin with, and that are parts of each.
     #[inline(always)]
-    pub(crate) fn past_common<'a, 'b>(
-        &self,
-        text: &'a str,
-        other: &'b str,
-    ) -> (&'a str, &'b str)
+    pub(crate) fn past_common<'a, 'b>(&self, text: &'a str, other: &'b str) -> (&'a str, &'b str)
         ensures { BeginAlike (parts_of self.now (chars text.now)) (parts_of self.now (chars other.now)) (parts_of self.now (chars result.0.now)) (parts_of self.now (chars result.1.now)) }
     {
         let mut left = text;

@@ -1,4 +1,4 @@
-use Rattle.std.proofs.Common.{◌≡◌, ◌++◌, ◌+◌, ◌≤◌, chars, length}
+use Rattle.std.proofs.Common.{◌≡◌, ◌++◌, ◌+◌, chars, length}
 use denote.Shadow.{shadow}
 use denote.Text.{Utf8}
 use Rattle.coll_key.specs.Ranks.{parts_of}
