@@ -5,9 +5,9 @@ use Rattle.std.specs.Ordering.{nat_cmp, ordering_then}
 use Rattle.std.proofs.lemmas.Bool.{ltb-false}
 use Rattle.std.proofs.lemmas.Bool.Decides.{Decides-ltb}
 use Rattle.std.proofs.lemmas.Grind.{flat_map-append}
-use Rattle.coll_key.specs.ForwardNumbers.{items_left, before, gap_count}
+use Rattle.coll_key.specs.ForwardNumbers.{items_left, before, gap_count, BeginAlike}
 use Rattle.coll_key.specs.LevelList.{items_of, items, listed}
-use Rattle.coll_key.specs.TextOrder.{list_order, BeginAlike}
+use Rattle.coll_key.specs.TextOrder.{list_order}
 use Rattle.coll_key.proofs.Tests.{by_test}
 
 -- the next item is a number

@@ -22,7 +22,7 @@ use Rattle.coll_key.specs.ElementChains.{Finds}
 use Rattle.coll_key.specs.LevelList.{number_of, numbers_at, weight_at, weights_or, weight_numbers, undefined_weights, code_point}
 use Rattle.coll_key.specs.Rank.{place_among, known_rank}
 use Rattle.coll_key.specs.Ranks.{RanksValue, RankedElement, AreRanksOf, parts_of, parts_behind, part_with, part_numbers, character_part, added_to, added_at, compiled_weight, compiled_by, compiled_entry, compiled_row_by, compiled_weights, filled_up, ranked_text, ranked_in}
-use Rattle.coll_key.specs.TextOrder.{BeginAlike}
+use Rattle.coll_key.specs.ForwardNumbers.{BeginAlike}
 use Rattle.coll_key.specs.declared.parts.Part.{Part}
 use Rattle.coll_key.specs.declared.parts.Part.TheVariants.{Placed}
 use Rattle.coll_key.specs.declared.placed_elements.FoundElement.{FoundElement}

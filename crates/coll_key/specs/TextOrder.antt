@@ -1,5 +1,5 @@
 -- The order of two texts (POSIX.1-2017, 7.3.2.3): the first level whose lists differ decides.
-use Rattle.std.specs.Prelude.{◌≡◌, ℕ, false, List, [], ◌∷◌, ◌++◌}
+use Rattle.std.specs.Prelude.{◌≡◌, ℕ, false, List, [], ◌∷◌}
 use Rattle.std.specs.Ordering.{nat_cmp, ordering_then}
 use Rattle.std.specs.declared.cmp.Ordering.{Ordering}
 use Rattle.std.specs.declared.cmp.Ordering.TheVariants.{Equal}
@@ -30,7 +30,3 @@ order_of table text other = first_difference (level_lists table text) (level_lis
 -- the texts of a level are looked at from the front
 abbrev pub IsForward : Rule → Type 0
 IsForward rule = rule.backward ≡ false
-
--- two lists go on with these, behind a front that both have
-abbrev pub BeginAlike : {X : Type 0} → (xs ys later later_others : List X) → Type 0
-BeginAlike {X} xs ys later later_others = (front : List X) × (xs ≡ front ++ later) × (ys ≡ front ++ later_others)

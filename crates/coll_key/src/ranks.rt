@@ -6,7 +6,7 @@
 
 ghost use Rattle.std.specs.Prelude.{◌≡◌, ◌<◌, ◌≤◌, ◌+◌, ◌∷◌, ℕ, [], chars, length, map, option_copied, Option, IfOk, IfSome, MatchOption};
 ghost use Rattle.coll_table.specs.TableLayout.{collation};
-ghost use Rattle.coll_key.specs.TextOrder.{BeginAlike};
+ghost use Rattle.coll_key.specs.ForwardNumbers.{BeginAlike};
 
 use crate::compiled_weights::CompiledWeights;
 use crate::id_ranks::IdRanks;

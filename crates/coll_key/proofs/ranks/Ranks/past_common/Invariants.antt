@@ -2,7 +2,7 @@ use Rattle.std.proofs.Common.{chars, length}
 use denote.Shadow.{shadow}
 use denote.Text.{Utf8}
 use Rattle.coll_key.specs.Ranks.{parts_of}
-use Rattle.coll_key.specs.TextOrder.{BeginAlike}
+use Rattle.coll_key.specs.ForwardNumbers.{BeginAlike}
 use Rattle.coll_key.proofs.ranks.Ranks.past_common.Given as goal
 
 abbrev pub invariant-same : goal.invariant-same
