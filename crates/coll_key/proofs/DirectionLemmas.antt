@@ -2,8 +2,11 @@
 use Rattle.std.proofs.Common.{◌≡◌, ℕ, Bool, true, false, List, [], ◌∷◌, ◌++◌, length, map, reverse, Some, refl, sym, ap, ◌∙◌, append-nil}
 use Rattle.std.proofs.lemmas.Grind.{flat_map-append}
 use Rattle.std.proofs.lemmas.List.{reverse-append, map-append, length-reverse}
-use Rattle.coll_key.specs.Cursors.{directed_numbers}
 use Rattle.coll_key.specs.LevelList.{items_of, items, directed}
+
+-- the numbers of a part in the direction of a level
+abbrev pub directed_numbers : {P : Type 0} → (backward : Bool) → (P → List ℕ) → P → List ℕ
+directed_numbers backward numbers part = directed backward (numbers part)
 
 -- mapping and reversing
 pub map-reverse : {X Y : Type 0} (f : X → Y) (xs : List X) → map f (reverse xs) ≡ reverse (map f xs)

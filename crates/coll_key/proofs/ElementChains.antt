@@ -122,6 +122,13 @@ stands_last kept text rest first among found stands none starts =
     let all : longest ranked_text (elements_in kept) text ≡ best.0 = best.2 ∙ ap (λ n. longer_of (longest_among kept n text) best.0) (let zero_is : among ≡ 0 = omega arith in zero_is) in
     subst (λ (b : Option RankedElement). Finds b text found) (sym all) best.1
 
+-- where a chain has no element, none begins with its character
+pub none_begins : (kept : List PlacedElement) (chains : List ℕ) (places : List NamedNumber) (first among : ℕ) (rest : List ℕ) → AreSoundElements kept chains places → among ≡ get_or chains first 0 → among ≤ 0 → longest ranked_text (elements_in kept) (first ∷ rest) ≡ None
+none_begins kept chains places first among rest sound is none = by (longest ranked_text (elements_in kept) (first ∷ rest)) (stands_last kept (first ∷ rest) rest first among None (stands_first kept chains places (first ∷ rest) first among sound is) none refl) where
+  by : (l : Option RankedElement) → Finds l (first ∷ rest) None → l ≡ None
+  by None found = refl
+  by (Some ranked) found = absurd found
+
 -- What one more element does.
 
 -- what begins with what stays

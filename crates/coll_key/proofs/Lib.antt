@@ -1,7 +1,7 @@
-pub mod CursorLemmas
 pub mod DirectionLemmas
 pub mod ElementBeginnings
 pub mod ElementChains
+pub mod ForwardLemmas
 pub mod KeyForm
 pub mod KeyOrder
 pub mod LevelLemmas
@@ -11,6 +11,7 @@ pub mod LongestElements
 pub mod NameLookUps
 pub mod OrderLemmas
 pub mod PartNumbers
+pub mod PushingSteps
 pub mod RankListLemmas
 pub mod RankingLemmas
 pub mod Tests

@@ -22,6 +22,7 @@ use Rattle.coll_key.specs.ElementChains.{Finds}
 use Rattle.coll_key.specs.LevelList.{number_of, numbers_at, weight_at, weights_or, weight_numbers, undefined_weights, code_point}
 use Rattle.coll_key.specs.Rank.{place_among, known_rank}
 use Rattle.coll_key.specs.Ranks.{RanksValue, RankedElement, AreRanksOf, parts_of, parts_behind, part_with, part_numbers, character_part, added_to, added_at, compiled_weight, compiled_by, compiled_entry, compiled_row_by, compiled_weights, filled_up, ranked_text, ranked_in}
+use Rattle.coll_key.specs.ForwardNumbers.{BeginAlike}
 use Rattle.coll_key.specs.declared.parts.Part.{Part}
 use Rattle.coll_key.specs.declared.parts.Part.TheVariants.{Placed}
 use Rattle.coll_key.specs.declared.placed_elements.FoundElement.{FoundElement}
@@ -67,12 +68,16 @@ element_first ranks text found h = by (longest ranked_text ranks.elements text) 
   by None e h = absurd (let no : Some found ≡ None = h in cc)
   by (Some ranked) e h = part_of_element ranks ranked text (chars found.rest.now) e h.goes_on h.some ∙ ap (λ r. Placed r ∷ parts_of ranks (chars found.rest.now)) (sym h.rank)
 
--- and is longer than what is behind it
-pub shorter_behind : (longest : Option RankedElement) (text : List ℕ) (found : FoundElement) → Finds longest text (Some found) → length (chars found.rest.now) < length text
-shorter_behind None text found h = absurd (let no : Some found ≡ None = h in cc)
-shorter_behind (Some ranked) text found h =
-    let longer : length text ≡ length (ranked_text ranked) + length (chars found.rest.now) = ap length h.goes_on ∙ length-append (ranked_text ranked) (chars found.rest.now) in
-    omega (arith, h.some)
+-- and has its characters before those behind it
+pub characters_behind : (longest : Option RankedElement) (text : List ℕ) (found : FoundElement) → Finds longest text (Some found) → length text ≡ found.length + length (chars found.rest.now)
+characters_behind None text found h = absurd (let no : Some found ≡ None = h in cc)
+characters_behind (Some ranked) text found h =
+    ap length h.goes_on ∙ length-append (ranked_text ranked) (chars found.rest.now) ∙ ap (λ n. n + length (chars found.rest.now)) (sym h.length_is)
+
+-- of which there are some
+pub some_characters : (longest : Option RankedElement) (text : List ℕ) (found : FoundElement) → Finds longest text (Some found) → 0 < found.length
+some_characters None text found h = absurd (let no : Some found ≡ None = h in cc)
+some_characters (Some ranked) text found h = omega (arith, h.some, h.length_is)
 
 -- a text that begins with none has that of its first character first
 pub character_first : (ranks : RanksValue) (text rest behind : List ℕ) (first : ℕ) (part : Part) → text ≡ first ∷ rest → Finds (longest ranked_text ranks.elements text) text None → part ≡ part_with ranks.ids None first → behind ≡ rest → parts_of ranks text ≡ part ∷ parts_of ranks behind
@@ -82,6 +87,14 @@ character_first ranks text rest behind first part is h same left = by (longest r
       ap (parts_of ranks) is
       ∙ (part_of_character ranks first rest (ap (longest ranked_text ranks.elements) (sym is) ∙ e) ∙ ap₂ (λ (p : Part) (later : List ℕ). p ∷ parts_of ranks later) (sym same) (sym left))
   by (Some ranked) e h = absurd h
+
+-- texts begin alike with a character that begins no element
+pub same_first : (ranks : RanksValue) (text other rest later : List ℕ) (first second : ℕ) → text ≡ first ∷ rest → other ≡ second ∷ later → second ≡ first → ((behind : List ℕ) → longest ranked_text ranks.elements (first ∷ behind) ≡ None) → BeginAlike (parts_of ranks text) (parts_of ranks other) (parts_of ranks rest) (parts_of ranks later)
+same_first ranks text other rest later first second is also same none = (
+  part_with ranks.ids None first ∷ [],
+  ap (parts_of ranks) is ∙ part_of_character ranks first rest (none rest),
+  ap (parts_of ranks) (also ∙ ap (λ c. c ∷ later) same) ∙ part_of_character ranks first later (none later),
+)
 
 -- Rows of compiled weights.
 

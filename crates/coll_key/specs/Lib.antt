@@ -1,7 +1,7 @@
 pub mod CompiledListing
-pub mod Cursors
 pub mod ElementChains
 pub mod Elements
+pub mod ForwardNumbers
 pub mod KeyFaults
 pub mod KeyLimits
 pub mod LevelList

@@ -1,26 +1,27 @@
 //! Comparison of texts.
 //!
 //! Two texts are compared level by level, number by number, up to the first difference, and no key is formed. A forward level goes
-//! over the texts themselves; for a backward one the parts of both are kept.
+//! over the texts themselves, behind what both begin with; for a backward one the lists of both are made.
 
 ghost use Rattle.std.specs.Prelude.{◌≡◌, ◌≢◌, ◌<◌, ◌≤◌, ◌||◌, ℕ, List, chars, length, true, false, All, IfOk, IfErr, IsOk};
 ghost use Rattle.std.specs.Ordering.{ordering_then};
 ghost use Rattle.coll_nodes.specs.TableLayout.{collation};
-ghost use Rattle.coll_key.specs.Cursors.{before};
+ghost use Rattle.coll_key.specs.ForwardNumbers.{before};
 ghost use Rattle.coll_key.specs.KeyLimits.{is_too_long};
 ghost use Rattle.coll_key.specs.LevelList.{level_list, listed};
 ghost use Rattle.coll_key.specs.Ranks.{AreRanksOf, parts_of, part_numbers};
 ghost use Rattle.coll_key.specs.TextOrder.{list_order, order_of, IsForward};
 ghost use Rattle.coll_key.specs.declared.key_faults.KeyFault.TheVariants.{TextTooLong, OutOfMemory};
 
-use crate::cursors::{Cursor, Step};
+use crate::forward_numbers::{ForwardNumbers, Step};
 use crate::key_faults::KeyFault;
+use crate::levels::push_level;
 use crate::limits::is_too_long;
-use crate::part_sources::kept_parts;
 use crate::ranks::Ranks;
+use crate::text_parts::kept_parts;
 use coll_syntax::Rule;
 use coll_table::Table;
-use std::alloc::{AllocError, Global};
+use std::alloc::Global;
 use std::cmp::Ordering;
 
 /// The order of two texts by a table.
@@ -64,18 +65,40 @@ fn level_order(
     rule: Rule,
     text: &str,
     other: &str,
-) -> Result<Ordering, AllocError>
+) -> Result<Ordering, KeyFault>
     requires level { level < ranks.now.levels }
     requires few { length (parts_of ranks.now (chars text.now)) ≤ 65_536 }
     requires few_others { length (parts_of ranks.now (chars other.now)) ≤ 65_536 }
     ensures ok { IfOk result (λ order. order ≡ list_order (level_list rule (part_numbers ranks.now level) (parts_of ranks.now (chars text.now))) (level_list rule (part_numbers ranks.now level) (parts_of ranks.now (chars other.now)))) }
+    ensures err { IfErr result (λ fault. fault ≢ OutOfMemory → (is_too_long (chars text.now) || is_too_long (chars other.now)) ≡ true) }
     ensures memory { rule.backward ≡ false → IsOk result }
 {
     if rule.backward {
-        backward_order(alloc, ranks, level, rule.position, text, other)
+        let numbers = backward_list(alloc, ranks, level, rule, text)?;
+        let others = backward_list(alloc, ranks, level, rule, other)?;
+        Ok(numbers.cmp(&others))
     } else {
         Ok(forward_order(ranks, level, rule.position, text, other))
     }
+}
+
+// The list of a text at a level, in new memory.
+fn backward_list(
+    alloc: Global,
+    ranks: &Ranks,
+    level: usize,
+    rule: Rule,
+    text: &str,
+) -> Result<Vec<u64>, KeyFault>
+    requires level { level < ranks.now.levels }
+    requires few { length (parts_of ranks.now (chars text.now)) ≤ 65_536 }
+    ensures ok { IfOk result (λ list. list.items ≡ level_list rule (part_numbers ranks.now level) (parts_of ranks.now (chars text.now))) }
+    ensures err { IfErr result (λ fault. fault ≢ OutOfMemory → is_too_long (chars text.now) ≡ true) }
+{
+    let parts = kept_parts(alloc, ranks, text)?;
+    let mut list = Vec::new(alloc);
+    push_level(&mut list, ranks, level, rule, &parts)?;
+    Ok(list)
 }
 
 // The order of two texts at a forward level. It takes no memory.
@@ -85,55 +108,33 @@ fn forward_order(ranks: &Ranks, level: usize, position: bool, text: &str, other:
     requires few_others { length (parts_of ranks.now (chars other.now)) ≤ 65_536 }
     ensures { result ≡ list_order (level_list (record { backward = false; position = position }) (part_numbers ranks.now level) (parts_of ranks.now (chars text.now))) (level_list (record { backward = false; position = position }) (part_numbers ranks.now level) (parts_of ranks.now (chars other.now))) }
 {
+    let (later, later_other) = ranks.past_common(text, other);
     order_along(
         position,
-        Cursor::along_text(ranks, level, text),
-        Cursor::along_text(ranks, level, other),
+        ForwardNumbers::new(ranks, level, later),
+        ForwardNumbers::new(ranks, level, later_other),
     )
-}
-
-// The order of two texts at a backward level.
-fn backward_order(
-    alloc: Global,
-    ranks: &Ranks,
-    level: usize,
-    position: bool,
-    text: &str,
-    other: &str,
-) -> Result<Ordering, AllocError>
-    requires level { level < ranks.now.levels }
-    requires few { length (parts_of ranks.now (chars text.now)) ≤ 65_536 }
-    requires few_others { length (parts_of ranks.now (chars other.now)) ≤ 65_536 }
-    ensures { IfOk result (λ order. order ≡ list_order (level_list (record { backward = true; position = position }) (part_numbers ranks.now level) (parts_of ranks.now (chars text.now))) (level_list (record { backward = true; position = position }) (part_numbers ranks.now level) (parts_of ranks.now (chars other.now)))) }
-{
-    let parts = kept_parts(alloc, ranks, text)?;
-    let others = kept_parts(alloc, ranks, other)?;
-    Ok(order_along(
-        position,
-        Cursor::along_parts(ranks, level, true, &parts),
-        Cursor::along_parts(ranks, level, true, &others),
-    ))
 }
 
 // The order of the numbers on two ways.
 #[inline(always)]
-fn order_along(position: bool, left: Cursor<'_>, right: Cursor<'_>) -> Ordering
+fn order_along(position: bool, left: ForwardNumbers<'_>, right: ForwardNumbers<'_>) -> Ordering
     ensures { result ≡ list_order (listed position 0 left.entry) (listed position 0 right.entry) }
 {
     let mut left = left;
     let mut right = right;
-    'steps: while let Some(step) = left.next() {
-        let Some(other) = right.next() else {
-            return Ordering::Greater;
-        };
-        let order = step_order(position, step, other);
-        if order.is_ne() {
-            return order;
+    'steps: loop {
+        match (left.next(), right.next()) {
+            (Some(step), Some(other)) => {
+                let order = step_order(position, step, other);
+                if order.is_ne() {
+                    return order;
+                }
+            }
+            (Some(_), None) => return Ordering::Greater,
+            (None, Some(_)) => return Ordering::Less,
+            (None, None) => return Ordering::Equal,
         }
-    }
-    match right.next() {
-        Some(_) => Ordering::Less,
-        None => Ordering::Equal,
     }
 }
 

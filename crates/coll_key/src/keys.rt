@@ -3,23 +3,20 @@
 //! A key is made level by level from the parts of the text, for which room is reserved first. That keys are ordered as their
 //! texts is a law over the definitions alone.
 
-ghost use Rattle.std.specs.Prelude.{◌≡◌, ◌≢◌, ◌++◌, ℕ, List, chars, true, false, IfOk, IfErr, OnOk};
+ghost use Rattle.std.specs.Prelude.{◌≡◌, ◌≢◌, chars, true, false, IfOk, IfErr};
 ghost use Rattle.coll_nodes.specs.TableLayout.{collation};
-ghost use Rattle.coll_key.specs.Cursors.{before};
 ghost use Rattle.coll_key.specs.KeyLimits.{is_too_long};
-ghost use Rattle.coll_key.specs.LevelList.{listed};
 ghost use Rattle.coll_key.specs.Ranks.{AreRanksOf};
-ghost use Rattle.coll_key.specs.SortKey.{ended, key_of, KeysAreOrderedAsTexts};
+ghost use Rattle.coll_key.specs.SortKey.{key_of, KeysAreOrderedAsTexts};
 ghost use Rattle.coll_key.specs.WrittenKey.{has_key_form};
 ghost use Rattle.coll_key.specs.declared.key_faults.KeyFault.TheVariants.{OutOfMemory};
 
-use crate::cursors::{Cursor, Step};
 use crate::key_faults::KeyFault;
-use crate::limits::is_too_long;
-use crate::part_sources::kept_parts;
+use crate::levels::push_level;
 use crate::ranks::Ranks;
+use crate::text_parts::kept_parts;
 use coll_table::Table;
-use std::alloc::{AllocError, Global};
+use std::alloc::Global;
 
 /// The sort key of a text: for each level its list of numbers, followed by 0.
 ///
@@ -31,16 +28,13 @@ pub fn key(alloc: Global, table: &Table, ranks: &Ranks, text: &str) -> Result<Ve
     ensures short { IfOk result (λ _. is_too_long (chars text.now) ≡ false) }
     ensures err { IfErr result (λ fault. fault ≢ OutOfMemory → is_too_long (chars text.now) ≡ true) }
 {
-    if is_too_long(text) {
-        return Err(KeyFault::TextTooLong);
-    }
     table.check_table();
     let parts = kept_parts(alloc, ranks, text)?;
     let mut key = Vec::new(alloc);
     key.reserve(likely_numbers(parts.len(), table.rules().len()))?;
     for (level, rule) in table.rules().iter().enumerate() {
-        let numbers = Cursor::along_parts(ranks, level, rule.backward, &parts);
-        push_level(&mut key, numbers, rule.position)?;
+        push_level(&mut key, ranks, level, *rule, &parts)?;
+        key.push(0)?;
     }
     Ok(key)
 }
@@ -58,36 +52,4 @@ fn likely_numbers(parts: usize, levels: usize) -> usize {
         .saturating_mul(2)
         .saturating_add(1)
         .saturating_mul(levels)
-}
-
-// Puts the numbers of a level behind a key, and the 0 that ends them.
-fn push_level(key: &mut Vec<u64>, numbers: Cursor<'_>, position: bool) -> Result<(), AllocError>
-    ensures { OnOk result (key.new.items ≡ key.old.items ++ ended (listed position 0 numbers.entry)) }
-{
-    let mut left = numbers;
-    'steps: while let Some(step) = left.next() {
-        push_step(key, step, position)?;
-    }
-    key.push(0)?;
-    Ok(())
-}
-
-// Puts a step behind a key: its number, with `position` behind its position.
-fn push_step(key: &mut Vec<u64>, step: Step, position: bool) -> Result<(), AllocError>
-    ensures { OnOk result ((list : List ℕ) → key.old.items ++ before position step list ≡ key.new.items ++ list) }
-{
-    if position {
-        return push_both(key, step);
-    }
-    key.push(step.number)?;
-    Ok(())
-}
-
-// Puts the position of a step and its number behind a key.
-fn push_both(key: &mut Vec<u64>, step: Step) -> Result<(), AllocError>
-    ensures { OnOk result ((list : List ℕ) → key.old.items ++ before true step list ≡ key.new.items ++ list) }
-{
-    key.push(step.position)?;
-    key.push(step.number)?;
-    Ok(())
 }

@@ -8,7 +8,8 @@
 //! - `parts`: what a text is split into, and what a part weighs;
 //! - `compiled_weights`: the weights of all entries as ranks (`Ranks`);
 //! - `ranks`, and `ranking`: the whole, made of a table (`Ranks`, `Ranking`);
-//! - `part_sources` and `cursors`: the parts of a text one after another, and the numbers of a level (`LevelList`, `Cursors`);
+//! - `text_parts` and `levels`: the parts of a text, kept, and the list of a level (`LevelList`);
+//! - `forward_numbers`: the numbers of a text at a forward level, one after another (`ForwardNumbers`);
 //! - `keys`, `comparison` and `written_keys`: what they are for (`SortKey`, `TextOrder`, `WrittenKey`), with `decimals`;
 //! - `listing`: the compiled listing (`CompiledListing`);
 //! - `key_faults` and `limits`: why a text has no key (`KeyFaults`, `KeyLimits`).
@@ -17,19 +18,20 @@
 mod code_points;
 mod comparison;
 mod compiled_weights;
-mod cursors;
 mod decimals;
+mod forward_numbers;
 mod id_ranks;
 mod key_faults;
 mod keys;
+mod levels;
 mod limits;
 mod listing;
 mod name_numbers;
-mod part_sources;
 mod parts;
 mod placed_elements;
 mod ranking;
 mod ranks;
+mod text_parts;
 mod written_keys;
 
 pub use comparison::compare;

@@ -15,6 +15,17 @@ pub(crate) enum Part {
     Absent(char),
 }
 
+/// The part that a text begins with.
+#[derive(Clone, Copy)]
+pub(crate) struct FirstPart<'a> {
+    /// The part.
+    pub(crate) part: Part,
+    /// The number of its characters.
+    pub(crate) characters: usize,
+    /// The text behind it.
+    pub(crate) rest: &'a str,
+}
+
 /// What a part weighs at a level: ranks, and what is added to the number of each.
 #[derive(Clone, Copy)]
 pub(crate) struct PartWeight<'a> {

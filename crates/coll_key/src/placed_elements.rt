@@ -4,7 +4,7 @@
 //! stands among how many elements from the first on the next one of the chain is the last. So a text is compared with those alone
 //! that begin as it does.
 
-ghost use Rattle.std.specs.Prelude.{◌≡◌, ◌<◌, ◌≤◌, ◌++◌, ◌∷◌, [], ℕ, List, Option, chars, length, option_copied, IfOk};
+ghost use Rattle.std.specs.Prelude.{◌≡◌, ◌<◌, ◌≤◌, ◌++◌, ◌∷◌, [], ℕ, List, Option, None, false, chars, length, option_copied, IfOk};
 ghost use Rattle.coll_key.specs.ElementChains.{Finds, first_of, longer_of};
 ghost use Rattle.coll_key.specs.Ranks.{RankedElement};
 
@@ -43,7 +43,7 @@ pub(crate) struct FoundElement<'a> {
     /// Its rank.
     pub(crate) rank: u32,
     /// The number of its characters.
-    length: usize,
+    pub(crate) length: usize,
     /// The text behind it.
     pub(crate) rest: &'a str,
 }
@@ -118,8 +118,28 @@ impl PlacedElements {
         })
     }
 
+    /// Whether an element may begin with a character.
+    #[inline(always)]
+    pub(crate) fn may_begin_with(&self, first: char) -> bool
+        ensures { (rest : List ℕ) → result ≡ false → longest ranked_text self.now (first ∷ rest) ≡ None }
+    {
+        self.chains.get(first) > 0
+    }
+
     /// The element with the longest string that a text begins with, where this is its first character.
+    #[inline(always)]
     pub(crate) fn longest<'a>(&self, text: &'a str, first: char) -> Option<FoundElement<'a>>
+        ensures { (rest : List ℕ) → chars text.now ≡ first ∷ rest → Finds (longest ranked_text self.now (chars text.now)) (chars text.now) result }
+    {
+        if self.may_begin_with(first) {
+            self.longest_in_chain(text, first)
+        } else {
+            None
+        }
+    }
+
+    // The same, found along the chain of the character.
+    fn longest_in_chain<'a>(&self, text: &'a str, first: char) -> Option<FoundElement<'a>>
         ensures { (rest : List ℕ) → chars text.now ≡ first ∷ rest → Finds (longest ranked_text self.now (chars text.now)) (chars text.now) result }
     {
         let mut among = self.chains.get(first) as usize;

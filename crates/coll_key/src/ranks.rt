@@ -4,12 +4,13 @@
 //! ranks in one list. It keeps nothing of the table itself, so it is true of each table with the same rules, declarations and
 //! sections (`AreRanksOf` of `specs/Ranks.antt`), and of a changed table it isn't.
 
-ghost use Rattle.std.specs.Prelude.{◌≡◌, ◌<◌, ◌≤◌, ◌∷◌, ℕ, [], chars, length, map, option_copied, Option, IfOk, MatchOption};
+ghost use Rattle.std.specs.Prelude.{◌≡◌, ◌<◌, ◌≤◌, ◌+◌, ◌∷◌, ℕ, [], chars, length, map, option_copied, Option, IfOk, IfSome, MatchOption};
 ghost use Rattle.coll_nodes.specs.TableLayout.{collation};
+ghost use Rattle.coll_key.specs.ForwardNumbers.{BeginAlike};
 
 use crate::compiled_weights::CompiledWeights;
 use crate::id_ranks::IdRanks;
-use crate::parts::{Part, PartWeight};
+use crate::parts::{FirstPart, Part, PartWeight};
 use crate::placed_elements::PlacedElements;
 use crate::ranking::{compiled, ranked_elements, ranked_ids};
 use coll_lex::TextBuf;
@@ -62,18 +63,60 @@ impl Ranks {
         self.ids.rank(id)
     }
 
-    /// The part that stands at the beginning of a text, and the text behind it.
+    /// The part that a text begins with.
     #[inline(always)]
-    pub(crate) fn first_part<'a>(&self, text: &'a str) -> Option<(Part, &'a str)>
-        ensures parts { MatchOption result (parts_of self.now (chars text.now) ≡ []) (λ found. parts_of self.now (chars text.now) ≡ found.0 ∷ parts_of self.now (chars found.1.now)) }
-        ensures shorter { MatchOption result (chars text.now ≡ []) (λ found. length (chars found.1.now) < length (chars text.now)) }
+    pub(crate) fn first_part<'a>(&self, text: &'a str) -> Option<FirstPart<'a>>
+        ensures parts { MatchOption result (parts_of self.now (chars text.now) ≡ []) (λ first. parts_of self.now (chars text.now) ≡ first.part ∷ parts_of self.now (chars first.rest.now)) }
+        ensures characters { MatchOption result (length (chars text.now) ≡ 0) (λ first. length (chars text.now) ≡ first.characters + length (chars first.rest.now)) }
+        ensures some { IfSome result (λ first. 0 < first.characters) }
     {
         let mut letters = text.chars();
         let first = letters.next()?;
         match self.elements.longest(text, first) {
-            Some(found) => Some((Part::Placed(found.rank), found.rest)),
-            None => Some((self.ids.part(first), letters.as_str())),
+            Some(found) => Some(FirstPart {
+                part: Part::Placed(found.rank),
+                characters: found.length,
+                rest: found.rest,
+            }),
+            None => Some(FirstPart {
+                part: self.ids.part(first),
+                characters: 1,
+                rest: letters.as_str(),
+            }),
         }
+    }
+
+    /// Two texts behind characters that both begin with, and that are parts of each.
+    #[inline(always)]
+    pub(crate) fn past_common<'a, 'b>(&self, text: &'a str, other: &'b str) -> (&'a str, &'b str)
+        ensures { BeginAlike (parts_of self.now (chars text.now)) (parts_of self.now (chars other.now)) (parts_of self.now (chars result.0.now)) (parts_of self.now (chars result.1.now)) }
+    {
+        let mut left = text;
+        let mut right = other;
+        'same: while let Some((later, other_later)) = self.past_same(left, right) {
+            left = later;
+            right = other_later;
+        }
+        (left, right)
+    }
+
+    // Two texts behind the first character of both, if it is the same and no element may begin with it.
+    #[inline(always)]
+    fn past_same<'a, 'b>(&self, text: &'a str, other: &'b str) -> Option<(&'a str, &'b str)>
+        ensures same { IfSome result (λ later. BeginAlike (parts_of self.now (chars text.now)) (parts_of self.now (chars other.now)) (parts_of self.now (chars later.0.now)) (parts_of self.now (chars later.1.now))) }
+        ensures shorter { IfSome result (λ later. length (chars later.0.now) < length (chars text.now)) }
+    {
+        let mut letters = text.chars();
+        let mut others = other.chars();
+        let first = letters.next()?;
+        let second = others.next()?;
+        if first != second {
+            return None;
+        }
+        if self.elements.may_begin_with(first) {
+            return None;
+        }
+        Some((letters.as_str(), others.as_str()))
     }
 
     /// The string of the placed element of a name, if there is one.

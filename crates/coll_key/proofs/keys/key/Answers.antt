@@ -1,22 +1,20 @@
-use Rattle.std.proofs.Common.{◌≡◌, ◌∙◌, chars, false, ap}
+use Rattle.std.proofs.Common.{◌∙◌, chars, ap}
 use Rattle.coll_nodes.specs.TableLayout.{collation}
-use Rattle.coll_key.specs.KeyLimits.{is_too_long}
 use Rattle.coll_key.specs.WrittenKey.{has_key_form}
 use Rattle.coll_key.proofs.KeyForm.{key_form}
 use Rattle.coll_key.proofs.LevelLemmas.{few_parts}
 use Rattle.coll_key.proofs.OrderLemmas.{key_is_made}
 use Rattle.coll_key.proofs.keys.key.Goals as goal
 
-pub along_parts-numbers-requires-clause-few : goal.along_parts-numbers-requires-clause-few
-along_parts-numbers-requires-clause-few c =
-    let short : is_too_long (chars c.args.text.now) ≡ false = cc in
-    rw (c.deref.ensures.value, c.in_ok-parts.ensures) (few_parts c.args.ranks.now (chars c.args.text.now) short)
+pub push_level-requires-clause-few : goal.push_level-requires-clause-few
+push_level-requires-clause-few c =
+    rw (c.deref.ensures.value, c.in_ok-parts.ensures.ok) (few_parts c.args.ranks.now (chars c.args.text.now) c.in_ok-parts.ensures.short)
 
 pub returns-clause-ok : goal.returns-clause-ok
 returns-clause-ok c =
     let ranks = c.args.ranks.now in
     let table = collation c.args.table.now in
-    key_is_made ranks table c.requires c.check_table.ensures.well_formed (chars c.args.text.now) c.in_ok-parts.parts.items c.loop-level.level c.rules-rule-items.result.now c.loop-level.key.items c.in_ok-parts.ensures c.rules-rule-items.ensures c.loop-level-test.false c.loop-level.invariant
+    key_is_made ranks table c.requires c.check_table.ensures.well_formed (chars c.args.text.now) c.in_ok-parts.parts.items c.loop-level.level c.rules-rule-items.result.now c.loop-level.key.items c.in_ok-parts.ensures.ok c.rules-rule-items.ensures c.loop-level-test.false c.loop-level.invariant
 
 pub returns-clause-form : goal.returns-clause-form
 returns-clause-form c =

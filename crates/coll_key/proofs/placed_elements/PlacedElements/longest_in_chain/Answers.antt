@@ -1,7 +1,7 @@
 -- Each step goes one element further along the chain.
 use Rattle.std.proofs.Common.{◌≡◌, ◌+◌, ◌-◌, arith}
 use Rattle.coll_key.proofs.ElementChains.{stands_first, stands_next, stands_last}
-use Rattle.coll_key.proofs.placed_elements.PlacedElements.longest.Goals as goal
+use Rattle.coll_key.proofs.placed_elements.PlacedElements.longest_in_chain.Goals as goal
 
 pub loop-among-init : goal.loop-among-init
 loop-among-init c = stands_first _ _ _ _ _ _ c.self.invariant c.get-among.ensures

@@ -1,13 +1,14 @@
-use Rattle.std.proofs.Common.{◌≡◌, ◌++◌, chars, length}
+use Rattle.std.proofs.Common.{◌≡◌, ◌++◌, ◌+◌, chars, length}
 use denote.Shadow.{shadow}
 use denote.Text.{Utf8}
 use Rattle.coll_key.specs.Ranks.{parts_of}
-use Rattle.coll_key.proofs.part_sources.kept_parts.Given as goal
+use Rattle.coll_key.proofs.text_parts.kept_parts.Given as goal
 
 abbrev pub invariant-parts : goal.invariant-parts
 invariant-parts l = record {
   text : shadow (Utf8 l.left);
   parts : parts_of l.ranks (chars l.text) ≡ l.parts.items ++ parts_of l.ranks (chars l.left);
+  counted : l.room + length (chars l.text) ≡ 65_536 + length (chars l.left);
 }
 
 abbrev pub decreases-parts : goal.decreases-parts

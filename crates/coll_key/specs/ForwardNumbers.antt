@@ -1,0 +1,22 @@
+-- What is left of the numbers of a text at a forward level, and a step along them.
+use Rattle.std.specs.Prelude.{◌≡◌, ℕ, Bool, true, false, List, [], ◌∷◌, ◌++◌, Option, Some, map}
+use Rattle.coll_key.specs.LevelList.{items}
+use Rattle.coll_key.specs.declared.forward_numbers.Step.{Step}
+
+-- the items that are left: the numbers that are left of a part, and then the items of the parts behind it
+abbrev pub items_left : {P : Type 0} → (P → List ℕ) → List ℕ → List P → List (Option ℕ)
+items_left numbers left parts = map Some left ++ items numbers parts
+
+-- the numbers of a step, before others: its number, with `position` behind its position
+abbrev pub before : (position : Bool) → Step → List ℕ → List ℕ
+before true step list = step.position ∷ step.number ∷ list
+before false step list = step.number ∷ list
+
+-- how many gaps a part with these ranks is
+abbrev pub gap_count : List ℕ → ℕ
+gap_count [] = 1
+gap_count (rank ∷ ranks) = 0
+
+-- two lists go on with these, behind a front that both have
+abbrev pub BeginAlike : {X : Type 0} → (xs ys later later_others : List X) → Type 0
+BeginAlike {X} xs ys later later_others = (front : List X) × (xs ≡ front ++ later) × (ys ≡ front ++ later_others)
