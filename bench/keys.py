@@ -27,7 +27,16 @@ import sys
 import tempfile
 
 ROOT = os.path.dirname(os.path.dirname(os.path.abspath(__file__)))
-CRATES = ("coll_lex", "coll_order", "coll_syntax", "coll_table", "coll_key")
+CRATES = (
+    "coll_lex",
+    "coll_order",
+    "coll_syntax",
+    "coll_nodes",
+    "coll_draft",
+    "coll_print",
+    "coll_table",
+    "coll_key",
+)
 ENTRIES = 105_000
 ELEMENTS = 800
 SECTIONS = 23
@@ -38,7 +47,7 @@ LENGTH = 9
 
 PROGRAM = """#![tactic(auto)]
 
-ghost use Rattle.coll_table.specs.TableLayout.{collation};
+ghost use Rattle.coll_nodes.specs.TableLayout.{collation};
 ghost use Rattle.coll_key.specs.Ranks.{AreRanksOf};
 
 use anyhow::{Context, Result};
@@ -267,7 +276,7 @@ def build(work):
     with open(os.path.join(ROOT, "crates.txt")) as lines:
         own = [line for line in lines if line.split(":")[0] in CRATES]
     with open(os.path.join(work, "crates.txt"), "w") as out:
-        out.writelines(own + ["key_times: coll_lex coll_table coll_key anyhow\n"])
+        out.writelines(own + ["key_times: coll_lex coll_nodes coll_table coll_key anyhow\n"])
     program = os.path.join(work, "crates", "key_times")
     os.makedirs(os.path.join(program, "src"), exist_ok=True)
     with open(os.path.join(program, "src", "main.rt"), "w") as out:
