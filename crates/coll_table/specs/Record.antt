@@ -117,3 +117,11 @@ statement_steps table (statement.Element name text) = 1
 statement_steps table (statement.Block target lines) = lines_steps table lines
 statement_steps table (statement.SectionAfter name after) = 2
 statement_steps table (statement.Reweight line) = 0
+
+-- the items of a record of a statement: one for each line of a block, and one for every other statement
+unfoldable pub statement_items : Statement → ℕ
+statement_items (statement.Symbol name) = 1
+statement_items (statement.Element name text) = 1
+statement_items (statement.Block target lines) = length lines
+statement_items (statement.SectionAfter name after) = 1
+statement_items (statement.Reweight line) = 1
