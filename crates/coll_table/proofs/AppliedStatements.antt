@@ -18,7 +18,7 @@ use Rattle.coll_table.proofs.ItemDeclarations.{declaration_done}
 use Rattle.coll_table.proofs.ItemLines.{block_done}
 use Rattle.coll_table.proofs.ItemSections.{section_done}
 use Rattle.coll_table.proofs.ItemWeights.{reweight_done}
-use Rattle.coll_table.proofs.ItemsDone.{AreDone, RecordDone, done_record, length_placed, others_still, record_of, with_layout}
+use Rattle.coll_table.proofs.ItemsDone.{AreDone, RecordDone, added_record, done_record, length_placed, others_still, record_of, same_without, with_layout}
 use Rattle.coll_table.proofs.RecordTurns.{records_turn}
 use Rattle.coll_table.proofs.TurningBack.{length_on}
 use Rattle.coll_table.proofs.GrowthLemmas.{collation_grown, extends, has_nodes, none_added, same_rings, was_there}
@@ -31,7 +31,7 @@ use Rattle.coll_nodes.specs.Bodies.{IsLooseNode}
 use Rattle.coll_nodes.specs.Linking.{end_of_declarations}
 use Rattle.coll_nodes.specs.Placement.{section_moved}
 use Rattle.coll_table.specs.Prepared.{ArePrepared, IsNodeFor, IsPreparedBlock, IsPreparedDeclaration, IsPreparedReweight, IsPreparedSection, weights_to}
-use Rattle.coll_table.specs.Record.{Extends, Fits, HasNodesOf, IsSame, KeepsLoose, added_by, added_nodes, statement_items, statement_steps, turn}
+use Rattle.coll_table.specs.Record.{Extends, Fits, HasNodesOf, IsSame, KeepsLoose, added_by, added_nodes, statement_items, statement_steps, turn, without_nodes}
 use Rattle.coll_nodes.specs.SoundLayouts.{IsTable}
 use Rattle.coll_nodes.specs.Table.{Collation, is_placed}
 use Rattle.coll_nodes.specs.TableLayout.{TableLayout, TableValue, collation, content_of}
@@ -91,15 +91,23 @@ module _ (old table new : TableValue) (s : Statement) (items : List Item) (kept 
         ap (λ (l : TableLayout). content_of l node) layout ∙ (still.1 ∙ has_nodes old table (added_nodes items) adds node it at),
       )
 
+  back : IsSame (turn new kept) table
+  back = subst (λ k. IsSame (turn new k) table) (sym kept_is) record_done.back
+
   turns_back : Extends (turn new kept) old
   turns_back =
-      let back : IsSame (turn new kept) table = subst (λ k. IsSame (turn new k) table) (sym kept_is) record_done.back in
       let wide = extends old table (added_nodes items) adds in
       record {
         rules = back.rules ∙ wide.rules;
         rings = ap (λ (l : TableLayout). l.rings) back.layout ∙ wide.rings;
         nodes = subst (λ (l : TableLayout). HasNodesOf l old.layout) (sym back.layout) wide.nodes;
       }
+
+  adds_theirs : IsSame (without_nodes (turn new kept) (added_nodes kept.items)) old
+  adds_theirs =
+      let theirs : added_nodes kept.items ≡ added_nodes items = ap (λ (k : Record). added_nodes k.items) kept_is ∙ added_record table.layout items in
+      subst (λ nodes. IsSame (without_nodes (turn new kept) nodes) old) (sym theirs)
+      (subst (λ t. IsSame (without_nodes (turn new kept) (added_nodes items)) t) adds.dropped (same_without (turn new kept) table (added_nodes items) back))
 
   -- a statement that is ready is applied
   pub applied : Applied old new s kept
@@ -108,6 +116,7 @@ module _ (old table new : TableValue) (s : Statement) (items : List Item) (kept 
     in_force = ap (λ (k : Record). k.undone) kept_is;
     fits = subst (λ k. Fits new k) (sym kept_is) record_done.fits;
     back = turns_back;
+    added = adds_theirs;
     items = ap (λ (k : Record). length k.items) kept_is ∙ (length_on table.layout (placed_items table.layout items) ∙ (length_placed table.layout items ∙ ready.counted));
     steps = ap (λ (k : Record). steps_of k.items) kept_is ∙ (record_done.steps ∙ ap (λ t. statement_steps t s) same);
     loose = keeps_loose;
