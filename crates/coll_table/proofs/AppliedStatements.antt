@@ -1,5 +1,5 @@
 -- A statement that a table accepts, once it is prepared and carried out.
-use Rattle.std.proofs.Common.{◌≡◌, ◌≤◌, ℕ, Bool, true, false, List, [], ◌∷◌, ◌++◌, Some, None, Ok, IsOk, length, map, sym, ap, subst, ◌∙◌, refl, arith}
+use Rattle.std.proofs.Common.{◌≡◌, ◌≤◌, ℕ, Bool, true, false, List, [], ◌∷◌, ◌++◌, Some, None, Ok, IsOk, length, sym, ap, subst, ◌∙◌, refl, arith}
 use Rattle.std.proofs.lemmas.List.Folds.{list_any-append}
 use Rattle.coll_order.specs.Layout.{is_in}
 use Rattle.coll_order.specs.Lists.{same_node, has_node}
@@ -31,7 +31,7 @@ use Rattle.coll_nodes.specs.Bodies.{IsLooseNode}
 use Rattle.coll_nodes.specs.Linking.{end_of_declarations}
 use Rattle.coll_nodes.specs.Placement.{section_moved}
 use Rattle.coll_table.specs.Prepared.{ArePrepared, IsNodeFor, IsPreparedBlock, IsPreparedDeclaration, IsPreparedReweight, IsPreparedSection, weights_to}
-use Rattle.coll_table.specs.Record.{Extends, Fits, HasNodesOf, IsSame, KeepsLoose, added_by, added_nodes, statement_items, statement_steps, turn, without_nodes}
+use Rattle.coll_table.specs.Record.{Extends, Fits, HasNodesOf, IsSame, KeepsLoose, added_by, added_nodes, named_nodes, statement_items, statement_steps, turn, without_nodes}
 use Rattle.coll_nodes.specs.SoundLayouts.{IsTable}
 use Rattle.coll_nodes.specs.Table.{Collation, is_placed}
 use Rattle.coll_nodes.specs.TableLayout.{TableLayout, TableValue, collation, content_of}
@@ -41,10 +41,6 @@ use Rattle.coll_nodes.specs.declared.declarations.Declaration.{Declaration}
 use Rattle.coll_nodes.specs.declared.declarations.Declaration.TheVariants as declaration
 use Rattle.coll_table.specs.declared.records.Item.{Item}
 use Rattle.coll_table.specs.declared.records.Record.{Record}
-
--- the nodes that items name
-abbrev pub named_nodes : List Item → List NodeId
-named_nodes items = map (λ (item : Item). item.node) items
 
 -- items name nodes that stand in rings, or that they add
 abbrev pub NameTheirs : TableLayout → List Item → Type 0

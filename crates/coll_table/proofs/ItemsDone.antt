@@ -1,5 +1,5 @@
 -- Items that are done make the table that a statement makes; and the record of them fits it, and takes it back.
-use Rattle.std.proofs.Common.{◌≡◌, ℕ, suc, ◌≤◌, true, false, List, [], ◌∷◌, ◌++◌, Option, Some, None, length, map, sym, ap, ap₂, subst, ◌∙◌, refl}
+use Rattle.std.proofs.Common.{◌≡◌, ℕ, suc, ◌≤◌, true, false, List, [], ◌∷◌, ◌++◌, Option, Some, None, length, sym, ap, ap₂, subst, ◌∙◌, refl}
 use Rattle.std.specs.Option.{option_or}
 use Rattle.coll_order.specs.Layout.{is_in, place_from}
 use Rattle.coll_order.specs.Lists.{same_node, has_node}
@@ -9,7 +9,7 @@ use Rattle.coll_order.proofs.ListLemmas.{neither}
 use Rattle.coll_syntax.specs.declared.rules.Rule.{Rule}
 use Rattle.coll_table.proofs.ItemEntries.{others_weighed}
 use Rattle.coll_table.proofs.TurningRings.{is_in_relinked}
-use Rattle.coll_table.specs.Record.{CanTurn, Fits, IsSame, added_by, added_nodes, item_added, turn, turned, turned_layout, without_loose, without_nodes}
+use Rattle.coll_table.specs.Record.{CanTurn, Fits, IsSame, added_by, added_nodes, item_added, named_nodes, turn, turned, turned_layout, without_loose, without_nodes}
 use Rattle.coll_table.specs.RecordLaws.{RecordsTurnBack}
 use Rattle.coll_nodes.specs.SoundLayouts.{IsSoundLayout, IsTable}
 use Rattle.coll_nodes.specs.Table.{Collation}
@@ -66,17 +66,17 @@ added_on layout (item ∷ items) = ap (λ later. item_added item ++ later) (adde
 -- What items leave.
 
 -- a node that isn't moved stays in the rings, or out of them
-moved_others : (gets to : Option Place) (rings : List (List NodeId)) (node other : NodeId) → same_node other node ≡ false → is_in (moved_rings gets rings node to) other ≡ is_in rings other
+pub moved_others : (gets to : Option Place) (rings : List (List NodeId)) (node other : NodeId) → same_node other node ≡ false → is_in (moved_rings gets rings node to) other ≡ is_in rings other
 moved_others None to rings node other differ = refl
 moved_others (Some place) to rings node other differ = is_in_relinked rings node other to differ
 
 -- one that no item names stays where it is, and what it is
-pub others_still : (layout : TableLayout) (items : List Item) (node : NodeId) → has_node (map (λ (item : Item). item.node) items) node ≡ false
+pub others_still : (layout : TableLayout) (items : List Item) (node : NodeId) → has_node (named_nodes items) node ≡ false
     → (is_in (turned_on layout items).rings node ≡ is_in layout.rings node) × (content_of (turned_on layout items) node ≡ content_of layout node)
 unfolding turned_on
 others_still layout [] node absent = (refl, refl)
 others_still layout (item ∷ items) node absent =
-    let apart = neither (same_node node item.node) (has_node (map (λ (item : Item). item.node) items) node) absent in
+    let apart = neither (same_node node item.node) (has_node (named_nodes items) node) absent in
     let later = others_still (item_on layout item) items node apart.1 in
     (later.0 ∙ moved_others item.new item.new layout.rings item.node node apart.0, later.1 ∙ others_weighed item.node node item.weights layout.nodes apart.0)
 
