@@ -1,5 +1,5 @@
 -- A statement that a table accepts, once it is prepared and carried out.
-use Rattle.std.proofs.Common.{◌≡◌, ◌≤◌, ℕ, Bool, true, false, List, [], ◌∷◌, ◌++◌, Some, None, Ok, IsOk, length, map, sym, ap, subst, ◌∙◌, refl, arith}
+use Rattle.std.proofs.Common.{◌≡◌, ◌≤◌, ℕ, Bool, true, false, List, [], ◌∷◌, ◌++◌, Some, None, Ok, IsOk, length, sym, ap, subst, ◌∙◌, refl, arith}
 use Rattle.std.proofs.lemmas.List.Folds.{list_any-append}
 use Rattle.coll_order.specs.Layout.{is_in}
 use Rattle.coll_order.specs.Lists.{same_node, has_node}
@@ -18,8 +18,9 @@ use Rattle.coll_table.proofs.ItemDeclarations.{declaration_done}
 use Rattle.coll_table.proofs.ItemLines.{block_done}
 use Rattle.coll_table.proofs.ItemSections.{section_done}
 use Rattle.coll_table.proofs.ItemWeights.{reweight_done}
-use Rattle.coll_table.proofs.ItemsDone.{AreDone, RecordDone, done_record, others_still, record_of, with_layout}
+use Rattle.coll_table.proofs.ItemsDone.{AreDone, RecordDone, added_record, done_record, length_placed, others_still, record_of, same_without, with_layout}
 use Rattle.coll_table.proofs.RecordTurns.{records_turn}
+use Rattle.coll_table.proofs.TurningBack.{length_on}
 use Rattle.coll_table.proofs.GrowthLemmas.{collation_grown, extends, has_nodes, none_added, same_rings, was_there}
 use Rattle.coll_nodes.proofs.LayoutReads.{both_true}
 use Rattle.coll_table.proofs.PreparedLemmas.{as_many}
@@ -30,20 +31,16 @@ use Rattle.coll_nodes.specs.Bodies.{IsLooseNode}
 use Rattle.coll_nodes.specs.Linking.{end_of_declarations}
 use Rattle.coll_nodes.specs.Placement.{section_moved}
 use Rattle.coll_table.specs.Prepared.{ArePrepared, IsNodeFor, IsPreparedBlock, IsPreparedDeclaration, IsPreparedReweight, IsPreparedSection, weights_to}
-use Rattle.coll_table.specs.Record.{Extends, Fits, HasNodesOf, IsSame, KeepsLoose, added_by, added_nodes, statement_steps, turn}
+use Rattle.coll_table.specs.Record.{Extends, Fits, HasNodesOf, IsSame, KeepsLoose, added_by, added_nodes, named_nodes, statement_items, statement_steps, turn, without_nodes}
 use Rattle.coll_nodes.specs.SoundLayouts.{IsTable}
 use Rattle.coll_nodes.specs.Table.{Collation, is_placed}
 use Rattle.coll_nodes.specs.TableLayout.{TableLayout, TableValue, collation, content_of}
-use Rattle.coll_table.specs.Turning.{steps_of, turned_on}
+use Rattle.coll_table.specs.Turning.{placed_items, steps_of, turned_on}
 use Rattle.coll_nodes.specs.WellFormed.{IsWellFormed}
 use Rattle.coll_nodes.specs.declared.declarations.Declaration.{Declaration}
 use Rattle.coll_nodes.specs.declared.declarations.Declaration.TheVariants as declaration
 use Rattle.coll_table.specs.declared.records.Item.{Item}
 use Rattle.coll_table.specs.declared.records.Record.{Record}
-
--- the nodes that items name
-abbrev pub named_nodes : List Item → List NodeId
-named_nodes items = map (λ (item : Item). item.node) items
 
 -- items name nodes that stand in rings, or that they add
 abbrev pub NameTheirs : TableLayout → List Item → Type 0
@@ -56,6 +53,7 @@ pub record IsReady (table : TableValue) (s : Statement) (items : List Item) : Ty
   pub done : AreDone table items after (statement_steps (collation table) s)
   pub well_formed : IsWellFormed after
   pub few : length items ≤ 4096
+  pub counted : length items ≡ statement_items s
   pub theirs : NameTheirs table.layout items
 
 -- the table that results is well formed
@@ -89,15 +87,23 @@ module _ (old table new : TableValue) (s : Statement) (items : List Item) (kept 
         ap (λ (l : TableLayout). content_of l node) layout ∙ (still.1 ∙ has_nodes old table (added_nodes items) adds node it at),
       )
 
+  back : IsSame (turn new kept) table
+  back = subst (λ k. IsSame (turn new k) table) (sym kept_is) record_done.back
+
   turns_back : Extends (turn new kept) old
   turns_back =
-      let back : IsSame (turn new kept) table = subst (λ k. IsSame (turn new k) table) (sym kept_is) record_done.back in
       let wide = extends old table (added_nodes items) adds in
       record {
         rules = back.rules ∙ wide.rules;
         rings = ap (λ (l : TableLayout). l.rings) back.layout ∙ wide.rings;
         nodes = subst (λ (l : TableLayout). HasNodesOf l old.layout) (sym back.layout) wide.nodes;
       }
+
+  adds_theirs : IsSame (without_nodes (turn new kept) (added_nodes kept.items)) old
+  adds_theirs =
+      let theirs : added_nodes kept.items ≡ added_nodes items = ap (λ (k : Record). added_nodes k.items) kept_is ∙ added_record table.layout items in
+      subst (λ nodes. IsSame (without_nodes (turn new kept) nodes) old) (sym theirs)
+      (subst (λ t. IsSame (without_nodes (turn new kept) (added_nodes items)) t) adds.dropped (same_without (turn new kept) table (added_nodes items) back))
 
   -- a statement that is ready is applied
   pub applied : Applied old new s kept
@@ -106,6 +112,8 @@ module _ (old table new : TableValue) (s : Statement) (items : List Item) (kept 
     in_force = ap (λ (k : Record). k.undone) kept_is;
     fits = subst (λ k. Fits new k) (sym kept_is) record_done.fits;
     back = turns_back;
+    added = adds_theirs;
+    items = ap (λ (k : Record). length k.items) kept_is ∙ (length_on table.layout (placed_items table.layout items) ∙ (length_placed table.layout items ∙ ready.counted));
     steps = ap (λ (k : Record). steps_of k.items) kept_is ∙ (record_done.steps ∙ ap (λ t. statement_steps t s) same);
     loose = keeps_loose;
   }
@@ -129,7 +137,7 @@ block_theirs table layout before (line ∷ lines) (item ∷ items) prepared node
 -- a block that is accepted, and prepared, is ready
 pub block_ready : (old table : TableValue) (target : Id) (lines : List OrderLine) (items : List Item) → IsTable table → AddsLoose old table (added_nodes items)
     → IsProper (statement.Block target lines) → IsOk (delta (collation old) (statement.Block target lines)) → IsPreparedBlock (collation old) table.layout target lines items → IsReady table (statement.Block target lines) items
-unfolding delta statement_steps
+unfolding delta statement_items statement_steps
 block_ready old table target lines items is adds proper ok prepared_old =
     let same : collation old ≡ collation table = sym (collation_grown old table (added_nodes items) adds) in
     let prepared : IsPreparedBlock (collation table) table.layout target lines items = subst (λ t. IsPreparedBlock t table.layout target lines items) same prepared_old in
@@ -140,6 +148,7 @@ block_ready old table target lines items is adds proper ok prepared_old =
       done = block_done table target prepared.0 lines items is.sound prepared.1 accepted.passes prepared.2;
       well_formed = delta_well_formed (collation table) (all_moved (collation table) target lines) (statement.Block target lines) is.well_formed proper accepted.result;
       few = subst (λ n. n ≤ 4096) (sym (as_many (collation table) table.layout prepared.0 lines items prepared.2)) proper.1;
+      counted = as_many (collation table) table.layout prepared.0 lines items prepared.2;
       theirs = block_theirs (collation table) table.layout prepared.0 lines items prepared.2;
     }
 
@@ -154,6 +163,12 @@ takes_one : (table : Collation) (new : Declaration) → statement_steps table (d
 unfolding statement_steps
 takes_one table (declaration.Symbol name) = refl
 takes_one table (declaration.Element name text) = refl
+
+-- and has one item
+has_one : (new : Declaration) → statement_items (declaring new) ≡ 1
+unfolding statement_items
+has_one (declaration.Symbol name) = refl
+has_one (declaration.Element name text) = refl
 
 -- a declaration that is accepted, and prepared, is ready
 pub declaration_ready : (old table : TableValue) (new : Declaration) (items : List Item) → IsTable table → AddsLoose old table (added_nodes items)
@@ -174,13 +189,14 @@ declaration_ready old table new items is adds_all proper ok prepared =
       done = subst (λ n. AreDone table (item ∷ []) after n) (sym (takes_one (collation table) new)) (declaration_done table new item is.sound loose prepared.1 refl refl refl accepted.0);
       well_formed = delta_well_formed (collation table) after s is.well_formed proper result;
       few = omega arith;
+      counted = sym (has_one new);
       theirs = λ node apart added. added;
     })
 
 -- a section move that is accepted, and prepared, is ready
 pub section_ready : (table : TableValue) (name after : List ℕ) (items : List Item) → IsTable table
     → IsProper (statement.SectionAfter name after) → IsOk (delta (collation table) (statement.SectionAfter name after)) → IsPreparedSection table.layout name after items → IsReady table (statement.SectionAfter name after) items
-unfolding delta statement_steps
+unfolding delta statement_items statement_steps
 section_ready table name after items is proper ok prepared =
     let item : Item = record { node = prepared.0; old = Some (After prepared.1); new = Some (After prepared.1); weights = None } in
     let moved : Collation = record (collation table) { sections = section_moved (collation table).sections name after } in
@@ -191,6 +207,7 @@ section_ready table name after items is proper ok prepared =
       done = section_done table name after item prepared.1 is.sound prepared.2 prepared.3 refl refl refl accepted.apart;
       well_formed = delta_well_formed (collation table) moved (statement.SectionAfter name after) is.well_formed proper accepted.result;
       few = omega arith;
+      counted = refl;
       theirs = λ node apart added. nor (same_node node prepared.0) false (stands_apart table.layout node prepared.0 apart (both_true _ _ prepared.2).0) refl;
     })
 
@@ -207,7 +224,7 @@ rules_are table = refl
 -- an order line outside a block that is accepted, and prepared, is ready
 pub reweight_ready : (table : TableValue) (line : OrderLine) (items : List Item) → IsTable table
     → IsProper (statement.Reweight line) → IsOk (delta (collation table) (statement.Reweight line)) → IsPreparedReweight (collation table) table.layout line items → IsReady table (statement.Reweight line) items
-unfolding delta statement_steps
+unfolding delta statement_items statement_steps
 reweight_ready table line items is proper ok prepared =
     let item : Item = record { node = prepared.0; old = None; new = None; weights = weights_to (length table.rules) line.id line.weights } in
     let accepted = reweight_accepted (collation table) line ok in
@@ -217,6 +234,7 @@ reweight_ready table line items is proper ok prepared =
       done = reweight_done table line item is.sound prepared.1 refl refl refl accepted.passes;
       well_formed = delta_well_formed (collation table) (reweighted (collation table) line) (statement.Reweight line) is.well_formed proper accepted.result;
       few = omega arith;
+      counted = refl;
       theirs = λ node apart added. nor (same_node node prepared.0) false (stands_apart table.layout node prepared.0 apart (both_true _ _ prepared.1).0) refl;
     })
 

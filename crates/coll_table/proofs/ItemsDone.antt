@@ -1,6 +1,7 @@
 -- Items that are done make the table that a statement makes; and the record of them fits it, and takes it back.
-use Rattle.std.proofs.Common.{◌≡◌, ℕ, suc, ◌≤◌, true, false, List, [], ◌∷◌, Option, Some, None, length, map, sym, ap, ap₂, subst, ◌∙◌, refl}
-use Rattle.coll_order.specs.Layout.{is_in}
+use Rattle.std.proofs.Common.{◌≡◌, ℕ, suc, ◌≤◌, true, false, List, [], ◌∷◌, ◌++◌, Option, Some, None, length, sym, ap, ap₂, subst, ◌∙◌, refl}
+use Rattle.std.specs.Option.{option_or}
+use Rattle.coll_order.specs.Layout.{is_in, place_from}
 use Rattle.coll_order.specs.Lists.{same_node, has_node}
 use Rattle.coll_order.specs.declared.places.NodeId.{NodeId}
 use Rattle.coll_order.specs.declared.places.Place.{Place}
@@ -8,13 +9,13 @@ use Rattle.coll_order.proofs.ListLemmas.{neither}
 use Rattle.coll_syntax.specs.declared.rules.Rule.{Rule}
 use Rattle.coll_table.proofs.ItemEntries.{others_weighed}
 use Rattle.coll_table.proofs.TurningRings.{is_in_relinked}
-use Rattle.coll_table.specs.Record.{CanTurn, Fits, IsSame, turn, turned, turned_layout}
+use Rattle.coll_table.specs.Record.{CanTurn, Fits, IsSame, added_by, added_nodes, item_added, named_nodes, turn, turned, turned_layout, without_loose, without_nodes}
 use Rattle.coll_table.specs.RecordLaws.{RecordsTurnBack}
 use Rattle.coll_nodes.specs.SoundLayouts.{IsSoundLayout, IsTable}
 use Rattle.coll_nodes.specs.Table.{Collation}
 use Rattle.coll_nodes.specs.TableLayout.{TableLayout, TableValue, collation, content_of, declared_at, sections_at}
 use Rattle.coll_nodes.specs.Moving.{moved_rings}
-use Rattle.coll_table.specs.Turning.{CanDo, item_on, items_on, placed_items, steps_of, turned_on}
+use Rattle.coll_table.specs.Turning.{CanDo, item_on, items_on, placed_at, placed_items, steps_of, turned_on}
 use Rattle.coll_nodes.specs.WellFormed.{IsWellFormed}
 use Rattle.coll_table.specs.declared.records.Item.{Item}
 use Rattle.coll_table.specs.declared.records.Record.{Record}
@@ -43,20 +44,39 @@ unfolding placed_items turned_on
 on_placed layout [] = refl
 on_placed layout (item ∷ items) = on_placed (item_on layout item) items
 
+-- and add the same nodes
+added_placed : (layout : TableLayout) (items : List Item) → added_nodes (placed_items layout items) ≡ added_nodes items
+unfolding added_nodes placed_items
+added_placed layout [] = refl
+added_placed layout (item ∷ items) = ap₂ (λ (first later : List NodeId). first ++ later) (by item.old) (added_placed (item_on layout item) items) where
+  among : (found : Option Place) (place : Place) → added_by (option_or found (Some place)) item.new item.node ≡ []
+  among None place = refl
+  among (Some own) place = refl
+
+  by : (had : Option Place) → added_by (placed_at had layout item.node) item.new item.node ≡ added_by had item.new item.node
+  by None = refl
+  by (Some place) = among (place_from 0 layout.rings item.node) place
+
+-- once they are done, too
+added_on : (layout : TableLayout) (items : List Item) → added_nodes (items_on layout items) ≡ added_nodes items
+unfolding added_nodes items_on
+added_on layout [] = refl
+added_on layout (item ∷ items) = ap (λ later. item_added item ++ later) (added_on (item_on layout item) items)
+
 -- What items leave.
 
 -- a node that isn't moved stays in the rings, or out of them
-moved_others : (gets to : Option Place) (rings : List (List NodeId)) (node other : NodeId) → same_node other node ≡ false → is_in (moved_rings gets rings node to) other ≡ is_in rings other
+pub moved_others : (gets to : Option Place) (rings : List (List NodeId)) (node other : NodeId) → same_node other node ≡ false → is_in (moved_rings gets rings node to) other ≡ is_in rings other
 moved_others None to rings node other differ = refl
 moved_others (Some place) to rings node other differ = is_in_relinked rings node other to differ
 
 -- one that no item names stays where it is, and what it is
-pub others_still : (layout : TableLayout) (items : List Item) (node : NodeId) → has_node (map (λ (item : Item). item.node) items) node ≡ false
+pub others_still : (layout : TableLayout) (items : List Item) (node : NodeId) → has_node (named_nodes items) node ≡ false
     → (is_in (turned_on layout items).rings node ≡ is_in layout.rings node) × (content_of (turned_on layout items) node ≡ content_of layout node)
 unfolding turned_on
 others_still layout [] node absent = (refl, refl)
 others_still layout (item ∷ items) node absent =
-    let apart = neither (same_node node item.node) (has_node (map (λ (item : Item). item.node) items) node) absent in
+    let apart = neither (same_node node item.node) (has_node (named_nodes items) node) absent in
     let later = others_still (item_on layout item) items node apart.1 in
     (later.0 ∙ moved_others item.new item.new layout.rings item.node node apart.0, later.1 ∙ others_weighed item.node node item.weights layout.nodes apart.0)
 
@@ -71,6 +91,11 @@ same_read a b same = ap₂ (λ (rules : List Rule) (layout : TableLayout). recor
 pub same_turn : (a b : TableValue) (kept : Record) → IsSame a b → IsSame (turn a kept) (turn b kept)
 unfolding turn
 same_turn a b kept same = record { rules = same.rules; layout = ap (λ layout. turned_layout kept.undone layout kept.items) same.layout }
+
+-- they are the same without some nodes
+pub same_without : (a b : TableValue) (nodes : List NodeId) → IsSame a b → IsSame (without_nodes a nodes) (without_nodes b nodes)
+unfolding without_nodes
+same_without a b nodes same = record { rules = same.rules; layout = ap (λ layout. without_loose layout nodes) same.layout }
 
 -- what fits one fits the other
 pub same_fits : (a b : TableValue) (kept : Record) → IsSame a b → Fits b kept → Fits a kept
@@ -89,6 +114,10 @@ same_table a b same is = record { sound = subst IsSoundLayout (sym same.layout) 
 -- the items as they are once a statement is done, in force
 abbrev pub record_of : TableLayout → List Item → Record
 record_of layout items = record { undone = false; items = items_on layout (placed_items layout items) }
+
+-- it has added the nodes of the items
+pub added_record : (layout : TableLayout) (items : List Item) → added_nodes (record_of layout items).items ≡ added_nodes items
+added_record layout items = added_on layout (placed_items layout items) ∙ added_placed layout items
 
 -- it fits the table that is now, takes it back, and takes ring steps
 pub record RecordDone (table now : TableValue) (items : List Item) (count : ℕ) : Type 0 where

@@ -1,30 +1,32 @@
--- A record fits a table that extends one that it fits, and, in force, one that such a table extends.
-use Rattle.std.proofs.Common.{◌≡◌, ℕ, Bool, true, false, cond, List, [], ◌∷◌, Option, Some, None, IsSome, flat_map, get_or, sym, ap, subst, ◌∙◌, refl}
+-- A record fits a table that extends one that it fits, and one that such a table extends, if that has the nodes that the record
+-- names; and a record in force names no others.
+use Rattle.std.proofs.Common.{◌≡◌, ℕ, Bool, true, false, ◌||◌, cond, List, [], ◌∷◌, Option, Some, None, IsSome, flat_map, get_or, sym, ap, subst, ◌∙◌, refl}
 use Rattle.std.proofs.lemmas.List.{map-id}
 use Rattle.coll_order.specs.Layout.{is_in, place_from, rings_without}
 use Rattle.coll_order.specs.Lists.{same_node, has_node}
 use Rattle.coll_order.specs.declared.places.NodeId.{NodeId}
 use Rattle.coll_order.specs.declared.places.RingId.{RingId}
 use Rattle.coll_order.specs.declared.places.Place.{Place}
-use Rattle.coll_order.proofs.ListLemmas.{is_in_without, is_in_without_itself}
-use Rattle.coll_order.proofs.Sameness.{by_test, not_both, same_node_is}
+use Rattle.coll_order.proofs.ListLemmas.{is_in_without, is_in_without_itself, or_first, or_second}
+use Rattle.coll_order.proofs.Sameness.{by_test, not_both, same_node_is, same_node_itself}
 use Rattle.coll_syntax.specs.declared.weights.Weight.{Weight}
 use Rattle.coll_nodes.proofs.LayoutMoves.{declared_stays, sections_changed}
 use Rattle.coll_nodes.proofs.LayoutReads.{entries_read, in_rings}
 use Rattle.coll_nodes.proofs.NodeLists.{same_read}
+use Rattle.coll_table.proofs.ItemsDone.{moved_others}
 use Rattle.coll_table.proofs.TurningBack.{back_and_on, on_and_back}
-use Rattle.coll_nodes.proofs.TurningKeys.{IsAlike, bare_if, stand_alike}
+use Rattle.coll_nodes.proofs.TurningKeys.{IsAlike, bare_if, some_alike, stand_alike}
 use Rattle.coll_nodes.proofs.TurningNodes.{content_weighed, weighed_if}
-use Rattle.coll_table.proofs.TurningSound.{after_item, item_on_sound}
+use Rattle.coll_table.proofs.TurningSound.{after_item, item_on_sound, reweighed_same}
 use Rattle.coll_table.proofs.TurningSteps.{names_linked}
 use Rattle.coll_nodes.specs.Bodies.{without_link}
-use Rattle.coll_table.specs.Record.{Extends, HasNodesOf, CanTurn, turn, turned_layout}
-use Rattle.coll_table.specs.RecordLaws.{RecordsFitWider, RecordsFitNarrower, WiderReadsAlike}
+use Rattle.coll_table.specs.Record.{Extends, HasNodesOf, CanTurn, NameNodesOf, named_nodes, turn, turned_layout}
+use Rattle.coll_table.specs.RecordLaws.{RecordsFitWider, RecordsFitWhereNamed, RecordsFitNarrower, WiderReadsAlike}
 use Rattle.coll_nodes.specs.SoundBodies.{ring_at, read_at}
 use Rattle.coll_nodes.specs.SoundLayouts.{IsSoundLayout}
 use Rattle.coll_nodes.specs.TableLayout.{TableLayout, TableValue, collation, content_of, declared_at, sections_at, entries_in, entry_in, if_any}
 use Rattle.coll_nodes.specs.Moving.{IsAt, Suits, moved_rings}
-use Rattle.coll_table.specs.Turning.{CanTurnBack, CanTurnOn, ItemGoes, item_on, turned_back, turned_on}
+use Rattle.coll_table.specs.Turning.{CanGoBack, CanTurnBack, CanTurnOn, ItemGoes, item_back, item_on, turned_back, turned_on}
 use Rattle.coll_nodes.specs.WellFormed.{IsWellFormed}
 use Rattle.coll_nodes.specs.declared.contents.Content.{Content}
 use Rattle.coll_table.specs.declared.records.Item.{Item}
@@ -129,19 +131,78 @@ wider_on wide layout (item ∷ items) sound wider goes =
     let later = wider_on (item_on wide item) (item_on layout item) items (item_on_sound layout item sound goes.0) (after_wider item.new wide layout item.node item.new item.weights wider) goes.1 in
     ((goes_here, later.0), later.1)
 
--- what can be taken back in a wider layout can be here
-narrower_back : (wide layout : TableLayout) (items : List Item) → IsSoundLayout layout → IsWider wide layout → CanTurnBack wide items → CanTurnBack layout items × IsWider (turned_back wide items) (turned_back layout items)
+-- what is there is there when an item was turned
+stays_made : (gets : Option Place) (layout : TableLayout) (node : NodeId) (to : Option Place) (weights : Option (List Weight)) (other : NodeId) → IsSome (content_of layout other)
+    → IsSome (content_of (after_item gets layout node to weights) other)
+stays_made gets layout node to weights other there = some_alike (content_of (after_item gets layout node to weights) other) (content_of layout other) (reweighed_same layout node other weights) there
+
+-- and when items were taken back
+made_back : (layout : TableLayout) (items : List Item) (node : NodeId) → IsSome (content_of layout node) → IsSome (content_of (turned_back layout items) node)
+unfolding turned_back
+made_back layout [] node there = there
+made_back layout (item ∷ items) node there = stays_made item.new (turned_back layout items) item.node item.old item.weights node (made_back layout items node there)
+
+-- what a layout has is the same in it as in the wider one
+was_same : (wide layout : TableLayout) → IsWider wide layout → (node : NodeId) → IsSome (content_of layout node) → (it : Content) → content_of wide node ≡ Some it → content_of layout node ≡ Some it
+was_same wide layout wider node there it at = let is = known (content_of layout node) there in is.1 ∙ (sym (wider.nodes node is.0 is.1) ∙ at)
+
+-- the node of the first item is named, and so are those of the others
+module _ (layout : TableLayout) (item : Item) (items : List Item) (named : NameNodesOf layout (item ∷ items)) where
+  first_named : IsSome (content_of layout item.node)
+  first_named = named item.node (or_first (same_node item.node item.node) (has_node (named_nodes items) item.node) (same_node_itself item.node))
+
+  others_named : NameNodesOf layout items
+  others_named node there = named node (or_second (same_node node item.node) (has_node (named_nodes items) node) there)
+
+-- what can be taken back in a wider layout can be here, if its nodes are here
+narrower_back : (wide layout : TableLayout) (items : List Item) → IsSoundLayout layout → IsWider wide layout → NameNodesOf layout items → CanTurnBack wide items
+    → CanTurnBack layout items × IsWider (turned_back wide items) (turned_back layout items)
 unfolding CanTurnBack turned_back
-narrower_back wide layout [] sound wider goes = (tt, wider)
-narrower_back wide layout (item ∷ items) sound wider goes =
-    let later = narrower_back wide layout items sound wider goes.0 in
+narrower_back wide layout [] sound wider named goes = (tt, wider)
+narrower_back wide layout (item ∷ items) sound wider named goes =
+    let later = narrower_back wide layout items sound wider (others_named layout item items named) goes.0 in
     let before = turned_back layout items in
     let same = wider_linked (turned_back wide items) before (back_and_on layout items sound later.0).sound later.1 in
-    let back = turned_linked before (turned_back wide items) same in
-    let linked = names_linked item.new item.old (turned_back wide items) item.node goes.1 in (
-      (later.0, goes_alike (turned_back wide items) before back item.node (λ it is. back.contents item.node linked ∙ is) item.new item.old item.new item.old goes.1),
+    let own = was_same (turned_back wide items) before later.1 item.node (made_back layout items item.node (first_named layout item items named)) in (
+      (later.0, goes_alike (turned_back wide items) before (turned_linked before (turned_back wide items) same) item.node own item.new item.old item.new item.old goes.1),
       after_wider item.new (turned_back wide items) before item.node item.old item.weights later.1,
     )
+
+-- and what can be done there
+narrower_on : (wide layout : TableLayout) (items : List Item) → IsSoundLayout layout → IsWider wide layout → NameNodesOf layout items → CanTurnOn wide items
+    → CanTurnOn layout items × IsWider (turned_on wide items) (turned_on layout items)
+unfolding CanTurnOn turned_on
+narrower_on wide layout [] sound wider named goes = (tt, wider)
+narrower_on wide layout (item ∷ items) sound wider named goes =
+    let own = was_same wide layout wider item.node (first_named layout item items named) in
+    let goes_here = goes_alike wide layout (turned_linked layout wide (wider_linked wide layout sound wider)) item.node own item.new item.old item.old item.new goes.0 in
+    let named_after : NameNodesOf (item_on layout item) items = λ node there. stays_made item.new layout item.node item.new item.weights node (others_named layout item items named node there) in
+    let later = narrower_on (item_on wide item) (item_on layout item) items (item_on_sound layout item sound goes_here) (after_wider item.new wide layout item.node item.new item.weights wider) named_after goes.1 in
+    ((goes_here, later.0), later.1)
+
+-- Items in force name nodes that stand in rings.
+
+-- a node that stands in a ring once an item is taken back stood in one
+was_linked : (layout : TableLayout) (item : Item) (node : NodeId) → CanGoBack layout item → is_in (item_back layout item).rings node ≡ true → is_in layout.rings node ≡ true
+was_linked layout item node goes there =
+    by_test (λ b. same_node node item.node ≡ b → is_in layout.rings node ≡ true) (same_node node item.node)
+    (λ on e. ap (is_in layout.rings) (same_node_is node item.node e) ∙ names_linked item.new item.old layout item.node goes)
+    (λ off e. sym (moved_others item.new item.old layout.rings item.node node e) ∙ there) refl
+
+-- and so it did before items were
+were_linked : (layout : TableLayout) (items : List Item) (node : NodeId) → CanTurnBack layout items → is_in (turned_back layout items).rings node ≡ true → is_in layout.rings node ≡ true
+unfolding CanTurnBack turned_back
+were_linked layout [] node goes there = there
+were_linked layout (item ∷ items) node goes there = were_linked layout items node goes.0 (was_linked (turned_back layout items) item node goes.1 there)
+
+-- so each node that items in force name stands in one
+named_linked : (layout : TableLayout) (items : List Item) → CanTurnBack layout items → (node : NodeId) → has_node (named_nodes items) node ≡ true → is_in layout.rings node ≡ true
+unfolding CanTurnBack
+named_linked layout [] goes node there = not_both there refl
+named_linked layout (item ∷ items) goes node there =
+    by_test (λ b. same_node node item.node ≡ b → (b || has_node (named_nodes items) node) ≡ true → is_in layout.rings node ≡ true) (same_node node item.node)
+    (λ on e _. were_linked layout items node goes.0 (ap (is_in (turned_back layout items).rings) (same_node_is node item.node e) ∙ names_linked item.new item.old (turned_back layout items) item.node goes.1))
+    (λ off e there. named_linked layout items goes.0 node there) refl there
 
 -- Tables.
 
@@ -187,6 +248,12 @@ turns_wider : (undone : Bool) (wide layout : TableLayout) (items : List Item) �
 turns_wider true wide layout items sound wider goes = let is = wider_on wide layout items sound wider goes in (is.0, is.1, (on_and_back layout items sound goes).sound)
 turns_wider false wide layout items sound wider goes = let is = wider_back wide layout items sound wider goes in (is.0, is.1, (back_and_on layout items sound goes).sound)
 
+-- what can be turned in a wider layout can be here, if its nodes are here
+turns_narrower : (undone : Bool) (wide layout : TableLayout) (items : List Item) → IsSoundLayout layout → IsWider wide layout → NameNodesOf layout items → CanTurn undone wide items
+    → CanTurn undone layout items × IsWider (turned_layout undone wide items) (turned_layout undone layout items) × IsSoundLayout (turned_layout undone layout items)
+turns_narrower true wide layout items sound wider named goes = let is = narrower_on wide layout items sound wider named goes in (is.0, is.1, (on_and_back layout items sound is.0).sound)
+turns_narrower false wide layout items sound wider named goes = let is = narrower_back wide layout items sound wider named goes in (is.0, is.1, (back_and_on layout items sound is.0).sound)
+
 -- turning it makes of both what makes of the one a wider table than of the other
 turns_extends : (wide table : TableValue) (kept : Record) → Extends wide table → IsWider (turned_layout kept.undone wide.layout kept.items) (turned_layout kept.undone table.layout kept.items)
     → Extends (turn wide kept) (turn table kept)
@@ -209,16 +276,18 @@ records_wider wide table kept is_wide is extends fits =
       extends = turns_extends wide table kept extends turns.1;
     }
 
+-- a record that fits a table fits each that this one extends, if that has the nodes that the record names
+pub records_where_named : RecordsFitWhereNamed
+records_where_named wide table kept is_wide is extends named fits =
+    let turns = turns_narrower kept.undone wide.layout table.layout kept.items is.sound (record { rings = extends.rings; nodes = extends.nodes }) named fits.goes in
+    record {
+      fits = record { few = fits.few; goes = turns.0; well_formed = subst (λ it. IsWellFormed it) (turns_same wide table kept extends turns.1 turns.2) fits.well_formed };
+      extends = turns_extends wide table kept extends turns.1;
+    }
+
 -- a record in force that fits a table fits each that this one extends
 pub records_narrower : RecordsFitNarrower
 records_narrower wide table kept is_wide is extends in_force fits =
     let back : CanTurnBack wide.layout kept.items = subst (λ undone. CanTurn undone wide.layout kept.items) in_force fits.goes in
-    let turns = narrower_back wide.layout table.layout kept.items is.sound (record { rings = extends.rings; nodes = extends.nodes }) back in
-    let goes : CanTurn kept.undone table.layout kept.items = subst (λ undone. CanTurn undone table.layout kept.items) (sym in_force) turns.0 in
-    let wider : IsWider (turned_layout kept.undone wide.layout kept.items) (turned_layout kept.undone table.layout kept.items) =
-    subst (λ undone. IsWider (turned_layout undone wide.layout kept.items) (turned_layout undone table.layout kept.items)) (sym in_force) turns.1 in
-    let sound : IsSoundLayout (turned_layout kept.undone table.layout kept.items) = subst (λ undone. IsSoundLayout (turned_layout undone table.layout kept.items)) (sym in_force) (back_and_on table.layout kept.items is.sound turns.0).sound in
-    record {
-      fits = record { few = fits.few; goes = goes; well_formed = subst (λ it. IsWellFormed it) (turns_same wide table kept extends wider sound) fits.well_formed };
-      extends = turns_extends wide table kept extends wider;
-    }
+    let named : NameNodesOf table.layout kept.items = λ node there. is.sound.laid.made node (ap (λ rings. is_in rings node) (sym extends.rings) ∙ named_linked wide.layout kept.items back node there) in
+    records_where_named wide table kept is_wide is extends named fits

@@ -1,9 +1,9 @@
 -- What a table that accepts a statement is afterwards, and the record of it.
-use Rattle.std.specs.Prelude.{◌≡◌, false, Ok}
+use Rattle.std.specs.Prelude.{◌≡◌, false, Ok, length}
 use Rattle.coll_syntax.specs.declared.statements.Statement.{Statement}
 use Rattle.coll_syntax.specs.declared.statements.Statement.TheVariants as statement
 use Rattle.coll_table.specs.Delta.{delta}
-use Rattle.coll_table.specs.Record.{Extends, Fits, KeepsLoose, statement_steps, turn}
+use Rattle.coll_table.specs.Record.{Extends, Fits, IsSame, KeepsLoose, added_nodes, statement_items, statement_steps, turn, without_nodes}
 use Rattle.coll_nodes.specs.TableLayout.{TableValue, collation}
 use Rattle.coll_table.specs.Turning.{steps_of}
 use Rattle.coll_nodes.specs.declared.declarations.Declaration.{Declaration}
@@ -11,12 +11,15 @@ use Rattle.coll_nodes.specs.declared.declarations.Declaration.TheVariants.{Symbo
 use Rattle.coll_table.specs.declared.records.Record.{Record}
 
 -- a table was rewritten by a statement: it is the statement's delta; the record is in force, fits, and turns it back, but for
--- loose nodes that were added; it takes the steps of the statement; and what was loose stays so
+-- loose nodes that were added, which are those that its items added; it has the items of the statement, and takes its steps; and
+-- what was loose stays so
 pub record Applied (old new : TableValue) (statement : Statement) (kept : Record) : Type 0 where
   pub ok : delta (collation old) statement ≡ Ok (collation new)
   pub in_force : kept.undone ≡ false
   pub fits : Fits new kept
   pub back : Extends (turn new kept) old
+  pub added : IsSame (without_nodes (turn new kept) (added_nodes kept.items)) old
+  pub items : length kept.items ≡ statement_items statement
   pub steps : steps_of kept.items ≡ statement_steps (collation old) statement
   pub loose : KeepsLoose old.layout new.layout
 

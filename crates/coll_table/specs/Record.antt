@@ -1,5 +1,5 @@
 -- What undoes a statement and does it again: a record, when it fits a table, and the table that it turns that into.
-use Rattle.std.specs.Prelude.{◌≡◌, ℕ, ◌+◌, ◌%◌, ◌^◌, ◌≤◌, Bool, true, false, not, if◌then◌else◌, List, [], ◌∷◌, ◌++◌, Option, Some, None, length}
+use Rattle.std.specs.Prelude.{◌≡◌, ℕ, ◌+◌, ◌%◌, ◌^◌, ◌≤◌, Bool, true, false, not, if◌then◌else◌, List, [], ◌∷◌, ◌++◌, Option, Some, None, IsSome, length, map}
 use Rattle.coll_order.specs.Layout.{is_in}
 use Rattle.coll_order.specs.Lists.{has_node}
 use Rattle.coll_order.specs.Sound.{AreDistinct}
@@ -64,6 +64,14 @@ pub record Extends (wide table : TableValue) : Type 0 where
 abbrev pub KeepsLoose : (old new : TableLayout) → Type 0
 KeepsLoose old new = (node : NodeId) (it : Content) → is_in old.rings node ≡ false → content_of old node ≡ Some it → (is_in new.rings node ≡ false) × (content_of new node ≡ Some it)
 
+-- the nodes that items name
+abbrev pub named_nodes : List Item → List NodeId
+named_nodes items = map (λ (item : Item). item.node) items
+
+-- items name nodes of a layout, whether these stand in its rings or are loose
+abbrev pub NameNodesOf : TableLayout → List Item → Type 0
+NameNodesOf layout items = (node : NodeId) → has_node (named_nodes items) node ≡ true → IsSome (content_of layout node)
+
 -- the node that an item added: one that stood nowhere before
 abbrev pub added_by : (had gets : Option Place) → NodeId → List NodeId
 added_by None None node = []
@@ -117,3 +125,11 @@ statement_steps table (statement.Element name text) = 1
 statement_steps table (statement.Block target lines) = lines_steps table lines
 statement_steps table (statement.SectionAfter name after) = 2
 statement_steps table (statement.Reweight line) = 0
+
+-- the items of a record of a statement: one for each line of a block, and one for every other statement
+unfoldable pub statement_items : Statement → ℕ
+statement_items (statement.Symbol name) = 1
+statement_items (statement.Element name text) = 1
+statement_items (statement.Block target lines) = length lines
+statement_items (statement.SectionAfter name after) = 1
+statement_items (statement.Reweight line) = 1

@@ -4,7 +4,7 @@ use Rattle.coll_order.specs.Layout.{is_in}
 use Rattle.coll_order.specs.Lists.{has_node}
 use Rattle.coll_order.specs.declared.places.NodeId.{NodeId}
 use Rattle.coll_nodes.specs.Bodies.{IsLooseNode}
-use Rattle.coll_table.specs.Record.{AreLoose, Extends, Fits, added_nodes, turn, turned}
+use Rattle.coll_table.specs.Record.{AreLoose, Extends, Fits, NameNodesOf, added_nodes, turn, turned}
 use Rattle.coll_nodes.specs.SoundLayouts.{IsTable}
 use Rattle.coll_nodes.specs.TableLayout.{TableValue, collation}
 use Rattle.coll_table.specs.Turning.{steps_of}
@@ -30,6 +30,10 @@ pub record TurnsAlike (wide table : TableValue) (kept : Record) (own : TableValu
 -- a record that fits a table fits each table that extends it
 abbrev pub RecordsFitWider : Type 0
 RecordsFitWider = (wide table : TableValue) (kept : Record) → IsTable wide → IsTable table → Extends wide table → Fits table kept → TurnsAlike wide table kept wide
+
+-- a record that fits a table fits each table that this extends, if it names none of the loose nodes that are missing there
+abbrev pub RecordsFitWhereNamed : Type 0
+RecordsFitWhereNamed = (wide table : TableValue) (kept : Record) → IsTable wide → IsTable table → Extends wide table → NameNodesOf table.layout kept.items → Fits wide kept → TurnsAlike wide table kept table
 
 -- a record in force that fits a table fits each table that this extends: it names none of the loose nodes that are missing there
 abbrev pub RecordsFitNarrower : Type 0

@@ -9,7 +9,7 @@ ghost use Rattle.coll_syntax.specs.Proper.{IsProper};
 ghost use Rattle.coll_syntax.specs.declared.statements.Statement.TheVariants as statement;
 ghost use Rattle.coll_table.specs.Applied.{Applied, declaring};
 ghost use Rattle.coll_table.specs.Delta.{delta};
-ghost use Rattle.coll_table.specs.Record.{Extends, Fits, KeepsLoose, statement_steps, turn};
+ghost use Rattle.coll_table.specs.Record.{Extends, Fits, IsSame, KeepsLoose, added_nodes, statement_items, statement_steps, turn, without_nodes};
 ghost use Rattle.coll_nodes.specs.TableLayout.{collation};
 ghost use Rattle.coll_table.specs.Turning.{CanDo, items_on, placed_items, steps_of, turned_on};
 ghost use Rattle.coll_nodes.specs.WellFormed.{IsWellFormed};
@@ -35,6 +35,8 @@ impl Table {
         ensures in_force { IfOk result (λ kept. kept.undone ≡ false) }
         ensures fits { IfOk result (λ kept. Fits self.new kept) }
         ensures back { IfOk result (λ kept. Extends (turn self.new kept) self.old) }
+        ensures added { IfOk result (λ kept. IsSame (without_nodes (turn self.new kept) (added_nodes kept.items)) self.old) }
+        ensures items { IfOk result (λ kept. length kept.items ≡ statement_items statement.now) }
         ensures steps { IfOk result (λ kept. steps_of kept.items ≡ statement_steps (collation self.old) statement.now) }
         ensures loose { OnOk result (KeepsLoose self.old.layout self.new.layout) }
         ensures err { IfErr result (λ refusal. refusal ≢ OutOfMemory → delta (collation self.old) statement.now ≡ Err refusal) }

@@ -2,7 +2,7 @@
 //!
 //! They are what a history of statements rests on, each of which is taken back by its nodes' neighbours alone.
 
-ghost use Rattle.coll_table.specs.RecordLaws.{RecordsTurnBack, RecordsFitWider, RecordsFitNarrower, WiderReadsAlike, UndonePutIn};
+ghost use Rattle.coll_table.specs.RecordLaws.{RecordsTurnBack, RecordsFitWider, RecordsFitWhereNamed, RecordsFitNarrower, WiderReadsAlike, UndonePutIn};
 
 /// Turning a record that fits gives a table, and turning it again gives back the first.
 pub fn records_turn_back()
@@ -12,6 +12,11 @@ pub fn records_turn_back()
 /// A record that fits a table fits each table that extends it.
 pub fn records_fit_wider()
     ensures { RecordsFitWider }
+{}
+
+/// A record that fits a table fits each table that this one extends, if its items name only nodes of that table.
+pub fn records_fit_where_named()
+    ensures { RecordsFitWhereNamed }
 {}
 
 /// A record in force that fits a table fits each table that this one extends.
