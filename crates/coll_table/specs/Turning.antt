@@ -2,21 +2,13 @@
 --
 -- An item is a node that a statement moved, put in, or gave other weights: the place that it stood at, if it stood anywhere,
 -- the place that it got, and the weights that go to its entry. A place is what stands directly before.
-use Rattle.std.specs.Prelude.{◌≡◌, ℕ, ◌+◌, Bool, true, false, if◌then◌else◌, List, [], ◌∷◌, Option, Some, None, map}
-use Rattle.std.specs.List.{list_any}
+use Rattle.std.specs.Prelude.{◌≡◌, ℕ, ◌+◌, true, List, [], ◌∷◌, Option, Some, None}
 use Rattle.std.specs.Option.{option_or}
-use Rattle.coll_order.specs.Layout.{is_in, place_from, rings_with, rings_without}
-use Rattle.coll_order.specs.Lists.{same_node}
+use Rattle.coll_order.specs.Layout.{is_in, place_from}
 use Rattle.coll_order.specs.declared.places.NodeId.{NodeId}
 use Rattle.coll_order.specs.declared.places.Place.{Place}
-use Rattle.coll_syntax.specs.Identifier.{same_name, same_id}
-use Rattle.coll_syntax.specs.declared.weights.Weight.{Weight}
-use Rattle.coll_nodes.specs.Bodies.{IsLooseNode, without_link}
-use Rattle.coll_nodes.specs.SoundBodies.{IsPlaceIn, IsEntryPlace, has_key, names_in, texts_in, section_names_in, rings_in, ids_in, same_ring}
 use Rattle.coll_nodes.specs.Moving.{moved_rings, weighed_nodes, exchanged, CanGo}
 use Rattle.coll_nodes.specs.TableLayout.{TableLayout, content_of}
-use Rattle.coll_nodes.specs.declared.contents.Content.{Content}
-use Rattle.coll_nodes.specs.declared.contents.Content.TheVariants as content
 use Rattle.coll_table.specs.declared.records.Item.{Item}
 
 -- Items.
