@@ -105,10 +105,10 @@ impl Table {
     pub fn try_copy(&self, alloc: Global) -> Result<Table, AllocError>
         ensures { IfOk result (λ copy. copy ≡ self.now) }
     {
-        let body = self.body.try_copy(alloc)?;
+        let Table { rules, body } = self;
         Ok(Table {
-            rules: self.rules.copied(),
-            body,
+            rules: rules.copied(),
+            body: body.try_copy(alloc)?,
         })
     }
 

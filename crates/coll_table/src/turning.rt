@@ -58,8 +58,9 @@ fn turn_record(body: &mut Body, kept: &mut Record) -> u32
     ensures count { result ≡ steps_of kept.old.items }
     ensures steps { body.new.steps ≡ more_steps body.old.steps result }
 {
-    let count = turn_items(body, kept.undone, kept.items.get_mut());
-    kept.undone = !kept.undone;
+    let Record { undone, items } = kept;
+    let count = turn_items(body, *undone, items.get_mut());
+    *undone = !*undone;
     count
 }
 
@@ -126,8 +127,14 @@ fn take_back(body: &mut Body, item: &mut Item) -> u32
     ensures steps { body.new.steps ≡ more_steps body.old.steps result }
 {
     body.check_layout();
-    let count = move_back(body, item.node, item.old, item.new);
-    exchange_weights(body, item.node, &mut item.weights);
+    let Item {
+        node,
+        old,
+        new,
+        weights,
+    } = item;
+    let count = move_back(body, *node, *old, *new);
+    exchange_weights(body, *node, weights);
     count
 }
 
