@@ -104,15 +104,21 @@ impl Body {
     pub fn try_copy(&self, alloc: Global) -> Result<Body, AllocError>
         ensures { IfOk result (λ copy. copy ≡ self.now) }
     {
-        let nodes = self.nodes.try_copy(alloc)?;
-        let keys = self.keys.try_copy(alloc)?;
-        Ok(Body {
+        let Body {
             nodes,
-            declarations: self.declarations,
-            sections: self.sections,
+            declarations,
+            sections,
             keys,
-            declared_end: self.declared_end,
-            counts: self.counts,
+            declared_end,
+            counts,
+        } = self;
+        Ok(Body {
+            nodes: nodes.try_copy(alloc)?,
+            declarations: *declarations,
+            sections: *sections,
+            keys: keys.try_copy(alloc)?,
+            declared_end: *declared_end,
+            counts: *counts,
         })
     }
 

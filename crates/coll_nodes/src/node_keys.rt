@@ -45,15 +45,17 @@ impl NodeKeys {
     pub(crate) fn try_copy(&self, alloc: Global) -> Result<NodeKeys, AllocError>
         ensures { IfOk result (λ copy. copy ≡ self.now) }
     {
-        let names = self.names.try_copy(alloc)?;
-        let texts = self.texts.try_copy(alloc)?;
-        let sections = self.sections.try_copy(alloc)?;
-        let placed = self.placed.try_copy(alloc)?;
-        Ok(NodeKeys {
+        let NodeKeys {
             names,
             texts,
             sections,
             placed,
+        } = self;
+        Ok(NodeKeys {
+            names: names.try_copy(alloc)?,
+            texts: texts.try_copy(alloc)?,
+            sections: sections.try_copy(alloc)?,
+            placed: placed.try_copy(alloc)?,
         })
     }
 

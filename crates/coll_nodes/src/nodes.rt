@@ -196,9 +196,11 @@ impl Nodes {
     pub(crate) fn try_copy(&self, alloc: Global) -> Result<Nodes, AllocError>
         ensures { IfOk result (λ copy. copy ≡ self.now) }
     {
-        let rings = self.rings.try_copy(alloc)?;
-        let contents = self.contents.clone()?;
-        Ok(Nodes { rings, contents })
+        let Nodes { rings, contents } = self;
+        Ok(Nodes {
+            rings: rings.try_copy(alloc)?,
+            contents: contents.clone()?,
+        })
     }
 
     /// What holds of the nodes of every layout: none has two contents.
