@@ -59,13 +59,13 @@ pub fn run_batch<R: Source, W: Sink>(
     ensures writes { CountsWrites (W.failed output.old) (W.failed output.new) result }
 {
     match read_inputs(alloc, table, deltas) {
-        Ok(changed) => answer(alloc, &batch, &changed, output),
+        Ok(changed) => answer_batch(alloc, &batch, &changed, output),
         Err(ended) => Err(ended),
     }
 }
 
 // Writes what a batch asks for of the table that its inputs gave, unless a text is too long.
-fn answer<W: Sink>(
+fn answer_batch<W: Sink>(
     alloc: Global,
     batch: &Batch,
     table: &Table,
