@@ -1,11 +1,10 @@
 -- How a run of a batch ends, by what its inputs and its output answered.
-use Rattle.std.proofs.Common.{◌≡◌, ◌⊎◌, inl, inr, ⊎_elim, ℕ, zero, suc, pred, ◌<◌, ◌≤◌, Bool, true, false, if◌then◌else◌, List, [], ◌∷◌, ◌++◌, map, Option, Some, None, Result, Ok, Err, refl, sym, ap, ◌∙◌, subst, arith, append-nil}
+use Rattle.std.proofs.Common.{◌≡◌, inl, inr, ⊎_elim, ℕ, zero, suc, pred, ◌<◌, ◌≤◌, Bool, true, false, if◌then◌else◌, List, [], ◌++◌, Option, Some, None, Result, Ok, Err, refl, sym, ap, ◌∙◌, subst, arith, append-nil}
 use Rattle.std.specs.Prelude.{IfErr}
 use Rattle.std.specs.Io.KnownBytes.{Appends}
-use Rattle.coll_lex.specs.Devices.{AppendsFront, raised}
 use Rattle.coll_nodes.specs.Table.{Collation}
 use Rattle.coll_nodes.specs.TableLayout.{TableValue, collation}
-use Rattle.coll_table.specs.Loads.{Loads, FaultSays, counted_by, CountsFault}
+use Rattle.coll_table.specs.Loads.{Loads, FaultSays}
 use Rattle.coll_draft.specs.Reading.{reads}
 use Rattle.coll_lex.specs.declared.faults.LexFault.{LexFault}
 use Rattle.coll_lex.specs.declared.faults.LexFault.TheVariants as lex
@@ -14,10 +13,9 @@ use Rattle.coll_syntax.specs.declared.syntax_faults.SyntaxFault.TheVariants as s
 use Rattle.coll_draft.specs.declared.load_faults.LoadFault.{LoadFault}
 use Rattle.coll_draft.specs.declared.load_faults.LoadCause.{LoadCause}
 use Rattle.coll_draft.specs.declared.load_faults.LoadCause.TheVariants as load
-use Rattle.coll_draft.specs.LoadFaults.{load_cause_number}
 use Rattle.coll_bench.specs.BatchOutcome.{table_fault, table_or_fault, unless_faulty, after_deltas, after_inputs, texts_of, is_any_too_long, batch_output, text_too_long, output_or_fault, batch_outcome, fault_in}
 use Rattle.coll_bench.specs.BatchReading.{ReadsDeltas, DeltasFail, InputsFail, ReadsInputs}
-use Rattle.coll_bench.specs.BatchRuns.{Ending, ReadFailed, WriteFailed, Starved, Refused, ending_of_number, ending_of, DeltasStopWithin, InputsStopWithin, WritesFront, IsOfNoLine, BatchRanTo, BatchRuns, CountsInputs, raised_at}
+use Rattle.coll_bench.specs.BatchRuns.{Ending, ReadFailed, WriteFailed, Starved, Refused, ending_of, DeltasStopWithin, InputsStopWithin, WritesFront, BatchRanTo, BatchRuns, CountsInputs, raised_at}
 use Rattle.coll_bench.specs.BatchWriting.{Outputs, IsOfOutput, starved_key}
 use Rattle.coll_bench.specs.Reports.{write_refused}
 use Rattle.coll_bench.specs.Serving.{ReadsNone}

@@ -1,5 +1,5 @@
 -- How the fault that ended a run is told (the project's own).
-use Rattle.std.specs.Prelude.{ℕ, ◌==◌, ◌||◌, if◌then◌else◌, List, [], ◌++◌, slice_get, Option, Some, None, codes, decimal, encode_utf8_all}
+use Rattle.std.specs.Prelude.{ℕ, ◌==◌, ◌||◌, if◌then◌else◌, List, [], ◌++◌, slice_get, Option, Some, None, codes, encode_utf8_all}
 use Rattle.coll_lex.specs.declared.faults.WriteStop.TheVariants as write
 use Rattle.coll_bench.specs.Faults.{fault_number}
 use Rattle.coll_bench.specs.Replies.{count_part, told_line}

@@ -1,9 +1,8 @@
 -- The name that is written is that of the input.
-use Rattle.std.proofs.Common.{◌≡◌, ◌++◌, List, ℕ, Option, ap, sym, ◌∙◌, subst, Ok, Err, Result}
-use Rattle.coll_lex.specs.Devices.{Sends, AppendsFront}
+use Rattle.std.proofs.Common.{◌++◌, List, ℕ, Option, ap, sym, ◌∙◌, subst}
+use Rattle.coll_lex.specs.Devices.{AppendsFront}
 use Rattle.std.specs.Io.KnownBytes.{Appends}
 use Rattle.coll_bench.specs.Reports.{fault_line, name_written, placed}
-use Rattle.coll_bench.specs.declared.faults.RunFault.{RunFault}
 use Rattle.coll_bench.proofs.Members.{got}
 use Rattle.coll_bench.proofs.reports.write_fault.Goals as goal
 
