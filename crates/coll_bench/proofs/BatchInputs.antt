@@ -1,14 +1,14 @@
 -- The inputs of a batch, one after another: what the delta files so far give, and what one at fault says.
-use Rattle.std.proofs.Common.{◌≡◌, ℕ, zero, suc, pred, ◌+◌, ◌<◌, ◌≤◌, min, Bool, true, false, if◌then◌else◌, List, [], ◌∷◌, ◌++◌, map, take, drop, set, length, get_or, Option, Some, None, Result, Ok, Err, refl, sym, ap, ◌∙◌, subst, arith, add-one, append-nil}
-use Rattle.std.specs.Prelude.{slice_get, ◌==◌, IfErr}
+use Rattle.std.proofs.Common.{◌≡◌, ℕ, zero, suc, pred, ◌+◌, Bool, true, false, if◌then◌else◌, List, [], ◌∷◌, ◌++◌, map, take, drop, set, length, Option, Some, Result, Ok, Err, refl, sym, ap, ◌∙◌, subst, arith}
+use Rattle.std.specs.Prelude.{slice_get, ◌==◌}
 use Rattle.coll_lex.specs.Devices.{raised}
 use Rattle.coll_nodes.specs.Table.{Collation}
 use Rattle.coll_bench.specs.Faults.{fault_number}
 use Rattle.coll_bench.specs.BatchOutcome.{unless_faulty, after_delta, after_deltas}
-use Rattle.coll_bench.specs.BatchReading.{DeltaFails, ReadsDelta, CountsDelta, DeltasFail, ReadsDeltas, CountsDeltas}
-use Rattle.coll_bench.specs.BatchRuns.{Ending, ReadFailed, WriteFailed, Starved, Refused, ending_of, raised_at, DeltaStopsWithin, DeltasStopWithin}
+use Rattle.coll_bench.specs.BatchReading.{DeltaFails, CountsDelta, DeltasFail, CountsDeltas}
+use Rattle.coll_bench.specs.BatchRuns.{Ending, ReadFailed, WriteFailed, Starved, Refused, raised_at, DeltaStopsWithin, DeltasStopWithin}
 use Rattle.coll_bench.specs.declared.faults.RunFault.{RunFault}
-use Rattle.coll_bench.proofs.Members.{got, got-map, got-drop, got-set, set-same, drop-set, drop-one, split_got, take_got, text_got, length-take_got}
+use Rattle.coll_bench.proofs.Members.{got-map, set-same, split_got, take_got, length-take_got}
 
 after_by : (r : Result Collation RunFault) (n k : ℕ) (xs ys : List (List ℕ)) → ((t : Collation) → after_deltas (suc n) t (xs ++ ys) ≡ unless_faulty (after_deltas (suc n) t xs) (λ c. after_deltas k c ys))
     → unless_faulty r (λ t. after_deltas (suc n) t (xs ++ ys)) ≡ unless_faulty (unless_faulty r (λ t. after_deltas (suc n) t xs)) (λ c. after_deltas k c ys)

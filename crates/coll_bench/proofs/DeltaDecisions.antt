@@ -1,5 +1,5 @@
 -- What the lines of a delta file decide, line by line: each that is taken leads on, and each at fault decides.
-use Rattle.std.proofs.Common.{◌≡◌, ◌⊎◌, ⊎_elim, ℕ, ◌<◌, Bool, true, false, if◌then◌else◌, List, [], ◌∷◌, ◌++◌, map, length, Option, Some, None, Result, Ok, Err, sym, ap, subst, ◌∙◌, refl}
+use Rattle.std.proofs.Common.{◌≡◌, ⊎_elim, ℕ, ◌<◌, Bool, true, false, if◌then◌else◌, List, [], ◌∷◌, ◌++◌, map, length, Option, Some, None, Result, Ok, Err, sym, ap, subst, ◌∙◌, refl}
 use Rattle.std.proofs.lemmas.Bool.{false≢true}
 use Rattle.coll_lex.specs.Limits.{most_line_bytes}
 use Rattle.coll_lex.specs.LogicalLines.{LexerState, OpenLine, number_of, first_line, fed, outside, served, state_by, line_left_open}
@@ -12,19 +12,18 @@ use Rattle.coll_table.specs.Delta.{delta}
 use Rattle.coll_nodes.specs.Table.{Collation}
 use Rattle.coll_table.proofs.LineCounts.{outside_too_long}
 use Rattle.coll_units.specs.Hearing.{heard_in, heard_by}
-use Rattle.coll_units.specs.SessionLines.{opening_of, fault_heard, delta_file_heard}
+use Rattle.coll_units.specs.SessionLines.{opening_of, delta_file_heard}
 use Rattle.coll_units.specs.Units.{BlockLines}
 use Rattle.coll_units.specs.DeltaFiles.{DeltaEnd, DeltaOutcome, Ended, AtFault, Undecided as EndUndecided, at_line, ends_so, after_statements, outcome_within}
-use Rattle.coll_units.specs.DeltaReading.{DeltaState, Step, by_heard, judged, kept_fault_under, by_physical, by_outside, by_where, unless_faulty as unless_stands, delta_line, early_end, or_at_end, delta_end}
+use Rattle.coll_units.specs.DeltaReading.{DeltaState, Step, by_heard, judged, kept_fault_under, by_physical, by_outside, by_where, unless_faulty as unless_stands, delta_line, early_end, delta_end}
 use Rattle.coll_units.specs.declared.delta_faults.DeltaCause.TheVariants.{Unit as UnitCause, NoCategory}
 use Rattle.coll_units.specs.declared.delta_faults.DeltaFault.{DeltaFault}
 use Rattle.coll_units.specs.declared.delta_files.StatementAt.{StatementAt}
 use Rattle.coll_units.specs.declared.open_blocks.OpenBlock.{OpenBlock}
 use Rattle.coll_units.specs.declared.session_lines.Heard.TheVariants as heard
-use Rattle.coll_units.specs.declared.session_lines.HeardLine.{HeardLine}
 use Rattle.coll_units.specs.declared.unit_faults.UnitFault.TheVariants as unit
 use Rattle.coll_units.proofs.DeltaSteps.{outcome_before-nil, outcome_within-nil, outcome_within-cons, outcome_from, StandsAfter, CountsOne, LeadsOn, IsFaultBehind, Judged, from_within, from_before, from_ended, judged_line}
-use Rattle.coll_bench.specs.BatchOutcome.{Decision, Decided, Undecided, delta_fault_in, unless_faulty, judged_at, rewritten, by_ending, by_statements, decision, answer_at_end}
+use Rattle.coll_bench.specs.BatchOutcome.{Decided, delta_fault_in, unless_faulty, judged_at, rewritten, by_ending, by_statements, decision, answer_at_end}
 use Rattle.coll_bench.specs.BatchReading.{Taken, unless_stored, by_step, line_taken}
 use Rattle.coll_bench.specs.BatchRuns.{DecidesNothing}
 use Rattle.coll_bench.specs.declared.faults.RunFault.{RunFault}

@@ -1,14 +1,12 @@
 -- A delta file that is read line by line: what is known of it after some lines, and what each end of the reading says of it.
-use Rattle.std.proofs.Common.{◌≡◌, ℕ, ◌+◌, Bool, true, false, List, [], ◌∷◌, ◌++◌, length, Option, Some, None, Result, Ok, Err, ◌⊎◌, ⊎_elim, sym, ap, subst, ◌∙◌, refl, arith, append_assoc, append-nil, length-append}
-use Rattle.std.specs.Prelude.{option_map, IfErr, OnOk, ◌==◌, if◌then◌else◌}
+use Rattle.std.proofs.Common.{◌≡◌, ℕ, Bool, true, false, List, [], ◌∷◌, ◌++◌, length, Option, Some, None, Result, Ok, Err, ◌⊎◌, sym, ap, subst, ◌∙◌, refl, arith, append_assoc, append-nil, length-append}
+use Rattle.std.specs.Prelude.{option_map, IfErr, OnOk}
 use Rattle.std.proofs.lemmas.Bool.{false≢true}
 use Rattle.std.proofs.lemmas.Grind.{flat_map-append}
 use Rattle.std.specs.Io.KnownBytes.{prepend_known}
-use Rattle.coll_lex.specs.Devices.{raised}
 use Rattle.coll_lex.specs.LineReading.{ReaderState, no_line, Advances, GivesLine, GivesEnd, EndsAgain, StopsNow, StopsAgain}
 use Rattle.coll_lex.specs.LogicalLines.{number_of}
 use Rattle.coll_lex.specs.PhysicalLines.{line_feed, lines_of}
-use Rattle.coll_lex.specs.declared.faults.LexFault.TheVariants as lex
 use Rattle.coll_lex.specs.declared.faults.ReadStop.{ReadStop}
 use Rattle.coll_lex.specs.declared.faults.ReadStop.TheVariants as stop
 use Rattle.coll_table.specs.Loads.{with_feeds}
@@ -19,11 +17,9 @@ use Rattle.coll_units.specs.DeltaReading.{DeltaState, first_delta, early_end, de
 use Rattle.coll_units.specs.Units.{BlockLines}
 use Rattle.coll_units.specs.declared.delta_faults.DeltaFault.{DeltaFault}
 use Rattle.coll_units.proofs.DeltaSteps.{outcome_from, StandsAfter, CountsOne, stands_first}
-use Rattle.coll_bench.specs.Faults.{fault_number}
-use Rattle.coll_bench.specs.BatchOutcome.{Decision, Decided, fault_in, delta_fault_in, decision, answer_at_end, after_delta}
-use Rattle.coll_bench.specs.BatchReading.{DeltaFails, ReadsDelta, CountsDelta, FailsAs, stopped_in, line_taken}
+use Rattle.coll_bench.specs.BatchOutcome.{Decision, Decided, delta_fault_in, decision, answer_at_end, after_delta}
+use Rattle.coll_bench.specs.BatchReading.{DeltaFails, ReadsDelta, FailsAs, stopped_in, line_taken}
 use Rattle.coll_bench.specs.BatchRuns.{Ending, ReadFailed, WriteFailed, Starved, Refused, ending_of, DecidesNothing}
-use Rattle.coll_bench.specs.declared.faults.Fault.TheVariants as fault
 use Rattle.coll_bench.specs.declared.faults.RunFault.{RunFault}
 use Rattle.coll_bench.proofs.BatchFaults.{delta_fails}
 use Rattle.coll_bench.proofs.DeltaDecisions.{Leads, LineDecides, line_decides, long_line, ends_here, reader_ends, undecided_here, given_here}

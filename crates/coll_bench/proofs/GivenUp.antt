@@ -1,5 +1,5 @@
 -- Records that are given up: the nodes that they would put in are dropped, and those of the others stay.
-use Rattle.std.proofs.Common.{◌≡◌, Bool, true, false, not, ◌||◌, cond, List, [], ◌∷◌, ◌++◌, Option, Some, None, reverse, filter, flat_map, refl, sym, ap, ◌∙◌, subst}
+use Rattle.std.proofs.Common.{◌≡◌, Bool, true, false, not, ◌||◌, cond, List, [], ◌∷◌, ◌++◌, Option, Some, None, reverse, refl, sym, ap, ◌∙◌, subst}
 use Rattle.std.specs.Prelude.{IsSome, is_some}
 use Rattle.std.proofs.lemmas.Bool.{false≢true}
 use Rattle.std.proofs.lemmas.List.Folds.{list_any-append}
@@ -12,7 +12,7 @@ use Rattle.coll_bench.proofs.HistorySteps.{reversed}
 use Rattle.coll_nodes.specs.Bodies.{IsLooseNode}
 use Rattle.coll_bench.specs.Kept.{added_by_all, LeadsOn}
 use Rattle.coll_nodes.specs.Linking.{nodes_without}
-use Rattle.coll_table.specs.Record.{AreLoose, Extends, Fits, KeepsLoose, added_nodes, dropped_nodes, turn, without_nodes}
+use Rattle.coll_table.specs.Record.{AreLoose, Extends, KeepsLoose, added_nodes, dropped_nodes, turn, without_nodes}
 use Rattle.coll_table.specs.RecordLaws.{RecordsTurnBack, UndonePutIn}
 use Rattle.coll_nodes.specs.SoundLayouts.{IsTable}
 use Rattle.coll_nodes.specs.TableLayout.{TableLayout, TableValue, MadeNode, content_of, content_among}

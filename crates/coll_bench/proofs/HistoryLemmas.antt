@@ -1,19 +1,17 @@
 -- The records that a session keeps, and the history that they stand for.
-use Rattle.std.proofs.Common.{◌≡◌, ℕ, ◌-◌, ◌<◌, ◌≤◌, Bool, true, false, List, [], ◌∷◌, ◌++◌, length, reverse, take, drop, Result, Ok, Err, refl, sym, ap, ◌∙◌, subst, arith, length-append, add-one, suc, eqb}
+use Rattle.std.proofs.Common.{◌≡◌, ℕ, ◌-◌, ◌<◌, ◌≤◌, Bool, false, List, [], ◌∷◌, ◌++◌, length, reverse, take, drop, Result, Ok, Err, refl, sym, ap, ◌∙◌, subst, arith, length-append, add-one, suc, eqb}
 use Rattle.std.specs.Prelude.{if◌then◌else◌}
 use Rattle.std.proofs.lemmas.Bool.{le-leb, lt-leb, ne_eqb}
-use Rattle.std.proofs.lemmas.List.{reverse-append}
 use Rattle.std.proofs.Math.Seq.{take-append_seam, drop-append_seam}
 use Rattle.coll_syntax.specs.declared.statements.Statement.{Statement}
 use Rattle.coll_nodes.specs.Table.{Collation}
 use Rattle.coll_nodes.specs.TableLayout.{TableValue, collation}
 use Rattle.coll_table.specs.Delta.{delta}
-use Rattle.coll_table.specs.Record.{Extends, Fits, IsSame, statement_steps, turn, turned}
-use Rattle.coll_table.specs.RecordLaws.{RecordsTurnBack, RecordsFitWider, RecordsFitNarrower, TurnsAlike, TurnsBack}
+use Rattle.coll_table.specs.Record.{Extends, Fits, statement_steps, turn}
+use Rattle.coll_table.specs.RecordLaws.{RecordsTurnBack, RecordsFitWider, RecordsFitNarrower}
 use Rattle.coll_nodes.specs.SoundLayouts.{IsTable}
-use Rattle.coll_table.specs.Turning.{steps_of}
 use Rattle.coll_bench.specs.Replay.{given_or, replay}
-use Rattle.coll_bench.specs.Histories.{History, begun, table_now, with_statement, judged_by, judged, stepped_back, taken_back, put_again, first_steps, redo_steps, undo_steps}
+use Rattle.coll_bench.specs.Histories.{History, begun, table_now, with_statement, judged_by, judged, stepped_back, taken_back, put_again}
 use Rattle.coll_bench.specs.Limits.{most_remaining}
 use Rattle.coll_bench.specs.Kept.{statements_of, undone_by, uncounted, IsChange, Leads, LeadsOn, history_of}
 use Rattle.coll_table.specs.declared.refusals.Refusal.{Refusal}

@@ -1,14 +1,13 @@
 -- An undo, a redo and an accepted statement, by the records that a session keeps.
-use Rattle.std.proofs.Common.{◌≡◌, ℕ, ◌<◌, Bool, true, false, not, List, [], ◌∷◌, ◌++◌, length, reverse, Result, Ok, Err, refl, sym, ap, ◌∙◌, subst, arith}
+use Rattle.std.proofs.Common.{◌≡◌, Bool, true, false, not, List, [], ◌∷◌, ◌++◌, reverse, Ok, refl, sym, ap, ◌∙◌, subst}
 use Rattle.std.proofs.lemmas.List.{reverse-append}
 use Rattle.coll_syntax.specs.declared.statements.Statement.{Statement}
-use Rattle.coll_bench.proofs.HistoryLemmas.{undone_by-push, statements_of-push, Leads-push, Leads-last, LeadsBack, LeadAlike, SameCollation, taken_back_push, leads_wider, leads_narrower, replayed, stepped_back_push}
+use Rattle.coll_bench.proofs.HistoryLemmas.{undone_by-push, statements_of-push, Leads-push, Leads-last, SameCollation, taken_back_push, leads_wider, leads_narrower, replayed, stepped_back_push}
 use Rattle.coll_table.specs.Delta.{delta}
-use Rattle.coll_bench.specs.Histories.{History, taken_back, put_again, stepped_back, stepped_on, redo_steps, undo_steps, first_steps, table_now, with_statement}
+use Rattle.coll_bench.specs.Histories.{History, taken_back, put_again, stepped_back, redo_steps, undo_steps, first_steps, table_now}
 use Rattle.coll_bench.specs.Kept.{statements_of, undone_by, uncounted, IsChange, Leads, LeadsOn, history_of}
 use Rattle.coll_table.specs.Record.{Extends, Fits, IsSame, statement_steps, turn, turned}
 use Rattle.coll_table.specs.RecordLaws.{RecordsTurnBack, RecordsFitWider, RecordsFitNarrower}
-use Rattle.coll_bench.specs.Replay.{replay}
 use Rattle.coll_nodes.specs.SoundLayouts.{IsTable}
 use Rattle.coll_nodes.specs.Table.{Collation}
 use Rattle.coll_nodes.specs.TableLayout.{TableValue, collation}

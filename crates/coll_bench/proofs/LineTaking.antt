@@ -1,12 +1,12 @@
 -- What a line of a delta file is taken as, from what the reader of the file and the table answered.
-use Rattle.std.proofs.Common.{◌≡◌, ℕ, false, List, Option, Some, None, Result, Ok, Err, sym, ap, subst, ◌∙◌}
+use Rattle.std.proofs.Common.{◌≡◌, ℕ, false, List, Option, Some, Result, Ok, Err, ap, ◌∙◌}
 use Rattle.coll_nodes.specs.Table.{Collation}
 use Rattle.coll_units.specs.DeltaFaults.{wants_memory}
-use Rattle.coll_units.specs.DeltaReading.{DeltaState, Step, delta_line}
+use Rattle.coll_units.specs.DeltaReading.{DeltaState, delta_line}
 use Rattle.coll_units.specs.declared.delta_faults.DeltaFault.{DeltaFault}
 use Rattle.coll_units.specs.declared.delta_files.StatementAt.{StatementAt}
 use Rattle.coll_bench.specs.BatchOutcome.{delta_fault_in, unless_faulty, rewritten}
-use Rattle.coll_bench.specs.BatchReading.{Taken, FailsAs, by_step, unless_stored, line_taken}
+use Rattle.coll_bench.specs.BatchReading.{FailsAs, by_step, unless_stored, line_taken}
 use Rattle.coll_bench.specs.BatchRuns.{Ending, ReadFailed, WriteFailed, Starved, Refused, ending_of}
 use Rattle.coll_bench.specs.declared.faults.RunFault.{RunFault}
 use Rattle.coll_bench.proofs.BatchFaults.{delta_fails}

@@ -1,5 +1,5 @@
 -- The member of a list at a place.
-use Rattle.std.proofs.Common.{◌≡◌, ℕ, zero, suc, ◌+◌, ◌<◌, ◌≤◌, List, [], ◌∷◌, ◌++◌, map, take, drop, set, length, get_or, Option, Some, None, refl, ap, sym, ◌∙◌, arith, add-one}
+use Rattle.std.proofs.Common.{◌≡◌, ℕ, zero, suc, ◌+◌, ◌<◌, List, [], ◌∷◌, ◌++◌, map, take, drop, set, length, get_or, Option, Some, refl, ap, sym, ◌∙◌, arith, add-one}
 use Rattle.std.specs.Prelude.{slice_get}
 
 module _ {X : Type 0} where

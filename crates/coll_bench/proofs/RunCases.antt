@@ -1,10 +1,10 @@
 -- How a run of a batch ends, by what its inputs and its output answered.
-use Rattle.std.proofs.Common.{◌≡◌, ◌⊎◌, inl, inr, ⊎_elim, ℕ, zero, suc, pred, ◌<◌, Bool, true, false, if◌then◌else◌, List, [], ◌∷◌, ◌++◌, map, Option, Some, None, Result, Ok, Err, refl, sym, ap, ◌∙◌, subst, arith, append-nil}
+use Rattle.std.proofs.Common.{◌≡◌, inl, inr, ⊎_elim, ℕ, zero, suc, pred, ◌<◌, ◌≤◌, Bool, true, false, if◌then◌else◌, List, [], ◌++◌, Option, Some, None, Result, Ok, Err, refl, sym, ap, ◌∙◌, subst, arith, append-nil}
+use Rattle.std.specs.Prelude.{IfErr}
 use Rattle.std.specs.Io.KnownBytes.{Appends}
-use Rattle.coll_lex.specs.Devices.{AppendsFront, raised}
 use Rattle.coll_nodes.specs.Table.{Collation}
 use Rattle.coll_nodes.specs.TableLayout.{TableValue, collation}
-use Rattle.coll_table.specs.Loads.{Loads, FaultSays, counted_by, CountsFault}
+use Rattle.coll_table.specs.Loads.{Loads, FaultSays}
 use Rattle.coll_draft.specs.Reading.{reads}
 use Rattle.coll_lex.specs.declared.faults.LexFault.{LexFault}
 use Rattle.coll_lex.specs.declared.faults.LexFault.TheVariants as lex
@@ -13,12 +13,12 @@ use Rattle.coll_syntax.specs.declared.syntax_faults.SyntaxFault.TheVariants as s
 use Rattle.coll_draft.specs.declared.load_faults.LoadFault.{LoadFault}
 use Rattle.coll_draft.specs.declared.load_faults.LoadCause.{LoadCause}
 use Rattle.coll_draft.specs.declared.load_faults.LoadCause.TheVariants as load
-use Rattle.coll_draft.specs.LoadFaults.{load_cause_number}
 use Rattle.coll_bench.specs.BatchOutcome.{table_fault, table_or_fault, unless_faulty, after_deltas, after_inputs, texts_of, is_any_too_long, batch_output, text_too_long, output_or_fault, batch_outcome, fault_in}
 use Rattle.coll_bench.specs.BatchReading.{ReadsDeltas, DeltasFail, InputsFail, ReadsInputs}
-use Rattle.coll_bench.specs.BatchRuns.{Ending, ReadFailed, WriteFailed, Starved, Refused, ending_of_number, ending_of, DeltasStopWithin, InputsStopWithin, WritesFront, IsOfNoLine, BatchRanTo, BatchRuns, CountsInputs}
+use Rattle.coll_bench.specs.BatchRuns.{Ending, ReadFailed, WriteFailed, Starved, Refused, ending_of, DeltasStopWithin, InputsStopWithin, WritesFront, BatchRanTo, BatchRuns, CountsInputs, raised_at}
 use Rattle.coll_bench.specs.BatchWriting.{Outputs, IsOfOutput, starved_key}
 use Rattle.coll_bench.specs.Reports.{write_refused}
+use Rattle.coll_bench.specs.Serving.{ReadsNone}
 use Rattle.coll_bench.specs.declared.batches.Batch.{Batch}
 use Rattle.coll_bench.specs.declared.faults.Fault.{Fault}
 use Rattle.coll_bench.specs.declared.faults.RunFault.{RunFault}
@@ -167,8 +167,12 @@ module _ (b : Batch) (left left_after : Option (List ℕ)) (lefts lefts_after : 
             (λ (e : f ≡ starved_key). subst (λ (f : Fault). BatchRanTo (ending_of (fault_in 0 0 f)) b table_text delta_texts left_after lefts_after written (fault_in 0 0 f)) (sym e) (inr ((refl, refl), h)))
             own
 
--- a fault of the output is no read error
-pub output_reads : (f : Fault) (old new : List ℕ) → IsOfOutput f → new ≡ old → CountsInputs {T = Unit {0}} old new (Err (fault_in 0 0 f))
-output_reads f old new own same =
-    ⊎_elim (λ (e : f ≡ write_refused). subst (λ (f : Fault). CountsInputs {T = Unit {0}} old new (Err (fault_in 0 0 f))) (sym e) same)
-    (λ (e : f ≡ starved_key). subst (λ (f : Fault). CountsInputs {T = Unit {0}} old new (Err (fault_in 0 0 f))) (sym e) same) own
+-- an answer to the output counts no read
+pub output_reads : (old new : List ℕ) (r : Result (Unit {0}) RunFault) → new ≡ old → IfErr r (λ ended. ReadsNone ended) → CountsInputs old new r
+output_reads old new (Ok done) same none = same
+output_reads old new (Err ended) same none = same ∙ ap (λ (b : Bool). if b then raised_at ended.input old else old) (sym none)
+
+-- a fault that comes with the output counts as one of the first input
+pub output_input : (count : ℕ) (r : Result (Unit {0}) RunFault) → IfErr r (λ ended. ended.input ≡ 0) → IfErr r (λ ended. ended.input ≤ count)
+output_input count (Ok done) first = first
+output_input count (Err ended) first = omega (arith, first)

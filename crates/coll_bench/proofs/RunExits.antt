@@ -83,7 +83,7 @@ write_ran : (table : Collation) (text before : List ℕ) (left taken0 taken1 : O
 write_ran table text before left taken0 taken1 written bytes more ls us ended is taken_is failed (front, back, parts, more_taken) = (
   written ++ front,
   appended taken0 taken1 before written front taken_is more_taken,
-  subst (λ (e : RunFault). Ran table text left (written ++ front) (Err e)) (sym failed) (refl, (refl, ls, us, back ++ more, is ∙ front_written written front back more bytes parts)),
+  subst (λ (e : RunFault). Ran table text left (written ++ front) (Err e)) (sym failed) (refl, ls, us, back ++ more, is ∙ front_written written front back more bytes parts),
 )
 
 -- a last line was served whole
@@ -92,7 +92,7 @@ last_ran : (table : Collation) (text before : List ℕ) (left taken0 taken1 : Op
 last_ran table text before left taken0 taken1 written bytes ls us number f ended last r taken_is stopped more = (
   written ++ bytes,
   appended taken0 taken1 before written bytes taken_is more,
-  subst (λ (e : RunFault). Ran table text left (written ++ bytes) (Err e)) (sym stopped) (refl, lex_fault_ran table text left (written ++ bytes) ls us number f last r),
+  subst (λ (e : RunFault). Ran table text left (written ++ bytes) (Err e)) (sym stopped) (lex_fault_ran table text left (written ++ bytes) ls us number f last r),
 )
 
 -- the session ends at a line, of which memory was refused or not
@@ -198,16 +198,13 @@ read_ended table text before ended0 unread0 left1 taken0 taken1 old held ended (
       kept ∙ u.taken_is,
       subst (λ (e : RunFault). Ran table text left1 written (Err e)) (sym is) (
         refl,
-        (
-          refl,
-          lines ++ [],
-          units ++ [],
-          read,
-          held,
-          more,
-          subst (λ (l : Option (List ℕ)). RanToReadFault table text l written (lines ++ []) (units ++ []) read held more) (sym left_is)
-              (read_ran table text before ended0 unread0 taken0 old read rest written lines units held more u going rest_is whole),
-        ),
+        lines ++ [],
+        units ++ [],
+        read,
+        held,
+        more,
+        subst (λ (l : Option (List ℕ)). RanToReadFault table text l written (lines ++ []) (units ++ []) read held more) (sym left_is)
+            (read_ran table text before ended0 unread0 taken0 old read rest written lines units held more u going rest_is whole),
       ),
     )
 
@@ -280,7 +277,7 @@ text_ended table text before old new left left1 taken0 taken1 failed failed1 des
 -- memory was refused before the first line was read
 pub never_begun : (table : Collation) (text before : List ℕ) (left taken : Option (List ℕ)) (ended : RunFault) → ended ≡ never_ran → left ≡ Some text → taken ≡ Some before → Leaves table text before left taken (Err ended)
 never_begun table text before left taken ended is left_is taken_is =
-    ([], taken_is ∙ ap Some (sym (append-nil before)), subst (λ (e : RunFault). Ran table text left [] (Err e)) (sym is) (refl, (refl, record { nothing_written = refl; nothing_read = left_is })))
+    ([], taken_is ∙ ap Some (sym (append-nil before)), subst (λ (e : RunFault). Ran table text left [] (Err e)) (sym is) (refl, record { nothing_written = refl; nothing_read = left_is }))
 
 -- no further line could be read
 pub cut_off_ended : (table : Collation) (text before : List ℕ) (old new : ReaderState) (left left1 taken0 taken1 : Option (List ℕ)) (failed failed1 : ℕ) (desk : Desk) (stop : ReadStop) (ended : RunFault) → StopsNow old new left left1 failed failed1 stop

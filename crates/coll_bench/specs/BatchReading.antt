@@ -1,4 +1,4 @@
--- What reading the inputs of a batch answers, input by input.
+-- What reading the inputs of a batch answers, input by input, and what an answer says of the batch then.
 use Rattle.std.specs.Prelude.{◌≡◌, ◌==◌, ℕ, pred, false, if◌then◌else◌, List, map, Option, Some, None, Result, Ok, Err}
 use Rattle.coll_lex.specs.Devices.{raised}
 use Rattle.coll_lex.specs.declared.faults.LexFault.TheVariants as lex
@@ -10,7 +10,8 @@ use Rattle.coll_units.specs.DeltaReading.{DeltaState, Step, delta_line}
 use Rattle.coll_units.specs.declared.delta_faults.DeltaFault.{DeltaFault}
 use Rattle.coll_bench.specs.Faults.{fault_number}
 use Rattle.coll_bench.specs.BatchOutcome.{fault_in, delta_fault_in, unless_faulty, rewritten, after_delta, after_deltas, after_inputs}
-use Rattle.coll_bench.specs.BatchRuns.{Ending, ReadFailed, WriteFailed, Starved, Refused, ending_of, DeltaStopsWithin, DeltasStopWithin, InputsStopWithin, raised_at}
+use Rattle.coll_bench.specs.BatchRuns.{Ending, ReadFailed, WriteFailed, Starved, Refused, ending_of, DeltaStopsWithin, DeltasStopWithin, InputsStopWithin, BatchRuns, raised_at}
+use Rattle.coll_bench.specs.declared.batches.Batch.{Batch}
 use Rattle.coll_bench.specs.declared.faults.Fault.TheVariants as fault
 use Rattle.coll_bench.specs.declared.faults.RunFault.{RunFault}
 
@@ -100,3 +101,8 @@ ReadsInputs left left_after lefts lefts_after (Ok table) =
     (table_text : List ℕ) (delta_texts : List (List ℕ)) → left ≡ Some table_text → lefts ≡ map Some delta_texts → after_inputs table_text delta_texts ≡ Ok (collation table)
 ReadsInputs left left_after lefts lefts_after (Err ended) =
     (table_text : List ℕ) (delta_texts : List (List ℕ)) → left ≡ Some table_text → lefts ≡ map Some delta_texts → InputsFail (ending_of ended) table_text delta_texts left_after lefts_after ended
+
+-- an answer to a batch of which the inputs gave this table, whatever they are
+abbrev pub AnswersBatch : Batch → TableValue → (taken taken_after : Option (List ℕ)) → Result (Unit {0}) RunFault → Type 0
+AnswersBatch b table taken taken_after r =
+    (left left_after : Option (List ℕ)) (lefts lefts_after : List (Option (List ℕ))) → ReadsInputs left left_after lefts lefts_after (Ok table) → BatchRuns b left left_after lefts lefts_after taken taken_after r

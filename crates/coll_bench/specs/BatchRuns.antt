@@ -5,10 +5,9 @@ use Rattle.coll_lex.specs.PhysicalLines.{lines_of, IsInLine}
 use Rattle.coll_nodes.specs.Table.{Collation}
 use Rattle.coll_table.specs.Loads.{with_feeds, StopsWithin}
 use Rattle.coll_draft.specs.Reading.{reads}
-use Rattle.coll_nodes.specs.TableLayout.{TableValue, collation}
 use Rattle.coll_units.specs.DeltaFiles.{delta_outcome}
 use Rattle.coll_bench.specs.Faults.{fault_number}
-use Rattle.coll_bench.specs.BatchOutcome.{Decision, Decided, Undecided, decision, after_delta, after_deltas, after_inputs, batch_outcome}
+use Rattle.coll_bench.specs.BatchOutcome.{Decision, Decided, Undecided, decision, after_deltas, batch_outcome}
 use Rattle.coll_bench.specs.declared.batches.Batch.{Batch}
 use Rattle.coll_bench.specs.declared.faults.RunFault.{RunFault}
 

@@ -1,5 +1,5 @@
 -- What a session keeps of its history, and what holds of it.
-use Rattle.std.specs.Prelude.{◌≡◌, ◌+◌, ◌≤◌, ℕ, true, false, List, [], ◌∷◌, map, reverse, vec_len, vec_capacity, Ok}
+use Rattle.std.specs.Prelude.{◌≡◌, ◌+◌, ◌≤◌, true, false, List, [], ◌∷◌, map, reverse, vec_len, vec_capacity, Ok}
 use Rattle.std.specs.List.{flat_map}
 use Rattle.coll_order.specs.declared.places.NodeId.{NodeId}
 use Rattle.coll_syntax.specs.declared.statements.Statement.{Statement}

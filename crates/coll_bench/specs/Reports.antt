@@ -1,5 +1,5 @@
 -- How the fault that ended a run is told (the project's own).
-use Rattle.std.specs.Prelude.{ℕ, ◌==◌, ◌||◌, if◌then◌else◌, List, [], ◌++◌, slice_get, Option, Some, None, codes, decimal, encode_utf8_all}
+use Rattle.std.specs.Prelude.{ℕ, ◌==◌, ◌||◌, if◌then◌else◌, List, [], ◌++◌, slice_get, Option, Some, None, codes}
 use Rattle.coll_lex.specs.declared.faults.WriteStop.TheVariants as write
 use Rattle.coll_bench.specs.Faults.{fault_number}
 use Rattle.coll_bench.specs.Replies.{count_part, told_line}
@@ -7,12 +7,12 @@ use Rattle.coll_bench.specs.declared.faults.Fault.{Fault}
 use Rattle.coll_bench.specs.declared.faults.Fault.TheVariants as fault
 use Rattle.coll_bench.specs.declared.faults.RunFault.{RunFault}
 
--- a name as it is written, if there is one
+-- the bytes of a name, if there is one
 abbrev pub name_written : Option (List ℕ) → List ℕ
 name_written None = []
-name_written (Some name) = encode_utf8_all name
+name_written (Some name) = name
 
--- the name of an input, as it is written
+-- the bytes of the name of an input
 abbrev pub named : (names : List (List ℕ)) → (input : ℕ) → List ℕ
 named names input = name_written (slice_get names input)
 

@@ -97,7 +97,7 @@ RanToFault table text left written number fault.NoBlock = ⊥
 -- what a run over a text wrote, by its answer
 abbrev pub Ran : Collation → List ℕ → Option (List ℕ) → List ℕ → Result (Unit {0}) RunFault → Type 0
 Ran table text left written (Ok done) = (lines_starved : List Bool) × (units_starved : List Bool) × RanToEnd table text left written lines_starved units_starved
-Ran table text left written (Err ended) = (ended.input ≡ 0) × RanToFault table text left written ended.line ended.fault
+Ran table text left written (Err ended) = RanToFault table text left written ended.line ended.fault
 
 -- the theorem of a session: whatever text the source has, and whatever the sink took before, the bytes that the sink
 -- took are those that are stated for the text, and nothing else

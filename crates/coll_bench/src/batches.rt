@@ -8,8 +8,9 @@
 ghost use Rattle.std.specs.Prelude.{◌≡◌, ◌≤◌, ◌∷◌, length, map, IfErr};
 ghost use Rattle.coll_bench.specs.BatchOutcome.{fault_in, texts_of as texts_asked, is_any_too_long as any_too_long};
 ghost use Rattle.coll_key.specs.KeyLimits.{is_too_long as too_long};
+ghost use Rattle.coll_bench.specs.BatchReading.{AnswersBatch};
 ghost use Rattle.coll_bench.specs.BatchRuns.{BatchRuns, CountsInputs};
-ghost use Rattle.coll_bench.specs.Serving.{CountsWrites};
+ghost use Rattle.coll_bench.specs.Serving.{CountsWrites, ReadsNone};
 
 mod delta_files;
 mod inputs;
@@ -18,6 +19,7 @@ mod output;
 use crate::faults::{Fault, RunFault};
 use coll_key::{KeyFault, MOST_TEXT_CHARACTERS};
 use coll_lex::{ListBuf, Sink, Source, TextBuf};
+use coll_table::Table;
 use inputs::read_inputs;
 use output::write_output;
 use std::alloc::Global;
@@ -56,14 +58,28 @@ pub fn run_batch<R: Source, W: Sink>(
     ensures reads { CountsInputs (R.failed table.old ∷ map R.failed deltas.old) (R.failed table.new ∷ map R.failed deltas.new) result }
     ensures writes { CountsWrites (W.failed output.old) (W.failed output.new) result }
 {
-    let changed = match read_inputs(alloc, table, deltas) {
-        Ok(changed) => changed,
-        Err(ended) => return Err(ended),
-    };
-    if is_any_too_long(&batch) {
+    match read_inputs(alloc, table, deltas) {
+        Ok(changed) => answer_batch(alloc, &batch, &changed, output),
+        Err(ended) => Err(ended),
+    }
+}
+
+// Writes what a batch asks for of the table that its inputs gave, unless a text is too long.
+fn answer_batch<W: Sink>(
+    alloc: Global,
+    batch: &Batch,
+    table: &Table,
+    output: &mut W,
+) -> Result<(), RunFault>
+    ensures run { AnswersBatch batch.now table.now (W.taken output.old) (W.taken output.new) result }
+    ensures input { IfErr result (λ ended. ended.input ≡ 0) }
+    ensures reads { IfErr result (λ ended. ReadsNone ended) }
+    ensures writes { CountsWrites (W.failed output.old) (W.failed output.new) result }
+{
+    if is_any_too_long(batch) {
         return Err(with_no_line(Fault::Key(KeyFault::TextTooLong)));
     }
-    match write_output(alloc, &batch, &changed, output) {
+    match write_output(alloc, batch, table, output) {
         Ok(()) => Ok(()),
         Err(fault) => Err(with_no_line(fault)),
     }

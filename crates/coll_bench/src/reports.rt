@@ -2,25 +2,25 @@
 //!
 //! None of this takes memory, so that want of memory can be told as well.
 
-ghost use Rattle.std.specs.Prelude.{◌≡◌, ◌<◌, ◌++◌, length, IfErr};
+ghost use Rattle.std.specs.Prelude.{◌≡◌, ◌<◌, ◌++◌, length, map, string_bytes, IfErr};
 ghost use Rattle.coll_lex.specs.Devices.{CountsErr, Sends};
 ghost use Rattle.coll_bench.specs.Reports.{fault_line, placed, exit_status as stated_status, write_refused};
 
 use crate::faults::{Fault, RunFault};
 use crate::replies::{write_part, write_told};
-use coll_lex::{Sink, TextBuf, WriteStop, write_bytes};
+use coll_lex::{Sink, WriteStop, write_bytes};
 
 /// Writes the line of a fault, `FILE:LINE: NUMBER NAME`, where FILE is the name of its input, and LINE is 0 where it comes from no
 /// line.
 ///
 /// There is a name for the input. Where a write fails, the device has taken a front of the line.
-pub fn write_fault<W: Sink>(fault: &RunFault, names: &[TextBuf], out: &mut W) -> Result<(), Fault>
+pub fn write_fault<W: Sink>(fault: &RunFault, names: &[String], out: &mut W) -> Result<(), Fault>
     requires named { fault.now.input < length names.now }
-    ensures sent { Sends (W.taken out.old) (W.taken out.new) (fault_line names.now fault.now) result }
+    ensures sent { Sends (W.taken out.old) (W.taken out.new) (fault_line (map string_bytes names.now) fault.now) result }
     ensures fault { IfErr result (λ refused. refused ≡ write_refused) }
     ensures errors { CountsErr (W.failed out.old) (W.failed out.new) result }
 {
-    match write_named(fault, names[fault.input].get(), out) {
+    match write_named(fault, names[fault.input].as_str(), out) {
         Ok(()) => Ok(()),
         Err(stop) => Err(Fault::Write(stop)),
     }

@@ -4,9 +4,11 @@
 //! hands one physical line after another to a `Desk`, and its lemmas put together what each line does, over all that may
 //! come later.
 
-ghost use Rattle.std.specs.Prelude.{◌≡◌};
+ghost use Rattle.std.specs.Prelude.{◌≡◌, IfErr};
+ghost use Rattle.coll_lex.specs.LineReading.{no_line};
+ghost use Rattle.coll_nodes.specs.Table.{Collation};
 ghost use Rattle.coll_nodes.specs.TableLayout.{collation};
-ghost use Rattle.coll_bench.specs.Serving.{CountsWrites, never_ran};
+ghost use Rattle.coll_bench.specs.Serving.{IsBegun, CountsWrites, never_ran};
 ghost use Rattle.coll_bench.specs.Runs.{Runs, CountsReads};
 
 use crate::faults::{Fault, RunFault};
@@ -28,15 +30,48 @@ pub fn run_session<R: Source, W: Sink>(
     output: &mut W,
 ) -> Result<(), RunFault>
     ensures run { Runs (collation table) (R.left input.old) (R.left input.new) (W.taken output.old) (W.taken output.new) result }
+    ensures input { IfErr result (λ ended. ended.input ≡ 0) }
     ensures reads { CountsReads (R.failed input.old) (R.failed input.new) result }
     ensures writes { CountsWrites (W.failed output.old) (W.failed output.new) result }
 {
-    let Ok(mut reader) = LineReader::new(alloc) else {
-        return Err(no_memory());
-    };
-    let Ok(mut desk) = Desk::new(alloc, table) else {
-        return Err(no_memory());
-    };
+    match Desk::new(alloc, table) {
+        Ok(mut desk) => serve_text(alloc, &mut desk, input, output),
+        Err(_) => Err(no_memory()),
+    }
+}
+
+// Serves the text of a source at a desk where nothing has happened yet.
+fn serve_text<R: Source, W: Sink>(
+    alloc: Global,
+    desk: &mut Desk,
+    input: &mut R,
+    output: &mut W,
+) -> Result<(), RunFault>
+    ensures run { (table : Collation) → IsBegun desk.old table → Runs table (R.left input.old) (R.left input.new) (W.taken output.old) (W.taken output.new) result }
+    ensures input { IfErr result (λ ended. ended.input ≡ 0) }
+    ensures reads { CountsReads (R.failed input.old) (R.failed input.new) result }
+    ensures writes { CountsWrites (W.failed output.old) (W.failed output.new) result }
+{
+    match LineReader::new(alloc) {
+        Ok(mut reader) => serve_lines(alloc, desk, &mut reader, input, output),
+        Err(_) => Err(no_memory()),
+    }
+}
+
+// Serves the lines of a source, of which none was read yet.
+fn serve_lines<R: Source, W: Sink>(
+    alloc: Global,
+    desk: &mut Desk,
+    reader: &mut LineReader,
+    input: &mut R,
+    output: &mut W,
+) -> Result<(), RunFault>
+    requires { reader.old ≡ no_line }
+    ensures run { (table : Collation) → IsBegun desk.old table → Runs table (R.left input.old) (R.left input.new) (W.taken output.old) (W.taken output.new) result }
+    ensures input { IfErr result (λ ended. ended.input ≡ 0) }
+    ensures reads { CountsReads (R.failed input.old) (R.failed input.new) result }
+    ensures writes { CountsWrites (W.failed output.old) (W.failed output.new) result }
+{
     'lines: loop {
         match reader.advance(input) {
             Ok(true) => {

@@ -56,6 +56,7 @@ impl Desk {
         ensures served { ServesLine self.old self.new line.now (W.taken output.old) (W.taken output.new) result }
         ensures counts { OnOk result (self.new.listener.count ≡ self.old.listener.count + 1) }
         ensures room { OnOk result (self.old.listener.count < most_lines) }
+        ensures input { IfErr result (λ ended. ended.input ≡ 0) }
         ensures reads { IfErr result (λ ended. ReadsNone ended) }
         ensures errors { CountsWrites (W.failed output.old) (W.failed output.new) result }
     {
@@ -92,6 +93,7 @@ impl Desk {
     // Ends the session at a fault of the lexer, with its last replies.
     fn stop<W: Sink>(&self, number: u32, fault: LexFault, output: &mut W) -> RunFault
         ensures ended { EndsWith number fault (W.taken output.old) (W.taken output.new) (refused_lines (kept_last_faults self.now.block number fault)) result }
+        ensures input { result.input ≡ 0 }
         ensures reads { ReadsNone result }
         ensures errors { CountsEnd (W.failed output.old) (W.failed output.new) result }
     {
@@ -108,6 +110,7 @@ impl Desk {
     /// Ends the session with its text.
     pub fn finish<W: Sink>(&mut self, output: &mut W) -> Result<(), RunFault>
         ensures ended { FinishesWith (W.taken output.old) (W.taken output.new) (refused_lines (kept_end_faults self.old.block (pending self.old.listener))) result }
+        ensures input { IfErr result (λ ended. ended.input ≡ 0) }
         ensures reads { IfErr result (λ ended. ReadsNone ended) }
         ensures errors { CountsWrites (W.failed output.old) (W.failed output.new) result }
     {
@@ -122,6 +125,7 @@ impl Desk {
     pub fn cut_off<W: Sink>(&self, stop: ReadStop, output: &mut W) -> RunFault
         ensures ended { IsCutOff stop (number_of self.now.listener) (W.taken output.old) (W.taken output.new)
             (refused_lines (kept_last_faults self.now.block (number_of self.now.listener) too_long)) result }
+        ensures input { result.input ≡ 0 }
         ensures reads { CountsStop stop result }
         ensures errors { CountsEnd (W.failed output.old) (W.failed output.new) result }
     {

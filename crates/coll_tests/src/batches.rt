@@ -43,6 +43,14 @@ fn text_bufs(alloc: Global, texts: &[&str]) -> Result<ListBuf<TextBuf>, AllocErr
     Ok(ListBuf::new(list))
 }
 
+fn strings(alloc: Global, texts: &[&str]) -> Result<Vec<String>, AllocError> {
+    let mut list = Vec::new(alloc);
+    for text in texts {
+        list.push(String::from_str(alloc, text)?)?;
+    }
+    Ok(list)
+}
+
 impl Asked {
     /// The batch that asks for this.
     pub fn batch(&self, alloc: Global) -> Result<Batch, AllocError> {
@@ -115,10 +123,10 @@ const NAMES: &[&str] = &["B.txt", "D.txt", "E.txt"];
 
 // The line that tells a fault.
 fn told(rt: &impl Abort, alloc: Global, fault: &RunFault) -> Vec<u8> {
-    let names = text_bufs(alloc, NAMES).expect(rt, "the names");
-    assert!(rt; fault.input < names.get().len(), "an input without a name");
+    let names = strings(alloc, NAMES).expect(rt, "the names");
+    assert!(rt; fault.input < names.len(), "an input without a name");
     let mut out = Counted::new(Vec::new(alloc));
-    let answer = write_fault(fault, names.get(), &mut out);
+    let answer = write_fault(fault, names.as_slice(), &mut out);
     assert!(rt; answer == Ok(()), "a write was refused");
     out.device().clone().expect(rt, "a copy")
 }

@@ -226,8 +226,8 @@ fn task_of(
     Ok(Some(Task::Batch(batch)))
 }
 
-/// Texts, in new memory.
-pub fn copied_texts(alloc: Global, texts: &[&str]) -> Result<ListBuf<TextBuf>, AllocError>
+// Texts, in new memory.
+fn copied_texts(alloc: Global, texts: &[&str]) -> Result<ListBuf<TextBuf>, AllocError>
     ensures { IfOk result (λ copies. copies ≡ map (λ text. chars text.now) texts.now) }
 {
     let mut copies = Vec::with_capacity(alloc, texts.len())?;
@@ -237,8 +237,8 @@ pub fn copied_texts(alloc: Global, texts: &[&str]) -> Result<ListBuf<TextBuf>, A
     Ok(ListBuf::new(copies))
 }
 
-/// A text, in new memory.
-pub fn copied_text(alloc: Global, text: &str) -> Result<TextBuf, AllocError>
+// A text, in new memory.
+fn copied_text(alloc: Global, text: &str) -> Result<TextBuf, AllocError>
     ensures { IfOk result (λ copy. copy ≡ chars text.now) }
 {
     Ok(TextBuf::new(String::from_str(alloc, text)?))

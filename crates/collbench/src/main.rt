@@ -4,16 +4,17 @@
 //! on standard error, and the exit status, which stands also where that line can't be written.
 #![tactic(auto)]
 
-ghost use Rattle.std.specs.Prelude.{◌<◌, length, vec_len, IfErr, ◌≡◌};
+ghost use Rattle.std.specs.Prelude.{◌<◌, length, vec_len, IfOk, IfErr, ◌≡◌};
 
 mod command_line;
 mod files;
 
 use coll_bench::{Batch, Fault, RunFault, exit_status, run_batch, run_session, write_fault};
-use coll_lex::{Counted, LexFault, Sink, TextBuf, WriteStop};
+use coll_lex::{Counted, LexFault, Sink, WriteStop};
 use coll_table::{Table, load};
-use command_line::{Request, Task, Unasked, copied_text, copied_texts, read_words};
+use command_line::{Request, Task, Unasked, read_words};
 use files::{at_no_line, open_all};
+use std::alloc::{AllocError, Global};
 use std::env;
 use std::io::{BufWriter, ErrorKind, Stdout};
 use std::process::ExitCode;
@@ -46,16 +47,27 @@ fn obey(rt: &HostRuntime, request: Request<'_>) -> ExitCode
 {
     let Request { task, files } = request;
     let files = files.as_slice();
-    let Ok(names) = copied_texts(rt.alloc(), files) else {
+    let Ok(names) = copied_names(rt.alloc(), files) else {
         return tell_no_memory(rt);
     };
     match task {
-        Task::Batch(batch) => status(rt, run_on_files(rt, batch, files), names.get()),
+        Task::Batch(batch) => status(rt, run_on_files(rt, batch, files), names.as_slice()),
         Task::Session => match read_table(rt, files) {
             Ok(table) => serve(rt, table),
-            Err(fault) => tell_fault(rt, &fault, names.get()),
+            Err(fault) => tell_fault(rt, &fault, names.as_slice()),
         },
     }
+}
+
+// Names of files, in new memory.
+fn copied_names(alloc: Global, files: &[&str]) -> Result<Vec<String>, AllocError>
+    ensures { IfOk result (λ names. vec_len names ≡ length files.now) }
+{
+    let mut names = Vec::with_capacity(alloc, files.len())?;
+    for file in files {
+        names.push(String::from_str(alloc, file)?)?;
+    }
+    Ok(names)
 }
 
 // Runs a batch on the table and the delta files with these names, to standard output.
@@ -91,7 +103,7 @@ fn read_table(rt: &HostRuntime, files: &[&str]) -> Result<Table, RunFault>
 
 // Serves a session over a table, from standard input to standard output.
 fn serve(rt: &HostRuntime, table: Table) -> ExitCode {
-    let Ok(name) = copied_text(rt.alloc(), STANDARD_INPUT) else {
+    let Ok(name) = String::from_str(rt.alloc(), STANDARD_INPUT) else {
         return tell_no_memory(rt);
     };
     status(rt, serve_standard_input(rt, table), &[name])
@@ -102,16 +114,12 @@ fn serve_standard_input(rt: &HostRuntime, table: Table) -> Result<(), RunFault>
     ensures { IfErr result (λ fault. fault.input ≡ 0) }
 {
     let mut output = standard_output(rt)?;
-    match run_session(
+    run_session(
         rt.alloc(),
         table,
         &mut Counted::new(rt.stdin()),
         &mut output,
-    ) {
-        Ok(()) => Ok(()),
-        // A session has one input.
-        Err(ended) => Err(RunFault { input: 0, ..ended }),
-    }
+    )
 }
 
 // Standard output, with a buffer. A run flushes what it writes, and answers a write that fails; only after one does the
@@ -126,7 +134,7 @@ fn standard_output(rt: &HostRuntime) -> Result<Counted<BufWriter<Stdout>>, RunFa
 }
 
 // The exit status of a run, whose fault is told.
-fn status(rt: &HostRuntime, ran: Result<(), RunFault>, names: &[TextBuf]) -> ExitCode
+fn status(rt: &HostRuntime, ran: Result<(), RunFault>, names: &[String]) -> ExitCode
     requires { IfErr ran (λ fault. fault.input < length names.now) }
 {
     match ran {
@@ -136,7 +144,7 @@ fn status(rt: &HostRuntime, ran: Result<(), RunFault>, names: &[TextBuf]) -> Exi
 }
 
 // Tells a fault on standard error, and answers the exit status. Where the line can't be written, the status says what happened.
-fn tell_fault(rt: &HostRuntime, fault: &RunFault, names: &[TextBuf]) -> ExitCode
+fn tell_fault(rt: &HostRuntime, fault: &RunFault, names: &[String]) -> ExitCode
     requires { fault.now.input < length names.now }
 {
     let _ = write_fault(fault, names, &mut Counted::new(rt.stderr()));

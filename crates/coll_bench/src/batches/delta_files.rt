@@ -4,7 +4,8 @@
 //! that a file of any length is read in the memory of its longest block.
 
 ghost use Rattle.std.specs.Prelude.{◌≡◌, option_map, option_to_list, IfSome, IfErr, OnOk, Ok, None, Some};
-ghost use Rattle.coll_units.specs.DeltaReading.{delta_end};
+ghost use Rattle.coll_lex.specs.LineReading.{no_line};
+ghost use Rattle.coll_units.specs.DeltaReading.{delta_end, first_delta};
 ghost use Rattle.coll_syntax.specs.Proper.{IsProper};
 ghost use Rattle.coll_table.specs.Delta.{delta as delta_of};
 ghost use Rattle.coll_nodes.specs.TableLayout.{collation};
@@ -30,12 +31,47 @@ pub(crate) fn read_delta<R: Source>(
     ensures writes { IfErr result (λ ended. WritesNone ended) }
     ensures reads { CountsDelta (R.failed delta.old) (R.failed delta.new) result }
 {
-    let Ok(mut file) = DeltaReader::new(alloc) else {
-        return Err(no_memory(input));
-    };
-    let Ok(mut reader) = LineReader::new(alloc) else {
-        return Err(no_memory(input));
-    };
+    match DeltaReader::new(alloc) {
+        Ok(file) => read_text(alloc, input, table, file, delta),
+        Err(_) => Err(no_memory(input)),
+    }
+}
+
+// Rewrites a table by the text of a delta file, of which no line was handed in yet.
+fn read_text<R: Source>(
+    alloc: Global,
+    input: usize,
+    table: &mut Table,
+    file: DeltaReader,
+    delta: &mut R,
+) -> Result<(), RunFault>
+    requires { file ≡ first_delta }
+    ensures file { ReadsDelta input (collation table.old) (collation table.new) (R.left delta.old) (R.left delta.new) result }
+    ensures input { IfErr result (λ ended. ended.input ≡ input) }
+    ensures writes { IfErr result (λ ended. WritesNone ended) }
+    ensures reads { CountsDelta (R.failed delta.old) (R.failed delta.new) result }
+{
+    match LineReader::new(alloc) {
+        Ok(mut reader) => read_lines(input, table, file, &mut reader, delta),
+        Err(_) => Err(no_memory(input)),
+    }
+}
+
+// Rewrites a table by the lines of a delta file, of which none was read yet.
+fn read_lines<R: Source>(
+    input: usize,
+    table: &mut Table,
+    mut file: DeltaReader,
+    reader: &mut LineReader,
+    delta: &mut R,
+) -> Result<(), RunFault>
+    requires file { file ≡ first_delta }
+    requires reader { reader.old ≡ no_line }
+    ensures file { ReadsDelta input (collation table.old) (collation table.new) (R.left delta.old) (R.left delta.new) result }
+    ensures input { IfErr result (λ ended. ended.input ≡ input) }
+    ensures writes { IfErr result (λ ended. WritesNone ended) }
+    ensures reads { CountsDelta (R.failed delta.old) (R.failed delta.new) result }
+{
     'lines: loop {
         match reader.advance(delta) {
             Ok(true) => {

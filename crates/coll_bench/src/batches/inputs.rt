@@ -23,13 +23,12 @@ pub(crate) fn read_inputs<R: Source>(
     ensures writes { IfErr result (λ ended. WritesNone ended) }
     ensures reads { CountsInputs (R.failed table.old ∷ map R.failed deltas.old) (R.failed table.new ∷ map R.failed deltas.new) result }
 {
-    let mut first = match load(alloc, table) {
-        Ok(first) => first,
-        Err(fault) => return Err(table_fault(fault)),
-    };
-    match read_deltas(alloc, &mut first, deltas) {
-        Ok(()) => Ok(first),
-        Err(ended) => Err(ended),
+    match load(alloc, table) {
+        Ok(mut first) => match read_deltas(alloc, &mut first, deltas) {
+            Ok(()) => Ok(first),
+            Err(ended) => Err(ended),
+        },
+        Err(fault) => Err(table_fault(fault)),
     }
 }
 

@@ -64,10 +64,10 @@ fn write_listing<W: Sink>(alloc: Global, table: &Table, out: &mut W) -> Result<(
     ensures sent { Outputs (W.taken out.old) (W.taken out.new) (compiled_listing (collation table.now)) result }
     ensures errors { CountsOutput (W.failed out.old) (W.failed out.new) result }
 {
-    let Ok(ranks) = Ranks::new(alloc, table) else {
-        return Err(no_memory());
-    };
-    written(write_compiled(table, &ranks, out))
+    match Ranks::new(alloc, table) {
+        Ok(ranks) => written(write_compiled(table, &ranks, out)),
+        Err(_) => Err(no_memory()),
+    }
 }
 
 // Writes the sort keys of texts, one a line.
@@ -81,10 +81,10 @@ fn write_keys<W: Sink>(
     ensures sent { Outputs (W.taken out.old) (W.taken out.new) (flat_map (key_line (collation table.now)) texts.now) result }
     ensures errors { CountsOutput (W.failed out.old) (W.failed out.new) result }
 {
-    let Ok(ranks) = Ranks::new(alloc, table) else {
-        return Err(no_memory());
-    };
-    write_each_key(alloc, texts, table, &ranks, out)
+    match Ranks::new(alloc, table) {
+        Ok(ranks) => write_each_key(alloc, texts, table, &ranks, out),
+        Err(_) => Err(no_memory()),
+    }
 }
 
 // Writes the sort keys of texts, by the ranks of the table.
@@ -139,10 +139,10 @@ fn write_comparison<W: Sink>(
     ensures sent { Outputs (W.taken out.old) (W.taken out.new) (order_word (order_of (collation table.now) first.now second.now) ++ 10 ∷ []) result }
     ensures errors { CountsOutput (W.failed out.old) (W.failed out.new) result }
 {
-    let Ok(ranks) = Ranks::new(alloc, table) else {
-        return Err(no_memory());
-    };
-    write_order_by(alloc, first, second, table, &ranks, out)
+    match Ranks::new(alloc, table) {
+        Ok(ranks) => write_order_by(alloc, first, second, table, &ranks, out),
+        Err(_) => Err(no_memory()),
+    }
 }
 
 // Writes the order of two texts, by the ranks of the table.

@@ -1,12 +1,12 @@
 //! Batches whose inputs fail to be read, or whose output fails to be written.
 
 use super::runs::{MOVED, assert_told};
-use super::{DELTA_FILE, FailedRead, NONE_FAILS, input_texts, run, status, text_bufs};
+use super::{DELTA_FILE, FailedRead, NONE_FAILS, input_texts, run, status, strings};
 use crate::assertions::{assert_same, assert_text};
 use crate::devices::NarrowWriter;
 use crate::tables::examples::BASE_TABLE;
 use coll_bench::{Batch, Fault, RunFault, write_fault};
-use coll_lex::{Counted, LexFault, TextBuf, WriteStop};
+use coll_lex::{Counted, LexFault, WriteStop};
 use std::alloc::Global;
 use std::process::Abort;
 
@@ -67,7 +67,7 @@ const LONG_LINE: RunFault = RunFault {
     fault: Fault::Lex(LexFault::LineTooLong),
 };
 
-fn assert_line_cut(rt: &impl Abort, alloc: Global, names: &[TextBuf]) {
+fn assert_line_cut(rt: &impl Abort, alloc: Global, names: &[String]) {
     let mut output = Counted::new(NarrowWriter::new(alloc, 6, true));
     assert!(rt; names.len() == 1, "one name");
     let answer = write_fault(&LONG_LINE, names, &mut output);
@@ -78,6 +78,6 @@ fn assert_line_cut(rt: &impl Abort, alloc: Global, names: &[TextBuf]) {
 
 #[test]
 fn a_device_that_is_full_leaves_a_front_of_the_line_of_a_fault(rt: HostRuntime) {
-    let names = text_bufs(rt.alloc(), &["-"]).expect(&rt, "a name");
-    assert_line_cut(&rt, rt.alloc(), names.get());
+    let names = strings(rt.alloc(), &["-"]).expect(&rt, "a name");
+    assert_line_cut(&rt, rt.alloc(), names.as_slice());
 }

@@ -1,5 +1,5 @@
 -- The last record that was undone is given up first, and its nodes are none of the others'.
-use Rattle.std.proofs.Common.{◌≡◌, reverse, sym, ap, ◌∙◌, subst, refl}
+use Rattle.std.proofs.Common.{reverse, sym, ap, ◌∙◌, subst, refl}
 use Rattle.coll_bench.specs.Kept.{added_by_all}
 use Rattle.coll_table.specs.Record.{AreLoose, Extends, dropped_nodes}
 use Rattle.coll_nodes.specs.TableLayout.{TableValue}

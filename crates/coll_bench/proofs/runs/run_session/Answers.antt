@@ -1,89 +1,11 @@
--- The run of a session: it begins, goes on by a line, and ends in one of the ways in which a run can.
-use Rattle.std.proofs.Common.{◌≡◌, refl, sym, ap, ◌∙◌, subst}
-use Rattle.std.proofs.Common.{ℕ, List}
-use Rattle.std.specs.Prelude.{◌==◌, if◌then◌else◌}
-use Rattle.coll_lex.specs.Devices.{raised}
-use Rattle.coll_lex.specs.PhysicalLines.{IsInLine}
-use Rattle.coll_lex.specs.LineReading.{ReaderState, Cuts, unread}
+-- A run begins, unless memory is refused.
 use Rattle.coll_nodes.specs.TableLayout.{collation}
-use Rattle.coll_bench.specs.Faults.{fault_number}
-use Rattle.coll_bench.proofs.ServingLemmas.{counts_after}
-use Rattle.coll_bench.proofs.RunSteps.{underway_begun, underway_on, unread_begun, gives_line, gives_end, count_at_end, stops_now, reads_kept}
-use Rattle.coll_bench.proofs.RunExits.{line_ended, cut_off_ended, text_ended, never_begun}
+use Rattle.coll_bench.proofs.RunExits.{never_begun}
 use Rattle.coll_bench.proofs.runs.run_session.Goals as goal
 
-pub returns-in_default-clause-run : goal.returns-in_default-clause-run
-returns-in_default-clause-run g c text before left_is taken_is =
-    never_begun (collation c.args.table) text before (g.R.Source.left c.args.input.now) (g.W.Sink.taken c.args.output.now) c.no_memory.result c.no_memory.ensures left_is taken_is
-
-pub returns-in_default-new-clause-run : goal.returns-in_default-new-clause-run
-returns-in_default-new-clause-run g c text before left_is taken_is =
-    never_begun (collation c.args.table) text before (g.R.Source.left c.args.input.now) (g.W.Sink.taken c.args.output.now) c.no_memory-in_default-new.result c.no_memory-in_default-new.ensures left_is taken_is
-
-pub lines-init : goal.lines-init
-lines-init g c = record {
-  going = ap (λ (r : ReaderState). r.stop) c.in-Ok.ensures;
-  reads = refl;
-  writes = refl;
-  underway = λ text before left_is taken_is.
-      underway_begun (collation c.args.table) text before c.in-Ok.reader.ended (unread c.in-Ok.reader (g.R.Source.left c.args.input.now)) (g.W.Sink.taken c.args.output.now) c.in-Ok-new.desk c.in-Ok-new.ensures
-      (ap (λ (r : ReaderState). r.ended) c.in-Ok.ensures) (unread_begun c.in-Ok.reader (g.R.Source.left c.args.input.now) text c.in-Ok.ensures left_is) taken_is;
-}
-
-pub returns-in-Err-serve-clause-run : goal.returns-in-Err-serve-clause-run
-returns-in-Err-serve-clause-run g c text before left_is taken_is =
-    let left = g.R.Source.left in
-    let taken = g.W.Sink.taken in
-    let line = gives_line c.lines.reader c.advance.new.self (left c.lines.input) (left c.advance.new.input) (g.R.Source.failed c.lines.input) (g.R.Source.failed c.advance.new.input) c.in-Ok-true.field-0 c.in-Ok-true.ensures c.in-Ok-true.field-0-test in
-    line_ended (collation c.args.table) text before (left c.advance.new.input) c.lines.reader.ended c.advance.new.self.ended (unread c.lines.reader (left c.lines.input)) (unread c.advance.new.self (left c.advance.new.input)) (taken c.lines.output) (taken c.serve.new.output)
-    c.lines.desk c.line.result.now c.in-Err-serve.ended (c.lines.invariant.underway text before left_is taken_is) line.not_ended
-    (subst (λ (l : List ℕ). Cuts c.advance.new.self.ended (unread c.lines.reader (left c.lines.input)) (unread c.advance.new.self (left c.advance.new.input)) l) (sym c.line.ensures) line.cut)
-    (subst (λ (l : List ℕ). IsInLine l) (sym c.line.ensures) line.whole) c.in-Err-serve.ensures.served
-
-pub lines-preserved : goal.lines-preserved
-lines-preserved g c =
-    let left = g.R.Source.left in
-    let taken = g.W.Sink.taken in
-    let line = gives_line c.lines.reader c.advance.new.self (left c.lines.input) (left c.advance.new.input) (g.R.Source.failed c.lines.input) (g.R.Source.failed c.advance.new.input) c.in-Ok-true.field-0 c.in-Ok-true.ensures c.in-Ok-true.field-0-test in
-    record {
-      going = line.stop;
-      reads = line.count ∙ c.lines.invariant.reads;
-      writes = c.in_default-serve.ensures.errors ∙ c.lines.invariant.writes;
-      underway = λ text before left_is taken_is.
-          underway_on (collation c.args.table) text before c.lines.reader.ended c.advance.new.self.ended (unread c.lines.reader (left c.lines.input)) (unread c.advance.new.self (left c.advance.new.input)) (taken c.lines.output) (taken c.serve.new.output) c.lines.desk c.serve.new.self c.line.result.now
-          (c.lines.invariant.underway text before left_is taken_is) line.not_ended
-          (subst (λ (l : List ℕ). Cuts c.advance.new.self.ended (unread c.lines.reader (left c.lines.input)) (unread c.advance.new.self (left c.advance.new.input)) l) (sym c.line.ensures) line.cut)
-          (subst (λ (l : List ℕ). IsInLine l) (sym c.line.ensures) line.whole) c.in_default-serve.ensures.served;
-    }
-
-pub returns-in-Ok-false-clause-run : goal.returns-in-Ok-false-clause-run
-returns-in-Ok-false-clause-run g c text before left_is taken_is =
-    let left = g.R.Source.left in
-    let taken = g.W.Sink.taken in
-    let end = gives_end c.lines.reader c.advance.new.self (left c.lines.input) (left c.advance.new.input) (g.R.Source.failed c.lines.input) (g.R.Source.failed c.advance.new.input) c.in-Ok-false.field-0 c.in-Ok-false.ensures c.in-Ok-false.field-0-test in
-    text_ended (collation c.args.table) text before c.lines.reader c.advance.new.self (left c.lines.input) (left c.advance.new.input) (taken c.lines.output) (taken c.finish.new.output) (g.R.Source.failed c.lines.input) (g.R.Source.failed c.advance.new.input)
-    c.lines.desk c.finish.result (c.lines.invariant.underway text before left_is taken_is) end c.finish.ensures.ended
-
-pub returns-in-Ok-false-clause-reads : goal.returns-in-Ok-false-clause-reads
-returns-in-Ok-false-clause-reads g c =
-    let left = g.R.Source.left in
-    let failed = g.R.Source.failed in
-    let end = gives_end c.lines.reader c.advance.new.self (left c.lines.input) (left c.advance.new.input) (failed c.lines.input) (failed c.advance.new.input) c.in-Ok-false.field-0 c.in-Ok-false.ensures c.in-Ok-false.field-0-test in
-    reads_kept (failed c.args.input.now) (failed c.lines.input) (failed c.advance.new.input) c.finish.result c.lines.invariant.reads (count_at_end c.lines.reader c.advance.new.self (left c.lines.input) (left c.advance.new.input) (failed c.lines.input) (failed c.advance.new.input) end) c.finish.ensures.reads
+pub returns-in-Ok-clause-run : goal.returns-in-Ok-clause-run
+returns-in-Ok-clause-run g c = c.serve_text.ensures.run (collation c.args.table) c.in-Ok.ensures
 
 pub returns-in-Err-clause-run : goal.returns-in-Err-clause-run
 returns-in-Err-clause-run g c text before left_is taken_is =
-    let left = g.R.Source.left in
-    let taken = g.W.Sink.taken in
-    let failed = g.R.Source.failed in
-    let stop = stops_now c.lines.reader c.advance.new.self (left c.lines.input) (left c.advance.new.input) (failed c.lines.input) (failed c.advance.new.input) c.in-Err.stop c.in-Err.ensures c.lines.invariant.going in
-    cut_off_ended (collation c.args.table) text before c.lines.reader c.advance.new.self (left c.lines.input) (left c.advance.new.input) (taken c.lines.output) (taken c.cut_off.new.output) (failed c.lines.input) (failed c.advance.new.input)
-    c.lines.desk c.in-Err.stop c.cut_off.result stop (c.lines.invariant.underway text before left_is taken_is) c.cut_off.ensures.ended
-
-pub returns-in-Err-clause-reads : goal.returns-in-Err-clause-reads
-returns-in-Err-clause-reads g c =
-    let left = g.R.Source.left in
-    let failed = g.R.Source.failed in
-    let stop = stops_now c.lines.reader c.advance.new.self (left c.lines.input) (left c.advance.new.input) (failed c.lines.input) (failed c.advance.new.input) c.in-Err.stop c.in-Err.ensures c.lines.invariant.going in
-    subst (λ (f : ℕ). failed c.advance.new.input ≡ (if fault_number c.cut_off.result.fault == 67 then raised f else f)) c.lines.invariant.reads
-    (counts_after (failed c.lines.input) (failed c.advance.new.input) c.in-Err.stop c.cut_off.result stop.count c.cut_off.ensures.reads)
+    never_begun (collation c.args.table) text before (g.R.Source.left c.args.input.now) (g.W.Sink.taken c.args.output.now) c.no_memory.result c.no_memory.ensures left_is taken_is

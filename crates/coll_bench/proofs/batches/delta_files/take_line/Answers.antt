@@ -1,5 +1,5 @@
 -- Where the fault of a line comes from: its reader, its statement, or what stands behind that.
-use Rattle.std.proofs.Common.{◌≡◌, None, Some, subst, sym, ◌∙◌}
+use Rattle.std.proofs.Common.{None, subst, sym, ◌∙◌}
 use Rattle.std.specs.Prelude.{option_to_list}
 use Rattle.coll_nodes.specs.TableLayout.{collation}
 use Rattle.coll_bench.specs.BatchReading.{FailsAs, line_taken}

@@ -1,5 +1,5 @@
 -- Each delta file gives a table, or is at fault.
-use Rattle.std.proofs.Common.{◌≡◌, ◌+◌, ℕ, List, Option, map, drop, Err, refl, sym, ap, subst, arith, ◌∙◌}
+use Rattle.std.proofs.Common.{map, Err, refl, sym, ap, subst, arith, ◌∙◌}
 use Rattle.std.specs.Prelude.{slice_get, slice_set}
 use Rattle.coll_nodes.specs.TableLayout.{collation}
 use Rattle.coll_bench.specs.BatchReading.{CountsDelta}

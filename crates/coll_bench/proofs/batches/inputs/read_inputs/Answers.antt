@@ -1,9 +1,6 @@
 -- The table, and then the delta files behind it.
-use Rattle.std.proofs.Common.{◌≡◌, List, ℕ, map, ◌∙◌, sym, subst}
-use Rattle.coll_nodes.specs.TableLayout.{TableValue, collation}
-use Rattle.coll_bench.specs.BatchReading.{ReadsInputs}
-use Rattle.coll_bench.specs.declared.faults.RunFault.{RunFault}
-use Rattle.std.specs.Prelude.{Result, Err}
+use Rattle.std.proofs.Common.{map, ◌∙◌}
+use Rattle.coll_nodes.specs.TableLayout.{collation}
 use Rattle.coll_bench.proofs.RunCases.{sound_table, load_fails, deltas_fail}
 use Rattle.coll_bench.proofs.batches.inputs.read_inputs.Goals as goal
 

@@ -1,6 +1,6 @@
 -- A redo turns the record of the next statement, which leads on to the table that the statement gives.
-use Rattle.std.proofs.Common.{◌≡◌, ℕ, Ok, Err, refl, subst, sym, ap, ◌∙◌, List, [], ◌∷◌, ◌++◌, reverse, arith}
-use Rattle.coll_bench.specs.Histories.{History, SessionValue, put_again, redo_steps}
+use Rattle.std.proofs.Common.{◌≡◌, Ok, Err, refl, subst, sym, ap, ◌∙◌, List, [], ◌∷◌, ◌++◌, reverse, arith}
+use Rattle.coll_bench.specs.Histories.{SessionValue, put_again, redo_steps}
 use Rattle.coll_bench.specs.Kept.{Leads, LeadsOn, history_of, uncounted}
 use Rattle.coll_table.specs.Record.{more_steps}
 use Rattle.coll_bench.specs.declared.faults.BenchFault.TheVariants.{NothingToRedo}

@@ -1,7 +1,7 @@
 -- A statement is judged by the table that is kept, which is the replay of what remains; its record leads back to that table.
 use Rattle.std.proofs.Common.{◌≡◌, List, [], ◌∷◌, ◌++◌, reverse, Ok, Err, sym, ap, ◌∙◌, subst, arith}
 use Rattle.coll_table.specs.Delta.{delta}
-use Rattle.coll_bench.specs.Histories.{History, SessionValue, judged}
+use Rattle.coll_bench.specs.Histories.{SessionValue, judged}
 use Rattle.coll_bench.specs.Kept.{added_by_all, history_of, uncounted, Leads}
 use Rattle.coll_table.specs.Record.{AreLoose}
 use Rattle.coll_nodes.specs.Table.{Collation}
@@ -10,7 +10,7 @@ use Rattle.coll_bench.specs.declared.faults.BenchFault.TheVariants.{Table, Histo
 use Rattle.coll_bench.specs.declared.histories.Kept.{Kept}
 use Rattle.coll_bench.proofs.GivenUp.{undone_loose, loose_kept}
 use Rattle.coll_bench.proofs.HistoryLemmas.{replayed, judged_full, judged_refused, judged_accepted, history_with, LeadsOn_none, length-remaining}
-use Rattle.coll_bench.proofs.HistorySteps.{accepts, collation_uncounted, leads_with, table_uncounted, Accepts, LeadsWith}
+use Rattle.coll_bench.proofs.HistorySteps.{accepts, collation_uncounted, leads_with, table_uncounted, Accepts}
 use Rattle.coll_bench.proofs.histories.Session.statement.Goals as goal
 
 pub returns-then-len-ge-MOST_REMAINING-clause-refused : goal.returns-then-len-ge-MOST_REMAINING-clause-refused

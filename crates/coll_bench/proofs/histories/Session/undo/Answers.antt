@@ -1,9 +1,8 @@
 -- An undo turns the last record, which leads back to the table before its statement.
-use Rattle.std.proofs.Common.{◌≡◌, ℕ, Ok, Err, refl, subst, sym, ap, ◌∙◌, List, [], ◌∷◌, ◌++◌, reverse, arith}
-use Rattle.coll_bench.specs.Histories.{History, SessionValue, taken_back, undo_steps}
+use Rattle.std.proofs.Common.{◌≡◌, Ok, Err, refl, subst, sym, ap, ◌∙◌, List, [], ◌∷◌, ◌++◌, reverse, arith}
+use Rattle.coll_bench.specs.Histories.{SessionValue, taken_back, undo_steps}
 use Rattle.coll_bench.specs.Kept.{Leads, LeadsOn, history_of, uncounted}
 use Rattle.coll_table.specs.Record.{more_steps}
-use Rattle.coll_table.specs.RecordLaws.{RecordsTurnBack}
 use Rattle.coll_bench.specs.declared.faults.BenchFault.TheVariants.{NothingToUndo}
 use Rattle.coll_bench.specs.declared.histories.Kept.{Kept}
 use Rattle.coll_bench.proofs.HistoryLemmas.{nothing_left, taken_back_none, Leads-last}

@@ -3,7 +3,7 @@ use Rattle.std.proofs.Common.{◌≡◌, ◌-◌, false, None}
 use Rattle.coll_lex.specs.Limits.{most_lines}
 use Rattle.coll_nodes.specs.TableLayout.{collation}
 use Rattle.coll_bench.proofs.DeltaTexts.{OnWay}
-use Rattle.coll_bench.proofs.batches.delta_files.read_delta.Given as goal
+use Rattle.coll_bench.proofs.batches.delta_files.read_lines.Given as goal
 
 abbrev pub invariant-lines : goal.invariant-lines
 invariant-lines g l = record {

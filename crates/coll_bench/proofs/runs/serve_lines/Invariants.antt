@@ -1,0 +1,21 @@
+-- What was read and written so far, and what was counted; each line is one of the most lines that a text may have.
+use Rattle.std.proofs.Common.{◌≡◌, ℕ, ◌-◌, List, Some, None}
+use Rattle.coll_lex.specs.LineReading.{unread}
+use Rattle.coll_lex.specs.Limits.{most_lines}
+use Rattle.coll_nodes.specs.Table.{Collation}
+use Rattle.coll_bench.specs.Serving.{IsBegun}
+use Rattle.coll_bench.specs.Underway.{Underway}
+use Rattle.coll_bench.proofs.runs.serve_lines.Given as goal
+
+abbrev pub decreases-lines : goal.decreases-lines
+decreases-lines g l = most_lines - l.desk.listener.count
+
+abbrev pub invariant-lines : goal.invariant-lines
+invariant-lines g l =
+    record {
+      going : l.reader.stop ≡ None;
+      reads : g.R.Source.failed l.input ≡ g.R.Source.failed l.initial.input;
+      writes : g.W.Sink.failed l.output ≡ g.W.Sink.failed l.initial.output;
+      underway : (table : Collation) (text before : List ℕ) → IsBegun l.initial.desk table → g.R.Source.left l.initial.input ≡ Some text → g.W.Sink.taken l.initial.output ≡ Some before
+          → Underway table text before l.reader.ended (unread l.reader (g.R.Source.left l.input)) (g.W.Sink.taken l.output) l.desk;
+    }
