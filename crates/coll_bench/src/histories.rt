@@ -184,7 +184,13 @@ impl Session {
         ensures table { collation result.now ≡ table_now self.now.history }
         ensures steps { result.now.steps ≡ self.now.steps }
     {
-        &self.table
+        // Each field is named, so that a session that keeps more is refused here.
+        let Session {
+            table,
+            remaining: _,
+            undone: _,
+        } = self;
+        table
     }
 }
 

@@ -1,8 +1,9 @@
 //! The run of a session: the lines of a source are served one by one, and their replies go to a sink.
 //!
-//! `run_session` carries the theorem of the session: what is written is the stated function of what is read. Its loop
-//! hands one physical line after another to a `Desk`, and its lemmas put together what each line does, over all that may
-//! come later.
+//! `run_session` carries the theorem of the session: what is written is the stated function of what is read. It makes the
+//! `Desk`, `serve_text` the reader, and the loop of `serve_lines` hands one physical line after another to the desk; its
+//! lemmas put together what each line does, over all that may come later. The desk and the reader are each dropped in one
+//! place, since a check pays for each field of a value at each place that drops it.
 
 ghost use Rattle.std.specs.Prelude.{◌≡◌, IfErr};
 ghost use Rattle.coll_lex.specs.LineReading.{no_line};
