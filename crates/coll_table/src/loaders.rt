@@ -1,9 +1,9 @@
 //! A table text, handed in line by line.
 //!
-//! A `Loader` stores what the next line is judged by (`LoaderState` of coll_draft, `specs/Loading.antt`), and each call is the definition
-//! applied to what is stored and the line handed in. It joins a lexer and a draft: what a line is belongs to the first, and
-//! what it means to the second; here lines are passed on, and faults get the number of their line. A fault is stored where it
-//! is met, in `line` alone.
+//! A `Loader` stores what the next line is judged by (`LoaderState` of coll_draft, `specs/Loading.antt`), and each call is the
+//! definition applied to what is stored and the line handed in. It joins a lexer and a draft: what a line is belongs to the
+//! first, and what it means to the second; here lines are passed on, and faults get the number of their line. A fault is stored
+//! where it is met, in `line` alone.
 
 ghost use Rattle.std.specs.Prelude.{◌≡◌, ◌≢◌, false, None, Ok, Err, Some, IsTrue, IfOk, IfErr, OnOk, OnErr};
 ghost use Rattle.coll_lex.specs.LogicalLines.{number_of, fed, outside, takes_memory};

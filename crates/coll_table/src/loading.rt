@@ -1,8 +1,8 @@
 //! A table text is read from a device, and made into a table.
 //!
-//! The answer is `reads` of coll_draft, `specs/Reading.antt`: the lines up to the category are looked at alone, those of the category
-//! as logical lines, each judged from the lines accepted before it, and the first line at fault decides. The lines come
-//! from a reader of physical lines, and a `Loader` takes them. A new cause of a refused load is a case of `reads` first.
+//! The answer is `reads` of coll_draft, `specs/Reading.antt`: the lines up to the category are looked at alone, those of the
+//! category as logical lines, each judged from the lines accepted before it, and the first line at fault decides. The lines
+//! come from a reader of physical lines, and a `Loader` takes them. A new cause of a refused load is a case of `reads` first.
 
 ghost use Rattle.std.specs.Prelude.{◌≡◌, IfOk};
 ghost use Rattle.coll_table.specs.Loads.{Loads, CountsFault, stop_fault};

@@ -1,8 +1,7 @@
 //! Tables.
 //!
-//! A `Table` has its rules and a body of nodes in rings. Contracts see a `TableValue`, and read it through
-//! `collation`, which is the table that the layout stands for (`specs/TableLayout.antt` of coll_nodes); every table is well formed
-//! (`specs/WellFormed.antt` there).
+//! A `Table` has its rules and a body of nodes in rings. Contracts see a `TableValue` of coll_nodes, `specs/TableLayout.antt`, and
+//! read it through `collation`, which is the table that the layout stands for; every table is well formed (`WellFormed` there).
 //! What is read here takes no memory. How a body holds its nodes may change without a clause here.
 
 ghost use Rattle.std.specs.Prelude.{◌≡◌, length, option_copied, IfOk};
