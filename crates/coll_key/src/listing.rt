@@ -20,6 +20,7 @@ ghost use Rattle.coll_key.specs.Ranks.{AreRanksOf};
 
 use crate::ranks::Ranks;
 use coll_lex::{Sink, WriteStop, write_bytes, write_char};
+use coll_print::{write_rule, write_text};
 use coll_syntax::{Id, Rule, Weight};
 use coll_table::{Entry, Table, Walk, WalkItem};
 use itoa::Buffer;
@@ -222,7 +223,7 @@ fn write_string<W: Sink>(out: &mut W, ranks: &Ranks, name: &str) -> Result<(), W
     ensures errors { CountsErr (W.failed out.old) (W.failed out.new) result }
 {
     match ranks.string(name) {
-        Some(text) => write_characters(out, text.get()),
+        Some(text) => write_text(out, text.get()),
         None => Ok(()),
     }
 }
@@ -285,19 +286,6 @@ fn write_rule_ended<W: Sink>(out: &mut W, rule: Rule) -> Result<(), WriteStop>
     write_bytes(out, b"\n")
 }
 
-// Writes a rule.
-fn write_rule<W: Sink>(out: &mut W, rule: Rule) -> Result<(), WriteStop>
-    ensures sent { Sends (W.taken out.old) (W.taken out.new) (encode_utf8_all (spelled_rule rule [])) result }
-    ensures errors { CountsErr (W.failed out.old) (W.failed out.new) result }
-{
-    match (rule.backward, rule.position) {
-        (false, false) => write_bytes(out, b"forward"),
-        (false, true) => write_bytes(out, b"forward,position"),
-        (true, false) => write_bytes(out, b"backward"),
-        (true, true) => write_bytes(out, b"backward,position"),
-    }
-}
-
 // Writes the words of a weight and the end of its level.
 fn write_level<W: Sink>(
     out: &mut W,
@@ -357,17 +345,4 @@ fn write_number<W: Sink>(out: &mut W, number: u64) -> Result<(), WriteStop>
 {
     let mut digits = Buffer::new();
     write_bytes(out, digits.format(number).as_bytes())
-}
-
-// Writes each character by its code point.
-fn write_characters<W: Sink>(out: &mut W, text: &str) -> Result<(), WriteStop>
-    ensures sent { Sends (W.taken out.old) (W.taken out.new) (flat_map char_bytes (chars text.now)) result }
-    ensures errors { CountsErr (W.failed out.old) (W.failed out.new) result }
-{
-    for c in text.chars() {
-        if let Err(stop) = write_char(out, c) {
-            return Err(stop);
-        }
-    }
-    Ok(())
 }

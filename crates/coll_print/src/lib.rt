@@ -12,4 +12,4 @@ mod spelled_lines;
 
 pub use canonical_lists::{printed_tables_are_read_back, write_declarations, write_walk};
 pub use spelled_entries::write_id;
-pub use spelled_lines::write_rules_line;
+pub use spelled_lines::{write_rule, write_rules_line, write_text};

@@ -97,8 +97,8 @@ fn write_text_ended<W: Sink>(out: &mut W, text: &str) -> Result<(), WriteStop>
     write_bytes(out, b"\"\n")
 }
 
-// Writes each character by its code point.
-fn write_text<W: Sink>(out: &mut W, text: &str) -> Result<(), WriteStop>
+/// Writes each character of a text by its code point.
+pub fn write_text<W: Sink>(out: &mut W, text: &str) -> Result<(), WriteStop>
     ensures sent { Sends (W.taken out.old) (W.taken out.new) (flat_map char_bytes (chars text.now)) result }
     ensures errors { CountsErr (W.failed out.old) (W.failed out.new) result }
 {
@@ -162,8 +162,8 @@ fn write_rule_behind<W: Sink>(out: &mut W, rule: Rule) -> Result<(), WriteStop>
     write_rule(out, rule)
 }
 
-// Writes a rule.
-fn write_rule<W: Sink>(out: &mut W, rule: Rule) -> Result<(), WriteStop>
+/// Writes a rule: its direction, and `position` where it has that.
+pub fn write_rule<W: Sink>(out: &mut W, rule: Rule) -> Result<(), WriteStop>
     ensures sent { Sends (W.taken out.old) (W.taken out.new) (encode_utf8_all (spelled_rule rule [])) result }
     ensures errors { CountsErr (W.failed out.old) (W.failed out.new) result }
 {
