@@ -10,7 +10,7 @@ use Rattle.coll_lex.proofs.LineSteps.{logical_lines-nil}
 use Rattle.coll_lex.proofs.LineEnds.{fed-too_long}
 use Rattle.coll_table.specs.Delta.{delta}
 use Rattle.coll_nodes.specs.Table.{Collation}
-use Rattle.coll_table.proofs.LineCounts.{outside_too_long}
+use Rattle.coll_lex.proofs.OutsideLines.{outside-too_long}
 use Rattle.coll_units.specs.Hearing.{heard_in, heard_by}
 use Rattle.coll_units.specs.SessionLines.{opening_of, delta_file_heard}
 use Rattle.coll_units.specs.Units.{BlockLines}
@@ -126,7 +126,7 @@ module _ (input : ℕ) where
     long_by : (line : List ℕ) → most_line_bytes < length line → (ended begun : Bool) → ended ≡ false → (if ended then Ok ([], s) else (if begun then by_physical s line else by_outside s (outside s.lexer line))) ≡ Err long_fault
     long_by line long true begun e = absurd (false≢true (sym e))
     long_by line long false true e = long_physical line long
-    long_by line long false false e = ap (by_outside s) (outside_too_long s.lexer line long)
+    long_by line long false false e = ap (by_outside s) (outside-too_long s.lexer line long)
 
     -- a line that is longer than a line may be is at fault
     pub long_line : (line : List ℕ) → most_line_bytes < length line → s.ended ≡ false → line_taken input table s line ≡ Err (delta_fault_in input long_fault)

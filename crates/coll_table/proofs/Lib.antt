@@ -17,7 +17,6 @@ pub mod ItemWeights
 pub mod ItemsDone
 pub mod KeyReads
 pub mod LineCauses
-pub mod LineCounts
 pub mod LineMemory
 pub mod LinesRead
 pub mod LoadEnds

@@ -1,12 +1,14 @@
 -- What the lines that are still to come decide, from where a loader stands: each line that is handed in leaves it as it is.
-use Rattle.std.proofs.Common.{◌≡◌, ◌≢◌, ℕ, ◌+◌, ◌<◌, ◌≤◌, Bool, true, false, if◌then◌else◌, List, [], ◌∷◌, ◌++◌, min, Option, Some, None, Result, Ok, Err, sym, ap, subst, ◌∙◌, refl, arith}
+use Rattle.std.proofs.Common.{◌≡◌, ℕ, ◌≤◌, Bool, true, false, if◌then◌else◌, List, [], ◌∷◌, ◌++◌, Option, Some, None, Result, Ok, Err, sym, ap, subst, ◌∙◌, refl, arith}
 use Rattle.std.proofs.lemmas.Bool.{false≢true}
 use Rattle.coll_lex.specs.LogicalLines.{LexerState, LogicalLine, number_of, fed, outside, logical_lines}
 use Rattle.coll_lex.specs.Limits.{most_lines}
 use Rattle.coll_lex.specs.declared.tokens.Line.{Line}
 use Rattle.coll_lex.specs.declared.faults.LexFault.{LexFault}
 use Rattle.coll_lex.proofs.LineSteps.{logical_lines-none, logical_lines-whole, logical_lines-fault}
-use Rattle.coll_lex.proofs.LineEnds.{fed-count, fed-room}
+pub use Rattle.coll_lex.proofs.LineEnds.{CountsOne}
+use Rattle.coll_lex.proofs.LineEnds.{fed-one}
+use Rattle.coll_lex.proofs.OutsideLines.{outside-one, outside-closed}
 use Rattle.coll_syntax.specs.TableLines.{table_line}
 use Rattle.coll_syntax.specs.declared.lines.TableLine.{TableLine}
 use Rattle.coll_syntax.specs.declared.syntax_faults.SyntaxFault.{SyntaxFault}
@@ -17,7 +19,6 @@ use Rattle.coll_draft.specs.declared.load_faults.LoadFault.{LoadFault}
 use Rattle.coll_draft.specs.declared.load_faults.LoadCause.TheVariants.{Lex, NoCategory, NoEnd}
 use Rattle.coll_draft.proofs.DraftSteps.{draft_more}
 use Rattle.coll_draft.proofs.EndedDrafts.{unchanged_at_end}
-use Rattle.coll_table.proofs.LineCounts.{outside_count, outside_room}
 
 -- The definition of reading, one line on.
 
@@ -69,10 +70,6 @@ pub record StandsAfter (before : List Numbered) (s : LoaderState) : Type 0 where
   pub closed : s.begun ≡ false → s.lexer.line ≡ None
   pub few : s.lexer.count ≤ most_lines
 
--- one physical line more was handed to the lexer, which takes no more than the most lines of a text
-abbrev pub CountsOne : LexerState → LexerState → Type 0
-CountsOne old new = (old.count < most_lines) × (new.count ≡ old.count + 1)
-
 -- a line was taken, and what the later ones decide is what it decides with them
 pub record LeadsOn (before : List Numbered) (s : LoaderState) (taken : List ℕ) (after : LoaderState) : Type 0 where
   pub next : List Numbered
@@ -99,12 +96,6 @@ from_within ends before s lines e f = rw e (rw f refl)
 pub from_before : (ends : Bool) (before : List Numbered) (s : LoaderState) (lines : List (List ℕ)) → s.ended ≡ false → s.begun ≡ false → outcome_from ends before s lines ≡ outcome_before ends s.lexer lines
 from_before ends before s lines e f = rw e (rw f refl)
 
--- what is counted of a line that is taken
-counts_one : (old new : LexerState) → new.count ≡ min (old.count + 1) most_lines → old.count ≤ most_lines → (old.count ≡ most_lines → ⊥) → CountsOne old new
-counts_one old new a few room =
-    let ne : old.count ≢ most_lines = room in
-    (omega arith, omega arith)
-
 -- One line more.
 
 module _ (before : List Numbered) (s : LoaderState) (taken : List ℕ) (stands : StandsAfter before s) where
@@ -122,12 +113,12 @@ module _ (before : List Numbered) (s : LoaderState) (taken : List ℕ) (stands :
     -- before the category
     judged_outside : (r : Result (Bool × LexerState) LexFault) → s.begun ≡ false → outside s.lexer taken ≡ r → Judged before s taken (by_outside s r)
     judged_outside (Ok (true, after)) none e =
-        let count = outside_count s.lexer after taken true e in
+        let counts = outside-one s.lexer after taken true e stands.few in
         record {
           next = before;
-          stands = record { said = stands.said; faultless = stands.faultless; none_before = λ n. absurd (false≢true (sym n)); closed = λ n. absurd (false≢true (sym n)); few = omega (arith, count.0) };
+          stands = record { said = stands.said; faultless = stands.faultless; none_before = λ n. absurd (false≢true (sym n)); closed = λ n. absurd (false≢true (sym n)); few = omega (arith, counts.0, counts.1) };
           went_on = λ n. going;
-          counts = λ n. counts_one s.lexer after count.0 stands.few (outside_room s.lexer after taken true e);
+          counts = λ n. counts;
           decides = λ ends lines.
               from_before ends before s (taken ∷ lines) going none
               ∙ (outcome_before-found ends s.lexer after taken lines e
@@ -135,12 +126,12 @@ module _ (before : List Numbered) (s : LoaderState) (taken : List ℕ) (stands :
               ∙ sym (from_within ends before (record s { lexer = after; begun = true }) lines going refl)));
         }
     judged_outside (Ok (false, after)) none e =
-        let count = outside_count s.lexer after taken false e in
+        let counts = outside-one s.lexer after taken false e stands.few in
         record {
           next = before;
-          stands = record { said = stands.said; faultless = stands.faultless; none_before = λ n. stands.none_before none; closed = λ n. count.1; few = omega (arith, count.0) };
+          stands = record { said = stands.said; faultless = stands.faultless; none_before = λ n. stands.none_before none; closed = λ n. outside-closed s.lexer after taken false e; few = omega (arith, counts.0, counts.1) };
           went_on = λ n. going;
-          counts = λ n. counts_one s.lexer after count.0 stands.few (outside_room s.lexer after taken false e);
+          counts = λ n. counts;
           decides = λ ends lines.
               from_before ends before s (taken ∷ lines) going none
               ∙ (outcome_before-past ends s.lexer after taken lines e
@@ -153,12 +144,12 @@ module _ (before : List Numbered) (s : LoaderState) (taken : List ℕ) (stands :
       -- a line of the category that ends no logical line
       judged_none : (after : LexerState) → fed s.lexer taken ≡ Ok (None, after) → Judged before s taken (Ok (record s { lexer = after }))
       judged_none after e =
-          let count = fed-count s.lexer taken None after e in
+          let counts = fed-one s.lexer taken None after e stands.few in
           record {
             next = before;
-            stands = record { said = stands.said; faultless = stands.faultless; none_before = stands.none_before; closed = λ n. absurd (false≢true (sym n ∙ within)); few = omega (arith, count) };
+            stands = record { said = stands.said; faultless = stands.faultless; none_before = stands.none_before; closed = λ n. absurd (false≢true (sym n ∙ within)); few = omega (arith, counts.0, counts.1) };
             went_on = λ n. going;
-            counts = λ n. counts_one s.lexer after count stands.few (fed-room s.lexer taken None after e);
+            counts = λ n. counts;
             decides = λ ends lines.
                 from_within ends before s (taken ∷ lines) going within
                 ∙ (ap (outcome_within before) (logical_lines-none [] ends s.lexer taken lines after refl e)
@@ -194,12 +185,12 @@ module _ (before : List Numbered) (s : LoaderState) (taken : List ℕ) (stands :
         -- a line that is accepted
         judged_accepted : (n : Numbered) (ended : Bool) → n.number ≡ given.number → table_line given.tokens ≡ Ok n.line → line_fault s.draft n ≡ None → is_end n.line ≡ ended → LeadsOn before s taken (record s { lexer = after; draft = draft_after s.draft n; ended = ended })
         judged_accepted n ended same f g is =
-            let count = fed-count s.lexer taken (Some given) after e in
+            let counts = fed-one s.lexer taken (Some given) after e stands.few in
             record {
               next = before ++ n ∷ [];
-              stands = record { said = ap (λ d. draft_after d n) stands.said ∙ sym (draft_more before n); faultless = stands.faultless; none_before = λ none. absurd (false≢true (sym none ∙ within)); closed = λ none. absurd (false≢true (sym none ∙ within)); few = omega (arith, count) };
+              stands = record { said = ap (λ d. draft_after d n) stands.said ∙ sym (draft_more before n); faultless = stands.faultless; none_before = λ none. absurd (false≢true (sym none ∙ within)); closed = λ none. absurd (false≢true (sym none ∙ within)); few = omega (arith, counts.0, counts.1) };
               went_on = λ none. going;
-              counts = λ none. counts_one s.lexer after count stands.few (fed-room s.lexer taken (Some given) after e);
+              counts = λ none. counts;
               decides = λ ends lines. by_judgement n None same f g ends lines ∙ (accepted_by n ended _ is ∙ decides ended is ends lines);
             } where
               decides : (ended : Bool) → is_end n.line ≡ ended → (ends : Bool) (lines : List (List ℕ)) → (if ended then Decided (Ok (table_of (draft_of before))) else outcome_within (before ++ n ∷ []) (logical_lines [] ends after lines)) ≡ outcome_from ends (before ++ n ∷ []) (record s { lexer = after; draft = draft_after s.draft n; ended = ended }) lines
