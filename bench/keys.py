@@ -35,6 +35,7 @@ CRATES = (
     "coll_draft",
     "coll_print",
     "coll_table",
+    "coll_ranks",
     "coll_key",
 )
 ENTRIES = 105_000
@@ -48,7 +49,7 @@ LENGTH = 9
 PROGRAM = """#![tactic(auto)]
 
 ghost use Rattle.coll_nodes.specs.TableLayout.{collation};
-ghost use Rattle.coll_key.specs.Ranks.{AreRanksOf};
+ghost use Rattle.coll_ranks.specs.Ranks.{AreRanksOf};
 
 use anyhow::{Context, Result};
 use coll_key::{Ranks, compare, key, write_compiled};
@@ -276,7 +277,7 @@ def build(work):
     with open(os.path.join(ROOT, "crates.txt")) as lines:
         own = [line for line in lines if line.split(":")[0] in CRATES]
     with open(os.path.join(work, "crates.txt"), "w") as out:
-        out.writelines(own + ["key_times: coll_lex coll_nodes coll_table coll_key anyhow\n"])
+        out.writelines(own + ["key_times: coll_lex coll_nodes coll_table coll_ranks coll_key anyhow\n"])
     program = os.path.join(work, "crates", "key_times")
     os.makedirs(os.path.join(program, "src"), exist_ok=True)
     with open(os.path.join(program, "src", "main.rt"), "w") as out:

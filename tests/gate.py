@@ -1,15 +1,16 @@
 #!/usr/bin/env python3
-"""The merge gate: `rt ci`, and then the runs of the program that it built.
+"""The merge gate: `rt ci`, and then the runs of the programs that it built.
 
 usage: tests/gate.py
 
-The last line is 'N passed, M failed' over both, and the status is 1 where one failed.
+The last line is 'N passed, M failed' over all of them, and the status is 1 where one failed.
 """
 
 import re
 import subprocess
 import sys
 
+import refuse_growths
 import run_program
 
 
@@ -40,7 +41,9 @@ def main():
     proved = proofs_and_tests()
     ran = run_program.run_all(run_program.PROGRAM)
     print(f"runs of the program: {ran[0]} passed, {ran[1]} failed")
-    passed, failed = proved[0] + ran[0], proved[1] + ran[1]
+    refused = refuse_growths.run_all()
+    print(f"runs with refused growths: {refused[0]} passed, {refused[1]} failed")
+    passed, failed = (sum(counts) for counts in zip(proved, ran, refused))
     print(f"{passed} passed, {failed} failed")
     return 1 if failed or not ran[0] else 0
 

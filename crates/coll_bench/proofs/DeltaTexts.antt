@@ -20,7 +20,7 @@ use Rattle.coll_units.proofs.DeltaSteps.{outcome_from, StandsAfter, CountsOne, s
 use Rattle.coll_bench.specs.BatchOutcome.{Decision, Decided, delta_fault_in, decision, answer_at_end, after_delta}
 use Rattle.coll_bench.specs.BatchReading.{DeltaFails, ReadsDelta, FailsAs, stopped_in, line_taken}
 use Rattle.coll_bench.specs.BatchRuns.{Ending, ReadFailed, WriteFailed, Starved, Refused, ending_of, DecidesNothing}
-use Rattle.coll_bench.specs.declared.faults.RunFault.{RunFault}
+use Rattle.coll_replies.specs.declared.faults.RunFault.{RunFault}
 use Rattle.coll_bench.proofs.BatchFaults.{delta_fails}
 use Rattle.coll_bench.proofs.DeltaDecisions.{Leads, LineDecides, line_decides, long_line, ends_here, reader_ends, undecided_here, given_here}
 

@@ -2,14 +2,8 @@ pub mod BatchFaults
 pub mod BatchInputs
 pub mod DeltaDecisions
 pub mod DeltaTexts
-pub mod GivenUp
-pub mod HistoryLemmas
-pub mod HistorySteps
 pub mod LineStops
 pub mod LineTaking
-pub mod ListingLemmas
-pub mod Members
-pub mod ReplyLemmas
 pub mod RunCases
 pub mod RunEnds
 pub mod RunExits

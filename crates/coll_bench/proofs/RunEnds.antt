@@ -8,14 +8,14 @@ use Rattle.coll_lex.specs.declared.tokens.Line.{Line}
 use Rattle.coll_lex.specs.declared.faults.LexFault.{LexFault}
 use Rattle.coll_lex.specs.declared.faults.LexFault.TheVariants as lex
 use Rattle.coll_lex.proofs.LineFaults.{fed-not_dangling}
-use Rattle.coll_bench.specs.Histories.{History}
-use Rattle.coll_bench.specs.Faults.{fault_of}
+use Rattle.coll_history.specs.Histories.{History}
+use Rattle.coll_replies.specs.Faults.{fault_of}
 use Rattle.coll_lex.specs.Faults.{ends_text}
 use Rattle.coll_units.specs.SessionLines.{opening_of, fault_heard, heard}
 use Rattle.coll_units.specs.Hearing.{heard_by, heard_in, heard_at}
 use Rattle.coll_units.specs.Units.{stop_of, refusals}
 use Rattle.coll_units.specs.OpenBlocks.{kept_end_faults, kept_units}
-use Rattle.coll_bench.specs.Replies.{refused_line, refused_lines, reply, history_after, answers}
+use Rattle.coll_replies.specs.Replies.{refused_line, refused_lines, reply, history_after, answers}
 use Rattle.coll_units.specs.Taking.{stop_at}
 use Rattle.coll_bench.specs.Runs.{last_line}
 use Rattle.coll_bench.specs.Underway.{written_from}

@@ -7,11 +7,11 @@ use Rattle.coll_lex.specs.LogicalLines.{LexerState, LogicalLine, first_state, nu
 use Rattle.coll_lex.specs.declared.tokens.Line.{Line}
 use Rattle.coll_lex.specs.declared.faults.LexFault.{LexFault}
 use Rattle.coll_nodes.specs.Table.{Collation}
-use Rattle.coll_bench.specs.Histories.{History, begun}
+use Rattle.coll_history.specs.Histories.{History, begun}
 use Rattle.coll_units.specs.SessionLines.{opening_of, heard}
 use Rattle.coll_units.specs.Hearing.{heard_by, heard_in, heard_at}
 use Rattle.coll_units.specs.OpenBlocks.{kept_units_at, kept_after, kept_last_or, kept_units}
-use Rattle.coll_bench.specs.Replies.{answers, reply_if, history_after_if}
+use Rattle.coll_replies.specs.Replies.{answers, reply_if, history_after_if}
 use Rattle.coll_units.specs.Taking.{stop_at, units_or_last, line_units, line_block}
 use Rattle.coll_bench.specs.Serving.{replies_to, history_after_all}
 use Rattle.coll_bench.specs.Runs.{starved_output}

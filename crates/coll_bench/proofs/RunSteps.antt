@@ -12,13 +12,13 @@ use Rattle.coll_lex.specs.declared.faults.ReadStop.{ReadStop}
 use Rattle.coll_lex.proofs.PhysicalLinesLemmas.{lines_of-nil, lines_of-ended, lines_of-part, lines_of-cut}
 use Rattle.coll_nodes.specs.Table.{Collation}
 use Rattle.coll_table.specs.Loads.{with_feeds}
-use Rattle.coll_bench.specs.Histories.{History, begun}
+use Rattle.coll_history.specs.Histories.{History, begun}
 use Rattle.coll_units.specs.Hearing.{heard_at}
 use Rattle.coll_units.specs.Taking.{stop_at, line_units, line_block}
 use Rattle.coll_bench.specs.Serving.{IsBegun, Served, ReadsNone, history_after_all, replies_to, line_replies}
 use Rattle.coll_bench.specs.Runs.{last_line, CountsReads}
 use Rattle.coll_bench.specs.Underway.{written_from, IsCut, IsCutThere, IsUnderway, Underway}
-use Rattle.coll_bench.specs.declared.faults.RunFault.{RunFault}
+use Rattle.coll_replies.specs.declared.faults.RunFault.{RunFault}
 use Rattle.coll_units.specs.declared.open_blocks.OpenBlock.{OpenBlock}
 use Rattle.coll_bench.specs.declared.serving.Desk.{Desk}
 use Rattle.coll_bench.proofs.ServingLemmas.{counts_none}

@@ -16,19 +16,19 @@ use Rattle.coll_lex.specs.declared.faults.LexFault.{LexFault}
 use Rattle.coll_lex.specs.declared.faults.LexFault.TheVariants as lex
 use Rattle.coll_lex.proofs.LineEnds.{fed-count, fed-room}
 use Rattle.coll_lex.proofs.LineFaults.{fed-full}
-use Rattle.coll_bench.specs.Faults.{fault_number, fault_of}
-use Rattle.coll_bench.specs.Histories.{History}
+use Rattle.coll_replies.specs.Faults.{fault_number, fault_of}
+use Rattle.coll_history.specs.Histories.{History}
 use Rattle.coll_units.specs.SessionLines.{opening_of, tokens_heard, fault_heard}
 use Rattle.coll_bench.proofs.LineStops.{tokens_go_on}
 use Rattle.coll_units.specs.Hearing.{heard_by, heard_in, heard_at}
 use Rattle.coll_units.specs.Units.{fault_at, stop_of, refusals}
 use Rattle.coll_units.specs.OpenBlocks.{kept_dropped_faults, kept_last_faults}
-use Rattle.coll_bench.specs.Replies.{refused_line, refused_lines, reply, history_after, reply_if, history_after_if}
+use Rattle.coll_replies.specs.Replies.{refused_line, refused_lines, reply, history_after, reply_if, history_after_if}
 use Rattle.coll_units.specs.Taking.{stop_at, units_or_last, line_units, TakesPhysical}
 use Rattle.coll_bench.specs.Serving.{replies_to, history_after_all, Served, EndsWith, EndsAtLine, ReadsNone, CountsStop, read_failed, write_failed, line_replies}
-use Rattle.coll_bench.specs.declared.faults.Fault.TheVariants as faults
+use Rattle.coll_replies.specs.declared.faults.Fault.TheVariants as faults
 use Rattle.coll_units.specs.declared.unit_faults.UnitFault.TheVariants as unit
-use Rattle.coll_bench.specs.declared.faults.RunFault.{RunFault}
+use Rattle.coll_replies.specs.declared.faults.RunFault.{RunFault}
 use Rattle.coll_units.specs.declared.open_blocks.OpenBlock.{OpenBlock}
 use Rattle.coll_units.specs.declared.session_lines.Opening.{Opening}
 use Rattle.coll_units.specs.declared.session_lines.HeardLine.{HeardLine}

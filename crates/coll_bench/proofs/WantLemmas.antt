@@ -7,17 +7,17 @@ use Rattle.coll_lex.specs.LogicalLines.{LexerState, LogicalLine, number_of, firs
 use Rattle.coll_lex.specs.declared.tokens.Line.{Line}
 use Rattle.coll_lex.specs.declared.faults.LexFault.{LexFault}
 use Rattle.coll_lex.specs.declared.faults.LexFault.TheVariants as lex
-use Rattle.coll_bench.specs.Histories.{History, begun}
+use Rattle.coll_history.specs.Histories.{History, begun}
 use Rattle.coll_units.specs.SessionLines.{opening_of, heard}
 use Rattle.coll_units.specs.Hearing.{heard_by, heard_in, heard_at}
 use Rattle.coll_units.specs.Units.{starved_at, fault_at, refused_at}
 use Rattle.coll_units.specs.OpenBlocks.{open_at, kept_ended, kept_after, kept_units_at, kept_last_faults, kept_units}
-use Rattle.coll_bench.specs.Replies.{refused_line, reply, history_after, starved_line, reply_if, history_after_if, answers}
+use Rattle.coll_replies.specs.Replies.{refused_line, reply, history_after, starved_line, reply_if, history_after_if, answers}
 use Rattle.coll_units.specs.Taking.{stop_at, line_units, line_block}
 use Rattle.coll_bench.specs.Runs.{starved_output, output, last_line, last_of}
 use Rattle.coll_bench.specs.Laws.{ShowsWant, WantShows, WantShowsLast}
 use Rattle.coll_bench.specs.Underway.{written_from}
-use Rattle.coll_bench.specs.Faults.{fault_of}
+use Rattle.coll_replies.specs.Faults.{fault_of}
 use Rattle.coll_units.specs.declared.unit_faults.UnitFault.{UnitFault}
 use Rattle.coll_units.specs.declared.unit_faults.UnitFault.TheVariants as fault
 use Rattle.coll_units.specs.declared.session_lines.Command.{Command}

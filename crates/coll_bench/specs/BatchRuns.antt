@@ -6,10 +6,10 @@ use Rattle.coll_nodes.specs.Table.{Collation}
 use Rattle.coll_table.specs.Loads.{with_feeds, StopsWithin}
 use Rattle.coll_draft.specs.Reading.{reads}
 use Rattle.coll_units.specs.DeltaFiles.{delta_outcome}
-use Rattle.coll_bench.specs.Faults.{fault_number}
+use Rattle.coll_replies.specs.Faults.{fault_number}
 use Rattle.coll_bench.specs.BatchOutcome.{Decision, Decided, Undecided, decision, after_deltas, batch_outcome}
 use Rattle.coll_bench.specs.declared.batches.Batch.{Batch}
-use Rattle.coll_bench.specs.declared.faults.RunFault.{RunFault}
+use Rattle.coll_replies.specs.declared.faults.RunFault.{RunFault}
 
 -- what kind of fault ended a run: a read that failed, a write that failed, want of memory, or something that an input or a text
 -- says

@@ -1,7 +1,7 @@
 -- What follows from the definitions of a session: that want of memory shows.
 use Rattle.std.specs.Prelude.{◌≡◌, ◌⊎◌, ℕ, Bool, true, List, [], ◌++◌}
 use Rattle.coll_nodes.specs.Table.{Collation}
-use Rattle.coll_bench.specs.Replies.{starved_line}
+use Rattle.coll_replies.specs.Replies.{starved_line}
 use Rattle.coll_bench.specs.Runs.{starved_output, output, last_of}
 
 -- the reply to want of memory stands in these bytes

@@ -2,16 +2,7 @@ pub mod BatchOutcome
 pub mod BatchReading
 pub mod BatchRuns
 pub mod BatchWriting
-pub mod Faults
-pub mod Histories
-pub mod Kept
 pub mod Laws
-pub mod Limits
-pub mod Listing
-pub mod Ranked
-pub mod Replay
-pub mod Replies
-pub mod Reports
 pub mod Runs
 pub mod Serving
 pub mod Underway

@@ -9,15 +9,15 @@ use Rattle.coll_lex.specs.declared.faults.LexFault.TheVariants as lex
 use Rattle.coll_lex.specs.declared.faults.ReadStop.TheVariants as read
 use Rattle.coll_nodes.specs.Table.{Collation}
 use Rattle.coll_table.specs.Loads.{with_feeds}
-use Rattle.coll_bench.specs.Histories.{begun}
+use Rattle.coll_history.specs.Histories.{begun}
 use Rattle.coll_lex.specs.Faults.{ends_text}
 use Rattle.coll_units.specs.SessionLines.{heard}
-use Rattle.coll_bench.specs.Faults.{fault_number}
+use Rattle.coll_replies.specs.Faults.{fault_number}
 use Rattle.coll_units.specs.Units.{units}
-use Rattle.coll_bench.specs.Replies.{answers}
-use Rattle.coll_bench.specs.declared.faults.Fault.{Fault}
-use Rattle.coll_bench.specs.declared.faults.Fault.TheVariants as fault
-use Rattle.coll_bench.specs.declared.faults.RunFault.{RunFault}
+use Rattle.coll_replies.specs.Replies.{answers}
+use Rattle.coll_replies.specs.declared.faults.Fault.{Fault}
+use Rattle.coll_replies.specs.declared.faults.Fault.TheVariants as fault
+use Rattle.coll_replies.specs.declared.faults.RunFault.{RunFault}
 
 -- what is written for a session text over a table, where memory was refused to these lines and these units; the test
 -- says whether the text's end is seen

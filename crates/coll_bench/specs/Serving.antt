@@ -10,13 +10,13 @@ use Rattle.coll_lex.specs.declared.faults.ReadStop.{ReadStop}
 use Rattle.coll_lex.specs.declared.faults.ReadStop.TheVariants as read
 use Rattle.coll_lex.specs.declared.faults.WriteStop.TheVariants as write
 use Rattle.coll_nodes.specs.Table.{Collation}
-use Rattle.coll_bench.specs.Histories.{History, begun}
+use Rattle.coll_history.specs.Histories.{History, begun}
 use Rattle.coll_units.specs.Hearing.{heard_at}
-use Rattle.coll_bench.specs.Faults.{fault_number}
+use Rattle.coll_replies.specs.Faults.{fault_number}
 use Rattle.coll_units.specs.Taking.{line_block, line_units, stop_at}
-use Rattle.coll_bench.specs.Replies.{reply_if, history_after_if}
-use Rattle.coll_bench.specs.declared.faults.Fault.TheVariants as faults
-use Rattle.coll_bench.specs.declared.faults.RunFault.{RunFault}
+use Rattle.coll_replies.specs.Replies.{reply_if, history_after_if}
+use Rattle.coll_replies.specs.declared.faults.Fault.TheVariants as faults
+use Rattle.coll_replies.specs.declared.faults.RunFault.{RunFault}
 use Rattle.coll_units.specs.declared.units.SessionUnit.{SessionUnit}
 use Rattle.coll_bench.specs.declared.serving.Desk.{Desk}
 

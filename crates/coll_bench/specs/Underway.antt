@@ -4,10 +4,10 @@ use Rattle.coll_lex.specs.PhysicalLines.{lines_of}
 use Rattle.coll_lex.specs.LogicalLines.{LexerState, first_state, logical_lines}
 use Rattle.coll_nodes.specs.Table.{Collation}
 use Rattle.coll_table.specs.Loads.{with_feeds}
-use Rattle.coll_bench.specs.Histories.{History, begun}
+use Rattle.coll_history.specs.Histories.{History, begun}
 use Rattle.coll_units.specs.SessionLines.{heard}
 use Rattle.coll_units.specs.OpenBlocks.{kept_units}
-use Rattle.coll_bench.specs.Replies.{answers}
+use Rattle.coll_replies.specs.Replies.{answers}
 use Rattle.coll_bench.specs.Runs.{last_line}
 use Rattle.coll_units.specs.declared.open_blocks.OpenBlock.{OpenBlock}
 use Rattle.coll_bench.specs.declared.serving.Desk.{Desk}

@@ -12,9 +12,9 @@ ghost use Rattle.coll_nodes.specs.TableLayout.{collation};
 ghost use Rattle.coll_bench.specs.Serving.{IsBegun, CountsWrites, never_ran};
 ghost use Rattle.coll_bench.specs.Runs.{Runs, CountsReads};
 
-use crate::faults::{Fault, RunFault};
 use crate::serving::Desk;
 use coll_lex::{LexFault, LineReader, Sink, Source};
+use coll_replies::{Fault, RunFault};
 use coll_table::Table;
 use std::alloc::Global;
 

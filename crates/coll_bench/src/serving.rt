@@ -11,14 +11,13 @@ ghost use Rattle.coll_lex.specs.LogicalLines.{pending, number_of};
 ghost use Rattle.coll_lex.specs.Limits.{most_lines};
 ghost use Rattle.coll_nodes.specs.TableLayout.{collation};
 ghost use Rattle.coll_units.specs.OpenBlocks.{kept_end_faults, kept_dropped_faults, kept_last_faults};
-ghost use Rattle.coll_bench.specs.Replies.{refused_line, refused_lines};
+ghost use Rattle.coll_replies.specs.Replies.{refused_line, refused_lines};
 ghost use Rattle.coll_units.specs.Units.{dangling as dangling_faults};
 ghost use Rattle.coll_bench.specs.Serving.{EndsWith, FinishesWith, IsCutOff, CountsEnd, CountsWrites, CountsStop, ReadsNone, write_failed as failed_write, too_long};
 
-use crate::faults::{Fault, RunFault};
-use crate::ranked_sessions::RankedSession;
-use crate::replies::{answer, refuse};
+use coll_history::RankedSession;
 use coll_lex::{LexFault, ReadStop, Sink, WriteStop};
+use coll_replies::{Fault, RunFault, answer, refuse};
 use coll_table::Table;
 use coll_units::{FaultAt, Listener, OpenBlock, SessionUnit, UnitFault};
 use std::alloc::{AllocError, Global};

@@ -1,14 +1,15 @@
 -- The steps along the numbers of a text at a forward level, and texts that begin alike.
-use Rattle.std.proofs.Common.{◌≡◌, ℕ, suc, ◌+◌, ◌<◌, ◌≤◌, Bool, true, false, nat_lt, List, [], ◌∷◌, ◌++◌, length, map, Option, None, Some, Less, Equal, Greater, refl, sym, ap, ◌∙◌, add-one, add-zero, append_assoc, arith}
+use Rattle.std.proofs.Common.{◌≡◌, ℕ, suc, ◌+◌, ◌<◌, ◌≤◌, Bool, true, false, nat_lt, List, [], ◌∷◌, ◌++◌, length, map, Option, None, Some, Less, Equal, Greater, refl, sym, ap, ◌∙◌, add-one, add-zero, arith}
 use Rattle.std.specs.Cmp.{nat_cmp_is}
 use Rattle.std.specs.Ordering.{nat_cmp, ordering_then}
 use Rattle.std.proofs.lemmas.Bool.{ltb-false}
 use Rattle.std.proofs.lemmas.Bool.Decides.{Decides-ltb}
 use Rattle.std.proofs.lemmas.Grind.{flat_map-append}
-use Rattle.coll_key.specs.ForwardNumbers.{items_left, before, gap_count, BeginAlike}
+use Rattle.coll_key.specs.ForwardNumbers.{items_left, before, gap_count}
+use Rattle.coll_ranks.specs.AlikeFronts.{BeginAlike}
 use Rattle.coll_key.specs.LevelList.{items_of, items, listed}
 use Rattle.coll_key.specs.TextOrder.{list_order}
-use Rattle.coll_key.proofs.Tests.{by_test}
+use Rattle.coll_ranks.proofs.Tests.{by_test}
 
 -- the next item is a number
 pub number_next : (p : Bool) (gaps n : ℕ) (seq : List (Option ℕ)) → listed p gaps (Some n ∷ seq) ≡ before p (record { position = gaps + 1; number = n }) (listed p 0 seq)
@@ -103,11 +104,3 @@ order_alike p f xs ys later others alike =
     ∙ (ap (λ is. list_order (listed p 0 is) (listed p 0 (items f (alike.0 ++ others)))) (flat_map-append (λ q. items_of (f q)) alike.0 later)
     ∙ (ap (λ is. list_order (listed p 0 (items f alike.0 ++ items f later)) (listed p 0 is)) (flat_map-append (λ q. items_of (f q)) alike.0 others)
     ∙ order_behind p 0 (items f alike.0) (items f later) (items f others))))
-
--- what begins alike, and goes on alike, begins alike
-pub alike_further : {X : Type 0} (xs ys later others rest behind : List X) → BeginAlike xs ys later others → BeginAlike later others rest behind → BeginAlike xs ys rest behind
-alike_further xs ys later others rest behind first second = (
-  first.0 ++ second.0,
-  first.1 ∙ (ap (λ zs. first.0 ++ zs) second.1 ∙ sym (append_assoc first.0 second.0 rest)),
-  first.2 ∙ (ap (λ zs. first.0 ++ zs) second.2 ∙ sym (append_assoc first.0 second.0 behind)),
-)

@@ -5,8 +5,9 @@ use Rattle.std.proofs.lemmas.Bool.{ne_eqb}
 use Rattle.coll_syntax.specs.declared.rules.Rule.{Rule}
 use Rattle.coll_nodes.specs.Table.{Collation}
 use Rattle.coll_nodes.specs.WellFormed.{IsWellFormed}
-use Rattle.coll_key.specs.Elements.{elements_of}
-use Rattle.coll_key.specs.LevelList.{numbers_at, items, directed, listed, level_list, level_lists_from}
+use Rattle.coll_ranks.specs.Elements.{elements_of}
+use Rattle.coll_key.specs.LevelList.{items, directed, listed, level_list, level_lists_from}
+use Rattle.coll_ranks.specs.WeightNumbers.{numbers_at}
 use Rattle.coll_key.specs.SortKey.{ended, key_of}
 use Rattle.coll_key.specs.TextOrder.{level_lists}
 use Rattle.coll_key.specs.WrittenKey.{first_level, later_levels, has_level, is_paired, has_key_form}

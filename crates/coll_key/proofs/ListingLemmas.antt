@@ -12,7 +12,7 @@ use Rattle.coll_nodes.specs.Table.{Collation, entries_of}
 use Rattle.coll_print.proofs.PrintedParts.{left_begins}
 use Rattle.coll_key.specs.CompiledListing.{compiled_listing, listing_head, listed_rule}
 use Rattle.coll_key.specs.ListingParts.{counts_bytes, entries_part, is_star, level_bytes, levels_bytes}
-use Rattle.coll_key.specs.Ranks.{RanksValue, compiled_weight}
+use Rattle.coll_ranks.specs.Ranks.{RanksValue, compiled_weight}
 
 -- the parts of the first line
 pub head_parts : (table : Collation) → listing_head table ≡ codes "compiled 1" ++ counts_bytes table

@@ -4,11 +4,11 @@ use Rattle.std.specs.List.{flat_map}
 use Rattle.std.specs.Ordering.{is_ne, ordering_then}
 use Rattle.std.proofs.lemmas.List.{at_drop_more, at_drop_all}
 use Rattle.coll_syntax.specs.declared.rules.Rule.{Rule}
-use Rattle.coll_key.specs.declared.parts.Part.{Part}
+use Rattle.coll_ranks.specs.declared.parts.Part.{Part}
 use Rattle.coll_nodes.specs.Table.{Collation}
 use Rattle.coll_nodes.specs.WellFormed.{IsWellFormed}
 use Rattle.coll_key.specs.LevelList.{level_list, level_lists_from}
-use Rattle.coll_key.specs.Ranks.{RanksValue, AreRanksOf, parts_of, part_numbers}
+use Rattle.coll_ranks.specs.Ranks.{RanksValue, AreRanksOf, parts_of, part_numbers}
 use Rattle.coll_key.specs.SortKey.{ended, key_of}
 use Rattle.coll_key.specs.TextOrder.{list_order, first_difference, order_of, level_lists}
 use Rattle.coll_key.proofs.LevelLemmas.{level_lists_by_parts}

@@ -14,8 +14,8 @@ use Rattle.coll_nodes.specs.Table.{Collation, entries_of, is_symbol, is_placed}
 use Rattle.coll_nodes.specs.declared.declarations.Declaration.{Declaration}
 use Rattle.coll_nodes.specs.declared.declarations.Declaration.TheVariants as declaration
 use Rattle.coll_nodes.specs.declared.entries.Entry.{Entry}
-use Rattle.coll_key.specs.LevelList.{undefined_weights}
-use Rattle.coll_key.specs.Rank.{known_rank}
+use Rattle.coll_ranks.specs.WeightNumbers.{undefined_weights}
+use Rattle.coll_ranks.specs.Rank.{known_rank}
 use Rattle.coll_key.specs.WrittenKey.{joined_by_spaces, level_end}
 
 -- the string of the collating element of a name

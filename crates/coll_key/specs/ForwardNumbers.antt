@@ -1,5 +1,5 @@
 -- What is left of the numbers of a text at a forward level, and a step along them.
-use Rattle.std.specs.Prelude.{◌≡◌, ℕ, Bool, true, false, List, [], ◌∷◌, ◌++◌, Option, Some, map}
+use Rattle.std.specs.Prelude.{ℕ, Bool, true, false, List, [], ◌∷◌, ◌++◌, Option, Some, map}
 use Rattle.coll_key.specs.LevelList.{items}
 use Rattle.coll_key.specs.declared.forward_numbers.Step.{Step}
 
@@ -16,7 +16,3 @@ before false step list = step.number ∷ list
 abbrev pub gap_count : List ℕ → ℕ
 gap_count [] = 1
 gap_count (rank ∷ ranks) = 0
-
--- two lists go on with these, behind a front that both have
-abbrev pub BeginAlike : {X : Type 0} → (xs ys later later_others : List X) → Type 0
-BeginAlike {X} xs ys later later_others = (front : List X) × (xs ≡ front ++ later) × (ys ≡ front ++ later_others)

@@ -1,16 +1,9 @@
 pub mod CompiledListing
-pub mod ElementChains
-pub mod Elements
 pub mod ForwardNumbers
 pub mod KeyFaults
 pub mod KeyLimits
 pub mod LevelList
 pub mod ListingParts
-pub mod NameMaps
-pub mod Rank
-pub mod RankLists
-pub mod Ranking
-pub mod Ranks
 pub mod SortKey
 pub mod TextOrder
 pub mod WrittenKey

@@ -6,8 +6,9 @@ use Rattle.std.specs.declared.cmp.Ordering.TheVariants.{Equal}
 use Rattle.std.specs.Cmp.Lexicographic.{slice_cmp}
 use Rattle.coll_syntax.specs.declared.rules.Rule.{Rule}
 use Rattle.coll_nodes.specs.Table.{Collation}
-use Rattle.coll_key.specs.Elements.{elements_of}
-use Rattle.coll_key.specs.LevelList.{level_lists_from, numbers_at}
+use Rattle.coll_ranks.specs.Elements.{elements_of}
+use Rattle.coll_key.specs.LevelList.{level_lists_from}
+use Rattle.coll_ranks.specs.WeightNumbers.{numbers_at}
 
 -- the lists of a text, one for each level of a table
 unfoldable pub level_lists : Collation → List ℕ → List (List ℕ)

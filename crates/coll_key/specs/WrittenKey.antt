@@ -3,7 +3,7 @@ use Rattle.std.specs.Prelude.{ℕ, ◌&&◌, ◌||◌, ◌/◌, ◌%◌, ◌==�
 use Rattle.std.specs.List.{flat_map}
 use Rattle.coll_lex.specs.Characters.{space}
 use Rattle.coll_syntax.specs.declared.rules.Rule.{Rule}
-use Rattle.coll_key.specs.LevelList.{rank_step}
+use Rattle.coll_ranks.specs.WeightNumbers.{rank_step}
 
 -- a word with a space before it
 abbrev pub behind_space : List ℕ → List ℕ

@@ -9,7 +9,7 @@ ghost use Rattle.coll_nodes.specs.TableLayout.{collation};
 ghost use Rattle.coll_key.specs.ForwardNumbers.{before};
 ghost use Rattle.coll_key.specs.KeyLimits.{is_too_long};
 ghost use Rattle.coll_key.specs.LevelList.{level_list, listed};
-ghost use Rattle.coll_key.specs.Ranks.{AreRanksOf, parts_of, part_numbers};
+ghost use Rattle.coll_ranks.specs.Ranks.{AreRanksOf, parts_of, part_numbers};
 ghost use Rattle.coll_key.specs.TextOrder.{list_order, order_of, IsForward};
 ghost use Rattle.coll_key.specs.declared.key_faults.KeyFault.TheVariants.{TextTooLong, OutOfMemory};
 
@@ -17,8 +17,8 @@ use crate::forward_numbers::{ForwardNumbers, Step};
 use crate::key_faults::KeyFault;
 use crate::levels::push_level;
 use crate::limits::is_too_long;
-use crate::ranks::Ranks;
 use crate::text_parts::kept_parts;
+use coll_ranks::Ranks;
 use coll_syntax::Rule;
 use coll_table::Table;
 use std::alloc::Global;

@@ -6,11 +6,10 @@
 ghost use Rattle.std.specs.Prelude.{◌≡◌, ◌<◌, ◌≤◌, [], Bool, chars, length, IfSome, MatchOption};
 ghost use Rattle.coll_key.specs.ForwardNumbers.{gap_count};
 ghost use Rattle.coll_key.specs.LevelList.{items, listed};
-ghost use Rattle.coll_key.specs.Ranks.{parts_of, part_numbers};
+ghost use Rattle.coll_ranks.specs.Ranks.{parts_of, part_numbers};
 
 use crate::levels::number_of;
-use crate::parts::PartWeight;
-use crate::ranks::Ranks;
+use coll_ranks::{PartWeight, Ranks};
 use std::marker::Model;
 
 /// A number of a level, and where it stands.
@@ -36,7 +35,7 @@ pub(crate) struct ForwardNumbers<'a> {
 impl<'a> Model for ForwardNumbers<'a> {
     ghost use Rattle.std.specs.Prelude.{◌≤◌, ◌<◌, List, Option, ℕ, chars, length, map};
     ghost use Rattle.coll_key.specs.ForwardNumbers.{items_left};
-    ghost use Rattle.coll_key.specs.Ranks.{added_to, parts_of, part_numbers};
+    ghost use Rattle.coll_ranks.specs.Ranks.{added_to, parts_of, part_numbers};
 
     ghost Value = { List (Option ℕ) };
 

@@ -6,15 +6,15 @@
 ghost use Rattle.std.specs.Prelude.{◌≡◌, ◌≢◌, chars, true, false, IfOk, IfErr};
 ghost use Rattle.coll_nodes.specs.TableLayout.{collation};
 ghost use Rattle.coll_key.specs.KeyLimits.{is_too_long};
-ghost use Rattle.coll_key.specs.Ranks.{AreRanksOf};
+ghost use Rattle.coll_ranks.specs.Ranks.{AreRanksOf};
 ghost use Rattle.coll_key.specs.SortKey.{key_of, KeysAreOrderedAsTexts};
 ghost use Rattle.coll_key.specs.WrittenKey.{has_key_form};
 ghost use Rattle.coll_key.specs.declared.key_faults.KeyFault.TheVariants.{OutOfMemory};
 
 use crate::key_faults::KeyFault;
 use crate::levels::push_level;
-use crate::ranks::Ranks;
 use crate::text_parts::kept_parts;
+use coll_ranks::Ranks;
 use coll_table::Table;
 use std::alloc::Global;
 

@@ -6,11 +6,10 @@
 
 ghost use Rattle.std.specs.Prelude.{◌≡◌, ◌<◌, ◌≤◌, ◌+◌, ◌++◌, ◌∷◌, [], ℕ, List, Option, Some, map, length, IfOk, OnOk, MatchOption};
 ghost use Rattle.coll_key.specs.LevelList.{directed, items_of, listed, level_list, position_of};
-ghost use Rattle.coll_key.specs.Ranks.{added_to, part_numbers};
+ghost use Rattle.coll_ranks.specs.Ranks.{added_to, part_numbers};
 
 use crate::limits::RANK_STEP;
-use crate::parts::{Part, PartWeight};
-use crate::ranks::Ranks;
+use coll_ranks::{Part, PartWeight, Ranks};
 use coll_syntax::Rule;
 use std::alloc::AllocError;
 

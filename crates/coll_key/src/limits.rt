@@ -4,7 +4,7 @@
 
 ghost use Rattle.std.specs.Prelude.{◌≡◌, chars};
 ghost use Rattle.coll_key.specs.KeyLimits.{is_too_long, most_text_characters};
-ghost use Rattle.coll_key.specs.LevelList.{rank_step};
+ghost use Rattle.coll_ranks.specs.WeightNumbers.{rank_step};
 
 /// Most characters of a text that is keyed or compared.
 pub const MOST_TEXT_CHARACTERS: usize = 65_536;

@@ -16,11 +16,11 @@ ghost use Rattle.coll_nodes.specs.Walks.{entry_met, entries_met};
 ghost use Rattle.coll_syntax.specs.declared.identifiers.Id.TheVariants.{Named, Undefined};
 ghost use Rattle.coll_key.specs.CompiledListing.{compiled_listing, listing_head, listed_rule, listed_undefined};
 ghost use Rattle.coll_key.specs.ListingParts.{spaced, spaced_number, weight_bytes, level_bytes, levels_ended, is_star, spelled_with, ranked_id, ranked_line, line_if_weighted, met_line, ranked_lines, HasFewWeights, count_bytes, counts_bytes, entries_part};
-ghost use Rattle.coll_key.specs.Ranks.{AreRanksOf};
+ghost use Rattle.coll_ranks.specs.Ranks.{AreRanksOf};
 
-use crate::ranks::Ranks;
 use coll_lex::{Sink, WriteStop, write_bytes, write_char};
 use coll_print::{write_rule, write_text};
+use coll_ranks::Ranks;
 use coll_syntax::{Id, Rule, Weight};
 use coll_table::{Entry, Table, Walk, WalkItem};
 use itoa::Buffer;

@@ -2,13 +2,12 @@
 
 ghost use Rattle.std.specs.Prelude.{◌≡◌, ◌≢◌, chars, true, false, IfOk, IfErr};
 ghost use Rattle.coll_key.specs.KeyLimits.{is_too_long};
-ghost use Rattle.coll_key.specs.Ranks.{parts_of};
+ghost use Rattle.coll_ranks.specs.Ranks.{parts_of};
 ghost use Rattle.coll_key.specs.declared.key_faults.KeyFault.TheVariants.{OutOfMemory};
 
 use crate::key_faults::KeyFault;
 use crate::limits::MOST_TEXT_CHARACTERS;
-use crate::parts::Part;
-use crate::ranks::Ranks;
+use coll_ranks::{Part, Ranks};
 use std::alloc::Global;
 
 /// The parts of a text that isn't too long.

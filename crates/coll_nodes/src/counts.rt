@@ -56,3 +56,16 @@ impl Counts {
         counts
     }
 }
+
+#[test]
+fn counts_are_three_numbers() {
+    let counts = Counts::new();
+    let Counts {
+        declarations,
+        sections,
+        entries,
+    } = &counts;
+    crate::fields::is_a::<usize>(declarations);
+    crate::fields::is_a::<usize>(sections);
+    crate::fields::is_a::<usize>(entries);
+}

@@ -105,3 +105,16 @@ impl NodeIds {
         })
     }
 }
+
+#[test]
+fn an_identifier_leads_to_a_node_or_to_none(rt: HostRuntime) {
+    let found = NodeIds::new(rt.alloc());
+    let NodeIds {
+        names,
+        characters,
+        undefined,
+    } = &found;
+    crate::fields::is_a::<NodeNames>(names);
+    crate::fields::is_a::<Option<NodeId>>(undefined);
+    crate::fields::is_a::<IndexMap<char, Option<NodeId>>>(characters);
+}

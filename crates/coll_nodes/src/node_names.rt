@@ -99,3 +99,11 @@ impl NodeNames {
         Ok(())
     }
 }
+
+#[test]
+fn a_name_leads_to_a_node_or_to_none(rt: HostRuntime) {
+    let found = NodeNames::new(rt.alloc());
+    let NodeNames { names, alloc } = &found;
+    crate::fields::is_a::<IndexMap<String, Option<NodeId>>>(names);
+    crate::fields::is_a::<Global>(alloc);
+}

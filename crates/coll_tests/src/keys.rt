@@ -1,6 +1,6 @@
 //! Tests of `coll_key`: ranks, sort keys and how they are written, the order of texts, and the compiled listing.
 
-ghost use Rattle.coll_key.specs.Ranks.{AreRanksOf};
+ghost use Rattle.coll_ranks.specs.Ranks.{AreRanksOf};
 ghost use Rattle.coll_nodes.specs.TableLayout.{collation};
 
 use crate::assertions::{assert_same, assert_text};
@@ -130,6 +130,33 @@ fn a_level_goes_forward_where_it_is_not_backward(rt: HostRuntime) {
     let table = table.expect(&rt, "a table");
     assert_keys(&rt, rt.alloc(), &table, FORWARD_KEYS);
     assert_orders(&rt, rt.alloc(), &table, IN_FORWARD_ORDER);
+}
+
+// Asserts the order of two texts.
+fn assert_order(rt: &impl Abort, alloc: Global, table: &Table, ranks: &Ranks, order: Ordering)
+    requires { AreRanksOf ranks.now (collation table.now) }
+{
+    let given = compare(alloc, table, ranks, "cot\u{E9}", "c\u{F4}te");
+    assert_same(rt, "the order", given, Ok(order));
+}
+
+// `tests/refuse_growths.py` runs it with each growth refused once it has written its line, and it passes there too.
+#[test]
+fn a_comparison_at_forward_levels_takes_no_memory(rt: HostRuntime) {
+    let table = BOTH_FORWARD.loaded(rt.alloc(), FRENCH_TABLE);
+    let table = table.expect(&rt, "a table");
+    let ranks = Ranks::new(rt.alloc(), &table).expect(&rt, "the ranks");
+    println!(rt; "the ranks are made").expect(&rt, "a line");
+    assert_order(&rt, rt.alloc(), &table, &ranks, Ordering::Less);
+}
+
+// The same run with growths refused has this one fail: a backward level takes memory.
+#[test]
+fn a_comparison_at_a_backward_level_takes_memory(rt: HostRuntime) {
+    let table = rewritten(&rt, rt.alloc(), FRENCH_TABLE, &[]);
+    let ranks = Ranks::new(rt.alloc(), &table).expect(&rt, "the ranks");
+    println!(rt; "the ranks are made").expect(&rt, "a line");
+    assert_order(&rt, rt.alloc(), &table, &ranks, Ordering::Greater);
 }
 
 const NUMBERS: &[u64] = &[

@@ -7,8 +7,8 @@ ghost use Rattle.coll_bench.specs.BatchReading.{ReadsInputs, ReadsDeltas, Counts
 ghost use Rattle.coll_bench.specs.BatchRuns.{CountsInputs};
 
 use super::delta_files::read_delta;
-use crate::faults::{Fault, RunFault};
 use coll_lex::Source;
+use coll_replies::{Fault, RunFault};
 use coll_table::{LoadFault, Table, load};
 use std::alloc::Global;
 

@@ -6,19 +6,18 @@ ghost use Rattle.std.specs.Prelude.{◌≡◌, ◌++◌, ◌∷◌, [], false, c
 ghost use Rattle.std.specs.List.{flat_map};
 ghost use Rattle.coll_key.specs.CompiledListing.{compiled_listing};
 ghost use Rattle.coll_key.specs.KeyLimits.{is_too_long};
-ghost use Rattle.coll_key.specs.Ranks.{AreRanksOf};
+ghost use Rattle.coll_ranks.specs.Ranks.{AreRanksOf};
 ghost use Rattle.coll_key.specs.TextOrder.{order_of};
 ghost use Rattle.coll_nodes.specs.TableLayout.{collation};
 ghost use Rattle.coll_bench.specs.BatchOutcome.{batch_output, texts_of, is_any_too_long, key_line};
 ghost use Rattle.coll_bench.specs.BatchWriting.{Outputs, CountsOutput, as_written, starved_key};
 ghost use Rattle.coll_print.specs.CanonicalText.{text};
-ghost use Rattle.coll_bench.specs.Replies.{checked_line, order_word};
+ghost use Rattle.coll_replies.specs.Replies.{checked_line, order_word};
 
 use super::Batch;
-use crate::faults::Fault;
-use crate::replies::{write_checked, write_key_ended, write_order};
 use coll_key::{KeyFault, Ranks, compare, key, write_compiled};
 use coll_lex::{Sink, TextBuf, WriteStop};
+use coll_replies::{Fault, write_checked, write_key_ended, write_order};
 use coll_table::Table;
 use std::alloc::Global;
 

@@ -1,7 +1,7 @@
 use Rattle.std.proofs.Common.{◌≡◌, ◌∙◌, chars, false, sym}
 use Rattle.coll_nodes.specs.TableLayout.{collation}
 use Rattle.coll_key.specs.KeyLimits.{is_too_long}
-use Rattle.coll_key.specs.Ranks.{parts_of, part_numbers}
+use Rattle.coll_ranks.specs.Ranks.{parts_of, part_numbers}
 use Rattle.coll_key.proofs.LevelLemmas.{few_parts}
 use Rattle.coll_key.proofs.OrderLemmas.{order_by_parts, order_decided, order_undecided}
 use Rattle.coll_key.proofs.comparison.compare.Goals as goal

@@ -1,7 +1,7 @@
 use Rattle.std.proofs.Common.{◌≡◌, drop, chars}
 use Rattle.coll_nodes.specs.TableLayout.{collation}
 use Rattle.coll_key.specs.LevelList.{level_lists_from}
-use Rattle.coll_key.specs.Ranks.{parts_of, part_numbers}
+use Rattle.coll_ranks.specs.Ranks.{parts_of, part_numbers}
 use Rattle.coll_key.specs.TextOrder.{first_difference}
 use Rattle.coll_key.proofs.comparison.compare.Given as goal
 

@@ -1,6 +1,6 @@
 -- What both texts begin with decides nothing.
 use Rattle.std.proofs.Common.{chars, sym}
-use Rattle.coll_key.specs.Ranks.{parts_of, part_numbers}
+use Rattle.coll_ranks.specs.Ranks.{parts_of, part_numbers}
 use Rattle.coll_key.proofs.ForwardLemmas.{order_alike}
 use Rattle.coll_key.proofs.comparison.forward_order.Goals as goal
 

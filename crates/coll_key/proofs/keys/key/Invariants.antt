@@ -2,7 +2,7 @@ use Rattle.std.proofs.Common.{◌≡◌, ◌++◌, drop}
 use Rattle.std.specs.List.{flat_map}
 use Rattle.coll_nodes.specs.TableLayout.{collation}
 use Rattle.coll_key.specs.LevelList.{level_lists_from}
-use Rattle.coll_key.specs.Ranks.{part_numbers}
+use Rattle.coll_ranks.specs.Ranks.{part_numbers}
 use Rattle.coll_key.specs.SortKey.{ended}
 use Rattle.coll_key.proofs.keys.key.Given as goal
 

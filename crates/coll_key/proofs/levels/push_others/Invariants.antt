@@ -1,6 +1,6 @@
 use Rattle.std.proofs.Common.{◌≡◌, ◌++◌, ℕ, List, Option, Some, map, length}
 use Rattle.coll_key.specs.LevelList.{directed, listed}
-use Rattle.coll_key.specs.Ranks.{added_to}
+use Rattle.coll_ranks.specs.Ranks.{added_to}
 use Rattle.coll_key.proofs.levels.push_others.Given as goal
 
 abbrev pub invariant-others : goal.invariant-others

@@ -2,7 +2,7 @@
 use Rattle.std.proofs.Common.{◌≡◌, ◌∙◌, ℕ, List, [], ◌∷◌, ◌++◌, length, sym}
 use Rattle.std.proofs.lemmas.Bool.Decides.{Decides-eqb}
 use Rattle.coll_key.specs.LevelList.{position_of}
-use Rattle.coll_key.specs.Ranks.{added_to}
+use Rattle.coll_ranks.specs.Ranks.{added_to}
 use Rattle.coll_key.proofs.ForwardLemmas.{none_left}
 use Rattle.coll_key.proofs.PushingSteps.{part_begins, part_ends}
 use Rattle.coll_key.proofs.levels.push_part.Goals as goal

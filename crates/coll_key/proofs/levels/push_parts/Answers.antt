@@ -1,5 +1,5 @@
 -- Where no part is left, all stand behind the key.
-use Rattle.coll_key.specs.Ranks.{part_numbers}
+use Rattle.coll_ranks.specs.Ranks.{part_numbers}
 use Rattle.coll_key.proofs.PushingSteps.{level_ends}
 use Rattle.coll_key.proofs.levels.push_parts.Goals as goal
 

@@ -1,6 +1,6 @@
 use Rattle.std.proofs.Common.{◌≡◌, ◌≤◌, ◌+◌, ◌++◌, length}
 use Rattle.coll_key.specs.LevelList.{directed, items, listed}
-use Rattle.coll_key.specs.Ranks.{part_numbers}
+use Rattle.coll_ranks.specs.Ranks.{part_numbers}
 use Rattle.coll_key.proofs.DirectionLemmas.{directed_numbers}
 use Rattle.coll_key.proofs.levels.push_parts.Given as goal
 

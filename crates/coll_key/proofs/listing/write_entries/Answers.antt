@@ -6,7 +6,7 @@ use Rattle.coll_print.proofs.PrintedParts.{stops_first, writes_rest}
 use Rattle.coll_key.specs.CompiledListing.{listed_undefined}
 use Rattle.coll_key.specs.ListingParts.{entries_part, ranked_lines}
 use Rattle.coll_key.proofs.ListedLines.{fit_met, lines_are_listed}
-use Rattle.coll_key.proofs.RankingLemmas.{few_met}
+use Rattle.coll_ranks.proofs.RankingLemmas.{few_met}
 use Rattle.coll_key.proofs.listing.write_entries.Goals as goal
 
 pub write_walk-requires-clause-fit : goal.write_walk-requires-clause-fit

@@ -5,7 +5,7 @@ use Rattle.coll_lex.specs.PhysicalLines.{line_feed}
 use Rattle.coll_lex.proofs.WritingLemmas.{AppendsFront-before}
 use Rattle.coll_print.proofs.PrintedParts.{writes_rest}
 use Rattle.coll_key.specs.ListingParts.{is_star, level_bytes, levels_bytes, levels_ended}
-use Rattle.coll_key.specs.Ranks.{compiled_weight}
+use Rattle.coll_ranks.specs.Ranks.{compiled_weight}
 use Rattle.coll_key.proofs.ListingLemmas.{left_front, left_more, left_none, levels_next}
 use Rattle.coll_key.proofs.listing.write_levels.Goals as goal
 

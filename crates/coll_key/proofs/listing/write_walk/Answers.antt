@@ -6,7 +6,7 @@ use Rattle.coll_nodes.specs.Walks.{entry_met, entries_met}
 use Rattle.coll_key.specs.ListingParts.{met_line, ranked_lines}
 use Rattle.coll_key.proofs.ListedLines.{fits_later, lines_next}
 use Rattle.coll_key.proofs.ListingLemmas.{left_front, left_more}
-use Rattle.coll_key.proofs.RankingLemmas.{counted_met}
+use Rattle.coll_ranks.proofs.RankingLemmas.{counted_met}
 use Rattle.coll_key.proofs.listing.write_walk.Goals as goal
 
 pub returns-in_err-rank-clause-sent : goal.returns-in_err-rank-clause-sent

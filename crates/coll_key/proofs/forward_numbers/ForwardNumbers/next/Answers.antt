@@ -1,6 +1,6 @@
 -- A part is taken where none is left of the one before it, and may be a gap.
 use Rattle.std.proofs.Common.{◌≡◌, ◌∷◌, ◌∙◌, [], chars, length, ap, arith}
-use Rattle.coll_key.specs.Ranks.{parts_of, part_numbers, added_to}
+use Rattle.coll_ranks.specs.Ranks.{parts_of, part_numbers, added_to}
 use Rattle.coll_key.proofs.ForwardLemmas.{none_left, part_taken, part_shorter, gap_count_small}
 use Rattle.coll_key.proofs.forward_numbers.ForwardNumbers.next.Goals as goal
 

@@ -1,7 +1,7 @@
 use Rattle.std.proofs.Common.{◌≡◌, ◌<◌, ◌≤◌, ◌+◌, Bool, chars, length, map}
 use Rattle.coll_key.specs.ForwardNumbers.{items_left}
 use Rattle.coll_key.specs.LevelList.{listed}
-use Rattle.coll_key.specs.Ranks.{added_to, parts_of, part_numbers}
+use Rattle.coll_ranks.specs.Ranks.{added_to, parts_of, part_numbers}
 use Rattle.coll_key.proofs.forward_numbers.ForwardNumbers.next.Given as goal
 
 abbrev pub invariant-gaps : goal.invariant-gaps

@@ -1,0 +1,3 @@
+pub mod GivenUp
+pub mod HistoryLemmas
+pub mod HistorySteps

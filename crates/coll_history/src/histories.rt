@@ -1,0 +1,251 @@
+//! A table with the history of its statements.
+//!
+//! A `Session` keeps the table as the statements that remain have made it, and with each statement the record that takes it back,
+//! or, once it is undone, puts it again. Nothing is replayed, and no other table is kept: an undo turns one record, at the nodes
+//! that its statement changed. The invariant says that each record leads back to the table that its statement was accepted in.
+//! Whoever adds a call that changes the history has to keep to that, and to make the room that every later undo and redo needs
+//! before the table changes.
+
+ghost use Rattle.std.specs.Prelude.{◌≡◌, ◌≢◌, ◌↔◌, ◌<◌, ◌≤◌, ◌+◌, [], length, reverse, slice_get, vec_len, vec_capacity, option_copied, IsOk, IsTrue, Ok, Err, IfOk, IfErr, OnOk, OnErr};
+ghost use Rattle.coll_syntax.specs.Proper.{IsProper};
+ghost use Rattle.coll_table.specs.Record.{AreLoose, Extends, dropped_nodes, more_steps, without_nodes};
+ghost use Rattle.coll_nodes.specs.TableLayout.{collation};
+ghost use Rattle.coll_history.specs.Kept.{added_by_all, statements_of};
+ghost use Rattle.coll_history.specs.Histories.{History, begun, judged, taken_back, put_again, undo_steps, redo_steps, numbered, table_now, RefusesStatement};
+
+#[cfg(test)]
+mod fields;
+
+use crate::history_faults::BenchFault;
+use crate::limits::MOST_REMAINING;
+use coll_syntax::Statement;
+use coll_table::{
+    Record, Table, records_fit_narrower, records_fit_wider, records_turn_back,
+    undone_records_put_in, wider_tables_read_alike,
+};
+use std::alloc::{AllocError, Global};
+use std::marker::Model;
+
+/// An accepted statement, with the record that takes it back, or, once it is undone, puts it again.
+#[derive(Debug, Drop)]
+pub struct Kept {
+    statement: Statement,
+    change: Record,
+}
+
+/// A table, the statements that remain, and those that were taken back.
+#[derive(Debug, Drop)]
+pub struct Session {
+    /// The table as the remaining statements have made it.
+    table: Table,
+    /// The statements that remain, from the first.
+    remaining: Vec<Kept>,
+    /// The statements taken back; the last one here is the next to be put again.
+    undone: Vec<Kept>,
+}
+
+impl Model for Session {
+    ghost use Rattle.coll_history.specs.Histories.{SessionValue};
+
+    ghost Value = { SessionValue };
+
+    ghost use Rattle.coll_history.specs.Kept.{session_of, IsSoundSession};
+
+    ghost view = { λ s. session_of s.table s.remaining.items s.undone.items };
+
+    ghost invariant = { λ s. IsSoundSession s };
+}
+
+impl Session {
+    /// A session on a table, in which nothing has happened yet. It takes no memory.
+    pub fn new(alloc: Global, table: Table) -> Session
+        ensures history { result.history ≡ begun (collation table) }
+        ensures steps { result.steps ≡ table.steps }
+    {
+        Session {
+            table,
+            remaining: Vec::new(alloc),
+            undone: Vec::new(alloc),
+        }
+    }
+
+    /// Judges a statement, and answers how many statements then remain.
+    ///
+    /// It is refused with `HistoryFull` where 65,535 remain, and else as the table refuses it. A refusal, want of
+    /// memory included, leaves the table, what remains and what was taken back as they were. An accepted statement
+    /// empties what was taken back.
+    pub fn statement(&mut self, statement: Statement) -> Result<u32, BenchFault>
+        requires proper { IsProper statement }
+        ensures accepted { IfOk result (λ _. judged self.old.history statement ≡ Ok self.new.history) }
+        ensures count { IfOk result (λ n. n ≡ length self.new.history.remaining) }
+        ensures refused { IfErr result (λ fault. RefusesStatement self.old.history statement fault) }
+        ensures unchanged { OnErr result (self.new ≡ self.old) }
+    {
+        if self.remaining.len() >= MOST_REMAINING {
+            return Err(BenchFault::HistoryFull);
+        }
+        make_room(&mut self.remaining, &mut self.undone)?;
+        records_turn_back();
+        records_fit_wider();
+        records_fit_narrower();
+        wider_tables_read_alike();
+        undone_records_put_in();
+        self.table.check_table();
+        let change = match self.table.apply(&statement) {
+            Ok(change) => change,
+            Err(refusal) => return Err(BenchFault::Table(refusal)),
+        };
+        self.table.check_table();
+        self.remaining.push_reserved(Kept { statement, change });
+        give_up(&mut self.table, &mut self.undone);
+        self.table.check_table();
+        Ok(self.remaining.len() as u32)
+    }
+
+    /// Takes the last remaining statement back, and answers how many then remain. It takes no memory.
+    ///
+    /// The table is then the one in which the statement was accepted, and has taken just the ring steps of the statement's own
+    /// nodes. It is refused with `NothingToUndo` exactly where no statement remains; nothing has then changed.
+    pub fn undo(&mut self) -> Result<u32, BenchFault>
+        ensures undone { IfOk result (λ _. taken_back self.old.history ≡ Ok self.new.history) }
+        ensures count { IfOk result (λ n. n ≡ length self.new.history.remaining) }
+        ensures steps { OnOk result (self.new.steps ≡ more_steps self.old.steps (undo_steps self.old.history)) }
+        ensures refused { IfErr result (λ fault. taken_back self.old.history ≡ Err fault) }
+        ensures unchanged { OnErr result (self.new ≡ self.old) }
+    {
+        let Some(mut kept) = self.remaining.pop() else {
+            return Err(BenchFault::NothingToUndo);
+        };
+        self.table.check_table();
+        records_turn_back();
+        self.table.flip(&mut kept.change);
+        self.undone.push_reserved(kept);
+        Ok(self.remaining.len() as u32)
+    }
+
+    /// Puts the statement that was taken back last again, and answers how many then remain. It takes no memory.
+    ///
+    /// The table is then the one that the statement gave, and has taken just the ring steps of the statement's own nodes. It is
+    /// refused with `NothingToRedo` exactly where nothing was taken back; nothing has then changed.
+    pub fn redo(&mut self) -> Result<u32, BenchFault>
+        ensures redone { IfOk result (λ _. put_again self.old.history ≡ Ok self.new.history) }
+        ensures count { IfOk result (λ n. n ≡ length self.new.history.remaining) }
+        ensures steps { OnOk result (self.new.steps ≡ more_steps self.old.steps (redo_steps self.old.history)) }
+        ensures refused { IfErr result (λ fault. put_again self.old.history ≡ Err fault) }
+        ensures unchanged { OnErr result (self.new ≡ self.old) }
+    {
+        let Some(mut kept) = self.undone.pop() else {
+            return Err(BenchFault::NothingToRedo);
+        };
+        self.table.check_table();
+        records_turn_back();
+        self.table.flip(&mut kept.change);
+        self.remaining.push_reserved(kept);
+        Ok(self.remaining.len() as u32)
+    }
+
+    /// How many statements remain.
+    pub fn remaining_len(&self) -> u32
+        ensures { result ≡ length self.now.history.remaining }
+    {
+        self.remaining.len() as u32
+    }
+
+    /// How many statements were taken back and can be put again.
+    pub fn undone_len(&self) -> u32
+        ensures { result ≡ length self.now.history.undone }
+    {
+        self.undone.len() as u32
+    }
+
+    /// The statement that remains with a number, counted from 1, if there is one.
+    pub fn remaining(&self, number: u32) -> Option<&Statement>
+        ensures { option_copied result ≡ numbered self.now.history.remaining number }
+    {
+        if number == 0 {
+            return None;
+        }
+        statement_at(&self.remaining, number as usize - 1)
+    }
+
+    /// The statement that was taken back with a number, counted from 1, if there is one: the first is what `redo` puts again next.
+    pub fn undone(&self, number: u32) -> Option<&Statement>
+        ensures { option_copied result ≡ numbered self.now.history.undone number }
+    {
+        if number == 0 {
+            return None;
+        }
+        let len = self.undone.len();
+        if number as usize > len {
+            return None;
+        }
+        statement_at(&self.undone, len - number as usize)
+    }
+
+    /// The table now: the one at first, rewritten by the statements that remain, in order.
+    pub fn table(&self) -> &Table
+        ensures table { collation result.now ≡ table_now self.now.history }
+        ensures steps { result.now.steps ≡ self.now.steps }
+    {
+        // Each field is named, so that a session that keeps more is refused here.
+        let Session {
+            table,
+            remaining: _,
+            undone: _,
+        } = self;
+        table
+    }
+}
+
+// The statement that is kept at an index, if there is one.
+fn statement_at(kept: &[Kept], index: usize) -> Option<&Statement>
+    ensures { option_copied result ≡ slice_get (statements_of kept.now) index }
+{
+    match kept.get(index) {
+        Some(kept) => Some(&kept.statement),
+        None => None,
+    }
+}
+
+// Makes the room that an accepted statement needs, and every undo and redo of what then remains.
+fn make_room(remaining: &mut Vec<Kept>, undone: &mut Vec<Kept>) -> Result<(), AllocError>
+    requires { vec_len remaining.old < MOST_REMAINING }
+    ensures remaining { remaining.new.items ≡ remaining.old.items }
+    ensures len { vec_len remaining.new ≡ vec_len remaining.old }
+    ensures undone { undone.new.items ≡ undone.old.items }
+    ensures undone_len { vec_len undone.new ≡ vec_len undone.old }
+    ensures shrinks_not { vec_capacity undone.old ≤ vec_capacity undone.new }
+    ensures keeps { vec_capacity remaining.old ≤ vec_capacity remaining.new }
+    ensures place { OnOk result (vec_len remaining.new < vec_capacity remaining.new) }
+    ensures room { OnOk result (vec_len remaining.old + 1 ≤ vec_capacity undone.new) }
+{
+    remaining.reserve(1)?;
+    undone.reserve(remaining.len() + 1)?;
+    Ok(())
+}
+
+// Gives up the records of statements that will not be put again. The table stays, without the nodes that they would put in.
+fn give_up(table: &mut Table, undone: &mut Vec<Kept>)
+    requires loose { AreLoose table.old.layout (added_by_all (reverse undone.old.items)) }
+    ensures table { Extends table.old table.new }
+    ensures steps { table.new.steps ≡ table.old.steps }
+    ensures undone { undone.new.items ≡ [] }
+    ensures len { vec_len undone.new ≡ 0 }
+    ensures room { vec_capacity undone.new ≡ vec_capacity undone.old }
+{
+    while let Some(kept) = undone.pop() {
+        give_up_one(table, kept);
+    }
+}
+
+// Gives up the record of a statement. The table stays, without the nodes that an undone one would put in.
+fn give_up_one(table: &mut Table, kept: Kept)
+    requires loose { AreLoose table.old.layout (dropped_nodes kept.change) }
+    ensures { table.new ≡ without_nodes table.old (dropped_nodes kept.change) }
+{
+    let Kept {
+        statement: _,
+        change,
+    } = kept;
+    table.forget(change);
+}

@@ -1,0 +1,61 @@
+//! Why a history refuses.
+//!
+//! A refusal by the table is kept as it came, so that it has one number and one name everywhere. A new kind of refusal is a new variant
+//! with its number and its name here and in `specs/HistoryFaults.antt`.
+
+ghost use Rattle.std.specs.Prelude.{◌≡◌};
+ghost use Rattle.coll_history.specs.HistoryFaults.{bench_fault_number, bench_fault_name};
+ghost use Rattle.coll_table.specs.declared.refusals.Refusal.TheVariants.{OutOfMemory};
+ghost use Rattle.coll_history.specs.declared.history_faults.BenchFault.TheVariants.{Table};
+
+use coll_table::Refusal;
+use std::alloc::AllocError;
+use thiserror::Error;
+
+/// Why a history refused a statement, or had nothing to take back or to put again.
+#[derive(Clone, Copy, Debug, PartialEq, Eq, Error)]
+#[error("{} {}", self.number(), self.name())]
+pub enum BenchFault {
+    /// The table refused the statement.
+    Table(Refusal),
+    /// No statement remains to be taken back.
+    NothingToUndo,
+    /// No statement was taken back that could be put again.
+    NothingToRedo,
+    /// 65,535 statements remain, which is the most.
+    HistoryFull,
+}
+
+impl BenchFault {
+    /// The number that a reply shows.
+    pub fn number(self) -> u8
+        ensures { result ≡ bench_fault_number self }
+    {
+        match self {
+            BenchFault::Table(refusal) => refusal.number(),
+            BenchFault::NothingToUndo => 60,
+            BenchFault::NothingToRedo => 61,
+            BenchFault::HistoryFull => 66,
+        }
+    }
+
+    /// The name that a reply shows.
+    pub fn name(self) -> &'static str
+        ensures { result.now ≡ bench_fault_name self }
+    {
+        match self {
+            BenchFault::Table(refusal) => refusal.name(),
+            BenchFault::NothingToUndo => "NothingToUndo",
+            BenchFault::NothingToRedo => "NothingToRedo",
+            BenchFault::HistoryFull => "HistoryFull",
+        }
+    }
+}
+
+impl From<AllocError> for BenchFault {
+    ghost from_gives = { λ _ fault. fault ≡ Table OutOfMemory };
+
+    fn from(_error: AllocError) -> BenchFault {
+        BenchFault::Table(Refusal::OutOfMemory)
+    }
+}

@@ -1,0 +1,9 @@
+pub mod AlikeFronts
+pub mod ElementBeginnings
+pub mod ElementChains
+pub mod LongestElements
+pub mod NameLookUps
+pub mod PartNumbers
+pub mod RankListLemmas
+pub mod RankingLemmas
+pub mod Tests

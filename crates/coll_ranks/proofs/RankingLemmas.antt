@@ -1,0 +1,177 @@
+-- Walks that give ranks, and what they come to.
+use Rattle.std.proofs.Common.{◌≡◌, ◌<◌, ◌≤◌, All, ℕ, suc, ◌+◌, Bool, true, false, cond, List, [], ◌∷◌, ◌++◌, length, map, Option, Some, None, is_some, sym, ap, ap₂, ◌∙◌, refl, arith, append_assoc, length-append}
+use Rattle.std.specs.Prelude.{◌||◌}
+use Rattle.std.specs.List.{flat_map, list_any}
+use Rattle.std.specs.Option.{option_or, option_map, unwrap_or}
+use Rattle.std.proofs.lemmas.Bool.{false≢true}
+use Rattle.std.proofs.lemmas.List.Elements.{All-head, All-tail, All-nil, All-cons}
+use Rattle.coll_syntax.specs.Identifier.{same_id, has_id}
+use Rattle.coll_syntax.specs.Proper.{IsElementText}
+use Rattle.coll_syntax.specs.declared.identifiers.Id.{Id}
+use Rattle.coll_syntax.specs.declared.identifiers.Id.TheVariants.{Char, Named, Undefined}
+use Rattle.coll_nodes.specs.Table.{Collation, entries_of, ids_of, texts_of}
+use Rattle.coll_nodes.specs.Walks.{Met, MetSection, MetEntry, met, entry_met, entries_met}
+use Rattle.coll_nodes.specs.WellFormed.{AreDistinct, IsWellFormed}
+use Rattle.coll_nodes.specs.declared.declarations.Declaration.{Declaration}
+use Rattle.coll_nodes.specs.declared.declarations.Declaration.TheVariants as declaration
+use Rattle.coll_nodes.specs.declared.entries.Entry.{Entry}
+use Rattle.coll_draft.proofs.MetEntries.{met_all}
+use Rattle.coll_nodes.proofs.Sameness.{same_id_decides}
+use Rattle.coll_ranks.specs.Elements.{element_placed}
+use Rattle.coll_ranks.specs.WeightNumbers.{undefined_weights}
+use Rattle.coll_ranks.specs.Rank.{place_among, rank_unplaced, known_rank}
+use Rattle.coll_ranks.specs.Ranking.{last_place, AreIdRanksOf, ranked_if_any, ranked_declared, HasString}
+use Rattle.coll_ranks.specs.Ranks.{RanksById, RankedElement, no_ranks, rank_with, rank_or_zero, ranked_in, compiled_row_by, compiled_entry, compiled_weights}
+use Rattle.coll_ranks.proofs.Tests.{by_test}
+
+-- What one meets.
+
+or_all : {X : Type 0} (a b c : Option X) → option_or (option_or a b) c ≡ option_or a (option_or b c)
+or_all None b c = refl
+or_all (Some x) b c = refl
+
+pub or_none : {X : Type 0} (a : Option X) → option_or a None ≡ a
+or_none None = refl
+or_none (Some x) = refl
+
+-- what is counted, and what is left
+pub counted_met : (left later : List Met) (item : Met) (rank next total : ℕ) → left ≡ item ∷ later → next ≡ rank + length (entry_met item) → rank + length (entries_met left) ≡ total → next + length (entries_met later) ≡ total
+counted_met left later item rank next total first count all =
+    let whole : length (entries_met left) ≡ length (entry_met item) + length (entries_met later) = ap (λ items. length (entries_met items)) first ∙ length-append (entry_met item) (entries_met later) in
+    omega arith
+
+-- the last place of an identifier is the same, whether what one meets first has been ranked or not
+last_of_met : (item : Met) (rank : ℕ) (entries : List Entry) (id : Id) → last_place rank (entry_met item ++ entries) id ≡ option_or (last_place (rank + length (entry_met item)) entries id) (last_place rank (entry_met item) id)
+last_of_met (MetSection name) rank entries id = ap (λ n. last_place n entries id) (let same : rank ≡ rank + 0 = omega arith in same) ∙ sym (or_none (last_place (rank + 0) entries id))
+last_of_met (MetEntry entry) rank entries id = ap (λ n. option_or (last_place n entries id) (cond (same_id id entry.id) (Some (suc rank)) None)) (let same : suc rank ≡ rank + 1 = omega arith in same)
+
+pub ranked_met : (left later : List Met) (item : Met) (rank next : ℕ) (old new : RanksById) → left ≡ item ∷ later → next ≡ rank + length (entry_met item) → ((id : Id) → rank_with new id ≡ option_or (last_place rank (entry_met item) id) (rank_with old id)) → (id : Id) → option_or (last_place next (entries_met later) id) (rank_with new id) ≡ option_or (last_place rank (entries_met left) id) (rank_with old id)
+ranked_met left later item rank next old new first count ranks id =
+    ap₂ (λ (n : ℕ) (r : Option ℕ). option_or (last_place n (entries_met later) id) r) count (ranks id)
+    ∙ (sym (or_all (last_place (rank + length (entry_met item)) (entries_met later) id) (last_place rank (entry_met item) id) (rank_with old id))
+    ∙ ap (λ p. option_or p (rank_with old id)) (sym (ap (λ items. last_place rank (entries_met items) id) first ∙ last_of_met item rank (entries_met later) id)))
+
+-- Places.
+
+-- a place behind so many others
+abbrev behind : ℕ → Option ℕ → Option ℕ
+behind before None = None
+behind before (Some place) = Some (before + place)
+
+-- an identifier that isn't there has no place
+no_place : (entries : List Entry) (id : Id) → list_any (same_id id) (ids_of entries) ≡ false → place_among entries id ≡ None
+no_place [] id h = refl
+no_place (entry ∷ entries) id h =
+    by_test (λ b. (b || list_any (same_id id) (ids_of entries)) ≡ false → cond b (Some 1) (option_map (λ place. suc place) (place_among entries id)) ≡ None) (same_id id entry.id)
+    (λ on e. absurd (false≢true (sym e)))
+    (λ off e. ap (option_map (λ place. suc place)) (no_place entries id e)) h
+
+-- where none stands twice, the last place is the only one
+only_place : (before : ℕ) (entries : List Entry) (id : Id) → AreDistinct same_id (ids_of entries) → last_place before entries id ≡ behind before (place_among entries id)
+only_place before [] id h = refl
+only_place before (entry ∷ entries) id h =
+    ap (λ p. option_or p (cond (same_id id entry.id) (Some (suc before)) None)) (only_place (suc before) entries id h.1)
+    ∙ by_test (λ b. option_or (behind (suc before) (place_among entries id)) (cond b (Some (suc before)) None) ≡ behind before (cond b (Some 1) (option_map (λ place. suc place) (place_among entries id)))) (same_id id entry.id)
+    (λ on.
+    let same : id ≡ entry.id = (same_id_decides id entry.id).0 on in
+    let none : place_among entries id ≡ None = no_place entries id (ap (λ i. list_any (same_id i) (ids_of entries)) same ∙ h.0) in
+    ap (λ p. option_or (behind (suc before) p) (Some (suc before))) none ∙ ap Some (let one : suc before ≡ before + 1 = omega arith in one))
+    (λ off. or_none (behind (suc before) (place_among entries id)) ∙ moved (place_among entries id)) where
+      moved : (p : Option ℕ) → behind (suc before) p ≡ behind before (option_map (λ place. suc place) p)
+      moved None = refl
+      moved (Some place) = ap Some (let one : suc before + place ≡ before + suc place = omega arith in one)
+
+-- before the first walk nothing has a rank
+pub none_ranked : (id : Id) → rank_with no_ranks id ≡ None
+none_ranked (Char c) = refl
+none_ranked (Named name) = refl
+none_ranked Undefined = refl
+
+-- what the walk gives, with UNDEFINED behind all entries, are the ranks of the table
+pub ranks_of_table : (table : Collation) (walked ids : RanksById) (items : List Met) (count : ℕ) → IsWellFormed table → items ≡ met table.sections → count ≡ length (entries_met items) → ((id : Id) → rank_with walked id ≡ option_or (last_place 0 (entries_met items) id) (rank_with no_ranks id)) → ((id : Id) → rank_with ids id ≡ option_or (rank_with walked id) (rank_unplaced count id)) → AreIdRanksOf ids table
+ranks_of_table table walked ids items count well all counted ranks last id =
+    last id ∙ ap₂ (λ (p : Option ℕ) (n : ℕ). option_or p (rank_unplaced n id)) place (counted ∙ ap length entries) where
+      entries : entries_met items ≡ entries_of table
+      entries = ap entries_met all ∙ met_all table.sections
+
+      at_first : (p : Option ℕ) → behind 0 p ≡ p
+      at_first None = refl
+      at_first (Some n) = ap Some (let same : 0 + n ≡ n = omega arith in same)
+
+      place : rank_with walked id ≡ place_among (entries_of table) id
+      place =
+          ranks id ∙ (ap (option_or (last_place 0 (entries_met items) id)) (none_ranked id) ∙ (or_none (last_place 0 (entries_met items) id)
+          ∙ (ap (λ es. last_place 0 es id) entries ∙ (only_place 0 (entries_of table) id well.built.distinct_entries ∙ at_first (place_among (entries_of table) id)))))
+
+-- Elements.
+
+-- what is there has a place
+pub has_place : (entries : List Entry) (id : Id) → has_id (ids_of entries) id ≡ is_some (place_among entries id)
+has_place [] id = refl
+has_place (entry ∷ entries) id = ap (λ b. same_id id entry.id || b) (has_place entries id) ∙ by (same_id id entry.id) (place_among entries id) where
+  by : (b : Bool) (p : Option ℕ) → (b || is_some p) ≡ is_some (cond b (Some 1) (option_map (λ place. suc place) p))
+  by true p = refl
+  by false None = refl
+  by false (Some n) = refl
+
+-- the ranked elements of declarations are those placed, with their ranks
+pub elements_ranked : (table : Collation) (ids : RanksById) (declared : List Declaration) → AreIdRanksOf ids table → flat_map (ranked_declared ids) declared ≡ map (ranked_in table) (flat_map (element_placed table) declared)
+elements_ranked table ids [] are = refl
+elements_ranked table ids (declaration.Symbol name ∷ declared) are = elements_ranked table ids declared are
+elements_ranked table ids (declaration.Element name text ∷ declared) are =
+    ap₂ (λ (r : Option ℕ) (later : List RankedElement). ranked_if_any name text r ++ later) (are (Named name) ∙ or_none (place_among (entries_of table) (Named name))) (elements_ranked table ids declared are)
+    ∙ (by (place_among (entries_of table) (Named name)) refl ∙ ap (λ b. map (ranked_in table) (cond b (record { name = name; text = text } ∷ []) [] ++ flat_map (element_placed table) declared)) (sym (has_place (entries_of table) (Named name)))) where
+      by : (p : Option ℕ) → place_among (entries_of table) (Named name) ≡ p → ranked_if_any name text p ++ map (ranked_in table) (flat_map (element_placed table) declared) ≡ map (ranked_in table) (cond (is_some p) (record { name = name; text = text } ∷ []) [] ++ flat_map (element_placed table) declared)
+      by None e = refl
+      by (Some rank) e =
+          let known : known_rank table (Named name) ≡ rank = ap (λ p. unwrap_or (option_or p None) 0) e in
+          ap (λ r. record { element = record { name = name; text = text }; rank = r } ∷ map (ranked_in table) (flat_map (element_placed table) declared)) (sym known)
+
+-- what is put in, and what is left
+pub put_more : (all with whole : List RankedElement) (ids : RanksById) (left later : List Declaration) (item : Declaration) → left ≡ item ∷ later → with ≡ all ++ ranked_declared ids item → all ++ flat_map (ranked_declared ids) left ≡ whole → with ++ flat_map (ranked_declared ids) later ≡ whole
+put_more all with whole ids left later item first put is =
+    ap (λ es. es ++ flat_map (ranked_declared ids) later) put
+    ∙ (append_assoc all (ranked_declared ids item) (flat_map (ranked_declared ids) later) ∙ (ap (λ ds. all ++ flat_map (ranked_declared ids) ds) (sym first) ∙ is))
+
+-- a declaration is at most one element
+one_at_most : (ids : RanksById) (item : Declaration) → length (ranked_declared ids item) ≤ 1
+one_at_most ids (declaration.Symbol name) = omega arith
+one_at_most ids (declaration.Element name text) = by (rank_with ids (Named name)) where
+  by : (r : Option ℕ) → length (ranked_if_any name text r) ≤ 1
+  by None = omega arith
+  by (Some rank) = omega arith
+
+pub few_more : (all with : List RankedElement) (ids : RanksById) (left later : List Declaration) (item : Declaration) → left ≡ item ∷ later → with ≡ all ++ ranked_declared ids item → length all + length left < 1_000_000 → length with + length later < 1_000_000
+few_more all with ids left later item first put few =
+    let one = one_at_most ids item in
+    let counted : length with ≡ length all + length (ranked_declared ids item) = ap length put ∙ length-append all (ranked_declared ids item) in
+    let fewer : length left ≡ suc (length later) = ap length first in
+    omega arith
+
+-- the strings of elements have characters
+pub have_strings : (declared : List Declaration) → All IsElementText (texts_of declared) → All HasString declared
+have_strings [] h = All-nil HasString
+have_strings (declaration.Symbol name ∷ declared) h = All-cons HasString (declaration.Symbol name) declared tt (have_strings declared h)
+have_strings (declaration.Element name text ∷ declared) h =
+    let two : 2 ≤ length text = (All-head IsElementText text (texts_of declared) h).0 in
+    let some : 0 < length text = omega arith in
+    All-cons HasString (declaration.Element name text) declared some (have_strings declared (All-tail IsElementText text (texts_of declared) h))
+
+-- a table has few entries
+pub few_met : (table : Collation) (items : List Met) → IsWellFormed table → items ≡ met table.sections → length (entries_met items) < 1_000_000
+few_met table items well all =
+    let same : length (entries_met items) ≡ length (entries_of table) = ap length (ap entries_met all ∙ met_all table.sections) in
+    omega (arith, same, well.built.few_entries)
+
+-- Weights.
+
+-- the ranks that are found are those known
+pub ranks_known : (ids : RanksById) (table : Collation) → AreIdRanksOf ids table → rank_or_zero ids ≡ known_rank table
+ranks_known ids table are = λ i id. unwrap_or (are id i) 0
+
+-- the compiled weights of UNDEFINED and of all entries are those of the table
+pub weights_of_table : (table : Collation) (ids : RanksById) (items : List Met) (first all : List (List ℕ)) (levels : ℕ) → AreIdRanksOf ids table → items ≡ met table.sections → levels ≡ length table.rules → first ≡ compiled_row_by (rank_or_zero ids) (length table.rules) Undefined (undefined_weights table) → all ≡ first ++ flat_map (compiled_entry (rank_or_zero ids) levels) (entries_met items) → all ≡ compiled_weights table
+weights_of_table table ids items first all levels are met_items counted begun whole =
+    whole
+    ∙ (ap₂ (λ (row : List (List ℕ)) (es : List Entry). row ++ flat_map (compiled_entry (rank_or_zero ids) levels) es) begun (ap entries_met met_items ∙ met_all table.sections)
+    ∙ ap₂ (λ (rank : Id → ℕ) (n : ℕ). compiled_row_by rank (length table.rules) Undefined (undefined_weights table) ++ flat_map (compiled_entry rank n) (entries_of table)) (ranks_known ids table are) counted)

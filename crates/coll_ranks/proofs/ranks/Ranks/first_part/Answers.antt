@@ -1,0 +1,42 @@
+-- The part at the beginning of a text is its longest element, or else its first character.
+use Rattle.std.proofs.Common.{◌∙◌, length, chars, sym, ap, arith}
+use Rattle.std.proofs.lemmas.Str.{chars_past_char}
+use Rattle.coll_ranks.specs.Ranks.{parts_of}
+use Rattle.coll_ranks.proofs.PartNumbers.{element_first, characters_behind, some_characters, character_first, no_parts, no_characters}
+use Rattle.coll_ranks.proofs.ranks.Ranks.first_part.Goals as goal
+
+pub returns-in_err-first-clause-parts : goal.returns-in_err-first-clause-parts
+returns-in_err-first-clause-parts c =
+    let none = no_characters c.args.text.now c.chars-letters.result.rest.now c.chars-letters.ensures.rest c.in_err-first.ensures.steps.0.0 in
+    rw c.from_residual.ensures (ap (parts_of c.args.self.now) none ∙ no_parts c.args.self.now)
+
+pub returns-in_err-first-clause-characters : goal.returns-in_err-first-clause-characters
+returns-in_err-first-clause-characters c =
+    rw c.from_residual.ensures (ap length (no_characters c.args.text.now c.chars-letters.result.rest.now c.chars-letters.ensures.rest c.in_err-first.ensures.steps.0.0))
+
+pub returns-in-Some-clause-parts : goal.returns-in-Some-clause-parts
+returns-in-Some-clause-parts c =
+    let first = chars_past_char c.args.text.now c.next.new.self.rest.now c.in_ok-first.first c.utf8.text (sym c.chars-letters.ensures.rest ∙ c.in_ok-first.ensures.steps.0) in
+    rw (← c.self.view_is) (element_first _ (chars c.args.text.now) c.in-Some.found (c.in-Some.ensures _ first))
+
+pub returns-in-Some-clause-characters : goal.returns-in-Some-clause-characters
+returns-in-Some-clause-characters c =
+    let first = chars_past_char c.args.text.now c.next.new.self.rest.now c.in_ok-first.first c.utf8.text (sym c.chars-letters.ensures.rest ∙ c.in_ok-first.ensures.steps.0) in
+    characters_behind _ (chars c.args.text.now) c.in-Some.found (c.in-Some.ensures _ first)
+
+pub returns-in-Some-clause-some : goal.returns-in-Some-clause-some
+returns-in-Some-clause-some c =
+    let first = chars_past_char c.args.text.now c.next.new.self.rest.now c.in_ok-first.first c.utf8.text (sym c.chars-letters.ensures.rest ∙ c.in_ok-first.ensures.steps.0) in
+    some_characters _ (chars c.args.text.now) c.in-Some.found (c.in-Some.ensures _ first)
+
+pub returns-in-None-clause-parts : goal.returns-in-None-clause-parts
+returns-in-None-clause-parts c =
+    let first = chars_past_char c.args.text.now c.next.new.self.rest.now c.in_ok-first.first c.utf8.text (sym c.chars-letters.ensures.rest ∙ c.in_ok-first.ensures.steps.0) in
+    rw (← c.self.view_is) (character_first _ (chars c.args.text.now) _ (chars c.as_str.result.now) c.in_ok-first.first c.part.result first (c.in-None.ensures _ first) c.part.ensures (ap chars c.as_str.ensures))
+
+pub returns-in-None-clause-characters : goal.returns-in-None-clause-characters
+returns-in-None-clause-characters c =
+    let first = chars_past_char c.args.text.now c.next.new.self.rest.now c.in_ok-first.first c.utf8.text (sym c.chars-letters.ensures.rest ∙ c.in_ok-first.ensures.steps.0) in
+    let one = ap length first in
+    let same = ap (λ t. length (chars t)) c.as_str.ensures in
+    omega (arith, one, same)

@@ -1,0 +1,9 @@
+pub mod AlikeFronts
+pub mod ElementChains
+pub mod Elements
+pub mod NameMaps
+pub mod Rank
+pub mod RankLists
+pub mod Ranking
+pub mod Ranks
+pub mod WeightNumbers

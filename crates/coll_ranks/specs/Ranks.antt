@@ -1,0 +1,155 @@
+-- The ranks of a table, compiled: what their look-ups find, and when they are those of a table.
+use Rattle.std.specs.Prelude.{◌≡◌, ℕ, zero, suc, ◌+◌, ◌*◌, Bool, false, if◌then◌else◌, List, [], ◌∷◌, ◌++◌, Option, Some, None, length, map, slice_index_or}
+use Rattle.std.specs.List.{flat_map}
+use Rattle.std.specs.Option.{option_or, unwrap_or}
+use Rattle.coll_syntax.specs.Identifier.{same_name}
+use Rattle.coll_syntax.specs.declared.identifiers.Id.{Id}
+use Rattle.coll_syntax.specs.declared.identifiers.Id.TheVariants.{Char, Named, Undefined}
+use Rattle.coll_syntax.specs.declared.weights.Weight.{Weight}
+use Rattle.coll_syntax.specs.declared.weights.Weight.TheVariants.{Ignore, Own, Names}
+use Rattle.coll_print.specs.CanonicalText.{is_own}
+use Rattle.coll_nodes.specs.Table.{Collation, entries_of}
+use Rattle.coll_nodes.specs.declared.entries.Entry.{Entry}
+use Rattle.coll_ranks.specs.Elements.{Element, elements_placed, split}
+use Rattle.coll_ranks.specs.WeightNumbers.{number_of, undefined_weights}
+use Rattle.coll_ranks.specs.Rank.{rank_of, known_rank}
+use Rattle.coll_ranks.specs.declared.parts.Part.{Part}
+use Rattle.coll_ranks.specs.declared.parts.Part.TheVariants.{Placed, Absent}
+
+-- a name and its number
+pub record NamedNumber : Type 0 where
+  pub name : List ℕ
+  pub number : ℕ
+
+-- the ranks of identifiers: those of names, a list with a number for each code point, 0 for a character that has none, and
+-- the rank of UNDEFINED, which may have none while they are made
+pub record RanksById : Type 0 where
+  pub names : List NamedNumber
+  pub characters : List ℕ
+  pub undefined : Option ℕ
+
+-- no ranks
+abbrev pub no_ranks : RanksById
+no_ranks = record { names = []; characters = []; undefined = None }
+
+-- a collating element that is placed, and its rank
+pub record RankedElement : Type 0 where
+  pub element : Element
+  pub rank : ℕ
+
+-- the ranks of a table as contracts see them: those of identifiers; the placed elements; the number of levels; the compiled
+-- weights, that is the ranks of the weight at each level, level by level, for UNDEFINED and then for each entry; and for each
+-- level whether UNDEFINED stands for itself there
+pub record RanksValue : Type 0 where
+  pub ids : RanksById
+  pub elements : List RankedElement
+  pub levels : ℕ
+  pub weights : List (List ℕ)
+  pub own : List Bool
+
+-- What look-ups find.
+
+-- the number of a name
+abbrev pub number_named : List NamedNumber → List ℕ → Option ℕ
+number_named [] name = None
+number_named (first ∷ later) name = if same_name name first.name then Some first.number else number_named later name
+
+-- a number as a rank; 0 is none
+abbrev pub rank_if_any : ℕ → Option ℕ
+rank_if_any zero = None
+rank_if_any (suc n) = Some (suc n)
+
+-- the rank of an identifier
+abbrev pub rank_with : RanksById → Id → Option ℕ
+rank_with ids (Char c) = rank_if_any (slice_index_or ids.characters c 0)
+rank_with ids (Named name) = number_named ids.names name
+rank_with ids Undefined = ids.undefined
+
+-- the rank of an identifier, and 0 for one that has none
+abbrev pub rank_or_zero : RanksById → Id → ℕ
+rank_or_zero ids id = unwrap_or (rank_with ids id) 0
+
+-- the string of a ranked element
+abbrev pub ranked_text : RankedElement → List ℕ
+ranked_text ranked = ranked.element.text
+
+-- the string of the last element of a name
+abbrev pub last_string : List RankedElement → List ℕ → Option (List ℕ)
+last_string [] name = None
+last_string (first ∷ later) name = option_or (last_string later name) (if same_name name first.element.name then Some (ranked_text first) else None)
+
+-- the compiled weight at a level of what has this rank; 0 stands for what has no entry
+abbrev pub compiled_weight : RanksValue → (rank : ℕ) → (level : ℕ) → List ℕ
+compiled_weight ranks rank level = slice_index_or ranks.weights (rank * ranks.levels + level) []
+
+-- the number that a rank in a weight of a part has, with what is added to it
+abbrev pub added_to : ℕ → ℕ → ℕ
+added_to added rank = number_of rank + added
+
+-- what is added for a character without an entry, where UNDEFINED stands for itself
+abbrev pub added_at : RanksValue → (level : ℕ) → ℕ → ℕ
+added_at ranks level c = if slice_index_or ranks.own level false then c else 0
+
+-- the numbers of a part at a level
+abbrev pub part_numbers : RanksValue → (level : ℕ) → Part → List ℕ
+part_numbers ranks level (Placed rank) = map (added_to 0) (compiled_weight ranks rank level)
+part_numbers ranks level (Absent c) = map (added_to (added_at ranks level c)) (compiled_weight ranks 0 level)
+
+-- the part of a character with this rank, if it has one
+abbrev pub character_part : Option ℕ → ℕ → Part
+character_part None c = Absent c
+character_part (Some rank) c = Placed rank
+
+-- a part: an element, or else the character
+abbrev pub part_with : RanksById → Option RankedElement → ℕ → Part
+part_with ids (Some ranked) c = Placed ranked.rank
+part_with ids None c = character_part (rank_with ids (Char c)) c
+
+-- the parts of a text behind this many characters
+abbrev pub parts_behind : RanksValue → (skipped : ℕ) → List ℕ → List Part
+parts_behind ranks skipped text = split ranked_text ranks.elements (part_with ranks.ids) skipped text
+
+-- the parts of a text
+unfoldable pub parts_of : RanksValue → List ℕ → List Part
+parts_of ranks text = parts_behind ranks 0 text
+
+-- When they are those of a table.
+
+-- an element of a table with its rank
+abbrev pub ranked_in : Collation → Element → RankedElement
+ranked_in table element = record { element = element; rank = known_rank table (Named element.name) }
+
+-- the compiled weight of an identifier: the ranks of what it names
+abbrev pub compiled_by : (Id → ℕ) → Id → Weight → List ℕ
+compiled_by rank id Ignore = []
+compiled_by rank id Own = rank id ∷ []
+compiled_by rank id (Names ids) = map rank ids
+
+-- so many of these lists, and empty ones where there are no more
+abbrev pub filled_up : ℕ → List (List ℕ) → List (List ℕ)
+filled_up zero lists = []
+filled_up (suc count) [] = [] ∷ filled_up count []
+filled_up (suc count) (list ∷ lists) = list ∷ filled_up count lists
+
+-- the compiled weights of an identifier, as many as there are levels
+abbrev pub compiled_row_by : (Id → ℕ) → (levels : ℕ) → Id → List Weight → List (List ℕ)
+compiled_row_by rank levels id weights = filled_up levels (map (compiled_by rank id) weights)
+
+-- the compiled weights of an entry
+abbrev pub compiled_entry : (Id → ℕ) → (levels : ℕ) → Entry → List (List ℕ)
+compiled_entry rank levels entry = compiled_row_by rank levels entry.id entry.weights
+
+-- the compiled weights of a table: those of UNDEFINED, and then those of each entry
+abbrev pub compiled_weights : Collation → List (List ℕ)
+compiled_weights table =
+    compiled_row_by (known_rank table) (length table.rules) Undefined (undefined_weights table)
+    ++ flat_map (compiled_entry (known_rank table) (length table.rules)) (entries_of table)
+
+-- ranks are those of a table: they have its levels, each identifier has its rank in the table, they have its placed elements
+-- and its compiled weights, and they know where UNDEFINED stands for itself
+pub record AreRanksOf (ranks : RanksValue) (table : Collation) : Type 0 where
+  pub levels : ranks.levels ≡ length table.rules
+  pub identifiers : (id : Id) → rank_with ranks.ids id ≡ rank_of table id
+  pub elements : ranks.elements ≡ map (ranked_in table) (elements_placed table)
+  pub weights : ranks.weights ≡ compiled_weights table
+  pub own : ranks.own ≡ map is_own (undefined_weights table)

@@ -1,0 +1,23 @@
+//! The ranks of a collation table, and the parts of a text by them.
+//!
+//! `Ranks` is a table, compiled once and asked often: which rank an identifier has, which part a text begins with, and what a part
+//! weighs at a level. A way through the crate, each file with its definitions in `specs/`:
+//!
+//! - `code_points`, `name_numbers` and `id_ranks`: which rank an identifier has (`Rank`, `Ranks`, `NameMaps`);
+//! - `placed_elements`: which collating element a text begins with (`Elements`, `ElementChains`);
+//! - `parts`: what a text is split into, and what a part weighs (`WeightNumbers`, `AlikeFronts`);
+//! - `compiled_weights`: the weights of all entries as ranks (`Ranks`, `RankLists`);
+//! - `ranks`, and `ranking`: the whole, made of a table (`Ranks`, `Ranking`).
+#![tactic(auto)]
+
+mod code_points;
+mod compiled_weights;
+mod id_ranks;
+mod name_numbers;
+mod parts;
+mod placed_elements;
+mod ranking;
+mod ranks;
+
+pub use parts::{FirstPart, Part, PartWeight};
+pub use ranks::Ranks;

@@ -1,0 +1,36 @@
+//! The parts of a text, and what a part weighs at a level.
+//!
+//! A part is small and plain, so that a list of them can be kept. What a part is and weighs is found in `Ranks`.
+
+ghost use Rattle.std.specs.Prelude.{◌≡◌, ℕ, map};
+
+use std::marker::Model;
+
+/// A part of a text: a collating element, or a character.
+#[derive(Clone, Copy)]
+pub enum Part {
+    /// What has an entry: its rank.
+    Placed(u32),
+    /// A character without an entry.
+    Absent(char),
+}
+
+/// The part that a text begins with.
+#[derive(Clone, Copy)]
+pub struct FirstPart<'a> {
+    /// The part.
+    pub part: Part,
+    /// The number of its characters.
+    pub characters: usize,
+    /// The text behind it.
+    pub rest: &'a str,
+}
+
+/// What a part weighs at a level: ranks, and what is added to the number of each.
+#[derive(Clone, Copy)]
+pub struct PartWeight<'a> {
+    /// The ranks of its weight.
+    pub ranks: &'a [u32],
+    /// What is added to the number of each.
+    pub added: u32,
+}

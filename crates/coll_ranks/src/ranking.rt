@@ -1,0 +1,195 @@
+//! Ranks and weights of a table, found on walks through it.
+//!
+//! One walk gives each identifier its rank, one goes over the declarations for the elements that are placed, and a last one compiles
+//! the weights, for which all ranks have to be there.
+
+ghost use Rattle.std.specs.Prelude.{◌≡◌, ◌<◌, ◌≤◌, ◌+◌, ◌++◌, length, map, replicate, IfOk, OnOk};
+ghost use Rattle.std.specs.List.{flat_map, All};
+ghost use Rattle.std.specs.Option.{option_or};
+ghost use Rattle.coll_syntax.specs.declared.identifiers.Id.{Id};
+ghost use Rattle.coll_syntax.specs.declared.identifiers.Id.TheVariants.{Undefined};
+ghost use Rattle.coll_syntax.specs.declared.weights.Weight.TheVariants.{Own};
+ghost use Rattle.coll_print.specs.CanonicalText.{is_own};
+ghost use Rattle.coll_nodes.specs.TableLayout.{collation};
+ghost use Rattle.coll_nodes.specs.WalkItems.{met_by, declared_by};
+ghost use Rattle.coll_nodes.specs.Walks.{entry_met, entries_met};
+ghost use Rattle.coll_ranks.specs.Elements.{elements_placed};
+ghost use Rattle.coll_ranks.specs.WeightNumbers.{undefined_weights};
+ghost use Rattle.coll_ranks.specs.Ranking.{last_place, ranked_declared, AreIdRanksOf, HasString};
+ghost use Rattle.coll_ranks.specs.RankLists.{AddsRow};
+ghost use Rattle.coll_ranks.specs.Ranks.{rank_with, rank_or_zero, ranked_in, compiled_row_by, compiled_entry, compiled_weights};
+
+use crate::compiled_weights::CompiledWeights;
+use crate::id_ranks::IdRanks;
+use crate::placed_elements::PlacedElements;
+use coll_syntax::{Id, Weight};
+use coll_table::{Declared, DeclaredItem, Table, Walk, WalkItem};
+use std::alloc::{AllocError, Global};
+
+/// The ranks of the identifiers of a table.
+pub(crate) fn ranked_ids(alloc: Global, table: &Table) -> Result<IdRanks, AllocError>
+    ensures { IfOk result (λ ids. AreIdRanksOf ids (collation table.now)) }
+{
+    table.check_table();
+    let mut ids = IdRanks::with_room(alloc, table.declared_len())?;
+    let entries = rank_walk(&mut ids, table.walk())?;
+    ids.set_last(entries);
+    Ok(ids)
+}
+
+// Gives each entry on a walk its rank, and gives their number.
+fn rank_walk(ids: &mut IdRanks, walk: Walk<'_>) -> Result<u32, AllocError>
+    requires { length (entries_met walk) < 1_000_000 }
+    ensures count { IfOk result (λ entries. entries ≡ length (entries_met walk.entry)) }
+    ensures ranks { OnOk result ((id : Id) → rank_with ids.new id ≡ option_or (last_place 0 (entries_met walk.entry) id) (rank_with ids.old id)) }
+{
+    let mut left = walk;
+    let mut rank = 0;
+    'walk: while let Some(item) = left.next() {
+        rank = rank_met(ids, item, rank)?;
+    }
+    Ok(rank)
+}
+
+// Gives what one meets the next rank, if it is an entry, and gives the last rank that was given.
+fn rank_met(ids: &mut IdRanks, item: WalkItem<'_>, rank: u32) -> Result<u32, AllocError>
+    requires { rank < 1_000_000 }
+    ensures count { IfOk result (λ last. last ≡ rank + length (entry_met (met_by item.entry))) }
+    ensures ranks { OnOk result ((id : Id) → rank_with ids.new id ≡ option_or (last_place rank (entry_met (met_by item.entry)) id) (rank_with ids.old id)) }
+{
+    match item {
+        WalkItem::Section(_) => Ok(rank),
+        WalkItem::Entry(entry) => {
+            ids.set(entry.id(), rank + 1)?;
+            Ok(rank + 1)
+        }
+    }
+}
+
+/// The elements of a table that are placed, with their ranks.
+pub(crate) fn ranked_elements(
+    alloc: Global,
+    table: &Table,
+    ids: &IdRanks,
+) -> Result<PlacedElements, AllocError>
+    requires { AreIdRanksOf ids.now (collation table.now) }
+    ensures { IfOk result (λ elements. elements ≡ map (ranked_in (collation table.now)) (elements_placed (collation table.now))) }
+{
+    table.check_table();
+    put_all(PlacedElements::new(alloc), ids, table.declared())
+}
+
+// Puts the elements of declarations that have a rank behind others.
+fn put_all(
+    elements: PlacedElements,
+    ids: &IdRanks,
+    declared: Declared<'_>,
+) -> Result<PlacedElements, AllocError>
+    requires some { All HasString declared }
+    requires few { length elements + length declared < 1_000_000 }
+    ensures { IfOk result (λ all. all ≡ elements ++ flat_map (ranked_declared ids.now) declared.entry) }
+{
+    let mut all = elements;
+    let mut left = declared;
+    'declared: while let Some(item) = left.next() {
+        all = put_declared(all, ids, item)?;
+    }
+    Ok(all)
+}
+
+// Puts what is declared behind other elements, if it is one that has a rank.
+fn put_declared(
+    elements: PlacedElements,
+    ids: &IdRanks,
+    item: DeclaredItem<'_>,
+) -> Result<PlacedElements, AllocError>
+    requires some { HasString (declared_by item) }
+    requires few { length elements < 1_000_000 }
+    ensures { IfOk result (λ with. with ≡ elements ++ ranked_declared ids.now (declared_by item.entry)) }
+{
+    match item {
+        DeclaredItem::Symbol(_) => Ok(elements),
+        DeclaredItem::Element(name, text) => match ids.rank_of_name(name) {
+            Some(rank) => elements.push(name, text, rank),
+            None => Ok(elements),
+        },
+    }
+}
+
+/// The compiled weights of a table.
+pub(crate) fn compiled(
+    alloc: Global,
+    table: &Table,
+    ids: &IdRanks,
+) -> Result<CompiledWeights, AllocError>
+    requires { AreIdRanksOf ids.now (collation table.now) }
+    ensures levels { IfOk result (λ compiled. compiled.levels ≡ length (collation table.now).rules) }
+    ensures lists { IfOk result (λ compiled. compiled.lists ≡ compiled_weights (collation table.now)) }
+    ensures own { IfOk result (λ compiled. compiled.own ≡ map is_own (undefined_weights (collation table.now))) }
+{
+    let mut weights = compiled_undefined(alloc, table, ids)?;
+    compile_walk(&mut weights, ids, table.walk())?;
+    Ok(weights)
+}
+
+// The compiled weights of `UNDEFINED`.
+fn compiled_undefined(
+    alloc: Global,
+    table: &Table,
+    ids: &IdRanks,
+) -> Result<CompiledWeights, AllocError>
+    ensures levels { IfOk result (λ compiled. compiled.levels ≡ length (collation table.now).rules) }
+    ensures lists { IfOk result (λ compiled. compiled.lists ≡ compiled_row_by (rank_or_zero ids.now) (length (collation table.now).rules) Undefined (undefined_weights (collation table.now))) }
+    ensures own { IfOk result (λ compiled. compiled.own ≡ map is_own (undefined_weights (collation table.now))) }
+{
+    table.check_table();
+    let levels = table.rules().len();
+    let entries = table.len();
+    match table.entry(&Id::Undefined) {
+        Some(entry) => CompiledWeights::new(alloc, levels, entries, ids, entry.weights()),
+        None => {
+            let own = own_weights(alloc, levels)?;
+            CompiledWeights::new(alloc, levels, entries, ids, &own)
+        }
+    }
+}
+
+// So many weights that are their entry's own.
+fn own_weights(alloc: Global, levels: usize) -> Result<Vec<Weight>, AllocError>
+    ensures { IfOk result (λ weights. weights.items ≡ replicate levels Own) }
+{
+    let mut weights = Vec::new(alloc);
+    for level in 0..levels {
+        weights.push(Weight::Own)?;
+    }
+    Ok(weights)
+}
+
+// Puts the compiled weights of each entry on a walk behind others.
+fn compile_walk(
+    weights: &mut CompiledWeights,
+    ids: &IdRanks,
+    walk: Walk<'_>,
+) -> Result<(), AllocError>
+    ensures { OnOk result (AddsRow weights.old weights.new (flat_map (compiled_entry (rank_or_zero ids.now) weights.old.levels) (entries_met walk.entry))) }
+{
+    let mut left = walk;
+    'walk: while let Some(item) = left.next() {
+        compile_met(weights, ids, item)?;
+    }
+    Ok(())
+}
+
+// Puts the compiled weights of what one meets behind others, if it is an entry.
+fn compile_met(
+    weights: &mut CompiledWeights,
+    ids: &IdRanks,
+    item: WalkItem<'_>,
+) -> Result<(), AllocError>
+    ensures { OnOk result (AddsRow weights.old weights.new (flat_map (compiled_entry (rank_or_zero ids.now) weights.old.levels) (entry_met (met_by item.entry)))) }
+{
+    match item {
+        WalkItem::Section(_) => Ok(()),
+        WalkItem::Entry(entry) => weights.push(ids, entry.id(), entry.weights()),
+    }
+}

@@ -1,0 +1,165 @@
+//! The ranks of a table, with its weights compiled.
+//!
+//! A `Ranks` is made of a table in two passes, one for the rank of each identifier and one for the weights, which then stand as
+//! ranks in one list. It keeps nothing of the table itself, so it is true of each table with the same rules, declarations and
+//! sections (`AreRanksOf` of `specs/Ranks.antt`), and of a changed table it isn't.
+
+ghost use Rattle.std.specs.Prelude.{◌≡◌, ◌<◌, ◌≤◌, ◌+◌, ◌∷◌, ℕ, [], chars, length, map, option_copied, Option, IfOk, IfSome, MatchOption};
+ghost use Rattle.coll_nodes.specs.TableLayout.{collation};
+ghost use Rattle.coll_ranks.specs.AlikeFronts.{BeginAlike};
+
+use crate::compiled_weights::CompiledWeights;
+use crate::id_ranks::IdRanks;
+use crate::parts::{FirstPart, Part, PartWeight};
+use crate::placed_elements::PlacedElements;
+use crate::ranking::{compiled, ranked_elements, ranked_ids};
+use coll_lex::TextBuf;
+use coll_syntax::Id;
+use coll_table::Table;
+use std::alloc::{AllocError, Global};
+use std::marker::Model;
+
+/// The ranks of a table's identifiers, and its weights as ranks.
+#[derive(Debug, Drop)]
+pub struct Ranks {
+    ids: IdRanks,
+    elements: PlacedElements,
+    weights: CompiledWeights,
+}
+
+impl Model for Ranks {
+    ghost use Rattle.coll_ranks.specs.Ranks.{RanksValue};
+
+    ghost Value = { RanksValue };
+
+    ghost view = { λ r. record { ids = r.ids; elements = r.elements; levels = r.weights.levels; weights = r.weights.lists; own = r.weights.own } };
+}
+
+impl Ranks {
+    ghost use Rattle.coll_nodes.specs.Table.{Collation};
+    ghost use Rattle.coll_ranks.specs.Rank.{rank_of};
+    ghost use Rattle.coll_ranks.specs.Ranks.{AreRanksOf, rank_with, parts_of, part_numbers, added_to, added_at, compiled_weight, last_string};
+
+    /// The ranks of a table, in new memory.
+    pub fn new(alloc: Global, table: &Table) -> Result<Ranks, AllocError>
+        ensures { IfOk result (λ ranks. AreRanksOf ranks (collation table.now)) }
+    {
+        let ids = ranked_ids(alloc, table)?;
+        let elements = ranked_elements(alloc, table, &ids)?;
+        let weights = compiled(alloc, table, &ids)?;
+        Ok(Ranks {
+            ids,
+            elements,
+            weights,
+        })
+    }
+
+    /// The rank of an identifier: its place in the table, from 1. `UNDEFINED` always has one, which is the last where the table
+    /// doesn't place it. It takes no memory.
+    pub fn rank(&self, id: &Id) -> Option<u32>
+        ensures found { result ≡ rank_with self.now.ids id.now }
+        ensures place { (table : Collation) → AreRanksOf self.now table → result ≡ rank_of table id.now }
+    {
+        self.ids.rank(id)
+    }
+
+    /// The part that a text begins with.
+    #[inline(always)]
+    pub fn first_part<'a>(&self, text: &'a str) -> Option<FirstPart<'a>>
+        ensures parts { MatchOption result (parts_of self.now (chars text.now) ≡ []) (λ first. parts_of self.now (chars text.now) ≡ first.part ∷ parts_of self.now (chars first.rest.now)) }
+        ensures characters { MatchOption result (length (chars text.now) ≡ 0) (λ first. length (chars text.now) ≡ first.characters + length (chars first.rest.now)) }
+        ensures some { IfSome result (λ first. 0 < first.characters) }
+    {
+        let mut letters = text.chars();
+        let first = letters.next()?;
+        match self.elements.longest(text, first) {
+            Some(found) => Some(FirstPart {
+                part: Part::Placed(found.rank),
+                characters: found.length,
+                rest: found.rest,
+            }),
+            None => Some(FirstPart {
+                part: self.ids.part(first),
+                characters: 1,
+                rest: letters.as_str(),
+            }),
+        }
+    }
+
+    /// Two texts behind characters that both begin with, and that are parts of each.
+    #[inline(always)]
+    pub fn past_common<'a, 'b>(&self, text: &'a str, other: &'b str) -> (&'a str, &'b str)
+        ensures { BeginAlike (parts_of self.now (chars text.now)) (parts_of self.now (chars other.now)) (parts_of self.now (chars result.0.now)) (parts_of self.now (chars result.1.now)) }
+    {
+        let mut left = text;
+        let mut right = other;
+        'same: while let Some((later, other_later)) = self.past_same(left, right) {
+            left = later;
+            right = other_later;
+        }
+        (left, right)
+    }
+
+    // Two texts behind the first character of both, if it is the same and no element may begin with it.
+    #[inline(always)]
+    fn past_same<'a, 'b>(&self, text: &'a str, other: &'b str) -> Option<(&'a str, &'b str)>
+        ensures same { IfSome result (λ later. BeginAlike (parts_of self.now (chars text.now)) (parts_of self.now (chars other.now)) (parts_of self.now (chars later.0.now)) (parts_of self.now (chars later.1.now))) }
+        ensures shorter { IfSome result (λ later. length (chars later.0.now) < length (chars text.now)) }
+    {
+        let mut letters = text.chars();
+        let mut others = other.chars();
+        let first = letters.next()?;
+        let second = others.next()?;
+        if first != second {
+            return None;
+        }
+        if self.elements.may_begin_with(first) {
+            return None;
+        }
+        Some((letters.as_str(), others.as_str()))
+    }
+
+    /// The string of the placed element of a name, if there is one.
+    pub fn string(&self, name: &str) -> Option<&TextBuf>
+        ensures { option_copied result ≡ last_string self.now.elements (chars name.now) }
+    {
+        self.elements.string(name)
+    }
+
+    /// The compiled weight at a level of what has this rank.
+    pub fn compiled(&self, rank: u32, level: usize) -> &[u32]
+        requires { level < self.now.levels }
+        ensures { result.now ≡ compiled_weight self.now rank level }
+    {
+        self.weights.weight(rank, level)
+    }
+
+    /// What a part weighs at a level.
+    #[inline(always)]
+    pub fn weight(&self, part: Part, level: usize) -> PartWeight<'_>
+        requires { level < self.now.levels }
+        ensures { map (added_to result.added) result.ranks.now ≡ part_numbers self.now level part }
+    {
+        match part {
+            Part::Placed(rank) => PartWeight {
+                ranks: self.weights.weight(rank, level),
+                added: 0,
+            },
+            Part::Absent(c) => PartWeight {
+                ranks: self.weights.weight(0, level),
+                added: self.added(c, level),
+            },
+        }
+    }
+
+    // What is added to the number of a character without an entry.
+    fn added(&self, c: char, level: usize) -> u32
+        ensures { result ≡ added_at self.now level c }
+    {
+        if self.weights.is_own(level) {
+            c as u32
+        } else {
+            0
+        }
+    }
+}

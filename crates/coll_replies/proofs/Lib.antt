@@ -1,0 +1,3 @@
+pub mod ListingLemmas
+pub mod Members
+pub mod ReplyLemmas

@@ -1,0 +1,22 @@
+use Rattle.std.proofs.Common.{◌++◌, length, codes, [], ◌∷◌}
+use Rattle.coll_lex.proofs.WritingLemmas.{AppendsFront-before, Sends-after, Sends-stopped}
+use Rattle.coll_nodes.specs.TableLayout.{collation}
+use Rattle.coll_replies.specs.Replies.{count_part}
+use Rattle.coll_replies.proofs.replies.write_levels.Goals as goal
+
+pub returns-in_err-write_part-clause-sent : goal.returns-in_err-write_part-clause-sent
+returns-in_err-write_part-clause-sent g c =
+    let taken = g.W.Sink.taken in
+    let part = count_part (codes " levels ") (length (collation c.args.table.now).rules) in
+    let rest = 10 ∷ [] in
+    let sent = rw c.rules.ensures at c.in_err-write_part.ensures.sent in
+    Sends-stopped (taken c.args.out.now) (taken c.write_part.new.out) (part ++ rest) c.from_residual.result c.from_residual.ensures.0
+    (AppendsFront-before (taken c.args.out.now) (taken c.write_part.new.out) part rest sent)
+
+pub returns-clause-sent : goal.returns-clause-sent
+returns-clause-sent g c =
+    let taken = g.W.Sink.taken in
+    let part = count_part (codes " levels ") (length (collation c.args.table.now).rules) in
+    let rest = 10 ∷ [] in
+    let sent = rw c.rules.ensures at c.in_ok-write_part.ensures.sent in
+    Sends-after (taken c.args.out.now) (taken c.write_part.new.out) (taken c.write_bytes.new.out) part rest c.write_bytes.result sent c.write_bytes.ensures.sent

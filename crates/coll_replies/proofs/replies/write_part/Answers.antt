@@ -1,0 +1,17 @@
+use Rattle.std.proofs.Common.{◌≡◌, ◌++◌, decimal, ◌∙◌}
+use Rattle.coll_lex.proofs.WritingLemmas.{AppendsFront-before, Sends-after, Sends-stopped}
+use Rattle.coll_replies.proofs.replies.write_part.Goals as goal
+
+pub returns-in_err-write_bytes-clause-sent : goal.returns-in_err-write_bytes-clause-sent
+returns-in_err-write_bytes-clause-sent g c =
+    let taken = g.W.Sink.taken in
+    let rest = decimal c.args.count in
+    Sends-stopped (taken c.args.out.now) (taken c.write_bytes.new.out) (c.args.word.now ++ rest) c.from_residual.result c.from_residual.ensures.0
+    (AppendsFront-before (taken c.args.out.now) (taken c.write_bytes.new.out) c.args.word.now rest c.in_err-write_bytes.ensures.sent)
+
+pub returns-clause-sent : goal.returns-clause-sent
+returns-clause-sent g c =
+    let taken = g.W.Sink.taken in
+    let number : c.as_bytes.result.now ≡ decimal c.args.count = c.as_bytes.ensures.value ∙ c.format.ensures.text in
+    let last = rw number at c.write_bytes-2.ensures.sent in
+    Sends-after (taken c.args.out.now) (taken c.write_bytes.new.out) (taken c.write_bytes-2.new.out) c.args.word.now (decimal c.args.count) c.write_bytes-2.result c.in_ok-write_bytes.ensures.sent last

@@ -1,0 +1,4 @@
+pub mod Faults
+pub mod Listing
+pub mod Replies
+pub mod Reports

@@ -1,0 +1,233 @@
+-- The replies of a session (the project's own): what is written for each unit, from the history before it.
+use Rattle.std.specs.Prelude.{ℕ, suc, ◌+◌, Bool, true, false, ◌&&◌, ◌||◌, if◌then◌else◌, List, [], ◌∷◌, ◌++◌, length, Option, Some, None, Result, Ok, Err, codes, decimal, encode_utf8_all}
+use Rattle.coll_lex.specs.LogicalLines.{first_choice, later_choices}
+use Rattle.coll_lex.specs.Spelling.{spelled_symbol}
+use Rattle.coll_lex.specs.declared.faults.LexFault.TheVariants as lex
+use Rattle.coll_nodes.specs.Table.{Collation, Section, entries_of}
+use Rattle.coll_print.specs.CanonicalText.{text}
+use Rattle.coll_print.specs.PrintedParts.{id_bytes}
+use Rattle.coll_syntax.specs.declared.statements.Statement.{Statement}
+use Rattle.coll_syntax.specs.declared.statements.Statement.TheVariants as statement
+use Rattle.coll_key.specs.KeyLimits.{is_too_long}
+use Rattle.coll_key.specs.SortKey.{key_of}
+use Rattle.coll_key.specs.TextOrder.{order_of}
+use Rattle.coll_key.specs.WrittenKey.{written_key}
+use Rattle.coll_key.specs.declared.key_faults.KeyFault.TheVariants as key_fault
+use Rattle.std.specs.declared.cmp.Ordering.{Ordering}
+use Rattle.std.specs.declared.cmp.Ordering.TheVariants.{Less, Equal, Greater}
+use Rattle.coll_history.specs.Histories.{History, table_now, judged, taken_back, put_again}
+use Rattle.coll_replies.specs.Faults.{fault_number, fault_name, fault_of}
+use Rattle.coll_nodes.specs.declared.entries.Entry.{Entry}
+use Rattle.coll_history.specs.declared.history_faults.BenchFault.{BenchFault}
+use Rattle.coll_replies.specs.declared.faults.Fault.{Fault}
+use Rattle.coll_replies.specs.declared.faults.Fault.TheVariants as fault
+use Rattle.coll_units.specs.declared.session_lines.Command.{Command}
+use Rattle.coll_units.specs.declared.session_lines.Command.TheVariants as command
+use Rattle.coll_units.specs.declared.units.Request.{Request}
+use Rattle.coll_units.specs.declared.units.Request.TheVariants as request
+use Rattle.coll_units.specs.declared.units.SessionUnit.{SessionUnit}
+use Rattle.coll_units.specs.declared.units.FaultAt.{FaultAt}
+
+-- two words with a space between them, and the line's end
+abbrev pub worded : List ℕ → List ℕ → List ℕ
+worded first second = (first ++ 32 ∷ []) ++ (second ++ 10 ∷ [])
+
+-- a word and a number
+unfoldable pub counted_line : List ℕ → ℕ → List ℕ
+counted_line word n = worded word (decimal n)
+
+-- a word, and then the number and the name of a fault
+abbrev pub told_line : List ℕ → Fault → List ℕ
+told_line word f = word ++ worded (decimal (fault_number f)) (fault_name f)
+
+-- the reply to what is refused
+unfoldable pub refused_line : Fault → List ℕ
+refused_line f = told_line (codes "refused ") f
+
+-- the replies to faults, one after another
+unfoldable pub refused_lines : List FaultAt → List ℕ
+refused_lines [] = []
+refused_lines (at ∷ later) = refused_line (fault_of at.fault) ++ refused_lines later
+
+-- one line of a listing: the rank, and the identifier
+unfoldable pub listed_line : ℕ → Entry → List ℕ
+listed_line rank entry = worded (decimal rank) (id_bytes entry.id)
+
+-- the lines of a listing, from a rank on
+unfoldable pub listed_lines : ℕ → List Entry → List ℕ
+listed_lines rank [] = []
+listed_lines rank (entry ∷ entries) = listed_line rank entry ++ listed_lines (suc rank) entries
+
+-- a name as it is written
+abbrev pub name_bytes : List ℕ → List ℕ
+name_bytes name = encode_utf8_all (spelled_symbol name [])
+
+-- the line before the entries of a section that has a name
+unfoldable pub section_line : List ℕ → List ℕ
+section_line name = worded (codes "section") (name_bytes name)
+
+-- the line of a section's name, if it has one
+abbrev pub header : Option (List ℕ) → List ℕ
+header None = []
+header (Some name) = section_line name
+
+-- the lines of a listing by sections, from a rank on
+unfoldable pub listed_sections : ℕ → List Section → List ℕ
+listed_sections rank [] = []
+listed_sections rank (section ∷ later) =
+    header section.name ++ (listed_lines rank section.entries ++ listed_sections (rank + length section.entries) later)
+
+-- the reply to `:list`
+unfoldable pub listing : Collation → List ℕ
+listing table = listed_sections 1 table.sections ++ counted_line (codes "listed") (length (entries_of table))
+
+-- a word and a number behind it
+abbrev pub count_part : List ℕ → ℕ → List ℕ
+count_part word n = word ++ decimal n
+
+-- the levels of a table, behind which the line ends
+abbrev pub levels_part : Collation → List ℕ
+levels_part table = count_part (codes " levels ") (length table.rules) ++ 10 ∷ []
+
+-- the sections of a table, the first counted, and its levels
+abbrev pub sections_part : Collation → List ℕ
+sections_part table = count_part (codes " sections ") (length table.sections) ++ levels_part table
+
+-- the declarations of a table, and what follows them
+abbrev pub declared_part : Collation → List ℕ
+declared_part table = count_part (codes " declared ") (length table.declared) ++ sections_part table
+
+-- the reply to `:check`
+unfoldable pub checked_line : Collation → List ℕ
+checked_line table = count_part (codes "table entries ") (length (entries_of table)) ++ declared_part table
+
+-- a reply that counts what remains, or a refusal
+abbrev pub count_reply : List ℕ → Result History BenchFault → List ℕ
+count_reply word (Ok h) = counted_line word (length h.remaining)
+count_reply word (Err f) = refused_line (fault.Bench f)
+
+-- two words with a space between them
+abbrev pub spaced : List ℕ → List ℕ → List ℕ
+spaced first second = (first ++ 32 ∷ []) ++ second
+
+-- what a statement is, for a history: a block by its target and the number of its lines
+abbrev pub statement_words : Statement → List ℕ
+statement_words (statement.Symbol name) = spaced (codes "symbol") (name_bytes name)
+statement_words (statement.Element name text) = spaced (codes "element") (name_bytes name)
+statement_words (statement.Block target lines) = spaced (codes "block") (spaced (id_bytes target) (decimal (length lines)))
+statement_words (statement.SectionAfter name after) = spaced (codes "section") (spaced (name_bytes name) (name_bytes after))
+statement_words (statement.Reweight line) = spaced (codes "reweight") (id_bytes line.id)
+
+-- the line of a statement with its number
+unfoldable pub history_line : ℕ → Statement → List ℕ
+history_line number s = worded (decimal number) (statement_words s)
+
+-- the lines of statements, from a number on
+unfoldable pub history_lines : ℕ → List Statement → List ℕ
+history_lines number [] = []
+history_lines number (s ∷ later) = history_line number s ++ history_lines (suc number) later
+
+-- the line that counts what remains and what was taken back
+unfoldable pub history_count : History → List ℕ
+history_count h = codes "history " ++ worded (decimal (length h.remaining)) (decimal (length h.undone))
+
+-- the reply to `:history`
+unfoldable pub history_listing : History → List ℕ
+history_listing h = history_lines 1 h.remaining ++ history_count h
+
+-- the reply to a text that is too long
+abbrev pub too_long_line : List ℕ
+too_long_line = refused_line (fault.Key key_fault.TextTooLong)
+
+-- the reply to `:key`
+unfoldable pub key_line : Collation → (text : List ℕ) → List ℕ
+key_line table text = if is_too_long text then too_long_line else written_key table.rules (key_of table text) ++ 10 ∷ []
+
+-- the word of an order
+abbrev pub order_word : Ordering → List ℕ
+order_word Less = codes "less"
+order_word Equal = codes "equal"
+order_word Greater = codes "greater"
+
+-- the reply to `:compare`
+unfoldable pub order_line : Collation → (text other : List ℕ) → List ℕ
+order_line table text other = if is_too_long text || is_too_long other then too_long_line else order_word (order_of table text other) ++ 10 ∷ []
+
+-- the reply to a command
+abbrev pub command_reply : History → Command → List ℕ
+command_reply h command.Undo = count_reply (codes "undone") (taken_back h)
+command_reply h command.Redo = count_reply (codes "redone") (put_again h)
+command_reply h command.List = listing (table_now h)
+command_reply h command.Print = text (table_now h)
+command_reply h (command.Key t) = key_line (table_now h) t
+command_reply h (command.Compare t u) = order_line (table_now h) t u
+command_reply h command.History = history_listing h
+command_reply h command.Check = checked_line (table_now h)
+
+-- the reply to a unit
+unfoldable pub reply : History → Request → List ℕ
+reply h (request.Asks c) = command_reply h c
+reply h (request.States s) = count_reply (codes "ok") (judged h s)
+reply h (request.Refused f) = refused_line (fault_of f)
+
+-- the history where a call gave one, or the one from before
+abbrev pub history_or : History → Result History BenchFault → History
+history_or before (Ok h) = h
+history_or before (Err f) = before
+
+-- the history after a command
+abbrev pub history_after_command : History → Command → History
+history_after_command h command.Undo = history_or h (taken_back h)
+history_after_command h command.Redo = history_or h (put_again h)
+history_after_command h command.List = h
+history_after_command h command.Print = h
+history_after_command h (command.Key t) = h
+history_after_command h (command.Compare t u) = h
+history_after_command h command.History = h
+history_after_command h command.Check = h
+
+-- the history after a unit: one that is refused, and a listing, leave it
+unfoldable pub history_after : History → Request → History
+history_after h (request.Asks c) = history_after_command h c
+history_after h (request.States s) = history_or h (judged h s)
+history_after h (request.Refused f) = h
+
+-- a command whose answer takes memory: a key, and the order of two texts
+abbrev pub may_starve_command : Command → Bool
+may_starve_command command.Undo = false
+may_starve_command command.Redo = false
+may_starve_command command.List = false
+may_starve_command command.Print = false
+may_starve_command (command.Key t) = true
+may_starve_command (command.Compare t u) = true
+may_starve_command command.History = false
+may_starve_command command.Check = false
+
+-- what takes memory to answer may be refused for want of it
+abbrev pub may_starve : Request → Bool
+may_starve (request.Asks c) = may_starve_command c
+may_starve (request.States s) = true
+may_starve (request.Refused f) = false
+
+-- the reply to want of memory
+abbrev pub starved_line : List ℕ
+starved_line = refused_line (fault.Lex lex.OutOfMemory)
+
+-- a unit that was starved has that reply and leaves the history
+abbrev pub reply_if : Bool → History → Request → List ℕ
+reply_if starved h unit = if starved && may_starve unit then starved_line else reply h unit
+
+-- the history after a unit that was starved or not
+abbrev pub history_after_if : Bool → History → Request → History
+history_after_if starved h unit = if starved && may_starve unit then h else history_after h unit
+
+-- what is written for what a call of the history answered
+abbrev pub outcome_line : List ℕ → Result ℕ BenchFault → List ℕ
+outcome_line word (Ok n) = counted_line word n
+outcome_line word (Err f) = refused_line (fault.Bench f)
+
+-- the replies to units, joined. A choice that is true stands for a unit that memory was refused for; where no choice
+-- is left, memory was there
+unfoldable pub answers : History → List SessionUnit → List Bool → List ℕ
+answers h [] starved = []
+answers h (unit ∷ later) starved = reply_if (first_choice starved) h unit.request ++ answers (history_after_if (first_choice starved) h unit.request) later (later_choices starved)

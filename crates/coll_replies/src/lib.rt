@@ -1,0 +1,17 @@
+//! What a session and a batch write: replies, and the line of the fault that ended a run.
+//!
+//! A way through the crate, each file with its definitions in `specs/`:
+//!
+//! - `faults`: all faults of a session and a batch, and the one that ends a run (`Faults`);
+//! - `replies`: the reply to each unit (`Replies`, and of a table's listing `Listing`), with `past` for `:history` and `texts` for
+//!   `:key` and `:compare`; a batch writes its counts, keys and orders by the same functions;
+//! - `reports`: the line of a fault, and the exit status of the program (`Reports`).
+#![tactic(auto)]
+
+mod faults;
+mod replies;
+mod reports;
+
+pub use faults::{Fault, RunFault};
+pub use replies::{answer, refuse, write_checked, write_key_ended, write_order};
+pub use reports::{exit_status, write_fault};

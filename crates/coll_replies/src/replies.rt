@@ -1,0 +1,327 @@
+//! The replies of a session, written to its sink.
+//!
+//! Each unit has one reply, which is written piece by piece, without taking memory, and flushed. Where a write or the
+//! flush fails, the device has taken a front of the reply. A new unit is a new case of `respond`, and of the
+//! definition of replies.
+
+ghost use Rattle.std.specs.Prelude.{◌≡◌, ◌≤◌, ◌++◌, ◌∷◌, [], Bool, chars, encode_utf8_all, IfOk};
+ghost use Rattle.std.specs.Io.KnownBytes.{Keeps};
+ghost use Rattle.coll_lex.specs.Devices.{CountsErr, Sends};
+ghost use Rattle.coll_lex.specs.Spelling.{spelled_symbol};
+ghost use Rattle.coll_nodes.specs.TableLayout.{collation};
+ghost use Rattle.coll_units.specs.ProperLines.{IsProperRequest};
+ghost use Rattle.coll_print.specs.PrintedParts.{id_bytes};
+ghost use Rattle.coll_nodes.specs.WalkItems.{met_by};
+ghost use Rattle.coll_replies.specs.Listing.{met_line, rank_after};
+ghost use Rattle.coll_replies.specs.Replies.{worded, count_part, levels_part, sections_part, declared_part, checked_line, counted_line, told_line, refused_line, section_line, listed_line, listed_sections, listing, outcome_line, history_after_command, reply_if, history_after_if};
+
+mod past;
+mod texts;
+
+use crate::faults::Fault;
+use coll_history::{BenchFault, RankedSession};
+use coll_lex::{Sink, WriteStop, write_bytes, write_symbol};
+use coll_syntax::Id;
+use coll_table::{Entry, Table, WalkItem, write_id};
+use coll_units::{Command, Request};
+use itoa::Buffer;
+use past::write_history;
+use std::alloc::Global;
+use texts::{answer_compare, answer_key};
+pub use texts::{write_key_ended, write_order};
+
+/// Does what a unit asks for, writes its reply and flushes it.
+///
+/// What is refused has its reply as well, want of memory included, and then changes nothing. Where the device fails, it has taken a
+/// front of the reply; the history is then as if the reply was written.
+pub fn answer<W: Sink>(
+    alloc: Global,
+    session: &mut RankedSession,
+    request: Request,
+    out: &mut W,
+) -> Result<(), WriteStop>
+    requires { IsProperRequest request }
+    ensures answered { (starved : Bool) × Sends (W.taken out.old) (W.taken out.new) (reply_if starved session.old request) result
+        × (session.new ≡ history_after_if starved session.old request) }
+    ensures errors { CountsErr (W.failed out.old) (W.failed out.new) result }
+{
+    respond(alloc, session, request, out)?;
+    flush(out)
+}
+
+/// Writes the reply to a fault that ends a session, and flushes it. Where the device fails, it has taken a front of the reply.
+pub fn refuse<W: Sink>(fault: Fault, out: &mut W) -> Result<(), WriteStop>
+    ensures sent { Sends (W.taken out.old) (W.taken out.new) (refused_line fault) result }
+    ensures errors { CountsErr (W.failed out.old) (W.failed out.new) result }
+{
+    write_refused(out, fault)?;
+    flush(out)
+}
+
+// Flushes what was written.
+fn flush<W: Sink>(out: &mut W) -> Result<(), WriteStop>
+    ensures sent { Keeps (W.taken out.old) (W.taken out.new) }
+    ensures errors { CountsErr (W.failed out.old) (W.failed out.new) result }
+{
+    match out.flush() {
+        Ok(()) => Ok(()),
+        Err(_) => Err(WriteStop::WriteFault),
+    }
+}
+
+// Does what a unit asks for, and writes its reply.
+fn respond<W: Sink>(
+    alloc: Global,
+    session: &mut RankedSession,
+    request: Request,
+    out: &mut W,
+) -> Result<(), WriteStop>
+    requires { IsProperRequest request }
+    ensures answered { (starved : Bool) × Sends (W.taken out.old) (W.taken out.new) (reply_if starved session.old request) result
+        × (session.new ≡ history_after_if starved session.old request) }
+    ensures errors { CountsErr (W.failed out.old) (W.failed out.new) result }
+{
+    match request {
+        Request::Asks(command) => obey(alloc, session, &command, out),
+        Request::States(statement) => {
+            let outcome = session.statement(statement);
+            write_outcome(out, b"ok", outcome)
+        }
+        Request::Refused(fault) => write_refused(out, Fault::from(fault)),
+    }
+}
+
+// Does what a command asks for, and writes its reply. Keys and comparisons alone take memory.
+fn obey<W: Sink>(
+    alloc: Global,
+    session: &mut RankedSession,
+    command: &Command,
+    out: &mut W,
+) -> Result<(), WriteStop>
+    ensures answered { (starved : Bool) × Sends (W.taken out.old) (W.taken out.new) (reply_if starved session.old (Request.Asks command.now)) result
+        × (session.new ≡ history_after_command session.old command.now) }
+    ensures errors { CountsErr (W.failed out.old) (W.failed out.new) result }
+{
+    match command {
+        Command::Undo => {
+            let outcome = session.undo();
+            write_outcome(out, b"undone", outcome)
+        }
+        Command::Redo => {
+            let outcome = session.redo();
+            write_outcome(out, b"redone", outcome)
+        }
+        Command::List => write_listing(out, session.session().table()),
+        Command::Print => session.session().table().print(out),
+        Command::Key(text) => answer_key(alloc, session, text, out),
+        Command::Compare(text, other) => answer_compare(alloc, session, text, other, out),
+        Command::History => write_history(out, session.session()),
+        Command::Check => write_checked(out, session.session().table()),
+    }
+}
+
+// Writes what a call of the history answered.
+fn write_outcome<W: Sink>(
+    out: &mut W,
+    word: &[u8],
+    outcome: Result<u32, BenchFault>,
+) -> Result<(), WriteStop>
+    ensures sent { Sends (W.taken out.old) (W.taken out.new) (outcome_line word.now outcome) result }
+    ensures errors { CountsErr (W.failed out.old) (W.failed out.new) result }
+{
+    match outcome {
+        Ok(count) => write_counted(out, word, u64::from(count)),
+        Err(fault) => write_refused(out, Fault::Bench(fault)),
+    }
+}
+
+// Writes the sections of a table with their entries in order, and how many entries there are.
+#[tactic(auto, unfolding(crate::specs::Replies::listing))]
+fn write_listing<W: Sink>(out: &mut W, table: &Table) -> Result<(), WriteStop>
+    ensures sent { Sends (W.taken out.old) (W.taken out.new) (listing (collation table.now)) result }
+    ensures errors { CountsErr (W.failed out.old) (W.failed out.new) result }
+{
+    write_walk(out, table)?;
+    write_counted(out, b"listed", table.len() as u64)
+}
+
+/// Writes how many entries, declarations, sections and levels a table has. Where a write fails, the device has taken a front of it.
+#[tactic(auto, unfolding(crate::specs::Replies::checked_line))]
+pub fn write_checked<W: Sink>(out: &mut W, table: &Table) -> Result<(), WriteStop>
+    ensures sent { Sends (W.taken out.old) (W.taken out.new) (checked_line (collation table.now)) result }
+    ensures errors { CountsErr (W.failed out.old) (W.failed out.new) result }
+{
+    write_part(out, b"table entries ", table.len())?;
+    write_declared(out, table)
+}
+
+// Writes the counts from the declarations on.
+fn write_declared<W: Sink>(out: &mut W, table: &Table) -> Result<(), WriteStop>
+    ensures sent { Sends (W.taken out.old) (W.taken out.new) (declared_part (collation table.now)) result }
+    ensures errors { CountsErr (W.failed out.old) (W.failed out.new) result }
+{
+    write_part(out, b" declared ", table.declared_len())?;
+    write_sections(out, table)
+}
+
+// Writes the counts from the sections on.
+fn write_sections<W: Sink>(out: &mut W, table: &Table) -> Result<(), WriteStop>
+    ensures sent { Sends (W.taken out.old) (W.taken out.new) (sections_part (collation table.now)) result }
+    ensures errors { CountsErr (W.failed out.old) (W.failed out.new) result }
+{
+    write_part(out, b" sections ", table.section_len())?;
+    write_levels(out, table)
+}
+
+// Writes the count of levels, and the line's end.
+fn write_levels<W: Sink>(out: &mut W, table: &Table) -> Result<(), WriteStop>
+    ensures sent { Sends (W.taken out.old) (W.taken out.new) (levels_part (collation table.now)) result }
+    ensures errors { CountsErr (W.failed out.old) (W.failed out.new) result }
+{
+    write_part(out, b" levels ", table.rules().len())?;
+    write_bytes(out, b"\n")
+}
+
+/// Writes a word and a number behind it.
+pub(crate) fn write_part<W: Sink>(out: &mut W, word: &[u8], count: usize) -> Result<(), WriteStop>
+    ensures sent { Sends (W.taken out.old) (W.taken out.new) (count_part word.now count) result }
+    ensures errors { CountsErr (W.failed out.old) (W.failed out.new) result }
+{
+    let mut number = Buffer::new();
+    write_bytes(out, word)?;
+    write_bytes(out, number.format(count as u64).as_bytes())
+}
+
+// Writes a line for each named section and each entry that one meets.
+fn write_walk<W: Sink>(out: &mut W, table: &Table) -> Result<(), WriteStop>
+    ensures sent { Sends (W.taken out.old) (W.taken out.new) (listed_sections 1 (collation table.now).sections) result }
+    ensures errors { CountsErr (W.failed out.old) (W.failed out.new) result }
+{
+    table.check_table();
+    let mut rank = 1u64;
+    for item in table.walk() {
+        match write_met(out, rank, &item) {
+            Ok(next) => rank = next,
+            Err(stop) => return Err(stop),
+        }
+    }
+    Ok(())
+}
+
+// Writes the line of a section's name, or of an entry with its rank. The answer is the rank of the next entry.
+fn write_met<W: Sink>(out: &mut W, rank: u64, item: &WalkItem<'_>) -> Result<u64, WriteStop>
+    requires { rank ≤ 4_294_967_295 }
+    ensures sent { Sends (W.taken out.old) (W.taken out.new) (met_line rank (met_by item.now)) result }
+    ensures rank { IfOk result (λ next. next ≡ rank_after rank (met_by item.now)) }
+    ensures errors { CountsErr (W.failed out.old) (W.failed out.new) result }
+{
+    match item {
+        WalkItem::Section(name) => {
+            write_section(out, name)?;
+            Ok(rank)
+        }
+        WalkItem::Entry(entry) => {
+            write_listed(out, rank, entry)?;
+            Ok(rank + 1)
+        }
+    }
+}
+
+// Writes the line before the entries of a section.
+#[tactic(auto, unfolding(crate::specs::Replies::section_line))]
+fn write_section<W: Sink>(out: &mut W, name: &str) -> Result<(), WriteStop>
+    ensures sent { Sends (W.taken out.old) (W.taken out.new) (section_line (chars name.now)) result }
+    ensures errors { CountsErr (W.failed out.old) (W.failed out.new) result }
+{
+    write_spaced(out, b"section")?;
+    write_name_ended(out, name)
+}
+
+// Writes a name and the line's end.
+fn write_name_ended<W: Sink>(out: &mut W, name: &str) -> Result<(), WriteStop>
+    ensures sent { Sends (W.taken out.old) (W.taken out.new) (encode_utf8_all (spelled_symbol (chars name.now) []) ++ 10 ∷ []) result }
+    ensures errors { CountsErr (W.failed out.old) (W.failed out.new) result }
+{
+    write_symbol(out, name)?;
+    write_bytes(out, b"\n")
+}
+
+// Writes the line of one entry.
+#[tactic(auto, unfolding(crate::specs::Replies::listed_line))]
+fn write_listed<W: Sink>(out: &mut W, rank: u64, entry: &Entry) -> Result<(), WriteStop>
+    ensures sent { Sends (W.taken out.old) (W.taken out.new) (listed_line rank entry.now) result }
+    ensures errors { CountsErr (W.failed out.old) (W.failed out.new) result }
+{
+    let mut number = Buffer::new();
+    write_spaced(out, number.format(rank).as_bytes())?;
+    write_id_ended(out, entry.id())
+}
+
+// Writes an identifier and the line's end.
+fn write_id_ended<W: Sink>(out: &mut W, id: &Id) -> Result<(), WriteStop>
+    ensures sent { Sends (W.taken out.old) (W.taken out.new) (id_bytes id.now ++ 10 ∷ []) result }
+    ensures errors { CountsErr (W.failed out.old) (W.failed out.new) result }
+{
+    write_id(out, id)?;
+    write_bytes(out, b"\n")
+}
+
+// Writes the reply to what is refused.
+#[tactic(auto, unfolding(crate::specs::Replies::refused_line))]
+fn write_refused<W: Sink>(out: &mut W, fault: Fault) -> Result<(), WriteStop>
+    ensures sent { Sends (W.taken out.old) (W.taken out.new) (refused_line fault) result }
+    ensures errors { CountsErr (W.failed out.old) (W.failed out.new) result }
+{
+    write_told(out, b"refused ", fault)
+}
+
+/// Writes a word, and then the number and the name of a fault, and the line's end.
+pub(crate) fn write_told<W: Sink>(out: &mut W, word: &[u8], fault: Fault) -> Result<(), WriteStop>
+    ensures sent { Sends (W.taken out.old) (W.taken out.new) (told_line word.now fault) result }
+    ensures errors { CountsErr (W.failed out.old) (W.failed out.new) result }
+{
+    write_bytes(out, word)?;
+    let mut number = Buffer::new();
+    write_words(
+        out,
+        number.format(fault.number()).as_bytes(),
+        fault.name().as_bytes(),
+    )
+}
+
+// Writes a word and a number.
+#[tactic(auto, unfolding(crate::specs::Replies::counted_line))]
+fn write_counted<W: Sink>(out: &mut W, word: &[u8], count: u64) -> Result<(), WriteStop>
+    ensures sent { Sends (W.taken out.old) (W.taken out.new) (counted_line word.now count) result }
+    ensures errors { CountsErr (W.failed out.old) (W.failed out.new) result }
+{
+    let mut number = Buffer::new();
+    write_words(out, word, number.format(count).as_bytes())
+}
+
+// Writes two words with a space between them, and the line's end.
+fn write_words<W: Sink>(out: &mut W, first: &[u8], second: &[u8]) -> Result<(), WriteStop>
+    ensures sent { Sends (W.taken out.old) (W.taken out.new) (worded first.now second.now) result }
+    ensures errors { CountsErr (W.failed out.old) (W.failed out.new) result }
+{
+    write_spaced(out, first)?;
+    write_ended(out, second)
+}
+
+// Writes a word and a space.
+fn write_spaced<W: Sink>(out: &mut W, word: &[u8]) -> Result<(), WriteStop>
+    ensures sent { Sends (W.taken out.old) (W.taken out.new) (word.now ++ 32 ∷ []) result }
+    ensures errors { CountsErr (W.failed out.old) (W.failed out.new) result }
+{
+    write_bytes(out, word)?;
+    write_bytes(out, b" ")
+}
+
+// Writes a word and the line's end.
+fn write_ended<W: Sink>(out: &mut W, word: &[u8]) -> Result<(), WriteStop>
+    ensures sent { Sends (W.taken out.old) (W.taken out.new) (word.now ++ 10 ∷ []) result }
+    ensures errors { CountsErr (W.failed out.old) (W.failed out.new) result }
+{
+    write_bytes(out, word)?;
+    write_bytes(out, b"\n")
+}

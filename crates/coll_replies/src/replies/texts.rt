@@ -1,0 +1,74 @@
+//! The replies to `:key` and `:compare`: the whole answer is formed before the first byte is written.
+
+ghost use Rattle.std.specs.Prelude.{◌≡◌, ◌++◌, ◌∷◌, [], Bool, true};
+ghost use Rattle.coll_lex.specs.Devices.{CountsErr, Sends};
+ghost use Rattle.coll_key.specs.WrittenKey.{has_key_form, written_key};
+ghost use Rattle.coll_replies.specs.Replies.{order_word, reply_if};
+ghost use Rattle.coll_units.specs.declared.session_lines.Command.TheVariants.{Key, Compare};
+ghost use Rattle.coll_units.specs.declared.units.Request.TheVariants.{Asks};
+
+use super::{write_ended, write_refused};
+use crate::faults::Fault;
+use coll_history::RankedSession;
+use coll_key::write_key;
+use coll_lex::{Sink, TextBuf, WriteStop, write_bytes};
+use coll_syntax::Rule;
+use std::alloc::Global;
+use std::cmp::Ordering;
+
+/// Writes the sort key of a text. A text that is too long, and want of memory, are refused.
+pub(crate) fn answer_key<W: Sink>(
+    alloc: Global,
+    session: &mut RankedSession,
+    text: &TextBuf,
+    out: &mut W,
+) -> Result<(), WriteStop>
+    ensures answered { (starved : Bool) × Sends (W.taken out.old) (W.taken out.new) (reply_if starved session.old (Asks (Key text.now))) result }
+    ensures unchanged { session.new ≡ session.old }
+    ensures errors { CountsErr (W.failed out.old) (W.failed out.new) result }
+{
+    match session.key(alloc, text.get()) {
+        Ok(key) => write_key_ended(out, session.session().table().rules(), &key),
+        Err(fault) => write_refused(out, Fault::Key(fault)),
+    }
+}
+
+/// Writes a key, which has the form of one, and the line's end. Where a write fails, the device has taken a front of it.
+pub fn write_key_ended<W: Sink>(out: &mut W, rules: &[Rule], key: &[u64]) -> Result<(), WriteStop>
+    requires { has_key_form rules.now key.now ≡ true }
+    ensures sent { Sends (W.taken out.old) (W.taken out.new) (written_key rules.now key.now ++ 10 ∷ []) result }
+    ensures errors { CountsErr (W.failed out.old) (W.failed out.new) result }
+{
+    write_key(rules, key, out)?;
+    write_bytes(out, b"\n")
+}
+
+/// Writes the order of two texts. A text that is too long, and want of memory, are refused.
+pub(crate) fn answer_compare<W: Sink>(
+    alloc: Global,
+    session: &mut RankedSession,
+    text: &TextBuf,
+    other: &TextBuf,
+    out: &mut W,
+) -> Result<(), WriteStop>
+    ensures answered { (starved : Bool) × Sends (W.taken out.old) (W.taken out.new) (reply_if starved session.old (Asks (Compare text.now other.now))) result }
+    ensures unchanged { session.new ≡ session.old }
+    ensures errors { CountsErr (W.failed out.old) (W.failed out.new) result }
+{
+    match session.compare(alloc, text.get(), other.get()) {
+        Ok(order) => write_order(out, order),
+        Err(fault) => write_refused(out, Fault::Key(fault)),
+    }
+}
+
+/// Writes the word of an order, and the line's end. Where a write fails, the device has taken a front of it.
+pub fn write_order<W: Sink>(out: &mut W, order: Ordering) -> Result<(), WriteStop>
+    ensures sent { Sends (W.taken out.old) (W.taken out.new) (order_word order ++ 10 ∷ []) result }
+    ensures errors { CountsErr (W.failed out.old) (W.failed out.new) result }
+{
+    match order {
+        Ordering::Less => write_ended(out, b"less"),
+        Ordering::Equal => write_ended(out, b"equal"),
+        Ordering::Greater => write_ended(out, b"greater"),
+    }
+}
