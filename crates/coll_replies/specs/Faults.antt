@@ -1,22 +1,16 @@
 -- The numbers and the names of the faults of a session, as replies and messages show them (the project's own).
-use Rattle.std.specs.Prelude.{ℕ, Bool, true, false, List, codes}
+use Rattle.std.specs.Prelude.{ℕ, List, codes}
 use Rattle.coll_lex.specs.Faults.{read_stop_number, read_stop_name, write_stop_number, write_stop_name, lex_fault_number, lex_fault_name}
 use Rattle.coll_syntax.specs.SyntaxFaults.{syntax_fault_number, syntax_fault_name}
 use Rattle.coll_table.specs.Refusals.{refusal_number, refusal_name}
 use Rattle.coll_draft.specs.LoadFaults.{load_fault_number, load_fault_name}
 use Rattle.coll_history.specs.HistoryFaults.{bench_fault_number, bench_fault_name}
 use Rattle.coll_key.specs.KeyFaults.{fault_number as key_fault_number, fault_name as key_fault_name}
-use Rattle.coll_lex.specs.declared.faults.LexFault.TheVariants as lex
-use Rattle.coll_syntax.specs.declared.syntax_faults.SyntaxFault.TheVariants as syntax
-use Rattle.coll_draft.specs.declared.load_faults.LoadCause.{LoadCause}
 use Rattle.coll_draft.specs.declared.load_faults.LoadCause.TheVariants as load
-use Rattle.coll_table.specs.declared.refusals.Refusal.TheVariants as refusal
-use Rattle.coll_key.specs.declared.key_faults.KeyFault.TheVariants as key
 use Rattle.coll_units.specs.declared.delta_faults.DeltaCause.{DeltaCause}
 use Rattle.coll_units.specs.declared.delta_faults.DeltaCause.TheVariants as delta
 use Rattle.coll_units.specs.declared.unit_faults.UnitFault.{UnitFault}
 use Rattle.coll_units.specs.declared.unit_faults.UnitFault.TheVariants as unit
-use Rattle.coll_history.specs.declared.history_faults.BenchFault.TheVariants as bench
 use Rattle.coll_replies.specs.declared.faults.Fault.{Fault}
 use Rattle.coll_replies.specs.declared.faults.Fault.TheVariants as fault
 
@@ -49,21 +43,6 @@ fault_name fault.BlockOpen = codes "BlockOpen"
 fault_name fault.BlockNotEnded = codes "BlockNotEnded"
 fault_name fault.UnknownCommand = codes "UnknownCommand"
 fault_name fault.NoBlock = codes "NoBlock"
-
--- a load was refused for want of memory
-abbrev pub load_wants_memory : LoadCause → Bool
-load_wants_memory load.OutOfMemory = true
-load_wants_memory cause = false
-
--- want of memory, whatever was refused for it
-abbrev pub is_want_of_memory : Fault → Bool
-is_want_of_memory (fault.Lex lex.OutOfMemory) = true
-is_want_of_memory (fault.Syntax syntax.OutOfMemory) = true
-is_want_of_memory (fault.Load f) = load_wants_memory f.cause
-is_want_of_memory (fault.Table refusal.OutOfMemory) = true
-is_want_of_memory (fault.Key key.OutOfMemory) = true
-is_want_of_memory (fault.Bench (bench.Table refusal.OutOfMemory)) = true
-is_want_of_memory f = false
 
 -- a fault that was found apart from any table, as one of all faults
 abbrev pub fault_of : UnitFault → Fault

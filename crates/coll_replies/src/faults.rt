@@ -4,7 +4,7 @@
 //! fault is a new variant with its number and its name here and in `specs/Faults.antt`.
 
 ghost use Rattle.std.specs.Prelude.{◌≡◌};
-ghost use Rattle.coll_replies.specs.Faults.{fault_number, fault_name, is_want_of_memory as wants_memory, load_wants_memory as load_wants, fault_of, delta_fault_of};
+ghost use Rattle.coll_replies.specs.Faults.{fault_number, fault_name, fault_of, delta_fault_of};
 
 use coll_history::BenchFault;
 use coll_key::KeyFault;
@@ -84,21 +84,6 @@ impl Fault {
             Fault::NoBlock => "NoBlock",
         }
     }
-
-    /// Whether memory was refused, whatever for.
-    pub fn is_want_of_memory(self) -> bool
-        ensures { result ≡ wants_memory self }
-    {
-        match self {
-            Fault::Lex(LexFault::OutOfMemory) => true,
-            Fault::Syntax(SyntaxFault::OutOfMemory) => true,
-            Fault::Load(fault) => load_wants_memory(fault.cause),
-            Fault::Table(Refusal::OutOfMemory) => true,
-            Fault::Key(KeyFault::OutOfMemory) => true,
-            Fault::Bench(BenchFault::Table(Refusal::OutOfMemory)) => true,
-            _ => false,
-        }
-    }
 }
 
 impl From<UnitFault> for Fault {
@@ -132,16 +117,6 @@ impl From<DeltaFault> for Fault {
                 cause: LoadCause::NoEnd,
             }),
         }
-    }
-}
-
-// Whether a load was refused for want of memory.
-fn load_wants_memory(cause: LoadCause) -> bool
-    ensures { result ≡ load_wants cause }
-{
-    match cause {
-        LoadCause::OutOfMemory => true,
-        _ => false,
     }
 }
 
