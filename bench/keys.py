@@ -9,11 +9,12 @@ It writes a table of the shape of a real one: four levels, 105,000 entries in 23
 half characters with four weights, and among them 800 collating elements, five for each of 160 first characters, of which two
 are letters of the words. Of 100,000 words of nine letters in their order it takes 4,000, forty times a hundred that follow one
 another. It builds a small program over coll_key that loads the table, and then makes its ranks, a key of each word, a comparison
-of each word with the next one, keys of short texts and of a long one, and a listing. Each is done fifty times, in turn, and the
-least time is printed, since each is so short that it is seldom interrupted. The memory of the ranks is what the program took at
-most with them, less what it took without, and less the words. All of it stands in a temporary folder, which is removed at the
-end. The first build proves the crates below and takes some minutes; with a folder as its argument the script keeps what it builds
-there, and a second run is quick.
+of each word with the next one, keys of 4,096 short texts and of eight long ones, and a listing. Each is done fifty times, in turn,
+and the least time is printed, since each is so short that it is seldom interrupted. The first of the long keys takes a twentieth
+more time than the later ones, since other work has driven its memory out of the processor's caches. The memory of the ranks is
+what the program took at most with them, less what it took without, and less the words. All of it stands in a temporary folder,
+which is removed at the end. The first build proves the crates below and takes some minutes; with a folder as its argument the
+script keeps what it builds there, and a second run is quick.
 
 Targets: 160 ns for a key of a word of nine letters, 35 ns for a comparison of adjacent words, 15 ms and 16 MB for the ranks, for a
 key of 65,536 characters at most 500 times that of 128, and 0.1 s for a listing.
@@ -45,6 +46,7 @@ WORDS = 100_000
 WINDOW, WINDOWS = 100, 40
 LETTERS = 26
 LENGTH = 9
+SHORT, LONG, TEXTS = 128, 65_536, 8
 
 PROGRAM = """#![tactic(auto)]
 
@@ -139,7 +141,7 @@ fn measure_pairs(rt: &HostRuntime, table: &Table, ranks: &Ranks, pairs: &str) ->
     tell(rt, "pairs", start, walked)
 }
 
-// The short texts are as long, all together, as the long one.
+// The short texts are as long, all together, as the long ones.
 fn measure_texts(rt: &HostRuntime, table: &Table, ranks: &Ranks, short: &str, long: &str) -> Result<()>
     requires { AreRanksOf ranks.now (collation table.now) }
 {
@@ -253,7 +255,7 @@ def written(work, name, lines):
 
 
 def texts(work):
-    """The files with words in their order, with each word and the next one, with 512 texts of 128 characters, and with one of 65,536."""
+    """The files with words in their order, with each word and the next one, with texts of 128 characters, and with texts of 65,536."""
     chosen = random.Random(9)
     some = lambda count: "".join(chr(letter(chosen.randrange(LETTERS))) for _ in range(count))
     all_words = sorted(some(LENGTH) for _ in range(WORDS))
@@ -261,8 +263,8 @@ def texts(work):
     return [
         written(work, "words", (word + "\n" for word in words)),
         written(work, "pairs", (f"{word} {other}\n" for word, other in zip(words, words[1:] + words[:1]))),
-        written(work, "short", (some(128) + "\n" for _ in range(512))),
-        written(work, "long", [some(65_536) + "\n"]),
+        written(work, "short", (some(SHORT) + "\n" for _ in range(TEXTS * (LONG // SHORT)))),
+        written(work, "long", (some(LONG) + "\n" for _ in range(TEXTS))),
     ]
 
 
@@ -309,7 +311,8 @@ def main(work):
     print(f"ranks: {least['ranks'] / 1e6:.1f} ms, {with_ranks - without - held} kB (aim 15 ms, 16000 kB)")
     print(f"a key: {(least['keys'] - least['words']) / (WINDOW * WINDOWS):.0f} ns (aim 160)")
     print(f"a comparison: {(least['comparisons'] - least['pairs']) / (WINDOW * WINDOWS):.0f} ns (aim 35)")
-    print(f"keys of 128 characters: {least['short'] / 512:.0f} ns, of 65536: {least['long']} ns, {512 * least['long'] / least['short']:.0f} times that (aim 500)")
+    short, long = least["short"] / (TEXTS * (LONG // SHORT)), least["long"] / TEXTS
+    print(f"keys of {SHORT} characters: {short:.0f} ns, of {LONG}: {long:.0f} ns, {long / short:.0f} times that (aim 500)")
     print(f"a listing: {least['listing'] / 1e9:.3f} s (aim 0.1)")
 
 
