@@ -1,15 +1,16 @@
 -- A builder with one more behind all others: its places, and its parts.
 use Rattle.std.proofs.Common.{◌≡◌, true, ℕ, ◌<◌, ◌≤◌, ◌++◌, List, [], ◌∷◌, Option, Some, None, length, flat_map, sym, ap, subst, ◌∙◌, refl, arith}
 use Rattle.coll_order.specs.Layout.{head_of}
-use Rattle.coll_order.specs.Lists.{has_node}
+use Rattle.coll_order.specs.Lists.{has_node, end_of}
 use Rattle.coll_order.specs.Sound.{StandOnce}
 use Rattle.coll_order.specs.declared.places.NodeId.{NodeId}
 use Rattle.coll_order.specs.declared.places.RingId.{RingId}
 use Rattle.coll_order.specs.declared.places.Place.{Place}
 use Rattle.coll_order.specs.declared.places.Place.TheVariants.{Head, After}
+use Rattle.coll_order.proofs.RingLemmas.{get_push}
 use Rattle.coll_draft.specs.Building.{parts_at}
 use Rattle.coll_draft.specs.Loading.{with_last}
-use Rattle.coll_nodes.specs.SoundBodies.{read_at, ring_at, IsShaped, IsPlaceIn, IsEntryPlace, IsLastSection, IsLastEnd, IsSoundBuilder, HaveNames, FirstAloneUnnamed, Adds, end_in, end_of, with_empty_ring}
+use Rattle.coll_nodes.specs.SoundBodies.{read_at, ring_at, IsShaped, IsPlaceIn, IsEntryPlace, IsLastSection, IsLastEnd, IsSoundBuilder, HaveNames, FirstAloneUnnamed, Adds, end_in, with_empty_ring}
 use Rattle.coll_nodes.specs.Table.{Section}
 use Rattle.coll_nodes.specs.TableLayout.{TableLayout, entry_in, entries_in, declared_at, sections_at}
 use Rattle.coll_nodes.specs.declared.contents.Content.{Content}
@@ -21,7 +22,6 @@ use Rattle.coll_draft.proofs.LayoutEnds.{end_place, ring_last, end_last, end_oth
 use Rattle.coll_nodes.proofs.LayoutLists.{ring_key, other_in, declared_same, sections_same}
 use Rattle.coll_nodes.proofs.LayoutReads.{entries_read, in_rings, section_at}
 use Rattle.coll_nodes.proofs.LayoutSteps.{content_itself, content_other, ring_other}
-use Rattle.coll_nodes.proofs.RingPlaces.{get_push}
 
 -- names stay where the last section has one entry more
 last_names : (sections : List Section) (entry : Entry) → HaveNames sections → HaveNames (with_last sections entry)

@@ -3,7 +3,7 @@ use Rattle.std.proofs.Common.{◌≡◌, ℕ, ◌<◌, ◌++◌, false, true, �
 use Rattle.std.proofs.lemmas.List.{append-nil}
 use Rattle.std.proofs.lemmas.Grind.{flat_map-append}
 use Rattle.coll_order.specs.Layout.{head_of}
-use Rattle.coll_order.specs.Lists.{same_node, has_node, put_after}
+use Rattle.coll_order.specs.Lists.{same_node, has_node, put_after, end_of}
 use Rattle.coll_order.specs.Sound.{StandOnce, AreDistinct}
 use Rattle.coll_order.specs.declared.places.NodeId.{NodeId}
 use Rattle.coll_order.specs.declared.places.RingId.{RingId}
@@ -11,8 +11,10 @@ use Rattle.coll_order.specs.declared.places.Place.{Place}
 use Rattle.coll_order.specs.declared.places.Place.TheVariants.{After}
 use Rattle.coll_order.proofs.Sameness.{by_test, not_both, same_node_is, same_node_itself}
 use Rattle.coll_order.proofs.ListLemmas.{or_first, or_second}
+use Rattle.coll_order.proofs.EndLemmas.{put_last, end_on, end_push}
+use Rattle.coll_order.proofs.RingLemmas.{distinct_ring}
 use Rattle.coll_draft.specs.Loading.{with_last}
-use Rattle.coll_nodes.specs.SoundBodies.{read_at, ring_at, has_key, rings_in, same_ring, IsShaped, IsPlaceIn, Adds, end_in, end_of}
+use Rattle.coll_nodes.specs.SoundBodies.{read_at, ring_at, has_key, rings_in, same_ring, IsShaped, IsPlaceIn, Adds, end_in}
 use Rattle.coll_nodes.specs.Table.{Section}
 use Rattle.coll_nodes.specs.TableLayout.{TableLayout, content_of, declaration_in, entry_in, section_in, entries_in, declared_at, sections_at}
 use Rattle.coll_nodes.specs.declared.contents.Content.{Content}
@@ -22,7 +24,6 @@ use Rattle.coll_nodes.proofs.LayoutLists.{reads_in, section_same, past_two, othe
 use Rattle.coll_nodes.proofs.LayoutReads.{read_known, declared_read, sections_read, entries_read, in_rings}
 use Rattle.coll_nodes.proofs.LayoutSteps.{content_itself, content_other, ring_put, ring_other, read_itself}
 use Rattle.coll_nodes.proofs.NodeLists.{same_read}
-use Rattle.coll_nodes.proofs.RingPlaces.{distinct_ring, put_last, end_on, end_push}
 
 -- the place behind a ring's last node is one of the ring
 pub end_place : (layout : TableLayout) (index : ℕ) (place : Place) → place ≡ end_in layout index → index < length layout.rings → IsPlaceIn layout index place

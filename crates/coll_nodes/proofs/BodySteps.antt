@@ -7,8 +7,8 @@ use Rattle.coll_order.specs.declared.places.NodeId.{NodeId}
 use Rattle.coll_order.specs.declared.places.RingId.{RingId}
 use Rattle.coll_order.specs.declared.places.Place.{Place}
 use Rattle.coll_order.specs.declared.places.Place.TheVariants.{Head, After}
-use Rattle.coll_order.proofs.LayoutLemmas.{is_in_ring}
 use Rattle.coll_order.proofs.Sameness.{by_test, not_both}
+use Rattle.coll_order.proofs.RingLemmas.{is_in_ring}
 use Rattle.coll_syntax.specs.Identifier.{same_name, same_id}
 use Rattle.coll_syntax.specs.declared.identifiers.Id.{Id}
 use Rattle.coll_syntax.specs.declared.identifiers.Id.TheVariants.{Char, Named, Undefined}
@@ -32,7 +32,7 @@ place_among_rings layout index (After node) at = is_in_ring layout.rings index n
 
 -- nothing is declared, there is no section, and nothing is found
 pub nothing_sound : (declarations sections : RingId) → declarations.index ≡ 0 → sections.index ≡ 1
-    → IsSoundBody (record { rings = [] ∷ [] ∷ []; nodes = [] }) declarations sections no_keys (Head declarations) no_counts
+    → IsSoundBody (record { rings = [] ∷ [] ∷ []; nodes = [] }) declarations sections no_keys no_counts
 unfolding declared_at sections_at
 nothing_sound declarations sections first second = record {
   declarations = ap (λ index. record { index = index }) first;
@@ -51,7 +51,6 @@ nothing_sound declarations sections first second = record {
     ids = none_found same_id ids_in (node_with no_nodes) none_with;
   };
   reserved = record { keys_of = λ node it is. cc; ring_of = λ node it is. cc };
-  ends = ap (λ index. Head (record { index = index })) first;
   counted = refl;
 } where
   no_more : (index : ℕ) → ring_at (record { rings = [] ∷ [] ∷ []; nodes = [] }) (suc (suc index)) ≡ []

@@ -8,7 +8,7 @@ use Rattle.coll_order.specs.Sound.{StandOnce}
 use Rattle.coll_order.specs.declared.places.NodeId.{NodeId}
 use Rattle.coll_order.specs.declared.places.RingId.{RingId}
 use Rattle.coll_order.specs.declared.places.Place.{Place}
-use Rattle.coll_order.proofs.RingLemmas.{is_in_push}
+use Rattle.coll_order.proofs.RingLemmas.{is_in_push, get_push}
 use Rattle.coll_nodes.specs.SoundBodies.{read_at, ring_at, has_key, rings_in, same_ring, is_place_of, IsSection, IsShaped, IsPlaceIn, Finds, with_empty_ring}
 use Rattle.coll_nodes.specs.TableLayout.{TableLayout, content_of, if_any, declaration_in, entry_in, section_in, entries_in, declared_at, sections_at}
 use Rattle.coll_nodes.specs.declared.contents.Content.{Content}
@@ -16,7 +16,6 @@ use Rattle.coll_nodes.specs.declared.contents.Content.TheVariants as content
 use Rattle.coll_nodes.specs.declared.entries.Entry.{Entry}
 use Rattle.coll_nodes.proofs.LayoutReads.{declared_read, sections_read, entries_read}
 use Rattle.coll_nodes.proofs.NodeLists.{same_read}
-use Rattle.coll_nodes.proofs.RingPlaces.{get_push}
 
 -- no node stands twice still
 pub once_push : (rings : List (List NodeId)) → StandOnce rings → StandOnce (rings ++ [] ∷ [])

@@ -10,6 +10,7 @@ use Rattle.coll_order.specs.declared.places.Place.{Place}
 use Rattle.std.proofs.lemmas.Bool.Decides.{Decides-eqb}
 use Rattle.coll_order.proofs.ListLemmas.{or_first}
 use Rattle.coll_order.proofs.Sameness.{not_both, same_node_itself}
+use Rattle.coll_order.proofs.RingLemmas.{distinct_ring}
 use Rattle.coll_nodes.specs.SoundBodies.{read_at, ring_at, has_key, rings_in, same_ring, IsShaped, IsPlaceIn, Adds}
 use Rattle.coll_nodes.specs.Table.{Section, joined_entries}
 use Rattle.coll_nodes.specs.TableLayout.{TableLayout, content_of, declaration_in, entry_in, section_in, entries_in, declared_at, sections_at}
@@ -20,7 +21,6 @@ use Rattle.coll_nodes.specs.declared.entries.Entry.{Entry}
 use Rattle.coll_nodes.proofs.LayoutReads.{read_known, declared_read, sections_read, entries_read, joined_at, joined_read, joined_known, section_at, owner_at, in_rings, and_true}
 use Rattle.coll_nodes.proofs.LayoutSteps.{member_differs, content_itself, content_other, ring_put, ring_other, absent, read_other, read_itself}
 use Rattle.coll_nodes.proofs.NodeLists.{same_read, longer, longer_put, same_put, same_length}
-use Rattle.coll_nodes.proofs.RingPlaces.{distinct_ring}
 
 -- a section's node has the section's ring as its key
 pub ring_key : (layout : TableLayout) (node : NodeId) (name : Option (List ℕ)) (ring : RingId) → is_in layout.rings node ≡ true → content_of layout node ≡ Some (content.Begun name ring)

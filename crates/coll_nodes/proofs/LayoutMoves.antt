@@ -6,13 +6,13 @@ use Rattle.coll_order.specs.Lists.{same_node, has_node, without}
 use Rattle.coll_order.specs.declared.places.NodeId.{NodeId}
 use Rattle.coll_order.specs.declared.places.RingId.{RingId}
 use Rattle.coll_order.proofs.Sameness.{by_test, not_both, same_node_is, same_node_itself}
+use Rattle.coll_order.proofs.RingLemmas.{in_some}
 use Rattle.coll_syntax.specs.Identifier.{same_id, has_id}
 use Rattle.coll_syntax.specs.declared.identifiers.Id.{Id}
 use Rattle.coll_nodes.proofs.BodyReads.{some_same}
 use Rattle.coll_nodes.proofs.EntryMoves.{Tells}
 use Rattle.coll_nodes.proofs.LayoutReads.{declaration_is, read_known, both_true, and_true, declared_read, sections_read, section_at}
 use Rattle.coll_nodes.proofs.NodeLists.{map_read, same_read}
-use Rattle.coll_nodes.proofs.RingPlaces.{in_some}
 use Rattle.coll_nodes.specs.SoundBodies.{read_at, ring_at, ids_in, IsShaped, IsOwned, Finds}
 use Rattle.coll_nodes.specs.Table.{Section, ids_of}
 use Rattle.coll_nodes.specs.TableLayout.{TableLayout, content_of, if_any, declaration_in, entry_in, section_in, entries_in, declared_at, sections_at}

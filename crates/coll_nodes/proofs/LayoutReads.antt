@@ -7,8 +7,8 @@ use Rattle.coll_order.specs.Layout.{is_in}
 use Rattle.coll_order.specs.Lists.{has_node}
 use Rattle.coll_order.specs.declared.places.NodeId.{NodeId}
 use Rattle.coll_order.specs.declared.places.RingId.{RingId}
-use Rattle.coll_order.proofs.LayoutLemmas.{is_in_ring}
 use Rattle.coll_order.proofs.Sameness.{by_test, not_both}
+use Rattle.coll_order.proofs.RingLemmas.{in_some, is_in_ring}
 use Rattle.coll_nodes.specs.SoundBodies.{read_at, ring_at, has_key, rings_in, same_ring, names_in, texts_in, section_names_in, IsDeclaration, IsSection, IsEntry, IsOwned, IsShaped, Finds}
 use Rattle.coll_nodes.specs.Table.{Section, names_of, texts_of, section_names, joined_entries, name_of, text_of, named}
 use Rattle.coll_nodes.specs.TableLayout.{TableLayout, content_of, if_any, declaration_in, entry_in, section_in, entries_in, declared_at, sections_at}
@@ -17,7 +17,6 @@ use Rattle.coll_nodes.specs.declared.contents.Content.TheVariants as content
 use Rattle.coll_nodes.specs.declared.declarations.Declaration.{Declaration}
 use Rattle.coll_nodes.specs.declared.entries.Entry.{Entry}
 use Rattle.coll_nodes.proofs.NodeLists.{read_twice, map_read, same_read, any_from, any_to}
-use Rattle.coll_nodes.proofs.RingPlaces.{in_some}
 
 -- a node that is a section is one
 pub section_is : (rings : ℕ) (found : Option Content) → IsSection rings found

@@ -9,13 +9,13 @@ use Rattle.coll_order.specs.declared.places.NodeId.{NodeId}
 use Rattle.coll_order.specs.declared.places.RingId.{RingId}
 use Rattle.coll_order.specs.declared.places.Place.{Place}
 use Rattle.coll_order.proofs.ListLemmas.{is_among, or_first, or_second, has_put}
-use Rattle.coll_order.proofs.RingLemmas.{is_in_put, is_in_put_itself, length_rings_with}
+use Rattle.coll_order.proofs.RingLemmas.{is_in_put, is_in_put_itself, length_rings_with, get_put}
 use Rattle.coll_order.proofs.Sameness.{by_test, not_both, same_node_is, same_node_itself}
 use Rattle.coll_nodes.specs.SoundBodies.{read_at, ring_at, has_key, rings_in, same_ring, is_place_of, IsDeclaration, IsSection, IsEntry, IsOwned, IsShaped, Finds, IsPlaceIn, Adds}
 use Rattle.coll_nodes.specs.TableLayout.{TableLayout, content_of, if_any}
 use Rattle.coll_nodes.specs.declared.contents.Content.{Content}
 use Rattle.coll_nodes.proofs.LayoutReads.{read_known, both_true, in_rings}
-use Rattle.coll_nodes.proofs.RingPlaces.{get_put, get_put_other, place_off}
+use Rattle.coll_nodes.proofs.RingPlaces.{get_put_other, place_off}
 
 -- a number counted from 0 is itself
 pub from_zero : (index : ℕ) → 0 + index ≡ index

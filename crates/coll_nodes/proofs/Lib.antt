@@ -6,7 +6,6 @@ pub mod ChangedNodes
 pub mod ChangedTags
 pub mod CharNodes
 pub mod EmptyRings
-pub mod EndPlaces
 pub mod EntryLemmas
 pub mod EntryMoves
 pub mod KeyedNodes

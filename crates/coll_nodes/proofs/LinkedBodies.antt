@@ -13,7 +13,7 @@ use Rattle.coll_order.proofs.RingLemmas.{length_rings_with}
 use Rattle.coll_order.proofs.Sameness.{not_both, same_node_itself}
 use Rattle.coll_syntax.specs.Identifier.{same_name, same_id}
 use Rattle.coll_nodes.specs.Bodies.{with_link}
-use Rattle.coll_nodes.specs.BodyInvariant.{HasItsRing, IsReserved, IsSoundBody, end_with}
+use Rattle.coll_nodes.specs.BodyInvariant.{HasItsRing, IsReserved, IsSoundBody}
 use Rattle.coll_nodes.specs.Counting.{counts_at, counts_with}
 use Rattle.coll_nodes.specs.KeyedNodes.{FindsAll, KeepsKeys, SetsKeys}
 use Rattle.coll_nodes.specs.NodeLookUps.{node_named, node_with}
@@ -29,7 +29,6 @@ use Rattle.coll_nodes.specs.declared.entries.Entry.{Entry}
 use Rattle.coll_nodes.specs.declared.node_keys.NodeKeys.{NodeKeys}
 use Rattle.coll_nodes.proofs.AlikeLayouts.{AreAlike, names_stay, texts_stay, section_names_stay, rings_stay, ids_stay, key_alike, owned_alike, shaped_alike, found_alike, counts_alike, same_counts}
 use Rattle.coll_nodes.proofs.ChangedNodes.{bare, bare_alike, adds_bare}
-use Rattle.coll_nodes.proofs.EndPlaces.{end_linked}
 use Rattle.coll_nodes.proofs.KeyedNodes.{keys_stay}
 use Rattle.coll_nodes.proofs.LayoutLists.{declared_same, sections_same, declared_longer, sections_longer, entries_begun, as_many_sections, entries_longer}
 use Rattle.coll_nodes.proofs.LayoutReads.{owned_high, entries_read}
@@ -161,11 +160,11 @@ reserved_linked layout rings keys keys_new same kept reserved = record {
 }
 
 -- the body is sound
-pub put_sound : (layout : TableLayout) (node : NodeId) (it : Content) (place : Place) (declarations sections : RingId) (keys keys_new : NodeKeys) (end end_new : Place) (counts counts_new : Counts)
-    → IsSoundBody layout declarations sections keys end counts → StandOnce layout.rings → content_of layout node ≡ Some it → is_in layout.rings node ≡ false → IsPlaceFor layout place it → IsApart layout it
-    → SetsKeys keys keys_new it (Some node) → KeepsKeys keys keys_new → end_new ≡ end_with end place node → counts_new ≡ counts_with it counts
-    → IsSoundBody (with_link layout node place) declarations sections keys_new end_new counts_new
-put_sound layout node it place declarations sections keys keys_new end end_new counts counts_new sound once is loose fits apart sets kept ends counted =
+pub put_sound : (layout : TableLayout) (node : NodeId) (it : Content) (place : Place) (declarations sections : RingId) (keys keys_new : NodeKeys) (counts counts_new : Counts)
+    → IsSoundBody layout declarations sections keys counts → StandOnce layout.rings → content_of layout node ≡ Some it → is_in layout.rings node ≡ false → IsPlaceFor layout place it → IsApart layout it
+    → SetsKeys keys keys_new it (Some node) → KeepsKeys keys keys_new → counts_new ≡ counts_with it counts
+    → IsSoundBody (with_link layout node place) declarations sections keys_new counts_new
+put_sound layout node it place declarations sections keys keys_new counts counts_new sound once is loose fits apart sets kept counted =
     let alike = bare_alike layout node loose in
     let nodes = (bare layout node).nodes in
     let old = bare layout node in
@@ -176,13 +175,11 @@ put_sound layout node it place declarations sections keys keys_new end end_new c
     let apart_old = apart_alike layout nodes alike it apart in
     let put = put_any old new node place once shaped it adds fits_old (sound.reserved.ring_of node it is) apart_old in
     let at = ring_for old place it fits_old in
-    let two = sound.shaped.two in
     record {
       declarations = sound.declarations;
       begun = sound.begun;
       shaped = put.shaped;
       found = found_put old new node it place at.0 keys keys_new adds at.1 once apart_old (found_alike layout nodes alike keys sound.found) sets;
       reserved = reserved_linked layout new.rings keys keys_new (length_rings_with place node 0 layout.rings) kept sound.reserved;
-      ends = ends ∙ (ap (λ e. end_with e place node) sound.ends ∙ sym (end_linked layout.rings place node once (omega (arith, two))));
       counted = counted ∙ (ap (counts_with it) (sound.counted ∙ sym (counts_alike layout nodes alike sound.shaped)) ∙ sym put.counted);
     }

@@ -2,7 +2,7 @@
 use Rattle.std.proofs.Common.{◌≡◌, ℕ, ◌≤◌, ◌++◌, ◌||◌, Bool, true, false, cond, is_some, IfOk, OnErr, Result, Ok, Err, List, [], ◌∷◌, Option, Some, None, length, sym, ap, subst, ◌∙◌, refl, arith}
 use Rattle.std.specs.List.{list_any}
 use Rattle.std.proofs.lemmas.Bool.Decides.{Decides-eqb}
-use Rattle.coll_order.specs.Layout.{head_of, is_in}
+use Rattle.coll_order.specs.Layout.{is_in}
 use Rattle.coll_order.specs.Lists.{same_node}
 use Rattle.coll_order.specs.declared.places.NodeId.{NodeId}
 use Rattle.coll_order.specs.declared.places.RingId.{RingId}
@@ -14,7 +14,7 @@ use Rattle.coll_nodes.specs.Bodies.{BodyValue, Makes, MakesSection, IsLooseNode}
 use Rattle.coll_nodes.specs.BodyInvariant.{HasItsRing, IsReserved, IsSoundBody}
 use Rattle.coll_nodes.specs.KeyedNodes.{HasKeysOf, HasKeyOfSection, KeepsKeys, LeadsAlike}
 use Rattle.coll_nodes.specs.Linking.{nodes_without}
-use Rattle.coll_nodes.specs.SoundBodies.{same_ring, Finds, end_of, with_empty_ring}
+use Rattle.coll_nodes.specs.SoundBodies.{same_ring, Finds, with_empty_ring}
 use Rattle.coll_nodes.specs.Table.{Section, joined_entries}
 use Rattle.coll_nodes.specs.TableLayout.{TableLayout, MadeNode, content_of}
 use Rattle.coll_nodes.specs.Moving.{IsApart, IsPlaceFor, MayBeLoose, Suits, weighed, weighed_nodes}
@@ -28,7 +28,6 @@ use Rattle.coll_nodes.proofs.ChangedNodes.{bare, bare_alike, content_dropped, co
 use Rattle.coll_nodes.proofs.EmptyRings.{one_ring_more, finds_push, shaped_push, declared_push, sections_push}
 use Rattle.coll_nodes.proofs.KeyedNodes.{keys_stay, section_keys}
 use Rattle.coll_nodes.proofs.LinkedBodies.{fits_alike, apart_alike}
-use Rattle.coll_nodes.proofs.RingPlaces.{get_push}
 use Rattle.coll_nodes.proofs.TakenBodies.{loose_ringless}
 
 -- keys that lead alike find alike
@@ -38,10 +37,10 @@ finds_led same keys layout find find_new alike sound = record {
   finds = λ key node. λ has. alike key ∙ sound.finds key node has;
 }
 
-module _ (declarations sections : RingId) (end : Place) (counts : Counts) where
+module _ (declarations sections : RingId) (counts : Counts) where
   -- with keys reserved
-  pub reserved_sound : (layout : TableLayout) (keys keys_new : NodeKeys) → IsSoundBody layout declarations sections keys end counts → LeadsAlike keys keys_new → KeepsKeys keys keys_new
-      → IsSoundBody layout declarations sections keys_new end counts
+  pub reserved_sound : (layout : TableLayout) (keys keys_new : NodeKeys) → IsSoundBody layout declarations sections keys counts → LeadsAlike keys keys_new → KeepsKeys keys keys_new
+      → IsSoundBody layout declarations sections keys_new counts
   reserved_sound layout keys keys_new sound alike kept = record {
     declarations = sound.declarations;
     begun = sound.begun;
@@ -56,26 +55,24 @@ module _ (declarations sections : RingId) (end : Place) (counts : Counts) where
       keys_of = λ node it is. keys_stay keys keys_new it kept (sound.reserved.keys_of node it is);
       ring_of = sound.reserved.ring_of;
     };
-    ends = sound.ends;
     counted = sound.counted;
   }
 
   -- with other nodes beside those that stand, or with other weights
-  pub alike_sound : (layout : TableLayout) (nodes : List MadeNode) (keys : NodeKeys) → IsSoundBody layout declarations sections keys end counts → AreAlike layout nodes → IsReserved (record layout { nodes = nodes }) keys
-      → IsSoundBody (record layout { nodes = nodes }) declarations sections keys end counts
+  pub alike_sound : (layout : TableLayout) (nodes : List MadeNode) (keys : NodeKeys) → IsSoundBody layout declarations sections keys counts → AreAlike layout nodes → IsReserved (record layout { nodes = nodes }) keys
+      → IsSoundBody (record layout { nodes = nodes }) declarations sections keys counts
   alike_sound layout nodes keys sound alike reserved = record {
     declarations = sound.declarations;
     begun = sound.begun;
     shaped = shaped_alike layout nodes alike sound.shaped;
     found = found_alike layout nodes alike keys sound.found;
     reserved = reserved;
-    ends = sound.ends;
     counted = sound.counted ∙ sym (counts_alike layout nodes alike sound.shaped);
   }
 
   -- without a node that stands nowhere
-  pub dropped_sound : (layout : TableLayout) (node : NodeId) (keys : NodeKeys) → IsSoundBody layout declarations sections keys end counts → is_in layout.rings node ≡ false
-      → IsSoundBody (record layout { nodes = nodes_without (node ∷ []) layout.nodes }) declarations sections keys end counts
+  pub dropped_sound : (layout : TableLayout) (node : NodeId) (keys : NodeKeys) → IsSoundBody layout declarations sections keys counts → is_in layout.rings node ≡ false
+      → IsSoundBody (record layout { nodes = nodes_without (node ∷ []) layout.nodes }) declarations sections keys counts
   dropped_sound layout node keys sound loose = alike_sound layout (nodes_without (node ∷ []) layout.nodes) keys sound (bare_alike layout node loose) (record {
     keys_of = λ other it is. sound.reserved.keys_of other it (was other it is);
     ring_of = λ other it is. sound.reserved.ring_of other it (was other it is);
@@ -84,8 +81,8 @@ module _ (declarations sections : RingId) (end : Place) (counts : Counts) where
     was other it is = by_test (λ b. cond b None (content_of layout other) ≡ Some it → content_of layout other ≡ Some it) (same_node other node) (λ on e. cc) (λ off e. e) (sym (content_dropped node other layout.nodes) ∙ is)
 
   -- with other weights of an entry
-  pub weighed_sound : (layout : TableLayout) (node : NodeId) (weights : Option (List Weight)) (keys : NodeKeys) → IsSoundBody layout declarations sections keys end counts
-      → IsSoundBody (record layout { nodes = weighed_nodes node weights layout.nodes }) declarations sections keys end counts
+  pub weighed_sound : (layout : TableLayout) (node : NodeId) (weights : Option (List Weight)) (keys : NodeKeys) → IsSoundBody layout declarations sections keys counts
+      → IsSoundBody (record layout { nodes = weighed_nodes node weights layout.nodes }) declarations sections keys counts
   weighed_sound layout node weights keys sound = alike_sound layout (weighed_nodes node weights layout.nodes) keys sound (weighed_alike layout node weights) (record {
     keys_of = λ other it is. by_known other it is (λ known. HasKeysOf keys known) (λ w known has. same_keys w known has) (λ known e. sound.reserved.keys_of other known e);
     ring_of = λ other it is. by_known other it is (λ known. HasItsRing (length layout.rings) known) (λ w known has ring own. has ring (sym (ap (list_any (same_ring ring)) (rings_stay w known)) ∙ own)) (λ known e. sound.reserved.ring_of other known e);
@@ -138,10 +135,10 @@ module _ (old mid : TableLayout) (node : NodeId) (it : Content) (makes : Makes o
   )
 
   -- the body is sound
-  pub made_sound : (declarations sections : RingId) (end : Place) (counts : Counts) (keys : NodeKeys) → IsSoundBody old declarations sections keys end counts → HasKeysOf keys it → HasItsRing (length old.rings) it
-      → IsSoundBody mid declarations sections keys end counts
-  made_sound declarations sections end counts keys sound has its = subst (λ (layout : TableLayout). IsSoundBody layout declarations sections keys end counts) same_layout
-      (alike_sound declarations sections end counts old mid.nodes keys sound made_alike (record {
+  pub made_sound : (declarations sections : RingId) (counts : Counts) (keys : NodeKeys) → IsSoundBody old declarations sections keys counts → HasKeysOf keys it → HasItsRing (length old.rings) it
+      → IsSoundBody mid declarations sections keys counts
+  made_sound declarations sections counts keys sound has its = subst (λ (layout : TableLayout). IsSoundBody layout declarations sections keys counts) same_layout
+      (alike_sound declarations sections counts old mid.nodes keys sound made_alike (record {
         keys_of = λ other known is. by_made other known is (λ known. HasKeysOf keys known) has (λ e. sound.reserved.keys_of other known e);
         ring_of = λ other known is. by_made other known is (λ known. HasItsRing (length old.rings) known) its (λ e. sound.reserved.ring_of other known e);
       })) where
@@ -154,8 +151,8 @@ pub no_ring : (it : Content) (rings : ℕ) → MayBeLoose it → HasItsRing ring
 no_ring it rings may ring own = not_both (sym (ap (list_any (same_ring ring)) (loose_ringless it may)) ∙ own) refl
 
 -- with a ring more that has no nodes
-pub pushed_sound : (layout : TableLayout) (declarations sections : RingId) (end : Place) (counts : Counts) (keys : NodeKeys) → IsSoundBody layout declarations sections keys end counts → IsSoundBody (with_empty_ring layout) declarations sections keys end counts
-pushed_sound layout declarations sections end counts keys sound = record {
+pub pushed_sound : (layout : TableLayout) (declarations sections : RingId) (counts : Counts) (keys : NodeKeys) → IsSoundBody layout declarations sections keys counts → IsSoundBody (with_empty_ring layout) declarations sections keys counts
+pushed_sound layout declarations sections counts keys sound = record {
   declarations = sound.declarations;
   begun = sound.begun;
   shaped = shaped_push layout sound.shaped;
@@ -172,7 +169,6 @@ pushed_sound layout declarations sections end counts keys sound = record {
         let more = one_ring_more layout in
         (bounds.0, (let low = bounds.1 in omega (arith, low, more)));
   };
-  ends = sound.ends ∙ sym (ap (end_of (head_of 0)) (get_push layout.rings 0));
   counted = sound.counted ∙ sym (same_counts _ _ _ _ _ _
       (ap (λ (xs : List Declaration). length xs) (declared_push layout)) (ap (λ (xs : List Section). length xs) (sections_push layout)) (ap (λ xs. length (joined_entries xs)) (sections_push layout)));
 }
@@ -192,25 +188,25 @@ section_ring layout name own two last ring mine =
       only false e = e
 
 -- the body with a section made is sound
-pub section_sound : (old mid : TableLayout) (node : NodeId) (name : Option (List ℕ)) (own : RingId) (declarations sections : RingId) (end : Place) (counts : Counts) (keys : NodeKeys) → IsSoundBody old declarations sections keys end counts
+pub section_sound : (old mid : TableLayout) (node : NodeId) (name : Option (List ℕ)) (own : RingId) (declarations sections : RingId) (counts : Counts) (keys : NodeKeys) → IsSoundBody old declarations sections keys counts
     → Makes old mid node (content.Begun name own) → is_in old.rings node ≡ false → mid.rings ≡ old.rings ++ [] ∷ [] → own.index ≡ length old.rings → HasKeyOfSection keys name
-    → IsSoundBody mid declarations sections keys end counts
-section_sound old mid node name own declarations sections end counts keys sound makes apart rings last has =
+    → IsSoundBody mid declarations sections keys counts
+section_sound old mid node name own declarations sections counts keys sound makes apart rings last has =
     made_sound (with_empty_ring old) mid node (content.Begun name own) (section_makes old mid node (content.Begun name own) makes) (is_in_push old.rings node ∙ apart) rings
-    declarations sections end counts keys (pushed_sound old declarations sections end counts keys sound) (section_keys keys name own has) (section_ring old name own sound.shaped.two last)
+    declarations sections counts keys (pushed_sound old declarations sections counts keys sound) (section_keys keys name own has) (section_ring old name own sound.shaped.two last)
 
 -- the body is sound, whether a node was made or not
-pub made_sound_if : {X : Type 0} (result : Result NodeId X) (old new : BodyValue) (it : Content) (declarations sections : RingId) (end : Place) (counts : Counts) (keys : NodeKeys) → IsSoundBody old.layout declarations sections keys end counts
+pub made_sound_if : {X : Type 0} (result : Result NodeId X) (old new : BodyValue) (it : Content) (declarations sections : RingId) (counts : Counts) (keys : NodeKeys) → IsSoundBody old.layout declarations sections keys counts
     → IfOk result (λ node. Makes old.layout new.layout node it) → IfOk result (λ node. is_in old.layout.rings node ≡ false) → new.layout.rings ≡ old.layout.rings → OnErr result (new ≡ old) → HasKeysOf keys it → MayBeLoose it
-    → IsSoundBody new.layout declarations sections keys end counts
-made_sound_if (Ok node) old new it declarations sections end counts keys sound makes apart rings same has may =
-    made_sound old.layout new.layout node it makes apart rings declarations sections end counts keys sound has (no_ring it (length old.layout.rings) may)
-made_sound_if (Err e) old new it declarations sections end counts keys sound makes apart rings same has may = subst (λ (body : BodyValue). IsSoundBody body.layout declarations sections keys end counts) (sym same) sound
+    → IsSoundBody new.layout declarations sections keys counts
+made_sound_if (Ok node) old new it declarations sections counts keys sound makes apart rings same has may =
+    made_sound old.layout new.layout node it makes apart rings declarations sections counts keys sound has (no_ring it (length old.layout.rings) may)
+made_sound_if (Err e) old new it declarations sections counts keys sound makes apart rings same has may = subst (λ (body : BodyValue). IsSoundBody body.layout declarations sections keys counts) (sym same) sound
 
 -- so with a section
-pub section_sound_if : {X : Type 0} (result : Result (NodeId × RingId) X) (old new : BodyValue) (name : Option (List ℕ)) (declarations sections : RingId) (end : Place) (counts : Counts) (keys : NodeKeys)
-    → IsSoundBody old.layout declarations sections keys end counts → IfOk result (λ made. MakesSection old.layout new.layout name made) → OnErr result (new ≡ old) → HasKeyOfSection keys name
-    → IsSoundBody new.layout declarations sections keys end counts
-section_sound_if (Ok made) old new name declarations sections end counts keys sound makes same has =
-    section_sound old.layout new.layout made.0 name made.1 declarations sections end counts keys sound makes.node makes.apart makes.rings makes.ring has
-section_sound_if (Err e) old new name declarations sections end counts keys sound makes same has = subst (λ (body : BodyValue). IsSoundBody body.layout declarations sections keys end counts) (sym same) sound
+pub section_sound_if : {X : Type 0} (result : Result (NodeId × RingId) X) (old new : BodyValue) (name : Option (List ℕ)) (declarations sections : RingId) (counts : Counts) (keys : NodeKeys)
+    → IsSoundBody old.layout declarations sections keys counts → IfOk result (λ made. MakesSection old.layout new.layout name made) → OnErr result (new ≡ old) → HasKeyOfSection keys name
+    → IsSoundBody new.layout declarations sections keys counts
+section_sound_if (Ok made) old new name declarations sections counts keys sound makes same has =
+    section_sound old.layout new.layout made.0 name made.1 declarations sections counts keys sound makes.node makes.apart makes.rings makes.ring has
+section_sound_if (Err e) old new name declarations sections counts keys sound makes same has = subst (λ (body : BodyValue). IsSoundBody body.layout declarations sections keys counts) (sym same) sound

@@ -10,11 +10,11 @@ use Rattle.coll_order.specs.declared.places.RingId.{RingId}
 use Rattle.coll_order.specs.declared.places.Place.{Place}
 use Rattle.coll_order.specs.declared.places.Place.TheVariants.{After}
 use Rattle.coll_order.proofs.ListLemmas.{is_in_without_itself}
-use Rattle.coll_order.proofs.RingLemmas.{length_rings_with, length_rings_without}
+use Rattle.coll_order.proofs.RingLemmas.{length_rings_with, length_rings_without, in_some}
 use Rattle.coll_order.proofs.Sameness.{by_test, not_both, same_node_is}
 use Rattle.coll_syntax.specs.Identifier.{same_name, same_id}
 use Rattle.coll_nodes.specs.Bodies.{with_link, without_link}
-use Rattle.coll_nodes.specs.BodyInvariant.{IsSoundBody, end_with, end_without}
+use Rattle.coll_nodes.specs.BodyInvariant.{IsSoundBody}
 use Rattle.coll_nodes.specs.Counting.{counts_at}
 use Rattle.coll_nodes.specs.KeyedNodes.{FindsAll}
 use Rattle.coll_nodes.specs.SoundBodies.{read_at, ring_at, has_key, names_in, texts_in, section_names_in, rings_in, ids_in, same_ring, is_place_of, IsSection, IsPlaceIn, IsShaped, Finds, Adds}
@@ -29,13 +29,12 @@ use Rattle.coll_nodes.specs.declared.entries.Entry.{Entry}
 use Rattle.coll_nodes.specs.declared.node_keys.NodeKeys.{NodeKeys}
 use Rattle.coll_nodes.proofs.AlikeLayouts.{same_counts}
 use Rattle.coll_nodes.proofs.ChangedNodes.{bare, bare_alike, adds_bare}
-use Rattle.coll_nodes.proofs.EndPlaces.{first_end, end_linked, end_unlinked, once_without}
 use Rattle.coll_nodes.proofs.KeyedNodes.{all_kept}
 use Rattle.coll_nodes.proofs.LayoutReads.{declared_read, sections_read, entries_read, joined_at, joined_read, joined_known, read_known, section_at}
 use Rattle.coll_nodes.proofs.LayoutSteps.{in_itself, in_other, ring_put, ring_other, has_other, stands_in}
 use Rattle.coll_nodes.proofs.LinkedBodies.{put_declared, put_placed, fits_alike, reserved_linked, ring_for}
 use Rattle.coll_nodes.proofs.NodeLists.{same_read, same_length}
-use Rattle.coll_nodes.proofs.RingPlaces.{in_some}
+use Rattle.coll_nodes.proofs.RingPlaces.{once_without}
 use Rattle.coll_nodes.proofs.TakenBodies.{shaped_bare, added, place_at, begun_ring, put_back}
 
 -- a list with a node put in is longer by what is read of the node
@@ -118,14 +117,6 @@ module _ (old : TableLayout) (node : NodeId) (it : Content) (from place : Place)
   -- as many rings
   pub moved_rings : length new.rings ≡ length old.rings
   moved_rings = length_rings_with place node 0 (rings_without node old.rings) ∙ length_rings_without node old.rings
-
-  -- where it ends
-  pub ends_moved : (end : Place) → 2 ≤ length old.rings → end ≡ first_end old.rings → end_with (end_without end node from) place node ≡ first_end new.rings
-  ends_moved end two is =
-      let same = length_rings_without node old.rings in
-      ap (λ e. end_with (end_without e node from) place node) is
-      ∙ (ap (λ e. end_with e place node) (sym (end_unlinked old.rings node from once at))
-      ∙ sym (end_linked (rings_without node old.rings) place node once_small (omega (arith, two, same))))
 
 -- what a layout is with a node moved
 pub record IsMoved (old new : TableLayout) : Type 0 where
@@ -243,11 +234,10 @@ moved_any old node (content.Placed entry) from place known at once linked fits s
     record { shaped = put.shaped; counted = put.counted ∙ sym (put_back old node it from known at once shaped linked tt).counted }
 
 -- the body is sound, with the look-ups and counts that it had
-pub moved_sound : (old : TableLayout) (node : NodeId) (it : Content) (from place : Place) (declarations sections : RingId) (keys : NodeKeys) (end end_taken end_new : Place) (counts : Counts)
-    → IsSoundBody old declarations sections keys end counts → StandOnce old.rings → content_of old node ≡ Some it → place_from 0 old.rings node ≡ Some from → is_in old.rings node ≡ true → IsPlaceFor (without_link old node) place it
-    → end_taken ≡ end_without end node from → end_new ≡ end_with end_taken place node
-    → IsSoundBody (with_link (without_link old node) node place) declarations sections keys end_new counts
-moved_sound old node it from place declarations sections keys end end_taken end_new counts sound once known at linked fits taken ends =
+pub moved_sound : (old : TableLayout) (node : NodeId) (it : Content) (from place : Place) (declarations sections : RingId) (keys : NodeKeys) (counts : Counts)
+    → IsSoundBody old declarations sections keys counts → StandOnce old.rings → content_of old node ≡ Some it → place_from 0 old.rings node ≡ Some from → is_in old.rings node ≡ true → IsPlaceFor (without_link old node) place it
+    → IsSoundBody (with_link (without_link old node) node place) declarations sections keys counts
+moved_sound old node it from place declarations sections keys counts sound once known at linked fits =
     let moved = moved_any old node it from place known at once linked fits sound.shaped in
     record {
       declarations = sound.declarations;
@@ -255,6 +245,5 @@ moved_sound old node it from place declarations sections keys end end_taken end_
       shaped = moved.shaped;
       found = found_moved old node it from place known at once linked fits keys sound.found;
       reserved = reserved_linked old (rings_with place node 0 (rings_without node old.rings)) keys keys (moved_rings old node it from place known at once linked fits) (all_kept keys) sound.reserved;
-      ends = ends ∙ (ap (λ e. end_with e place node) taken ∙ ends_moved old node it from place known at once linked fits end sound.shaped.two sound.ends);
       counted = sound.counted ∙ sym moved.counted;
     }

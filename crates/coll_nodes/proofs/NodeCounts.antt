@@ -9,6 +9,7 @@ use Rattle.coll_order.specs.declared.places.NodeId.{NodeId}
 use Rattle.coll_order.specs.declared.places.RingId.{RingId}
 use Rattle.coll_order.proofs.ListLemmas.{nor, or_first, or_second}
 use Rattle.coll_order.proofs.Sameness.{by_test, not_both, same_node_is, same_node_itself}
+use Rattle.coll_order.proofs.RingLemmas.{distinct_ring}
 use Rattle.coll_nodes.specs.Bodies.{IsLaidOut, IsLooseNode}
 use Rattle.coll_nodes.specs.Counting.{AreFew, HasRoomFor, counts_at}
 use Rattle.coll_nodes.specs.SoundBodies.{read_at, ring_at, IsShaped}
@@ -21,7 +22,7 @@ use Rattle.coll_nodes.specs.declared.entries.Entry.{Entry}
 use Rattle.coll_nodes.proofs.LayoutLists.{ring_key}
 use Rattle.coll_nodes.proofs.LayoutReads.{declared_read, sections_read, entries_read, joined_at, joined_read, joined_known, section_at, in_rings}
 use Rattle.coll_nodes.proofs.NodeLists.{any_from}
-use Rattle.coll_nodes.proofs.RingPlaces.{distinct_ring, in_one}
+use Rattle.coll_nodes.proofs.RingPlaces.{in_one}
 
 -- lists that are no longer than others are not longer together
 no_longer : {X Y : Type 0} (f : NodeId → List X) (g : NodeId → List Y) (nodes : List NodeId) → ((node : NodeId) → has_node nodes node ≡ true → length (f node) ≤ length (g node)) → length (flat_map f nodes) ≤ length (flat_map g nodes)

@@ -8,11 +8,11 @@ use Rattle.coll_order.specs.declared.places.NodeId.{NodeId}
 use Rattle.coll_order.specs.declared.places.RingId.{RingId}
 use Rattle.coll_order.specs.declared.places.Place.{Place}
 use Rattle.coll_order.proofs.ListLemmas.{is_in_without, is_in_without_itself, has_without_itself}
-use Rattle.coll_order.proofs.RingLemmas.{length_rings_without, rings_put_back}
+use Rattle.coll_order.proofs.RingLemmas.{length_rings_without, rings_put_back, in_some}
 use Rattle.coll_order.proofs.Sameness.{by_test, not_both, same_node_is, same_node_itself}
 use Rattle.coll_syntax.specs.Identifier.{same_name, same_id}
 use Rattle.coll_nodes.specs.Bodies.{without_link}
-use Rattle.coll_nodes.specs.BodyInvariant.{IsSoundBody, end_without}
+use Rattle.coll_nodes.specs.BodyInvariant.{IsSoundBody}
 use Rattle.coll_nodes.specs.Counting.{counts_at, counts_with, HasOneOf}
 use Rattle.coll_nodes.specs.KeyedNodes.{FindsAll, KeepsKeys, SetsKeys}
 use Rattle.coll_nodes.specs.NodeLookUps.{node_named, node_with}
@@ -28,12 +28,11 @@ use Rattle.coll_nodes.specs.declared.node_keys.NodeKeys.{NodeKeys}
 use Rattle.coll_nodes.proofs.AlikeLayouts.{owned_alike, shaped_alike, counts_alike, same_counts}
 use Rattle.coll_nodes.proofs.BodyReads.{some_same}
 use Rattle.coll_nodes.proofs.ChangedNodes.{bare, bare_alike, adds_bare}
-use Rattle.coll_nodes.proofs.EndPlaces.{end_unlinked, stood, stood_in, once_without}
 use Rattle.coll_nodes.proofs.LayoutMoves.{get_without}
 use Rattle.coll_nodes.proofs.LayoutReads.{read_known, both_true, and_true}
 use Rattle.coll_nodes.proofs.LayoutSteps.{from_zero}
 use Rattle.coll_nodes.proofs.LinkedBodies.{IsPut, put_declared, put_placed, reserved_linked}
-use Rattle.coll_nodes.proofs.RingPlaces.{get_put_other, in_some}
+use Rattle.coll_nodes.proofs.RingPlaces.{get_put_other, stood, stood_in, once_without}
 
 -- a ring that has a node is there
 pub ring_there : (rings : List (List NodeId)) (index : ℕ) (node : NodeId) → has_node (get_or rings index []) node ≡ true → index < length rings
@@ -207,16 +206,15 @@ one_there (content.Begun name ring) counts less e = let n = ap (λ (c : Counts).
 one_there (content.Placed entry) counts less e = let n = ap (λ (c : Counts). c.entries) e in omega (arith, n)
 
 -- the body is sound
-pub taken_sound : (old : TableLayout) (node : NodeId) (it : Content) (place : Place) (declarations sections : RingId) (keys keys_new : NodeKeys) (end end_new : Place) (counts counts_new : Counts)
-    → IsSoundBody old declarations sections keys end counts → StandOnce old.rings → content_of old node ≡ Some it → place_from 0 old.rings node ≡ Some place → is_in old.rings node ≡ true → MayBeLoose it
-    → SetsKeys keys keys_new it None → KeepsKeys keys keys_new → end_new ≡ end_without end node place → counts ≡ counts_with it counts_new
-    → IsSoundBody (without_link old node) declarations sections keys_new end_new counts_new
-taken_sound old node it place declarations sections keys keys_new end end_new counts counts_new sound once known at linked may sets kept ends counted = record {
+pub taken_sound : (old : TableLayout) (node : NodeId) (it : Content) (place : Place) (declarations sections : RingId) (keys keys_new : NodeKeys) (counts counts_new : Counts)
+    → IsSoundBody old declarations sections keys counts → StandOnce old.rings → content_of old node ≡ Some it → place_from 0 old.rings node ≡ Some place → is_in old.rings node ≡ true → MayBeLoose it
+    → SetsKeys keys keys_new it None → KeepsKeys keys keys_new → counts ≡ counts_with it counts_new
+    → IsSoundBody (without_link old node) declarations sections keys_new counts_new
+taken_sound old node it place declarations sections keys keys_new counts counts_new sound once known at linked may sets kept counted = record {
   declarations = sound.declarations;
   begun = sound.begun;
   shaped = shaped_taken old node it known (loose_ringless it may) sound.shaped;
   found = found_taken old node it known keys keys_new linked sound.found sets;
   reserved = reserved_linked old (rings_without node old.rings) keys keys_new (length_rings_without node old.rings) kept sound.reserved;
-  ends = ends ∙ (ap (λ e. end_without e node place) sound.ends ∙ sym (end_unlinked old.rings node place once at));
   counted = same_count it counts_new (counts_at (without_link old node)) (sym counted ∙ (sound.counted ∙ counts_taken old node it place known at once sound.shaped linked may));
 }

@@ -8,10 +8,9 @@ use Rattle.coll_order.specs.Layout.{is_in}
 use Rattle.coll_order.specs.Sound.{AreDistinct}
 use Rattle.coll_order.specs.declared.places.NodeId.{NodeId}
 use Rattle.coll_order.specs.declared.places.RingId.{RingId}
-use Rattle.coll_order.proofs.LayoutLemmas.{is_in_ring}
 use Rattle.coll_order.proofs.ListLemmas.{neither}
 use Rattle.coll_order.proofs.Sameness.{by_test, not_both, same_node_is, same_node_itself, other_node_turned}
-use Rattle.coll_nodes.proofs.RingPlaces.{distinct_ring}
+use Rattle.coll_order.proofs.RingLemmas.{distinct_ring, is_in_ring}
 use Rattle.coll_nodes.specs.Bodies.{IsLaidOut}
 use Rattle.coll_nodes.specs.TableLayout.{TableLayout, content_of, nodes_in, entries_in, sections_ring, declarations_ring, sections_at, declared_at, entry_in, section_in, declaration_in, if_any}
 use Rattle.coll_nodes.specs.Walks.{MetSection, MetEntry, met}

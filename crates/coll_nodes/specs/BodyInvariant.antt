@@ -1,14 +1,11 @@
--- What holds of the body of a table: its rings, its look-ups, its counts, and where its declarations end.
-use Rattle.std.specs.Prelude.{◌≡◌, ◌≤◌, ◌<◌, ℕ, true, cond, Some, length}
+-- What holds of the body of a table: its rings, its look-ups and its counts.
+use Rattle.std.specs.Prelude.{◌≡◌, ◌≤◌, ◌<◌, ℕ, true, Some, length}
 use Rattle.std.specs.List.{list_any}
-use Rattle.coll_order.specs.Lists.{same_place}
 use Rattle.coll_order.specs.declared.places.NodeId.{NodeId}
 use Rattle.coll_order.specs.declared.places.RingId.{RingId}
-use Rattle.coll_order.specs.declared.places.Place.{Place}
-use Rattle.coll_order.specs.declared.places.Place.TheVariants.{After}
 use Rattle.coll_nodes.specs.Counting.{counts_at}
 use Rattle.coll_nodes.specs.KeyedNodes.{FindsAll, HasKeysOf}
-use Rattle.coll_nodes.specs.SoundBodies.{IsShaped, end_in, rings_in, same_ring}
+use Rattle.coll_nodes.specs.SoundBodies.{IsShaped, rings_in, same_ring}
 use Rattle.coll_nodes.specs.TableLayout.{TableLayout, content_of, declarations_ring, sections_ring}
 use Rattle.coll_nodes.specs.declared.contents.Content.{Content}
 use Rattle.coll_nodes.specs.declared.counts.Counts.{Counts}
@@ -24,20 +21,11 @@ pub record IsReserved (layout : TableLayout) (keys : NodeKeys) : Type 0 where
   pub ring_of : (node : NodeId) (it : Content) → content_of layout node ≡ Some it → HasItsRing (length layout.rings) it
 
 -- the rings are those of the declarations and the sections, the layout is one of a table, the look-ups find what stands in
--- it and have the keys of the rest, the place behind the last declaration is known, and the counts are the lengths of its lists
-pub record IsSoundBody (layout : TableLayout) (declarations_is sections_is : RingId) (keys : NodeKeys) (declared_end : Place) (counts : Counts) : Type 0 where
+-- it and have the keys of the rest, and the counts are the lengths of its lists
+pub record IsSoundBody (layout : TableLayout) (declarations_is sections_is : RingId) (keys : NodeKeys) (counts : Counts) : Type 0 where
   pub declarations : declarations_is ≡ declarations_ring
   pub begun : sections_is ≡ sections_ring
   pub shaped : IsShaped layout
   pub found : FindsAll layout keys
   pub reserved : IsReserved layout keys
-  pub ends : declared_end ≡ end_in layout 0
   pub counted : counts ≡ counts_at layout
-
--- where a list ends once a node was put directly after a place
-abbrev pub end_with : (end place : Place) → NodeId → Place
-end_with end place node = cond (same_place place end) (After node) end
-
--- where a list ends once a node was taken out that stood directly after a place
-abbrev pub end_without : (end : Place) → NodeId → (place : Place) → Place
-end_without end node place = cond (same_place end (After node)) place end

@@ -2,7 +2,7 @@
 use Rattle.std.specs.Prelude.{◌≡◌, ◌==◌, ℕ, suc, ◌≤◌, ◌<◌, Bool, true, false, ◌&&◌, ◌||◌, List, [], ◌∷◌, ◌++◌, Option, Some, None, map, length, slice_index_or}
 use Rattle.std.specs.List.{flat_map, list_any}
 use Rattle.coll_order.specs.Layout.{head_of, is_in, rings_with}
-use Rattle.coll_order.specs.Lists.{same_place, has_node}
+use Rattle.coll_order.specs.Lists.{same_place, has_node, end_of}
 use Rattle.coll_order.specs.declared.places.NodeId.{NodeId}
 use Rattle.coll_order.specs.declared.places.RingId.{RingId}
 use Rattle.coll_order.specs.declared.places.Place.{Place}
@@ -129,11 +129,6 @@ pub record Adds (old new : TableLayout) (node : NodeId) (content : Content) (pla
 -- a layout with one more ring, which has no nodes
 abbrev pub with_empty_ring : TableLayout → TableLayout
 with_empty_ring layout = record layout { rings = layout.rings ++ [] ∷ [] }
-
--- the place behind the last node of a list that begins after a place
-abbrev pub end_of : Place → List NodeId → Place
-end_of start [] = start
-end_of start (first ∷ rest) = end_of (After first) rest
 
 -- the place behind the last node of a ring
 abbrev pub end_in : TableLayout → ℕ → Place

@@ -33,8 +33,6 @@ pub struct Body {
     sections: RingId,
     /// The nodes by their keys.
     keys: NodeKeys,
-    /// The place behind the last declaration.
-    declared_end: Place,
     counts: Counts,
 }
 
@@ -46,7 +44,7 @@ impl Model for Body {
 
     ghost view = { λ b. b.nodes };
 
-    ghost invariant = { λ b. IsSoundBody b.nodes.layout b.declarations b.sections b.keys b.declared_end b.counts };
+    ghost invariant = { λ b. IsSoundBody b.nodes.layout b.declarations b.sections b.keys b.counts };
 }
 
 // Whether a node declares a collating symbol.
@@ -95,7 +93,6 @@ impl Body {
             declarations,
             sections,
             keys: NodeKeys::new(alloc),
-            declared_end: Place::Head(declarations),
             counts: Counts::new(),
         })
     }
@@ -109,7 +106,6 @@ impl Body {
             declarations,
             sections,
             keys,
-            declared_end,
             counts,
         } = self;
         Ok(Body {
@@ -117,7 +113,6 @@ impl Body {
             declarations: *declarations,
             sections: *sections,
             keys: keys.try_copy(alloc)?,
-            declared_end: *declared_end,
             counts: *counts,
         })
     }
@@ -345,7 +340,6 @@ fn a_body_stores_nodes_rings_look_ups_and_counts(rt: HostRuntime) {
         declarations,
         sections,
         keys,
-        declared_end,
         counts,
     } = &body;
     crate::fields::is_a::<Nodes>(nodes);
@@ -353,5 +347,4 @@ fn a_body_stores_nodes_rings_look_ups_and_counts(rt: HostRuntime) {
     crate::fields::is_a::<Counts>(counts);
     crate::fields::is_a::<RingId>(declarations);
     crate::fields::is_a::<RingId>(sections);
-    crate::fields::is_a::<Place>(declared_end);
 }

@@ -6,7 +6,8 @@
 ghost use Rattle.std.specs.Prelude.{map, ◌≡◌, ◌∷◌, ◌++◌, [], Some, None, IsSome, false, true, length, ◌<◌, IfOk, OnOk, OnErr};
 ghost use Rattle.coll_order.specs.Changes.{one_step_more, next_ring, with_node, with_ring};
 ghost use Rattle.coll_order.specs.Layout.{is_in, place_from, tag_of};
-ghost use Rattle.coll_order.specs.Lists.{first_in};
+ghost use Rattle.coll_order.specs.Lists.{first_in, end_of};
+ghost use Rattle.coll_order.specs.declared.places.Place.TheVariants.{Head};
 
 use crate::contents::Content;
 use coll_lex::{ListBuf, TextBuf};
@@ -174,6 +175,14 @@ impl Nodes {
         ensures { result ≡ first_in (nodes_in self.now.layout ring) }
     {
         self.rings.first(ring)
+    }
+
+    /// The place behind the last node of a ring: after that node, or the head of a ring that has none.
+    pub(crate) fn end(&self, ring: RingId) -> Place
+        requires { ring.index < length self.now.layout.rings }
+        ensures { result ≡ end_of (Head ring) (nodes_in self.now.layout ring) }
+    {
+        self.rings.end(ring)
     }
 
     /// The node directly after a linked one in its ring, if it isn't the last.

@@ -4,17 +4,18 @@ use Rattle.std.specs.Option.{option_map, option_and_then}
 use Rattle.std.proofs.lemmas.List.{get_or_past}
 use Rattle.std.specs.FinMap as finmap
 use Rattle.coll_order.specs.Changes.{with_ring, with_node, without_node, unlinked, linked}
-use Rattle.coll_order.specs.Laid.{tags_from, walks, rings_at, layout_at, IsRun, AreRuns, Holds, IsHeld}
-use Rattle.coll_order.specs.Layout.{Layout, head_of, is_in, place_of, rings_with, rings_without, tag_of, first_of, IsLinked, IsLoose, IsNode, IsPlace, IsRing}
+use Rattle.coll_order.specs.Laid.{tags_from, walks, rings_at, layout_at, IsRun, AreRuns, Holds, IsHeld, KnowsEnds, IsKept}
+use Rattle.coll_order.specs.Layout.{Layout, head_of, is_in, place_of, rings_with, rings_without, tag_of, first_of, end_of_ring, IsLinked, IsLoose, IsNode, IsPlace, IsRing}
 use Rattle.coll_order.specs.Lists.{same_node, same_place}
 use Rattle.coll_order.specs.Sound.{IsSound}
-use Rattle.coll_order.specs.Store.{Links, slot_at, next_at, before_at, tag_at, IsStored, IsStoredIfAny, HasPlace, KeepsNodes, Joins, Detaches, Inserts, Removes}
+use Rattle.coll_order.specs.Store.{Links, slot_at, next_at, before_at, tag_at, own_ring, ring_of, last_at, IsStored, IsStoredIfAny, HasPlace, KeepsNodes, Joins, Detaches, SetsRing, MovesEnd, Inserts, Removes}
 use Rattle.coll_order.specs.declared.places.NodeId.{NodeId}
 use Rattle.coll_order.specs.declared.places.RingId.{RingId}
 use Rattle.coll_order.specs.declared.places.Place.{Place}
 use Rattle.coll_order.specs.declared.places.Place.TheVariants.{Head, After}
 use Rattle.coll_order.specs.declared.store.Node.{Node}
-use Rattle.coll_order.proofs.Sameness.{by_test, not_both, same_node_is, other_place}
+use Rattle.coll_order.proofs.Ends.{own_ring_is, ended, same_ends, linked_ends, unlinked_ends, pushed_ends}
+use Rattle.coll_order.proofs.Sameness.{by_test, not_both, same_node_is, other_node, other_place}
 use Rattle.coll_order.proofs.LayoutLemmas.{place_among, loose_unlinked, linked_linked, place_unlinked}
 use Rattle.coll_order.proofs.RingLemmas.{is_in_push}
 use Rattle.coll_order.proofs.StoreLemmas.{keeps_both}
@@ -94,57 +95,43 @@ sound_layout links holds = record {
 pub before_read : (links : Links) (node : NodeId) (found : Node) → slot_at links node ≡ Some found → before_at links node ≡ found.before
 before_read links node found at = ap (option_and_then (λ (n : Node). n.before)) at
 
+-- links that hold rings and know their ends are kept
+kept : (links : Links) (rings : List (List NodeId)) → Holds links rings → KnowsEnds links rings → IsKept links
+kept links rings holds ends = record { held = held links rings holds; ends = subst (KnowsEnds links) (sym (rings_are links rings holds)) ends }
+
+-- links of which only the last places change lead where they led
+moved_next : (old new : Links) → new.heads ≡ old.heads → new.slots ≡ old.slots → (place : Place) → next_at new place ≡ next_at old place
+moved_next old new heads slots (Head ring) = ap (λ h. get_or h ring.index None) heads
+moved_next old new heads slots (After node) = ap (λ (s : List (Option Node)). option_and_then (λ (n : Node). n.after) (get_or s node.key None)) slots
+
+-- a linked node's ring is there
+pub own_ring_there : (links : Links) (node : NodeId) (found : Node) → IsKept links → IsLinked (layout_at links) node → slot_at links node ≡ Some found → found.ring.index < length links.lasts
+own_ring_there links node found is there read =
+    let count = is.ends.count in
+    let below = own_ring_is links (rings_at links) is.ends node found.ring there (ap (option_map (λ (n : Node). n.ring)) read) in
+    omega (arith, count, below)
+
+-- so is the ring of a place
+pub ring_there : (links : Links) (place : Place) (ring : RingId) → IsKept links → IsPlace (layout_at links) place → ring_of links place ≡ Some ring → ring.index < length links.lasts
+ring_there links (Head other) ring is there at = let count = is.ends.count in let same : other ≡ ring = cc in
+    let below : ring.index < length (rings_at links) = subst (λ (r : RingId). r.index < length (rings_at links)) same there in
+    omega (arith, count, below)
+ring_there links (After node) ring is there at =
+    let count = is.ends.count in
+    let below = own_ring_is links (rings_at links) is.ends node ring there at in
+    omega (arith, count, below)
+
+-- the place behind the last node of a ring is the one that is stored
+pub last_is : (links : Links) (ring : RingId) → IsKept links → IsRing (layout_at links) ring → last_at links ring ≡ end_of_ring (layout_at links) ring
+last_is links ring is there = is.ends.ends ring there
+
 -- a node was taken out of the layout: it stood after the place, and may be put there again
 pub record IsUnlinked (old new : Links) (node : NodeId) (place : Place) : Type 0 where
-  pub held : IsHeld new
+  pub kept : IsKept new
   pub layout : layout_at new ≡ unlinked (layout_at old) node
   pub stood : place_of (layout_at old) node ≡ Some place
   pub loose : IsLoose (layout_at new) node
   pub back : IsPlace (layout_at new) place
-
--- unlinking takes the node out of the layout
-pub unlink_done : (old between new : Links) (node : NodeId) (found : Node) (place : Place) → IsHeld old → slot_at old node ≡ Some found → found.before ≡ Some place → Joins old between place found.after → Detaches between new node
-    → IsUnlinked old new node place
-unlink_done old between new node found place holds read stands joined second =
-    let at : before_at old node ≡ Some place = before_read old node found read ∙ stands in
-    let first : Joins old between place (next_at old (After node)) =
-    subst (λ (after : Option NodeId). Joins old between place after) (sym (ap (option_and_then (λ (n : Node). n.after)) read)) joined in
-    let step = unlinks old between new (rings_at old) node place holds at first second in
-    let keeps = keeps_both old between new first.keeps second.keeps in
-    let then = unlinked_holds old new (rings_at old) node place holds step keeps.heads in
-    let same = laid old new (rings_without node (rings_at old)) then keeps.tags in
-    let stood : place_of (layout_at old) node ≡ Some place = place_is old (rings_at old) holds node ∙ at in
-    record {
-      held = held new (rings_without node (rings_at old)) then;
-      layout = same;
-      stood = stood;
-      loose = subst (λ layout. IsLoose layout node) (sym same) (loose_unlinked (layout_at old) node (sound_layout old holds) (holds.covers node place at));
-      back = subst (λ layout. IsPlace layout place) (sym same) (place_unlinked (layout_at old) node place stood);
-    }
-
--- a node was put into the layout
-pub record IsLinkedIn (old new : Links) (node : NodeId) (place : Place) : Type 0 where
-  pub held : IsHeld new
-  pub layout : layout_at new ≡ linked (layout_at old) node place
-  pub there : IsLinked (layout_at new) node
-
--- linking puts the node into the layout
-pub link_done : (old between new : Links) (node : NodeId) (place : Place) (found : Option NodeId) → IsHeld old → IsLoose (layout_at old) node → IsPlace (layout_at old) place
-    → found ≡ next_at old place → Joins old between place (Some node) → Joins between new (After node) found → IsLinkedIn old new node place
-link_done old between new node place found holds loose there read first joined =
-    let second : Joins between new (After node) (next_at old place) = subst (λ (after : Option NodeId). Joins between new (After node) after) read joined in
-    let was = loose_before old node holds loose in
-    let elsewhere : same_place place (After node) ≡ false = other_place place (After node) (λ same. not_both (subst (λ p. IsPlace (layout_at old) p) same there) loose.apart) in
-    let step = links_in old between new (rings_at old) node place holds was elsewhere first second in
-    let keeps = keeps_both old between new first.keeps second.keeps in
-    let then = linked_holds old new (rings_at old) node place holds step keeps.heads (place_among (layout_at old) place there)
-    (λ other same. linked_is old (rings_at old) holds other (subst (λ p. IsPlace (layout_at old) p) same there)) in
-    let same = laid old new (rings_with place node 0 (rings_at old)) then keeps.tags in
-    record {
-      held = held new (rings_with place node 0 (rings_at old)) then;
-      layout = same;
-      there = subst (λ layout. IsLinked layout node) (sym same) (linked_linked (layout_at old) node place there);
-    }
 
 -- runs stay where the links lead where they led
 same_run : (old new : Links) → ((place : Place) → next_at new place ≡ next_at old place) → (start : Place) (nodes : List NodeId) → IsRun old start nodes → IsRun new start nodes
@@ -170,6 +157,83 @@ same_holds old new rings holds heads next before = record {
   covers = λ node place e. holds.covers node place (sym (before node) ∙ e);
 }
 
+-- links of which only the last places change hold the same rings
+moved_holds : (old new : Links) (rings : List (List NodeId)) → Holds old rings → new.heads ≡ old.heads → new.slots ≡ old.slots → Holds new rings
+moved_holds old new rings holds heads slots = same_holds old new rings holds (ap length heads) (moved_next old new heads slots)
+    (λ node. ap (λ (s : List (Option Node)). option_and_then (λ (n : Node). n.before) (get_or s node.key None)) slots)
+
+-- and each node has the same ring
+moved_ring : (old new : Links) → new.slots ≡ old.slots → (node : NodeId) → own_ring new node ≡ own_ring old node
+moved_ring old new slots node = ap (λ (s : List (Option Node)). option_map (λ (n : Node). n.ring) (get_or s node.key None)) slots
+
+-- unlinking takes the node out of the layout
+pub unlink_done : (old between apart new : Links) (node : NodeId) (found : Node) (place : Place) → IsKept old → slot_at old node ≡ Some found → found.before ≡ Some place → Joins old between place found.after
+    → Detaches between apart node → MovesEnd apart new found.ring (After node) place → IsUnlinked old new node place
+unlink_done old between apart new node found place is read stands joined second moved =
+    let holds = is.held in
+    let rings = rings_at old in
+    let at : before_at old node ≡ Some place = before_read old node found read ∙ stands in
+    let first : Joins old between place (next_at old (After node)) =
+    subst (λ (after : Option NodeId). Joins old between place after) (sym (ap (option_and_then (λ (n : Node). n.after)) read)) joined in
+    let step = unlinks old between apart rings node place holds at first second in
+    let keeps = keeps_both old between apart first.keeps second.keeps in
+    let out = unlinked_holds old apart rings node place holds step keeps.heads in
+    let then = moved_holds apart new (rings_without node rings) out moved.heads moved.slots in
+    let tags : (other : NodeId) → tag_at new other ≡ tag_at old other = λ other. ap (λ (s : List (Option Node)). option_map (λ (n : Node). n.tag) (get_or s other.key None)) moved.slots ∙ keeps.tags other in
+    let same = laid old new (rings_without node rings) then tags in
+    let stood : place_of (layout_at old) node ≡ Some place = place_is old rings holds node ∙ at in
+    let once = stand_once old holds.back 0 rings holds.runs in
+    let known = same_ends old apart rings is.ends (λ other there. keeps.rings other) keeps.lasts in
+    let own : own_ring apart node ≡ Some found.ring = keeps.rings node ∙ ap (option_map (λ (n : Node). n.ring)) read in
+    let ends = unlinked_ends apart new rings node place known once stood (moved_ring apart new moved.slots) moved.count (ended apart new rings known found.ring (After node) place own moved) in
+    record {
+      kept = kept new (rings_without node rings) then ends;
+      layout = same;
+      stood = stood;
+      loose = subst (λ layout. IsLoose layout node) (sym same) (loose_unlinked (layout_at old) node (sound_layout old holds) (holds.covers node place at));
+      back = subst (λ layout. IsPlace layout place) (sym same) (place_unlinked (layout_at old) node place stood);
+    }
+
+-- a node was put into the layout
+pub record IsLinkedIn (old new : Links) (node : NodeId) (place : Place) : Type 0 where
+  pub kept : IsKept new
+  pub layout : layout_at new ≡ linked (layout_at old) node place
+  pub there : IsLinked (layout_at new) node
+
+-- linking puts the node into the layout
+pub link_done : (old between joined marked new : Links) (node : NodeId) (place : Place) (ring : RingId) (found : Option NodeId) → IsKept old → IsLoose (layout_at old) node → IsPlace (layout_at old) place
+    → ring_of old place ≡ Some ring → found ≡ next_at old place → Joins old between place (Some node) → Joins between joined (After node) found → SetsRing joined marked node ring
+    → MovesEnd marked new ring place (After node) → IsLinkedIn old new node place
+link_done old between joined marked new node place ring found is loose there at read first last marks moved =
+    let holds = is.held in
+    let rings = rings_at old in
+    let second : Joins between joined (After node) (next_at old place) = subst (λ (after : Option NodeId). Joins between joined (After node) after) read last in
+    let was = loose_before old node holds loose in
+    let elsewhere : same_place place (After node) ≡ false = other_place place (After node) (λ same. not_both (subst (λ p. IsPlace (layout_at old) p) same there) loose.apart) in
+    let step = links_in old between joined rings node place holds was elsewhere first second in
+    let keeps = keeps_both old between joined first.keeps second.keeps in
+    let in_rings = linked_holds old joined rings node place holds step keeps.heads (place_among (layout_at old) place there)
+    (λ other same. linked_is old rings holds other (subst (λ p. IsPlace (layout_at old) p) same there)) in
+    let marked_holds = same_holds joined marked (rings_with place node 0 rings) in_rings (ap length marks.heads) marks.next marks.before in
+    let then = moved_holds marked new (rings_with place node 0 rings) marked_holds moved.heads moved.slots in
+    let tags : (other : NodeId) → tag_at new other ≡ tag_at old other = λ other.
+    ap (λ (s : List (Option Node)). option_map (λ (n : Node). n.tag) (get_or s other.key None)) moved.slots ∙ (marks.tags other ∙ keeps.tags other) in
+    let same = laid old new (rings_with place node 0 rings) then tags in
+    let once = stand_once old holds.back 0 rings holds.runs in
+    let differ : (other : NodeId) → is_in rings other ≡ true → same_node other node ≡ false = λ other in_them. other_node other node (λ e. not_both in_them (ap (is_in rings) e ∙ loose.apart)) in
+    let known = same_ends old marked rings is.ends (λ other in_them. marks.others other (differ other in_them) ∙ keeps.rings other) (marks.lasts ∙ keeps.lasts) in
+    let of_place : ring_of marked place ≡ Some ring = marked_ring_of place elsewhere ∙ at in
+    let ends = linked_ends marked new rings node place ring known once loose.apart of_place (moved_ring marked new moved.slots node ∙ marks.is)
+    (λ other off. moved_ring marked new moved.slots other) moved.count (ended marked new rings known ring place (After node) of_place moved) in
+    record {
+      kept = kept new (rings_with place node 0 rings) then ends;
+      layout = same;
+      there = subst (λ layout. IsLinked layout node) (sym same) (linked_linked (layout_at old) node place there);
+    } where
+      marked_ring_of : (place : Place) → same_place place (After node) ≡ false → ring_of marked place ≡ ring_of old place
+      marked_ring_of (Head other) off = refl
+      marked_ring_of (After other) off = marks.others other off ∙ (last.keeps.rings other ∙ first.keeps.rings other)
+
 -- a slot that is written decides what its node knows
 slot_next : (old new : Links) (node : NodeId) → next_at old (After node) ≡ None → next_at new (After node) ≡ None → ((other : NodeId) → same_node other node ≡ false → slot_at new other ≡ slot_at old other)
     → new.heads ≡ old.heads → (place : Place) → next_at new place ≡ next_at old place
@@ -188,10 +252,17 @@ slot_before old new node was now others other =
     (λ on. let same : other ≡ node = same_node_is other node on in ap (before_at new) same ∙ (now ∙ sym (ap (before_at old) same ∙ was)))
     (λ off. ap (option_and_then (λ (n : Node). n.before)) (others other off))
 
+-- the ends stay known where a slot is written of a node that stands nowhere
+slot_ends : (old new : Links) (rings : List (List NodeId)) (node : NodeId) → KnowsEnds old rings → is_in rings node ≡ false → ((other : NodeId) → same_node other node ≡ false → slot_at new other ≡ slot_at old other)
+    → new.lasts ≡ old.lasts → KnowsEnds new rings
+slot_ends old new rings node known absent others lasts = same_ends old new rings known
+    (λ other there. ap (option_map (λ (n : Node). n.ring)) (others other (other_node other node (λ same. not_both there (ap (is_in rings) same ∙ absent))))) lasts
+
 -- a new loose node adds its tag to the layout, and stands nowhere
-pub insert_done : (old new : Links) (node : NodeId) (value : Node) → IsHeld old → Inserts old new node value → value.before ≡ None → value.after ≡ None
-    → IsHeld new × (layout_at new ≡ with_node (layout_at old) node value.tag) × IsLoose (layout_at new) node × (tag_of (layout_at old) node ≡ None)
-insert_done old new node value holds step bare last =
+pub insert_done : (old new : Links) (node : NodeId) (value : Node) → IsKept old → Inserts old new node value → value.before ≡ None → value.after ≡ None
+    → IsKept new × (layout_at new ≡ with_node (layout_at old) node value.tag) × IsLoose (layout_at new) node × (tag_of (layout_at old) node ≡ None)
+insert_done old new node value is step bare last =
+    let holds = is.held in
     let was_next : next_at old (After node) ≡ None = ap (option_and_then (λ (n : Node). n.after)) step.was in
     let now_next : next_at new (After node) ≡ None = ap (option_and_then (λ (n : Node). n.after)) step.is ∙ last in
     let was_before : before_at old node ≡ None = ap (option_and_then (λ (n : Node). n.before)) step.was in
@@ -199,17 +270,19 @@ insert_done old new node value holds step bare last =
     let then = same_holds old new (rings_at old) holds (ap length step.heads) (slot_next old new node was_next now_next step.others step.heads) (slot_before old new node was_before now_before step.others) in
     let rings = rings_are new (rings_at old) then in
     let tags = inserted_tags old new node value step in
-    let now_held = held new (rings_at old) then in
+    let ends = slot_ends old new (rings_at old) node is.ends (apart_is old (rings_at old) holds node was_before) step.others step.lasts in
+    let now_kept = kept new (rings_at old) then ends in
     let stored : IsStored new node = subst (λ (s : Option Node). IsSome s) (sym step.is) refl in (
-      now_held,
+      now_kept,
       (λ i. record { rings = rings i; tags = tags i }),
-      record { made = stored_node new node stored; apart = apart_is new (rings_at new) now_held node now_before },
+      record { made = stored_node new node stored; apart = apart_is new (rings_at new) now_kept.held node now_before },
       tag_is old node ∙ ap (option_map (λ (n : Node). n.tag)) step.was,
     )
 
 -- a loose node that is given up takes its tag with it
-pub remove_done : (old new : Links) (node : NodeId) → IsHeld old → IsLoose (layout_at old) node → Removes old new node → IsHeld new × (layout_at new ≡ without_node (layout_at old) node)
-remove_done old new node holds loose step =
+pub remove_done : (old new : Links) (node : NodeId) → IsKept old → IsLoose (layout_at old) node → Removes old new node → IsKept new × (layout_at new ≡ without_node (layout_at old) node)
+remove_done old new node is loose step =
+    let holds = is.held in
     let was_before = loose_before old node holds loose in
     let was_next = holds.loose node was_before in
     let now_next : next_at new (After node) ≡ None = ap (option_and_then (λ (n : Node). n.after)) step.is in
@@ -217,7 +290,8 @@ remove_done old new node holds loose step =
     let then = same_holds old new (rings_at old) holds (ap length step.heads) (slot_next old new node was_next now_next step.others step.heads) (slot_before old new node was_before now_before step.others) in
     let rings = rings_are new (rings_at old) then in
     let tags = removed_tags old new node step in
-    (held new (rings_at old) then, λ i. record { rings = rings i; tags = tags i })
+    let ends = slot_ends old new (rings_at old) node is.ends loose.apart step.others step.lasts in
+    (kept new (rings_at old) then ends, λ i. record { rings = rings i; tags = tags i })
 
 -- a head more, which leads nowhere, changes no link
 next_pushed : (heads : List (Option NodeId)) (index : ℕ) → get_or (heads ++ None ∷ []) index None ≡ get_or heads index None
@@ -235,8 +309,9 @@ runs_push links first (nodes ∷ rings) runs none =
     (runs.0, runs_push links (suc first) rings runs.1 (ap (λ i. next_at links (head_of i)) same ∙ none))
 
 -- one head more, which leads nowhere, is one ring more
-pub ring_done : (old new : Links) → IsHeld old → new ≡ record old { heads = old.heads ++ None ∷ [] } → IsHeld new × (layout_at new ≡ with_ring (layout_at old))
-ring_done old new holds pushed =
+pub ring_done : (old new : Links) → IsKept old → new ≡ record old { heads = old.heads ++ None ∷ []; lasts = old.lasts ++ head_of (length old.heads) ∷ [] } → IsKept new × (layout_at new ≡ with_ring (layout_at old))
+ring_done old new is pushed =
+    let holds = is.held in
     let next : (place : Place) → next_at new place ≡ next_at old place = λ place. ap (λ (links : Links). next_at links place) pushed ∙ next_same place in
     let before : (node : NodeId) → before_at new node ≡ before_at old node = λ node. ap (λ (links : Links). before_at links node) pushed in
     let heads : length new.heads ≡ length old.heads + 1 = ap (λ (links : Links). length links.heads) pushed ∙ length-append old.heads (None ∷ []) in
@@ -249,8 +324,9 @@ ring_done old new holds pushed =
       loose = λ node e. next (After node) ∙ holds.loose node (sym (before node) ∙ e);
       covers = λ node place e. is_in_push (rings_at old) node ∙ holds.covers node place (sym (before node) ∙ e);
     } in
-    (held new rings then, laid old new rings then (λ node. ap (λ (links : Links). tag_at links node) pushed)) where
-      next_same : (place : Place) → next_at (record old { heads = old.heads ++ None ∷ [] }) place ≡ next_at old place
+    let ends = pushed_ends old new (rings_at old) (length old.heads) is.ends holds.count (ap (λ (links : Links). links.lasts) pushed) (λ node. ap (λ (links : Links). own_ring links node) pushed) in
+    (kept new rings then ends, laid old new rings then (λ node. ap (λ (links : Links). tag_at links node) pushed)) where
+      next_same : (place : Place) → next_at (record old { heads = old.heads ++ None ∷ []; lasts = old.lasts ++ head_of (length old.heads) ∷ [] }) place ≡ next_at old place
       next_same (Head ring) = next_pushed old.heads ring.index
       next_same (After node) = refl
 
@@ -259,14 +335,14 @@ ring_done old new holds pushed =
           ap (λ i. next_at old (head_of i)) same ∙ get_or_past old.heads (length old.heads) None (omega arith)
 
 -- links of nothing hold nothing
-pub none_held : (links : Links) → links ≡ record { heads = []; slots = [] } → IsHeld links × (layout_at links ≡ record { rings = []; tags = finmap.empty })
+pub none_held : (links : Links) → links ≡ record { heads = []; lasts = []; slots = [] } → IsKept links × (layout_at links ≡ record { rings = []; tags = finmap.empty })
 unfolding AreRuns walks tags_from
-none_held links none = subst (λ (links : Links). IsHeld links × (layout_at links ≡ record { rings = []; tags = finmap.empty })) (sym none) (empty, refl) where
-  nowhere : (place : Place) (node : NodeId) → next_at (record { heads = []; slots = [] }) place ≡ Some node → ⊥
+none_held links none = subst (λ (links : Links). IsKept links × (layout_at links ≡ record { rings = []; tags = finmap.empty })) (sym none) (record { held = empty; ends = no_ends }, refl) where
+  nowhere : (place : Place) (node : NodeId) → next_at (record { heads = []; lasts = []; slots = [] }) place ≡ Some node → ⊥
   nowhere (Head ring) node e = cc
   nowhere (After other) node e = cc
 
-  empty : IsHeld (record { heads = []; slots = [] })
+  empty : IsHeld (record { heads = []; lasts = []; slots = [] })
   empty = record {
     count = refl;
     runs = tt;
@@ -275,6 +351,9 @@ none_held links none = subst (λ (links : Links). IsHeld links × (layout_at lin
     loose = λ node e. refl;
     covers = λ node place e. cc;
   }
+
+  no_ends : KnowsEnds (record { heads = []; lasts = []; slots = [] }) []
+  no_ends = record { count = refl; stands = λ ring node there. not_both there refl; ends = λ ring below. absurd (omega arith) }
 
 -- whether a node is linked is whether it knows a place
 pub linked_known : (links : Links) → IsHeld links → (node : NodeId) → is_in (rings_at links) node ≡ is_some (before_at links node)

@@ -16,7 +16,7 @@ use Rattle.coll_order.specs.declared.places.Place.{Place}
 use Rattle.coll_order.specs.declared.places.Place.TheVariants.{Head, After}
 use Rattle.coll_order.proofs.ListLemmas.{is_among, is_in_without_itself, is_in_without, or_first, or_second, next_absent, next_among_absent, or_none}
 use Rattle.coll_order.proofs.Tags.{get_inserted, get_removed}
-use Rattle.coll_order.proofs.RingLemmas.{length_rings_without, place_of_rings, place_from_other, is_in_push, is_in_put, not_apart, among_after, among_head, rings_without_put, place_from_put, rings_put_back, is_in_put_itself}
+use Rattle.coll_order.proofs.RingLemmas.{length_rings_without, place_of_rings, place_from_other, is_in_push, is_in_put, not_apart, among_after, among_head, rings_without_put, place_from_put, rings_put_back, is_in_put_itself, is_in_ring}
 
 -- a place where a node may be put is in the rings
 pub place_among : (layout : Layout) (place : Place) → IsPlace layout place → is_among place 0 layout.rings ≡ true
@@ -89,12 +89,6 @@ next_between [] rest node distinct = ap (λ b. cond b (first_in rest) (next_in r
 next_between (first ∷ front) rest node distinct =
     let differ : same_node node first ≡ false = other_node node first (λ same. not_both (subst (λ n. has_node (front ++ node ∷ rest) n ≡ true) same (has_between front rest node)) distinct.0) in
     ap (λ b. cond b (first_in (front ++ node ∷ rest)) (next_in (front ++ node ∷ rest) node)) differ ∙ next_between front rest node distinct.1
-
--- a node of one of the rings is in them
-pub is_in_ring : (rings : List (List NodeId)) (index : ℕ) (node : NodeId) → has_node (get_or rings index []) node ≡ true → is_in rings node ≡ true
-is_in_ring [] index node there = not_both there refl
-is_in_ring (nodes ∷ rings) zero node there = or_first (has_node nodes node) (is_in rings node) there
-is_in_ring (nodes ∷ rings) (suc index) node there = or_second (has_node nodes node) (is_in rings node) (is_in_ring rings index node there)
 
 -- directly after a node stands the next of its ring
 next_among_between : (rings : List (List NodeId)) (index : ℕ) (front rest : List NodeId) (node : NodeId) → StandOnce rings → get_or rings index [] ≡ front ++ node ∷ rest → next_among rings node ≡ first_in rest

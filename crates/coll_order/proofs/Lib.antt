@@ -1,4 +1,6 @@
 mod Calls
+pub mod EndLemmas
+mod Ends
 pub mod LayoutLemmas
 mod Linking
 pub mod ListLemmas

@@ -1,5 +1,5 @@
 -- Rings of nodes: the two laws of taking a node out and putting it in.
-use Rattle.std.proofs.Common.{◌≡◌, ℕ, zero, suc, ◌+◌, ◌<◌, ◌≤◌, ◌++◌, true, false, ◌||◌, cond, List, [], ◌∷◌, Some, None, length, eqb, sym, ap, subst, ◌∙◌, refl, arith, ◌⊎◌, inl, inr}
+use Rattle.std.proofs.Common.{◌≡◌, ℕ, zero, suc, ◌+◌, ◌<◌, ◌≤◌, ◌++◌, true, false, ◌||◌, cond, List, [], ◌∷◌, Some, None, length, eqb, get_or, sym, ap, subst, ◌∙◌, refl, arith, ◌⊎◌, inl, inr}
 use Rattle.std.proofs.lemmas.Bool.Decides.{Decides-eqb}
 use Rattle.std.specs.Option.{option_or}
 use Rattle.coll_order.specs.Lists.{same_node, same_place, has_node, place_in, without, put_after}
@@ -40,7 +40,7 @@ among_head index first (nodes ∷ rings) low high =
     refl
 
 -- the head of a ring is after no node
-head_off : (index : ℕ) (nodes : List NodeId) (start : Place) → same_place (head_of index) start ≡ false → is_on (head_of index) start nodes ≡ false
+pub head_off : (index : ℕ) (nodes : List NodeId) (start : Place) → same_place (head_of index) start ≡ false → is_on (head_of index) start nodes ≡ false
 head_off index [] start off = nor (same_place (head_of index) start) false off refl
 head_off index (node ∷ nodes) start off = nor (same_place (head_of index) start) _ off (neither (same_place (head_of index) start) _ (head_off index nodes start off)).1
 
@@ -209,3 +209,50 @@ place_from_other first (nodes ∷ rings) node place e same =
 pub is_in_push : (rings : List (List NodeId)) (node : NodeId) → is_in (rings ++ [] ∷ []) node ≡ is_in rings node
 is_in_push [] node = refl
 is_in_push (nodes ∷ rings) node = ap (λ b. has_node nodes node || b) (is_in_push rings node)
+
+-- a ring with a node put in
+pub get_put : (place : Place) (node : NodeId) (first index : ℕ) (rings : List (List NodeId)) → index < length rings
+    → get_or (rings_with place node first rings) index [] ≡ put_after place node (head_of (first + index)) (get_or rings index [])
+get_put place node first index [] below = absurd (omega arith)
+get_put place node first zero (nodes ∷ rings) below = let same : first ≡ first + zero = omega arith in ap (λ k. put_after place node (head_of k) nodes) same
+get_put place node first (suc index) (nodes ∷ rings) below =
+    let same : suc first + index ≡ first + suc index = omega arith in
+    get_put place node (suc first) index rings (omega arith) ∙ ap (λ k. put_after place node (head_of k) (get_or rings index [])) same
+
+-- a ring with a node taken out
+pub get_without : (node : NodeId) (index : ℕ) (rings : List (List NodeId)) → get_or (rings_without node rings) index [] ≡ without node (get_or rings index [])
+get_without node index [] = refl
+get_without node zero (nodes ∷ rings) = refl
+get_without node (suc index) (nodes ∷ rings) = get_without node index rings
+
+-- a ring has its nodes once
+pub distinct_ring : (rings : List (List NodeId)) (index : ℕ) → StandOnce rings → AreDistinct (get_or rings index [])
+distinct_ring [] index once = tt
+distinct_ring (nodes ∷ rings) zero once = once.0
+distinct_ring (nodes ∷ rings) (suc index) once = distinct_ring rings index once.2
+
+-- a node of one of the rings is in them
+pub is_in_ring : (rings : List (List NodeId)) (index : ℕ) (node : NodeId) → has_node (get_or rings index []) node ≡ true → is_in rings node ≡ true
+is_in_ring [] index node there = not_both there refl
+is_in_ring (nodes ∷ rings) zero node there = or_first (has_node nodes node) (is_in rings node) there
+is_in_ring (nodes ∷ rings) (suc index) node there = or_second (has_node nodes node) (is_in rings node) (is_in_ring rings index node there)
+
+-- that ring is there
+pub has_ring : (rings : List (List NodeId)) (index : ℕ) (node : NodeId) → has_node (get_or rings index []) node ≡ true → index < length rings
+has_ring [] index node there = not_both there refl
+has_ring (nodes ∷ rings) zero node there = omega arith
+has_ring (nodes ∷ rings) (suc index) node there = let later = has_ring rings index node there in omega (arith, later)
+
+-- a node that stands in rings stands in one with a number
+pub in_some : (rings : List (List NodeId)) (node : NodeId) → is_in rings node ≡ true → (index : ℕ) × (has_node (get_or rings index []) node ≡ true)
+in_some [] node there = not_both there refl
+in_some (nodes ∷ rings) node there =
+    by_test (λ b. has_node nodes node ≡ b → (b || is_in rings node) ≡ true → (index : ℕ) × (has_node (get_or (nodes ∷ rings) index []) node ≡ true)) (has_node nodes node)
+    (λ on t e. (0, t)) (λ off t e. let later = in_some rings node e in (suc later.0, later.1)) refl there
+
+-- a ring more that has no nodes changes no list
+pub get_push : (rings : List (List NodeId)) (index : ℕ) → get_or (rings ++ [] ∷ []) index [] ≡ get_or rings index []
+get_push [] zero = refl
+get_push [] (suc index) = refl
+get_push (nodes ∷ rings) zero = refl
+get_push (nodes ∷ rings) (suc index) = get_push rings index

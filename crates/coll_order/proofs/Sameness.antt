@@ -65,3 +65,7 @@ same_place_itself a = (same_place_decides a a).1 refl
 -- places that aren't equal fail the test
 pub other_place : (a b : Place) → (a ≡ b → ⊥) → same_place a b ≡ false
 other_place a b differ = by_test (λ t. same_place a b ≡ t → t ≡ false) (same_place a b) (λ e p. absurd (differ (same_place_is a b e))) (λ e p. refl) refl
+
+-- which of two places comes first doesn't matter
+pub other_place_turned : (a b : Place) → same_place a b ≡ false → same_place b a ≡ false
+other_place_turned a b off = other_place b a (λ e. not_both ((same_place_decides a b).1 (sym e)) off)

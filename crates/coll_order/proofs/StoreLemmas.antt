@@ -9,6 +9,8 @@ pub keeps_both : (old between new : Links) → KeepsNodes old between → KeepsN
 keeps_both old between new first second = record {
   heads = second.heads ∙ first.heads;
   tags = λ node. second.tags node ∙ first.tags node;
+  rings = λ node. second.rings node ∙ first.rings node;
+  lasts = second.lasts ∙ first.lasts;
 }
 
 -- a node whose two links are taken away has no neighbour

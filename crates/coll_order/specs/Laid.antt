@@ -1,16 +1,19 @@
--- How links hold a layout: each head begins a run of nodes, and each node knows what stands before it.
+-- How links hold a layout: each head begins a run of nodes, each node knows what stands before it and in which ring it
+-- stands, and each ring knows its last place.
 --
 -- No public clause cites this module: it is the view and the invariant of a store.
-use Rattle.std.specs.Prelude.{◌≡◌, ℕ, zero, suc, true, List, [], ◌∷◌, Option, Some, None, length}
+use Rattle.std.specs.Prelude.{◌≡◌, ℕ, zero, suc, ◌<◌, true, List, [], ◌∷◌, Option, Some, None, length, slice_index_or}
 use Rattle.std.specs.Option.{option_map_or}
 use Rattle.std.specs.Ordering.{nat_cmp}
 use Rattle.std.specs.FinMap as finmap
 use Rattle.coll_order.specs.declared.places.NodeId.{NodeId}
+use Rattle.coll_order.specs.declared.places.RingId.{RingId}
 use Rattle.coll_order.specs.declared.places.Place.{Place}
-use Rattle.coll_order.specs.declared.places.Place.TheVariants.{After}
+use Rattle.coll_order.specs.declared.places.Place.TheVariants.{Head, After}
 use Rattle.coll_order.specs.declared.store.Node.{Node}
 use Rattle.coll_order.specs.Layout.{Layout, head_of, is_in}
-use Rattle.coll_order.specs.Store.{Links, next_at, before_at}
+use Rattle.coll_order.specs.Lists.{has_node, end_of}
+use Rattle.coll_order.specs.Store.{Links, next_at, before_at, own_ring, last_at}
 
 -- the nodes that follow a place, as far as so many steps lead
 unfoldable pub walk : Links → ℕ → Place → List NodeId
@@ -58,3 +61,14 @@ pub record Holds (links : Links) (rings : List (List NodeId)) : Type 0 where
 -- the links of a store hold the rings that one reads from them
 abbrev pub IsHeld : Links → Type 0
 IsHeld links = Holds links (rings_at links)
+
+-- each node of these rings has its ring stored, and each ring its last place
+pub record KnowsEnds (links : Links) (rings : List (List NodeId)) : Type 0 where
+  pub count : length links.lasts ≡ length rings
+  pub stands : (ring : RingId) (node : NodeId) → has_node (slice_index_or rings ring.index []) node ≡ true → own_ring links node ≡ Some ring
+  pub ends : (ring : RingId) → ring.index < length rings → last_at links ring ≡ end_of (Head ring) (slice_index_or rings ring.index [])
+
+-- what holds of the links of a store: they hold the rings that one reads from them, and know their ends
+pub record IsKept (links : Links) : Type 0 where
+  pub held : IsHeld links
+  pub ends : KnowsEnds links (rings_at links)

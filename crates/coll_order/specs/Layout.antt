@@ -9,7 +9,7 @@ use Rattle.coll_order.specs.declared.places.NodeId.{NodeId}
 use Rattle.coll_order.specs.declared.places.RingId.{RingId}
 use Rattle.coll_order.specs.declared.places.Place.{Place}
 use Rattle.coll_order.specs.declared.places.Place.TheVariants.{Head, After}
-use Rattle.coll_order.specs.Lists.{has_node, first_in, next_in, place_in, without, put_after}
+use Rattle.coll_order.specs.Lists.{has_node, first_in, next_in, place_in, end_of, without, put_after}
 
 -- the list of nodes of each ring, by the ring's number, and the tags of the nodes that are there
 pub record Layout : Type 0 where
@@ -79,6 +79,10 @@ nodes_of layout ring = slice_index_or layout.rings ring.index []
 -- the first node of a ring
 abbrev pub first_of : Layout → RingId → Option NodeId
 first_of layout ring = first_in (nodes_of layout ring)
+
+-- the place behind the last node of a ring: after that node, or the head of a ring that has none
+abbrev pub end_of_ring : Layout → RingId → Place
+end_of_ring layout ring = end_of (Head ring) (nodes_of layout ring)
 
 -- the tag of a node that is there
 abbrev pub tag_of : Layout → NodeId → Option ℕ

@@ -35,6 +35,11 @@ abbrev pub place_in : Place → List NodeId → NodeId → Option Place
 place_in start [] node = None
 place_in start (first ∷ rest) node = if same_node node first then Some start else place_in (After first) rest node
 
+-- the place behind the last node of a list that begins after a place
+abbrev pub end_of : Place → List NodeId → Place
+end_of start [] = start
+end_of start (first ∷ rest) = end_of (After first) rest
+
 -- a list without a node
 abbrev pub without : NodeId → List NodeId → List NodeId
 without node [] = []

@@ -2,12 +2,13 @@
 //!
 //! Contracts see a `Rings` as `RingStore` of `specs/Layout.antt`: its layout, and the number of ring steps taken. The
 //! layout is read from the links by walking from each head, and the invariant says that the links lead through just
-//! these lists (`specs/Laid.antt`). So a call writes the few links that it changes, and its proof says which lists
-//! they then hold. A new call has to leave links that hold lists, and to count a step only if it moves a node.
+//! these lists, and that the ring of each node and the last place of each ring are stored (`specs/Laid.antt`). So a call
+//! writes the few links that it changes, and its proof says which lists they then hold. A new call has to leave links that
+//! hold lists, and to count a step only if it moves a node.
 
 ghost use Rattle.std.specs.Prelude.{◌≡◌, ◌↔◌, IsTrue, None, Some, IfOk, OnOk, OnErr};
 ghost use Rattle.coll_order.specs.Changes.{empty_store, with_ring, next_ring, with_node, without_node, unlinked, linked, one_step_more};
-ghost use Rattle.coll_order.specs.Layout.{first_of, next_of, place_of, tag_of, IsLinked, IsLoose, IsNode, IsPlace, IsRing};
+ghost use Rattle.coll_order.specs.Layout.{first_of, end_of_ring, next_of, place_of, tag_of, IsLinked, IsLoose, IsNode, IsPlace, IsRing};
 ghost use Rattle.coll_order.specs.Sound.{IsSound};
 
 use crate::places::{NodeId, Place, RingId};
@@ -33,12 +34,12 @@ impl Model for Rings {
 
     ghost coded = { ring_store_code };
 
-    ghost use Rattle.coll_order.specs.Laid.{layout_at, IsHeld};
+    ghost use Rattle.coll_order.specs.Laid.{layout_at, IsKept};
     ghost use Rattle.coll_order.specs.Stored.{links_of};
 
     ghost view = { λ r. record { layout = layout_at (links_of r.store); steps = r.steps } };
 
-    ghost invariant = { λ r. IsHeld (links_of r.store) };
+    ghost invariant = { λ r. IsKept (links_of r.store) };
 }
 
 impl Rings {
@@ -71,6 +72,7 @@ impl Rings {
     {
         let node = self.store.insert(Node {
             tag,
+            ring: RingId { index: 0 },
             before: None,
             after: None,
         })?;
@@ -92,6 +94,7 @@ impl Rings {
         };
         self.store.join(place, found.after);
         self.store.detach(node);
+        self.store.move_end(found.ring, Place::After(node), place);
         self.steps = self.steps.wrapping_add(1);
         place
     }
@@ -104,9 +107,12 @@ impl Rings {
         ensures linked { IsLinked self.new.layout node }
         ensures steps { self.new.steps ≡ one_step_more self.old.steps }
     {
+        let ring = self.store.ring(place);
         let after = self.store.next(place);
         self.store.join(place, Some(node));
         self.store.join(Place::After(node), after);
+        self.store.set_ring(node, ring);
+        self.store.move_end(ring, place, Place::After(node));
         self.steps = self.steps.wrapping_add(1);
     }
 
@@ -116,6 +122,15 @@ impl Rings {
         ensures { result ≡ first_of self.now.layout ring }
     {
         self.store.next(Place::Head(ring))
+    }
+
+    /// The place behind the last node of a ring: after that node, or the head of a ring that has none.
+    pub fn end(&self, ring: RingId) -> Place
+        requires ring { IsRing self.now.layout ring }
+        ensures end { result ≡ end_of_ring self.now.layout ring }
+        ensures place { IsPlace self.now.layout result }
+    {
+        self.store.last(ring)
     }
 
     /// The node directly after a linked one in its ring, if it isn't the last.

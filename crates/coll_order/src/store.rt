@@ -1,21 +1,24 @@
-//! The nodes with their neighbours, and the head of each ring.
+//! The nodes with their neighbours, and the head and the last place of each ring.
 //!
-//! A node knows the place before it and the node after it; a head is the first node of a ring. A node without a place
-//! before it is loose. The calls here write one link each, and say which neighbour changes and that no other does
+//! A node knows the place before it, the node after it and its ring; a head is the first node of a ring. A node without a
+//! place before it is loose. The calls here write one link each, and say which neighbour changes and that no other does
 //! (`specs/Store.antt`); that the links together are lists is the business of `Rings`. Whoever adds a field to `Node`
 //! has to say in each of these contracts that it stays.
 
-ghost use Rattle.std.specs.Prelude.{◌≡◌, ◌∷◌, [], ◌++◌, length, nat_lt, Some, None, IfOk, OnOk, OnErr};
-ghost use Rattle.coll_order.specs.Store.{slot_at, next_at, IsStored, IsStoredIfAny, HasPlace, SetsNext, SetsBefore, Joins, Detaches, Inserts, Removes};
+ghost use Rattle.std.specs.Prelude.{◌≡◌, ◌∷◌, [], ◌++◌, ◌<◌, length, nat_lt, Some, None, IfOk, OnOk, OnErr};
+ghost use Rattle.coll_order.specs.Store.{slot_at, next_at, ring_of, last_at, IsStored, IsStoredIfAny, HasPlace, SetsNext, SetsBefore, Joins, Detaches, SetsRing, MovesEnd, Inserts, Removes};
+ghost use Rattle.coll_order.specs.declared.places.Place.TheVariants.{Head};
 
 use crate::places::{NodeId, Place, RingId};
 use slab::Slab;
 use std::alloc::{AllocError, Global};
 
-/// A node: its tag and its two neighbours.
+/// A node: its tag, its ring and its two neighbours.
 #[derive(Debug)]
 pub(crate) struct Node {
     pub(crate) tag: usize,
+    /// The ring in which the node stands. Of a loose node it says nothing.
+    pub(crate) ring: RingId,
     /// What stands directly before the node. A loose node has none.
     pub(crate) before: Option<Place>,
     /// The node directly after it, if there is one. A loose node has none.
@@ -32,11 +35,12 @@ impl Clone for Node {
     }
 }
 
-/// The nodes by their names, and the first node of each ring.
+/// The nodes by their names, and for each ring its first node and the place behind its last.
 #[derive(Debug, Drop)]
 pub(crate) struct Store {
     pub(crate) nodes: Slab<Node>,
     pub(crate) heads: Vec<Option<NodeId>>,
+    pub(crate) lasts: Vec<Place>,
 }
 
 impl Store {
@@ -44,33 +48,41 @@ impl Store {
 
     /// A store of no nodes and no rings. It takes no memory.
     pub(crate) fn new(alloc: Global) -> Store
-        ensures { links_of result ≡ record { heads = []; slots = [] } }
+        ensures { links_of result ≡ record { heads = []; lasts = []; slots = [] } }
     {
         Store {
             nodes: Slab::new(alloc),
             heads: Vec::new(alloc),
+            lasts: Vec::new(alloc),
         }
     }
 
-    /// A copy of the nodes and the heads, under the same names.
+    /// A copy of the nodes, the heads and the last places, under the same names.
     pub(crate) fn try_copy(&self, alloc: Global) -> Result<Store, AllocError>
         ensures { IfOk result (λ copy. links_of copy ≡ links_of self.now) }
     {
         let nodes = self.nodes.clone()?;
         let heads = self.heads.as_slice().to_vec(alloc)?;
-        Ok(Store { nodes, heads })
+        let lasts = self.lasts.as_slice().to_vec(alloc)?;
+        Ok(Store {
+            nodes,
+            heads,
+            lasts,
+        })
     }
 
     /// Makes a ring of no nodes.
     pub(crate) fn add_ring(&mut self) -> Result<RingId, AllocError>
         ensures ring { IfOk result (λ ring. ring.index ≡ length self.old.heads.items) }
-        ensures ok { OnOk result (links_of self.new ≡ record (links_of self.old) { heads = self.old.heads.items ++ None ∷ [] }) }
+        ensures ok { OnOk result (links_of self.new ≡ record (links_of self.old) { heads = self.old.heads.items ++ None ∷ []; lasts = self.old.lasts.items ++ Head (record { index = length self.old.heads.items }) ∷ [] }) }
         ensures err { OnErr result (links_of self.new ≡ links_of self.old) }
     {
         let ring = RingId {
             index: self.heads.len(),
         };
-        self.heads.push(None)?;
+        self.heads.reserve(1)?;
+        self.lasts.push(Place::Head(ring))?;
+        self.heads.push_reserved(None);
         Ok(ring)
     }
 
@@ -126,6 +138,25 @@ impl Store {
         }
     }
 
+    /// The ring of a place.
+    pub(crate) fn ring(&self, place: Place) -> RingId
+        requires { HasPlace (links_of self.now) place }
+        ensures { ring_of (links_of self.now) place ≡ Some result }
+    {
+        match place {
+            Place::Head(ring) => ring,
+            Place::After(node) => self.nodes[node.key].ring,
+        }
+    }
+
+    /// The place behind the last node of a ring.
+    pub(crate) fn last(&self, ring: RingId) -> Place
+        requires { ring.index < length self.now.lasts.items }
+        ensures { result ≡ last_at (links_of self.now) ring }
+    {
+        self.lasts[ring.index]
+    }
+
     /// Makes a node stand directly after a place, or none.
     pub(crate) fn join(&mut self, place: Place, after: Option<NodeId>)
         requires place { HasPlace (links_of self.old) place }
@@ -145,6 +176,24 @@ impl Store {
     {
         self.set_next(Place::After(node), None);
         self.set_before(node, None);
+    }
+
+    /// Writes the ring of a node.
+    pub(crate) fn set_ring(&mut self, node: NodeId, ring: RingId)
+        requires { IsStored (links_of self.old) node }
+        ensures { SetsRing (links_of self.old) (links_of self.new) node ring }
+    {
+        self.nodes[node.key].ring = ring;
+    }
+
+    /// Writes where a ring ends that ended at a place. One that ended elsewhere still does.
+    pub(crate) fn move_end(&mut self, ring: RingId, from: Place, to: Place)
+        requires { ring.index < length self.old.lasts.items }
+        ensures { MovesEnd (links_of self.old) (links_of self.new) ring from to }
+    {
+        if self.lasts[ring.index] == from {
+            self.lasts[ring.index] = to;
+        }
     }
 
     // Writes which node stands directly after a place.

@@ -8,6 +8,8 @@ use Rattle.coll_order.specs.declared.places.NodeId.{NodeId}
 use Rattle.coll_order.specs.declared.places.Place.{Place}
 use Rattle.coll_order.proofs.ListLemmas.{rings_without_absent}
 use Rattle.coll_order.proofs.Sameness.{by_test, not_both}
+use Rattle.coll_order.proofs.EndLemmas.{end_on, put_last}
+use Rattle.coll_order.proofs.RingLemmas.{distinct_ring, get_put}
 use Rattle.coll_syntax.specs.Identifier.{same_name, has_name}
 use Rattle.coll_nodes.proofs.BodyReads.{name_found, text_found}
 use Rattle.coll_table.proofs.ItemPlaces.{finds_once, node_by}
@@ -16,7 +18,7 @@ use Rattle.coll_table.proofs.ItemsDone.{AreDone}
 use Rattle.coll_draft.proofs.LayoutEnds.{end_place}
 use Rattle.coll_nodes.proofs.LayoutReads.{declared_read, read_known, sections_read}
 use Rattle.coll_nodes.proofs.NodeLists.{same_read}
-use Rattle.coll_nodes.proofs.RingPlaces.{distinct_ring, end_on, get_put, get_put_other, place_off, put_last}
+use Rattle.coll_nodes.proofs.RingPlaces.{get_put_other, place_off}
 use Rattle.coll_nodes.proofs.Sameness.{same_name_decides}
 use Rattle.coll_draft.proofs.SoundLines.{passed}
 use Rattle.coll_nodes.specs.Bodies.{IsLooseNode, with_link, without_link}

@@ -7,11 +7,11 @@ use Rattle.coll_order.specs.declared.places.Place.{Place}
 use Rattle.coll_order.specs.declared.places.Place.TheVariants.{After}
 use Rattle.coll_order.specs.declared.places.RingId.{RingId}
 use Rattle.coll_order.proofs.ListLemmas.{has_without, has_without_itself, without_absent}
-use Rattle.coll_order.proofs.RingLemmas.{length_rings_without}
+use Rattle.coll_order.proofs.RingLemmas.{length_rings_without, get_put}
 use Rattle.coll_order.proofs.Sameness.{by_test, not_both, same_node_is}
 use Rattle.coll_nodes.proofs.LayoutMoves.{get_without}
 use Rattle.coll_nodes.proofs.LayoutReads.{entries_read, read_known, section_at}
-use Rattle.coll_nodes.proofs.RingPlaces.{get_put, get_put_other}
+use Rattle.coll_nodes.proofs.RingPlaces.{get_put_other}
 use Rattle.coll_nodes.proofs.TurningNodes.{weighed_none}
 use Rattle.coll_nodes.specs.Bodies.{with_link, without_link}
 use Rattle.coll_nodes.specs.SoundBodies.{IsShaped, read_at, ring_at}

@@ -13,6 +13,7 @@ use Rattle.coll_order.specs.declared.places.Place.{Place}
 use Rattle.coll_order.specs.declared.places.Place.TheVariants.{After}
 use Rattle.coll_order.proofs.ListLemmas.{has_put, has_without, put_first}
 use Rattle.coll_order.proofs.Sameness.{by_test, not_both, same_node_is, same_node_itself}
+use Rattle.coll_order.proofs.RingLemmas.{distinct_ring}
 use Rattle.coll_syntax.specs.Identifier.{same_name}
 use Rattle.coll_table.proofs.ItemPlaces.{apart_out, place_out, placed_standing, standing_suits, stands}
 use Rattle.coll_table.proofs.ItemRings.{anew_other, anew_put, before_taken, linked_anew, section_still}
@@ -20,7 +21,7 @@ use Rattle.coll_table.proofs.ItemsDone.{AreDone}
 use Rattle.coll_nodes.proofs.LayoutMoves.{declared_stays, get_without}
 use Rattle.coll_nodes.proofs.LayoutReads.{and_true, begun_covers, both_true, in_rings, read_known, section_at, sections_read}
 use Rattle.coll_nodes.proofs.NodeLists.{any_from, same_read}
-use Rattle.coll_nodes.proofs.RingPlaces.{distinct_ring, in_one}
+use Rattle.coll_nodes.proofs.RingPlaces.{in_one}
 use Rattle.coll_nodes.proofs.Sameness.{neither, same_name_decides}
 use Rattle.coll_table.proofs.TurningRings.{once_without}
 use Rattle.coll_nodes.proofs.WalkShapes.{members}

@@ -10,13 +10,13 @@ use Rattle.coll_order.specs.declared.places.NodeId.{NodeId}
 use Rattle.coll_order.specs.declared.places.RingId.{RingId}
 use Rattle.coll_order.specs.declared.places.Place.{Place}
 use Rattle.coll_order.proofs.ListLemmas.{is_among, has_without_itself, is_in_without, is_in_without_itself, place_absent}
-use Rattle.coll_order.proofs.RingLemmas.{is_in_put_itself}
+use Rattle.coll_order.proofs.RingLemmas.{is_in_put_itself, in_some}
 use Rattle.coll_order.proofs.Sameness.{by_test, not_both, same_node_is}
 use Rattle.coll_syntax.specs.Identifier.{same_name, same_id}
 use Rattle.coll_syntax.specs.declared.weights.Weight.{Weight}
 use Rattle.coll_nodes.proofs.LayoutMoves.{get_without}
 use Rattle.coll_nodes.proofs.LayoutReads.{both_true, owned_high, read_known}
-use Rattle.coll_nodes.proofs.RingPlaces.{in_some, place_off}
+use Rattle.coll_nodes.proofs.RingPlaces.{place_off}
 use Rattle.coll_nodes.proofs.TurningKeys.{IsAlike, AreSame, some_alike, once_alike, shaped_alike, names_bare, texts_bare, sections_bare, ids_bare}
 use Rattle.coll_nodes.proofs.TurningNodes.{content_weighed, named_weighed, weighed_if, weighed_same}
 use Rattle.coll_table.proofs.TurningRings.{among_ring, is_in_relinked, length_relinked, once_relinked, once_without, ring_put, ring_relinked}

@@ -115,6 +115,13 @@ impl Stage {
         assert_same(rt, "after the last", here, None);
     }
 
+    // Asserts where a ring ends.
+    fn assert_end(&self, rt: &impl Abort, ring: usize, end: At) {
+        let name = self.ring(rt, ring);
+        assert!(rt; self.rings.is_ring(name));
+        assert_same(rt, ring, self.rings.end(name), self.place(rt, end));
+    }
+
     fn link(&mut self, rt: &impl Abort, node: NodeId, place: Place) {
         assert!(rt; self.rings.is_loose(node));
         match place {
@@ -186,6 +193,7 @@ fn a_node_goes_from_the_head_behind_the_other(rt: HostRuntime) {
     stage.assert_ring(&rt, 0, &[1, 2]);
     stage.perform_all(&rt, MOVED_BEHIND);
     stage.assert_ring(&rt, 0, &[2, 1]);
+    stage.assert_end(&rt, 0, At::After(0));
     assert_same(&rt, "the steps", stage.rings.steps(), 4);
 }
 
@@ -202,6 +210,7 @@ fn a_node_goes_into_another_ring_and_is_dropped(rt: HostRuntime) {
     let mut stage = stage_with(&rt, rt.alloc(), 2, &[7, 8]);
     stage.perform_all(&rt, LEFT_ALONE);
     stage.assert_ring(&rt, 0, &[]);
+    stage.assert_end(&rt, 0, At::Head(0));
     stage.perform(&rt, Call::Link(0, At::After(1)));
     stage.assert_ring(&rt, 1, &[8, 7]);
     stage.perform_all(&rt, VISITED_AND_DROPPED);
@@ -310,6 +319,7 @@ fn change(
 fn assert_rings(rt: &impl Abort, stage: &Stage, lists: &[Vec<usize>]) {
     for (ring, nodes) in lists.iter().enumerate() {
         stage.assert_ring(rt, ring, nodes.as_slice());
+        stage.assert_end(rt, ring, place_in(ring, nodes.as_slice(), nodes.len()));
     }
 }
 

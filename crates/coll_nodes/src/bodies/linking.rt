@@ -5,7 +5,6 @@
 //! node that is moved keeps them. A section is moved, and never loose.
 
 ghost use Rattle.std.specs.Prelude.{◌≡◌, ◌∷◌, [], Some, None, IsSome, false, true, IfOk, OnErr};
-ghost use Rattle.coll_nodes.specs.BodyInvariant.{end_with as end_with_node, end_without as end_without_node};
 ghost use Rattle.coll_order.specs.Changes.{one_step_more};
 ghost use Rattle.coll_order.specs.Layout.{is_in, place_from};
 
@@ -15,28 +14,6 @@ use coll_lex::{ListBuf, TextBuf};
 use coll_order::{NodeId, Place, RingId};
 use coll_syntax::{Id, Weight};
 use std::alloc::AllocError;
-
-// Where a list ends once a node was put directly after a place.
-fn end_with(end: Place, place: Place, node: NodeId) -> Place
-    ensures { result ≡ end_with_node end place node }
-{
-    if place == end {
-        Place::After(node)
-    } else {
-        end
-    }
-}
-
-// Where a list ends once a node was taken out that stood directly after a place.
-fn end_without(end: Place, node: NodeId, place: Place) -> Place
-    ensures { result ≡ end_without_node end node place }
-{
-    if end == Place::After(node) {
-        place
-    } else {
-        end
-    }
-}
 
 impl Body {
     ghost use Rattle.coll_syntax.specs.Identifier.{same_id, same_name};
@@ -64,7 +41,7 @@ impl Body {
     pub fn declared_end(&self) -> Place
         ensures { result ≡ end_of_declarations self.now.layout }
     {
-        self.declared_end
+        self.nodes.end(self.declarations)
     }
 
     /// Makes a loose node, and reserves its keys.
@@ -109,7 +86,6 @@ impl Body {
         self.keys.set(content, Some(node));
         self.counts = self.counts.with(content);
         self.nodes.link(node, place);
-        self.declared_end = end_with(self.declared_end, place, node);
     }
 
     /// Takes a node out of its ring, and answers what stood directly before it.
@@ -125,7 +101,6 @@ impl Body {
         let content = self.nodes.content(node);
         self.keys.set(content, None);
         self.counts = self.counts.without(content);
-        self.declared_end = end_without(self.declared_end, node, place);
         place
     }
 
@@ -140,8 +115,6 @@ impl Body {
         self.nodes.check_layout();
         let from = self.nodes.unlink(node);
         self.nodes.link(node, place);
-        let end = end_without(self.declared_end, node, from);
-        self.declared_end = end_with(end, place, node);
         from
     }
 

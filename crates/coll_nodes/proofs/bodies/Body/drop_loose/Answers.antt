@@ -6,4 +6,4 @@ pub invariant_of-self : goal.invariant_of-self
 invariant_of-self c =
     let p = c.self.inside in
     let loose = rw (← c.self.view_is) at c.requires.loose in
-    rw (c.drop_loose.ensures.layout) (dropped_sound p.declarations p.sections p.declared_end p.counts p.nodes.layout c.args.node p.keys c.self.invariant loose.apart)
+    rw (c.drop_loose.ensures.layout) (dropped_sound p.declarations p.sections p.counts p.nodes.layout c.args.node p.keys c.self.invariant loose.apart)

@@ -26,6 +26,6 @@ invariant_of-self c =
     let loose = rw (← c.self.view_is) at c.requires.loose in
     let found : Some c.content-content.result.now ≡ Some suits.0 = sym c.content-content.ensures ∙ suits.1 in
     let it : suits.0 ≡ c.content-content.result.now = cc in
-    rw (c.link.ensures.layout) (put_sound p.nodes.layout c.args.node c.content-content.result.now c.args.place p.declarations p.sections p.keys c.set.new.self p.declared_end c.end_with-self-inside.result p.counts c.with-self-inside.result
+    rw (c.link.ensures.layout) (put_sound p.nodes.layout c.args.node c.content-content.result.now c.args.place p.declarations p.sections p.keys c.set.new.self p.counts c.with-self-inside.result
     c.self.invariant c.check_layout.ensures.once c.content-content.ensures loose.apart (subst (IsPlaceFor p.nodes.layout c.args.place) it suits.2.0) (subst (IsApart p.nodes.layout) it suits.2.1)
-    c.set.ensures.set c.set.ensures.keeps c.end_with-self-inside.ensures c.with-self-inside.ensures)
+    c.set.ensures.set c.set.ensures.keeps c.with-self-inside.ensures)

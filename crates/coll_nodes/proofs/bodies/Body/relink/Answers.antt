@@ -19,5 +19,5 @@ invariant_of-self c =
     let p = c.self.inside in
     let linked = rw (← c.self.view_is) at c.requires.linked in
     let suits = rw (← c.self.view_is) at c.requires.suits in
-    rw (c.link.ensures.layout, c.unlink-from.ensures.layout) (moved_sound p.nodes.layout c.args.node suits.0 c.unlink-from.result c.args.place p.declarations p.sections p.keys p.declared_end c.end_without-end.result c.end_with-self-inside.result p.counts
-    c.self.invariant c.check_layout.ensures.once suits.1 c.unlink-from.ensures.place linked suits.2.0 c.end_without-end.ensures c.end_with-self-inside.ensures)
+    rw (c.link.ensures.layout, c.unlink-from.ensures.layout) (moved_sound p.nodes.layout c.args.node suits.0 c.unlink-from.result c.args.place p.declarations p.sections p.keys p.counts
+    c.self.invariant c.check_layout.ensures.once suits.1 c.unlink-from.ensures.place linked suits.2.0)

@@ -22,6 +22,6 @@ invariant_of-self c =
     let linked = rw (← c.self.view_is) at c.requires.linked in
     let suits = rw (← c.self.view_is) at c.requires.suits in
     let known : content_of layout c.args.node ≡ Some c.content-content.result.now = ap (λ (l : TableLayout). content_of l c.args.node) (sym c.unlink-place.ensures.layout) ∙ c.content-content.ensures in
-    rw (c.unlink-place.ensures.layout) (taken_sound layout c.args.node c.content-content.result.now c.unlink-place.result p.declarations p.sections p.keys c.set.new.self p.declared_end c.end_without-self-inside.result p.counts c.without-self-inside.result
+    rw (c.unlink-place.ensures.layout) (taken_sound layout c.args.node c.content-content.result.now c.unlink-place.result p.declarations p.sections p.keys c.set.new.self p.counts c.without-self-inside.result
     c.self.invariant c.check_layout.ensures.once known c.unlink-place.ensures.place linked (may_be_loose layout c.args.node c.content-content.result.now known suits)
-    c.set.ensures.set c.set.ensures.keeps c.end_without-self-inside.ensures c.without-self-inside.ensures)
+    c.set.ensures.set c.set.ensures.keeps c.without-self-inside.ensures)

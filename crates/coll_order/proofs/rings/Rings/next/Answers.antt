@@ -8,9 +8,9 @@ use Rattle.coll_order.proofs.rings.Rings.next.Goals as goal
 pub next-requires : goal.next-requires
 next-requires c =
     let there = rw (← c.self.view_is) at c.requires.linked in
-    linked_stored (links_of c.self.inside.store) c.args.node c.self.invariant there
+    linked_stored (links_of c.self.inside.store) c.args.node c.self.invariant.held there
 
 pub returns : goal.returns
 returns c =
     let there = rw (← c.self.view_is) at c.requires.linked in
-    rw (← c.self.view_is) (c.next.ensures ∙ sym (next_is (links_of c.self.inside.store) (rings_at (links_of c.self.inside.store)) c.self.invariant c.args.node there))
+    rw (← c.self.view_is) (c.next.ensures ∙ sym (next_is (links_of c.self.inside.store) (rings_at (links_of c.self.inside.store)) c.self.invariant.held c.args.node there))
