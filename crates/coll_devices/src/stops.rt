@@ -1,4 +1,4 @@
-//! Why a device's lines or bytes end before their end: the stops of reading and of writing.
+//! The stops of reading and of writing: why no line could be read, and why bytes could not be written.
 //!
 //! Each stop has a number and a name, which replies and messages show. A type lists the stops that its calls can
 //! answer and no others, so a new stop is a new variant with its number and its name here and in the definitions
