@@ -29,6 +29,7 @@ import tempfile
 
 ROOT = os.path.dirname(os.path.dirname(os.path.abspath(__file__)))
 CRATES = (
+    "coll_devices",
     "coll_lex",
     "coll_order",
     "coll_syntax",

@@ -8,8 +8,8 @@ Run by hand, with the toolchain's `rt` on the path; no gate runs it:
 It writes 100,000 order lines of four weights, builds a small program over coll_lex and coll_syntax that lexes them from
 a file and parses each as a line of a table as often as it is told. The time of a pass is what ten
 passes take more than none, divided by ten. All of it stands in a temporary folder, which is removed at the end. The first
-build proves coll_lex and coll_syntax and takes some minutes; with a folder as its argument the script keeps what it builds
-there, and a second run is quick.
+build proves the crates below and takes some minutes; with a folder as its argument the script keeps what it builds there,
+and a second run is quick.
 
 Target: 0.06 s of processor time for a pass.
 """
@@ -22,7 +22,7 @@ import sys
 import tempfile
 
 ROOT = os.path.dirname(os.path.dirname(os.path.abspath(__file__)))
-CRATES = ("coll_lex", "coll_syntax")
+CRATES = ("coll_devices", "coll_lex", "coll_syntax")
 LINES = 100_000
 PASSES = 10
 RUNS = 5

@@ -1,7 +1,7 @@
 -- The inputs of a batch, one after another: what the delta files so far give, and what one at fault says.
 use Rattle.std.proofs.Common.{◌≡◌, ℕ, zero, suc, pred, ◌+◌, Bool, true, false, if◌then◌else◌, List, [], ◌∷◌, ◌++◌, map, take, drop, set, length, Option, Some, Result, Ok, Err, refl, sym, ap, ◌∙◌, subst, arith}
 use Rattle.std.specs.Prelude.{slice_get, ◌==◌}
-use Rattle.coll_lex.specs.Devices.{raised}
+use Rattle.coll_devices.specs.Devices.{raised}
 use Rattle.coll_nodes.specs.Table.{Collation}
 use Rattle.coll_replies.specs.Faults.{fault_number}
 use Rattle.coll_bench.specs.BatchOutcome.{unless_faulty, after_delta, after_deltas}

@@ -1,7 +1,7 @@
 -- What the lines of a delta file decide, line by line: each that is taken leads on, and each at fault decides.
 use Rattle.std.proofs.Common.{◌≡◌, ⊎_elim, ℕ, ◌<◌, Bool, true, false, if◌then◌else◌, List, [], ◌∷◌, ◌++◌, map, length, Option, Some, None, Result, Ok, Err, sym, ap, subst, ◌∙◌, refl}
 use Rattle.std.proofs.lemmas.Bool.{false≢true}
-use Rattle.coll_lex.specs.Limits.{most_line_bytes}
+use Rattle.coll_devices.specs.Limits.{most_line_bytes}
 use Rattle.coll_lex.specs.LogicalLines.{LexerState, OpenLine, number_of, first_line, fed, outside, served, state_by, line_left_open}
 use Rattle.coll_lex.specs.declared.faults.LexFault.{LexFault}
 use Rattle.coll_lex.specs.declared.faults.LexFault.TheVariants as lex

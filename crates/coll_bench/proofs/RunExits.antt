@@ -2,15 +2,15 @@
 use Rattle.std.proofs.Common.{◌≡◌, ℕ, ◌<◌, Bool, true, false, List, [], ◌∷◌, ◌++◌, length, Option, Some, None, Result, Ok, Err, refl, sym, ap, ◌∙◌, subst, append-nil, append_assoc, inl, ⊎_elim}
 use Rattle.std.specs.Prelude.{◌⊎◌}
 use Rattle.std.specs.Io.KnownBytes.{Appends, Keeps, prepend_known, IsAtEnd}
-use Rattle.coll_lex.specs.Devices.{AppendsFront}
-use Rattle.coll_lex.specs.PhysicalLines.{IsInLine, lines_of}
-use Rattle.coll_lex.specs.LineReading.{ReaderState, Cuts, IsLongLine, GivesEnd, EndsAgain, StopsNow, unread}
+use Rattle.coll_devices.specs.Devices.{AppendsFront}
+use Rattle.coll_devices.specs.PhysicalLines.{IsInLine, lines_of}
+use Rattle.coll_devices.specs.LineReading.{ReaderState, Cuts, IsLongLine, GivesEnd, EndsAgain, StopsNow, unread}
 use Rattle.coll_lex.specs.LogicalLines.{LexerState, pending, number_of, first_line, first_state, served, state_by, logical_lines}
 use Rattle.coll_lex.specs.declared.faults.LexFault.{LexFault}
 use Rattle.coll_lex.specs.declared.tokens.Line.{Line}
 use Rattle.coll_lex.specs.declared.faults.LexFault.TheVariants as lex
-use Rattle.coll_lex.specs.declared.faults.ReadStop.{ReadStop}
-use Rattle.coll_lex.specs.declared.faults.ReadStop.TheVariants as stop
+use Rattle.coll_devices.specs.declared.stops.ReadStop.{ReadStop}
+use Rattle.coll_devices.specs.declared.stops.ReadStop.TheVariants as stop
 use Rattle.coll_replies.specs.declared.faults.RunFault.{RunFault}
 use Rattle.coll_nodes.specs.Table.{Collation}
 use Rattle.coll_history.specs.Histories.{begun}
@@ -30,7 +30,7 @@ use Rattle.coll_units.specs.SessionLines.{opening_of}
 use Rattle.coll_units.specs.Hearing.{heard_by, heard_in, heard_at}
 use Rattle.coll_units.specs.declared.session_lines.HeardLine.{HeardLine}
 use Rattle.coll_units.specs.declared.session_lines.Heard.TheVariants as heard
-use Rattle.coll_lex.proofs.PhysicalLinesLemmas.{lines_of-long}
+use Rattle.coll_devices.proofs.PhysicalLinesLemmas.{lines_of-long}
 use Rattle.coll_lex.proofs.LineEnds.{fed-too_long}
 
 -- what a run that ends leaves behind

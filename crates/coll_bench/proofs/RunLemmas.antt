@@ -2,7 +2,7 @@
 -- to be written. The one lemma that joins what the session keeps to the definition of its units is `output_kept`.
 use Rattle.std.proofs.Common.{◌≡◌, ℕ, Bool, true, List, [], ◌∷◌, ◌++◌, map, Option, Some, None, Result, Ok, Err, refl, sym, ap, ◌∙◌, append_assoc}
 use Rattle.std.specs.Prelude.{option_to_list}
-use Rattle.coll_lex.specs.PhysicalLines.{lines_of}
+use Rattle.coll_devices.specs.PhysicalLines.{lines_of}
 use Rattle.coll_lex.specs.LogicalLines.{LexerState, LogicalLine, first_state, number_of, first_line, served, state_by, lines_by, logical_lines}
 use Rattle.coll_lex.specs.declared.tokens.Line.{Line}
 use Rattle.coll_lex.specs.declared.faults.LexFault.{LexFault}

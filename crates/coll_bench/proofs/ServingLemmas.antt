@@ -5,13 +5,13 @@ use Rattle.std.specs.Io.KnownBytes.{Appends}
 use Rattle.std.proofs.KnownBytes.{Appends-nil}
 use Rattle.std.proofs.Math.Arith.{lt_of_le-ne}
 use Rattle.std.proofs.Math.Nat.{min-eq_left}
-use Rattle.coll_lex.specs.Devices.{AppendsFront, Sends, raised}
+use Rattle.coll_devices.specs.Devices.{AppendsFront, Sends, raised}
 use Rattle.coll_lex.specs.Faults.{lex_fault_number}
-use Rattle.coll_lex.specs.LineReading.{counted}
+use Rattle.coll_devices.specs.LineReading.{counted}
 use Rattle.coll_lex.specs.LogicalLines.{LexerState, number_of, first_line, fed, is_among_tokens, needs_memory, takes_memory, served, state_by}
 use Rattle.coll_lex.specs.declared.tokens.Line.{Line}
 use Rattle.coll_lex.specs.Limits.{most_lines}
-use Rattle.coll_lex.specs.declared.faults.ReadStop.{ReadStop}
+use Rattle.coll_devices.specs.declared.stops.ReadStop.{ReadStop}
 use Rattle.coll_lex.specs.declared.faults.LexFault.{LexFault}
 use Rattle.coll_lex.specs.declared.faults.LexFault.TheVariants as lex
 use Rattle.coll_lex.proofs.LineEnds.{fed-count, fed-room}

@@ -2,7 +2,7 @@
 -- own).
 use Rattle.std.specs.Prelude.{ℕ, suc, Bool, true, if◌then◌else◌, List, [], ◌∷◌, ◌++◌, length, Result, Ok, Err}
 use Rattle.std.specs.List.{flat_map, list_any}
-use Rattle.coll_lex.specs.PhysicalLines.{lines_of}
+use Rattle.coll_devices.specs.PhysicalLines.{lines_of}
 use Rattle.coll_nodes.specs.Table.{Collation}
 use Rattle.coll_print.specs.CanonicalText.{text}
 use Rattle.coll_table.specs.Delta.{delta}

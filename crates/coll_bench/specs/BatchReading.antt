@@ -1,9 +1,9 @@
 -- What reading the inputs of a batch answers, input by input, and what an answer says of the batch then.
 use Rattle.std.specs.Prelude.{◌≡◌, ◌==◌, ℕ, pred, false, if◌then◌else◌, List, map, Option, Some, None, Result, Ok, Err}
-use Rattle.coll_lex.specs.Devices.{raised}
+use Rattle.coll_devices.specs.Devices.{raised}
 use Rattle.coll_lex.specs.declared.faults.LexFault.TheVariants as lex
-use Rattle.coll_lex.specs.declared.faults.ReadStop.{ReadStop}
-use Rattle.coll_lex.specs.declared.faults.ReadStop.TheVariants as read
+use Rattle.coll_devices.specs.declared.stops.ReadStop.{ReadStop}
+use Rattle.coll_devices.specs.declared.stops.ReadStop.TheVariants as read
 use Rattle.coll_nodes.specs.Table.{Collation}
 use Rattle.coll_nodes.specs.TableLayout.{TableValue, collation}
 use Rattle.coll_units.specs.DeltaReading.{DeltaState, Step, delta_line}

@@ -1,7 +1,7 @@
 -- A whole run of a batch: what was written and what was answered are stated functions of what its inputs have.
 use Rattle.std.specs.Prelude.{◌≡◌, ◌==◌, ◌⊎◌, ℕ, zero, suc, false, if◌then◌else◌, List, [], ◌∷◌, ◌++◌, map, take, slice_get, Option, Some, Result, Ok, Err}
-use Rattle.coll_lex.specs.Devices.{raised}
-use Rattle.coll_lex.specs.PhysicalLines.{lines_of, IsInLine}
+use Rattle.coll_devices.specs.Devices.{raised}
+use Rattle.coll_devices.specs.PhysicalLines.{lines_of, IsInLine}
 use Rattle.coll_nodes.specs.Table.{Collation}
 use Rattle.coll_table.specs.Loads.{with_feeds, StopsWithin}
 use Rattle.coll_draft.specs.Reading.{reads}

@@ -1,9 +1,9 @@
 -- What writing the output of a batch answers.
 use Rattle.std.specs.Prelude.{◌≡◌, ◌⊎◌, ◌==◌, ℕ, if◌then◌else◌, List, Option, Result, Ok, Err}
 use Rattle.std.specs.Io.KnownBytes.{Appends}
-use Rattle.coll_lex.specs.Devices.{raised, AppendsFront}
-use Rattle.coll_lex.specs.declared.faults.WriteStop.{WriteStop}
-use Rattle.coll_lex.specs.declared.faults.WriteStop.TheVariants as write
+use Rattle.coll_devices.specs.Devices.{raised, AppendsFront}
+use Rattle.coll_devices.specs.declared.stops.WriteStop.{WriteStop}
+use Rattle.coll_devices.specs.declared.stops.WriteStop.TheVariants as write
 use Rattle.coll_key.specs.declared.key_faults.KeyFault.TheVariants as key
 use Rattle.coll_replies.specs.Faults.{fault_number}
 use Rattle.coll_replies.specs.declared.faults.Fault.{Fault}

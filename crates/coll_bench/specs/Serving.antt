@@ -1,14 +1,14 @@
 -- What serving one physical line does, from where a session stands between two lines.
 use Rattle.std.specs.Prelude.{◌≡◌, ◌⊎◌, ℕ, Bool, false, ◌==◌, if◌then◌else◌, List, [], ◌∷◌, ◌++◌, Option, Some, None, Result, Ok, Err}
 use Rattle.std.specs.Io.KnownBytes.{Appends}
-use Rattle.coll_lex.specs.Devices.{AppendsFront, raised}
-use Rattle.coll_lex.specs.LineReading.{counted}
+use Rattle.coll_devices.specs.Devices.{AppendsFront, raised}
+use Rattle.coll_devices.specs.LineReading.{counted}
 use Rattle.coll_lex.specs.LogicalLines.{first_state, number_of, served, state_by}
 use Rattle.coll_lex.specs.declared.faults.LexFault.{LexFault}
 use Rattle.coll_lex.specs.declared.faults.LexFault.TheVariants as lex
-use Rattle.coll_lex.specs.declared.faults.ReadStop.{ReadStop}
-use Rattle.coll_lex.specs.declared.faults.ReadStop.TheVariants as read
-use Rattle.coll_lex.specs.declared.faults.WriteStop.TheVariants as write
+use Rattle.coll_devices.specs.declared.stops.ReadStop.{ReadStop}
+use Rattle.coll_devices.specs.declared.stops.ReadStop.TheVariants as read
+use Rattle.coll_devices.specs.declared.stops.WriteStop.TheVariants as write
 use Rattle.coll_nodes.specs.Table.{Collation}
 use Rattle.coll_history.specs.Histories.{History, begun}
 use Rattle.coll_units.specs.Hearing.{heard_at}

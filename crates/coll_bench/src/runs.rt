@@ -6,7 +6,7 @@
 //! place, since a check pays for each field of a value at each place that drops it.
 
 ghost use Rattle.std.specs.Prelude.{◌≡◌, IfErr};
-ghost use Rattle.coll_lex.specs.LineReading.{no_line};
+ghost use Rattle.coll_devices.specs.LineReading.{no_line};
 ghost use Rattle.coll_nodes.specs.Table.{Collation};
 ghost use Rattle.coll_nodes.specs.TableLayout.{collation};
 ghost use Rattle.coll_bench.specs.Serving.{IsBegun, CountsWrites, never_ran};

@@ -1,6 +1,6 @@
 -- Reading a table text: the table, or the first line at fault (POSIX.1-2017, 7.3.2).
 use Rattle.std.specs.Prelude.{◌≡◌, ℕ, Bool, true, false, if◌then◌else◌, List, [], ◌∷◌, ◌++◌, length, Option, Some, None, Result, Ok, Err}
-use Rattle.coll_lex.specs.PhysicalLines.{lines_of}
+use Rattle.coll_devices.specs.PhysicalLines.{lines_of}
 use Rattle.coll_lex.specs.LogicalLines.{LexerState, LogicalLine, first_state, number_of, outside, logical_lines}
 use Rattle.coll_lex.specs.declared.faults.LexFault.{LexFault}
 use Rattle.coll_lex.specs.declared.tokens.Token.{Token}

@@ -4,8 +4,8 @@ use Rattle.std.specs.Prelude.{decimal}
 use Rattle.std.specs.Io.KnownBytes.{Appends}
 use Rattle.std.specs.List.{flat_map}
 use Rattle.std.proofs.KnownBytes.{Appends-trans}
-use Rattle.coll_lex.specs.Devices.{AppendsFront}
-use Rattle.coll_lex.proofs.WritingLemmas.{AppendsFront-before, AppendsFront-after}
+use Rattle.coll_devices.specs.Devices.{AppendsFront}
+use Rattle.coll_devices.proofs.WritingLemmas.{AppendsFront-before, AppendsFront-after}
 use Rattle.coll_syntax.specs.declared.identifiers.Id.{Id}
 use Rattle.coll_syntax.specs.declared.weights.Weight.{Weight}
 use Rattle.coll_nodes.specs.Table.{Collation, entries_of}

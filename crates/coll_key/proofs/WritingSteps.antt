@@ -2,8 +2,8 @@
 use Rattle.std.proofs.Common.{◌≡◌, ℕ, List, [], ◌++◌, Option, Result, IsErr, sym, ap, subst, ◌∙◌, append_assoc, append-nil}
 use Rattle.std.specs.Io.KnownBytes.{Appends}
 use Rattle.std.proofs.KnownBytes.{Appends-trans}
-use Rattle.coll_lex.specs.Devices.{AppendsFront, Sends}
-use Rattle.coll_lex.proofs.WritingLemmas.{AppendsFront-before, AppendsFront-after, Sends-stopped, Sends-after}
+use Rattle.coll_devices.specs.Devices.{AppendsFront, Sends}
+use Rattle.coll_devices.proofs.WritingLemmas.{AppendsFront-before, AppendsFront-after, Sends-stopped, Sends-after}
 
 -- a call that stops in the first part of a whole
 pub stops_first : {T E : Type 0} (a b : Option (List ℕ)) (whole first rest : List ℕ) (r : Result T E) → whole ≡ first ++ rest → IsErr r → AppendsFront a b first → Sends a b whole r

@@ -1,7 +1,7 @@
 -- The compiled listing of a table (the project's own): the ranks of its weights, for people to read and to compare.
 use Rattle.std.specs.Prelude.{ℕ, suc, if◌then◌else◌, List, [], ◌∷◌, ◌++◌, length, map, codes, decimal, encode_utf8_all}
 use Rattle.std.specs.List.{flat_map}
-use Rattle.coll_lex.specs.PhysicalLines.{line_feed}
+use Rattle.coll_devices.specs.PhysicalLines.{line_feed}
 use Rattle.coll_syntax.specs.Identifier.{same_name}
 use Rattle.coll_syntax.specs.declared.identifiers.Id.{Id}
 use Rattle.coll_syntax.specs.declared.identifiers.Id.TheVariants.{Char, Named, Undefined}

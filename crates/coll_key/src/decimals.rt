@@ -1,7 +1,7 @@
 //! Numbers in decimal digits, written to a device.
 
 ghost use Rattle.std.specs.Prelude.{decimal};
-ghost use Rattle.coll_lex.specs.Devices.{CountsErr, Sends};
+ghost use Rattle.coll_devices.specs.Devices.{CountsErr, Sends};
 
 use coll_lex::{Sink, WriteStop, write_bytes};
 use itoa::Buffer;

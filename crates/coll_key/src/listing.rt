@@ -5,8 +5,8 @@
 
 ghost use Rattle.std.specs.Prelude.{◌≡◌, ◌<◌, ◌≤◌, ◌+◌, ◌++◌, ◌∷◌, [], All, chars, codes, decimal, encode_utf8_all, length, IfOk};
 ghost use Rattle.std.specs.List.{flat_map};
-ghost use Rattle.coll_lex.specs.Devices.{CountsErr, Sends};
-ghost use Rattle.coll_lex.specs.PhysicalLines.{line_feed};
+ghost use Rattle.coll_devices.specs.Devices.{CountsErr, Sends};
+ghost use Rattle.coll_devices.specs.PhysicalLines.{line_feed};
 ghost use Rattle.coll_print.specs.CanonicalText.{spelled_rule};
 ghost use Rattle.coll_print.specs.PrintedParts.{char_bytes};
 ghost use Rattle.coll_nodes.specs.Table.{is_placed};

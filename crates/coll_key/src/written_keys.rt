@@ -5,7 +5,7 @@
 ghost use Rattle.std.specs.Prelude.{◌≡◌, ◌++◌, ◌∷◌, [], ◌&&◌, not, true, codes, decimal};
 ghost use Rattle.std.specs.List.{flat_map};
 ghost use Rattle.coll_lex.specs.Characters.{space};
-ghost use Rattle.coll_lex.specs.Devices.{CountsErr, Sends};
+ghost use Rattle.coll_devices.specs.Devices.{CountsErr, Sends};
 ghost use Rattle.coll_key.specs.WrittenKey.{behind_space, joined_by_spaces, before_space, level_words, position_word, number_word, added_word, word_of, words_of, key_words, first_level, later_levels, written_key, has_key_form};
 
 use crate::decimals::write_decimal;

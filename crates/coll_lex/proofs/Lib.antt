@@ -1,11 +1,7 @@
-mod AdvanceLemmas
-mod LineReaderLemmas
-pub mod PhysicalLinesLemmas
 pub mod ReadingBackLemmas
 pub mod SpellingLemmas
 mod GatherLemmas
 pub mod TextLemmas
-pub mod WritingLemmas
 pub mod DirectiveLemmas
 pub mod LineSteps
 pub mod ScanRows

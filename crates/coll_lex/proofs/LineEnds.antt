@@ -4,14 +4,15 @@ use Rattle.std.proofs.Common.{◌≡◌, ℕ, ◌+◌, ◌<◌, ◌≤◌, ◌�
 use Rattle.std.specs.Prelude.{nat_lt, ◌==◌, if◌then◌else◌}
 use Rattle.std.specs.Str.{is_utf8}
 use Rattle.std.proofs.lemmas.Bool.{lt-ltb}
-use Rattle.coll_lex.specs.PhysicalLines.{without_return}
+use Rattle.coll_devices.specs.PhysicalLines.{without_return}
 use Rattle.coll_lex.specs.Tokens.{Stop, AtFault, AtComment, AtEnd, InSymbol, InString}
 use Rattle.coll_lex.specs.Directives.{directive}
 use Rattle.coll_lex.specs.LogicalLines.{LexerState, number_of, bytes_before, extended, dropped, whole, answer_at, directive_where, fed_as, line_fault, unless_fault, needs_memory, takes_memory, fed}
 use Rattle.coll_lex.specs.declared.tokens.Chars.{Chars}
 use Rattle.coll_lex.specs.declared.tokens.Line.{Line}
 use Rattle.coll_lex.specs.declared.tokens.Token.{Token}
-use Rattle.coll_lex.specs.Limits.{most_lines, most_line_bytes}
+use Rattle.coll_devices.specs.Limits.{most_line_bytes}
+use Rattle.coll_lex.specs.Limits.{most_lines}
 use Rattle.coll_lex.specs.declared.faults.LexFault.{LexFault}
 use Rattle.coll_lex.specs.declared.faults.LexFault.TheVariants.{NotUtf8, LineTooLong, TooManyLines}
 

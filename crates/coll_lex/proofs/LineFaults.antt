@@ -8,7 +8,7 @@ use Rattle.coll_lex.specs.Characters.{quotation_mark}
 use Rattle.coll_lex.specs.Kinds.{Kind, kind_of, ends_word}
 use Rattle.coll_lex.specs.Kinds as kind
 use Rattle.coll_lex.specs.Faults.{lex_fault_number}
-use Rattle.coll_lex.specs.PhysicalLines.{without_return}
+use Rattle.coll_devices.specs.PhysicalLines.{without_return}
 use Rattle.coll_lex.specs.Marked.{Plain, Literal, is_joined, joined_marks}
 use Rattle.coll_lex.specs.Tokens.{Atom, Bracketed, Unclosed, Bare, Stop, AtFault, AtComment, AtEnd, InSymbol, InString, Reading, Quoted, Closed, Stops, is_constant, is_name, code_point_of, symbol_by, symbol_of, after_symbol, with_piece, with_symbol, quoted, after_string, with_letter, word_run, after_word, after_plain, atoms, reading, stopped}
 use Rattle.coll_lex.specs.Directives.{with_comment, with_escape, asked, directive}
@@ -18,7 +18,8 @@ use Rattle.coll_lex.specs.declared.tokens.Line.{Line}
 use Rattle.coll_lex.specs.declared.tokens.Piece.{Piece}
 use Rattle.coll_lex.specs.declared.tokens.Piece.TheVariants as piece
 use Rattle.coll_lex.specs.declared.tokens.Token.{Token}
-use Rattle.coll_lex.specs.Limits.{most_lines, most_line_bytes}
+use Rattle.coll_devices.specs.Limits.{most_line_bytes}
+use Rattle.coll_lex.specs.Limits.{most_lines}
 use Rattle.coll_lex.specs.declared.faults.LexFault.{LexFault}
 use Rattle.coll_lex.specs.declared.faults.LexFault.TheVariants.{NotUtf8, OpenSymbol, EmptySymbol, BadName, BadCodePoint, OpenString, CharacterConstant, DanglingEscape, LineTooLong, BadCharDirective, TooManyLines, OutOfMemory}
 

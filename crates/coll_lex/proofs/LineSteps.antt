@@ -2,7 +2,7 @@
 -- of a logical line.
 use Rattle.std.proofs.Common.{◌≡◌, ℕ, Bool, true, false, if◌then◌else◌, List, [], ◌∷◌, ◌++◌, Option, Some, None, Result, Ok, Err, ◌⊎◌, inl, inr, refl, subst}
 use Rattle.std.specs.Str.{is_utf8}
-use Rattle.coll_lex.specs.PhysicalLines.{without_return}
+use Rattle.coll_devices.specs.PhysicalLines.{without_return}
 use Rattle.coll_lex.specs.Directives.{directive}
 use Rattle.coll_lex.specs.LogicalLines.{OpenLine, LexerState, number_of, lines_before, extended, directive_where, answer_at, fed_as, line_fault, unless_fault, first_of, first_line, dropped, fed, served, line_left_open, first_choice, later_choices, takes_memory, logical_lines}
 use Rattle.coll_lex.specs.Tokens.{Stop, AtFault, AtComment, AtEnd, InSymbol, InString}

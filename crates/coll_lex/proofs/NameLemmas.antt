@@ -6,7 +6,7 @@ use Rattle.std.specs.Char.{IsScalar}
 use lib.Utf8.{scalar}
 use Rattle.coll_lex.specs.Kinds.{Kind, kind_of}
 use Rattle.coll_lex.specs.Kinds as kind
-use Rattle.coll_lex.specs.PhysicalLines.{without_return}
+use Rattle.coll_devices.specs.PhysicalLines.{without_return}
 use Rattle.coll_lex.specs.Marked.{Plain, Literal, is_joined, joined_marks}
 use Rattle.coll_lex.specs.Tokens.{Atom, Bracketed, Unclosed, Bare, atoms, Stop, AtFault, AtComment, AtEnd, InSymbol, InString, Reading, Quoted, Closed, Stops, is_constant, is_name, code_point_of, symbol_by, symbol_of, with_token, after_symbol, with_piece, with_symbol, quoted, after_string, word_run, after_word, after_plain, reading, stopped}
 use Rattle.coll_lex.specs.LogicalLines.{OpenLine, LexerState, extended, dropped, whole, answer_at, answer_in, reading_in, fed_as, fed}

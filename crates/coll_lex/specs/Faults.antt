@@ -1,30 +1,7 @@
--- The numbers and the names of the faults of lines and devices, as replies and messages show them, and which of them end
--- a text.
+-- The numbers and the names of the faults of lines, as replies and messages show them, and which of them end a text.
 use Rattle.std.specs.Prelude.{ℕ, Bool, true, false, List, codes}
-use Rattle.coll_lex.specs.declared.faults.ReadStop.{ReadStop}
-use Rattle.coll_lex.specs.declared.faults.ReadStop.TheVariants as read
-use Rattle.coll_lex.specs.declared.faults.WriteStop.{WriteStop}
-use Rattle.coll_lex.specs.declared.faults.WriteStop.TheVariants as write
 use Rattle.coll_lex.specs.declared.faults.LexFault.{LexFault}
 use Rattle.coll_lex.specs.declared.faults.LexFault.TheVariants as lex
-
--- the number of a stop of reading
-abbrev pub read_stop_number : ReadStop → ℕ
-read_stop_number read.LineTooLong = 10
-read_stop_number read.ReadFault = 67
-
--- the name of a stop of reading
-abbrev pub read_stop_name : ReadStop → List ℕ
-read_stop_name read.LineTooLong = codes "LineTooLong"
-read_stop_name read.ReadFault = codes "ReadFault"
-
--- the number of a stop of writing
-abbrev pub write_stop_number : WriteStop → ℕ
-write_stop_number write.WriteFault = 68
-
--- the name of a stop of writing
-abbrev pub write_stop_name : WriteStop → List ℕ
-write_stop_name write.WriteFault = codes "WriteFault"
 
 -- the number of a fault of a line
 abbrev pub lex_fault_number : LexFault → ℕ

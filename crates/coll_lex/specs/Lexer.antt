@@ -9,7 +9,8 @@ use Rattle.coll_lex.specs.LogicalLines.{OpenLine, LexerState}
 use Rattle.coll_lex.specs.declared.logical_lines.Open.{Open}
 use Rattle.coll_lex.specs.declared.logical_lines.Lexer.TheInside.{Inside}
 use Rattle.coll_lex.specs.declared.tokens.Chars.{Chars}
-use Rattle.coll_lex.specs.Limits.{most_lines, most_line_bytes}
+use Rattle.coll_devices.specs.Limits.{most_line_bytes}
+use Rattle.coll_lex.specs.Limits.{most_lines}
 
 -- the physical lines that are stored
 abbrev pub lines_in : List (Vec ℕ Global) → List (List ℕ)

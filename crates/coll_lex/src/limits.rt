@@ -1,13 +1,10 @@
-//! The limits of lines and of names.
+//! The limits of texts and of names.
 //!
 //! The definitions have these limits as numbers, and `limits_are_stated` says that the constants are the same; a limit
 //! is changed in both.
 
 ghost use Rattle.std.specs.Prelude.{◌≡◌};
-ghost use Rattle.coll_lex.specs.Limits.{most_line_bytes, most_lines, most_name_chars};
-
-/// Most bytes of a physical line, and of the physical lines of a continued line together.
-pub const MOST_LINE_BYTES: usize = 65_536;
+ghost use Rattle.coll_lex.specs.Limits.{most_lines, most_name_chars};
 
 /// Most physical lines of a text.
 pub const MOST_LINES: u32 = 4_194_304;
@@ -15,11 +12,10 @@ pub const MOST_LINES: u32 = 4_194_304;
 /// Most characters of a name.
 pub const MOST_NAME_CHARS: usize = 64;
 
-/// The limits are the numbers of the definitions: 65,536 bytes, 4,194,304 lines and 64 characters.
+/// The limits are the numbers of the definitions: 4,194,304 lines and 64 characters.
 ///
 /// It does nothing; its contract says so.
 pub fn limits_are_stated()
-    ensures line_bytes { MOST_LINE_BYTES ≡ most_line_bytes }
     ensures lines { MOST_LINES ≡ most_lines }
     ensures name_chars { MOST_NAME_CHARS ≡ most_name_chars }
 {}

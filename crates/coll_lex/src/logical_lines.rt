@@ -10,9 +10,9 @@ ghost use Rattle.coll_lex.specs.Names.{LinesHaveTokens, LexersHoldText};
 
 use crate::category::begins_category;
 use crate::directives::directive;
-use crate::physical_lines::without_return;
 use crate::scanning::Scan;
-use crate::{Chars, LexFault, Line, ListBuf, MOST_LINE_BYTES, MOST_LINES, Token};
+use crate::{Chars, LexFault, Line, ListBuf, MOST_LINES, Token};
+use coll_devices::{MOST_LINE_BYTES, without_return};
 use std::alloc::{AllocError, Global};
 use std::marker::Model;
 use std::str;
@@ -34,7 +34,7 @@ impl Open {
     ghost use Rattle.std.specs.Prelude.{◌≡◌, ◌+◌, ◌≤◌, [], false, OnOk};
     ghost use Rattle.coll_lex.specs.Scanning.{fresh};
     ghost use Rattle.coll_lex.specs.Lexer.{line_in, added};
-    ghost use Rattle.coll_lex.specs.Limits.{most_line_bytes};
+    ghost use Rattle.coll_devices.specs.Limits.{most_line_bytes};
 
     // A logical line with no physical line yet. It takes no memory.
     fn new(alloc: Global, number: u32) -> Open
@@ -122,12 +122,13 @@ impl Model for Lexer {
 
 impl Lexer {
     ghost use Rattle.std.specs.Prelude.{◌≡◌, ◌≢◌, ◌+◌, ◌<◌, ◌≤◌, ◌∷◌, [], length, chars, Ok, Err, None, Some, option_map, IsSome, IsTrue, IfSome, IfOk, IfErr, OnOk, OnErr};
-    ghost use Rattle.coll_lex.specs.PhysicalLines.{without_return};
+    ghost use Rattle.coll_devices.specs.PhysicalLines.{without_return};
     ghost use Rattle.coll_lex.specs.Directives.{directive};
     ghost use Rattle.coll_lex.specs.LogicalLines.{first_state, pending, dropped, line_fault, answer_in, fed_as, fed, needs_memory, takes_memory, outside, number_of};
     ghost use Rattle.coll_lex.specs.Lexer.{line_in, added, IsSoundOpen};
     ghost use Rattle.coll_lex.specs.Names.{AreTokens};
-    ghost use Rattle.coll_lex.specs.Limits.{most_lines, most_line_bytes};
+    ghost use Rattle.coll_devices.specs.Limits.{most_line_bytes};
+    ghost use Rattle.coll_lex.specs.Limits.{most_lines};
     ghost use Rattle.coll_lex.specs.declared.faults.LexFault.TheVariants.{OutOfMemory, DanglingEscape};
 
     /// A lexer at the beginning of a text, with the comment character `#` and the escape character `\`.

@@ -3,42 +3,24 @@
 //! A name stands between `<` and `>`, with `/` before each `>` and `/` in it; a character stands as `<U`, its code
 //! point in upper-case hexadecimal, and `>`. Under the comment character `%` and the escape character `/` the
 //! lexer reads both back as what was written. A spelling is gathered on the stack and handed to the device as one
-//! write; only a text longer than any name is written in parts. All output goes through `write_bytes`, the only loop
-//! over `write`. None of this takes memory. A change of a spelling is a change of its definition in `specs/`, and of
-//! the law that it is read back.
+//! write; only a text longer than any name is written in parts. None of this takes memory. A change of a spelling is
+//! a change of its definition in `specs/`, and of the law that it is read back.
 ghost use Rattle.arrayvec.specs.ArrayVec.{array_vec_len};
 ghost use Rattle.coll_lex.specs.Characters.{less_than, greater_than};
 ghost use Rattle.std.specs.Prelude.{◌≡◌, ◌+◌, ◌<◌, ◌≤◌, ℕ, [], ◌∷◌, ◌++◌, All, length, take, slice_index, chars, encode_utf8_all, IsTrue, IfNone, IfSome, true, false};
-ghost use Rattle.coll_lex.specs.Devices.{CountsErr, Sends};
+ghost use Rattle.coll_devices.specs.Devices.{CountsErr, Sends};
 ghost use Rattle.coll_lex.specs.ReadingBack.{NamesReadBack, NamesReadBackQuoted, CodesReadBack, CodesReadBackQuoted};
 ghost use Rattle.coll_lex.specs.Spelling.{is_escaped, spelled_char, spelled_name, spelled_symbol, spelled_code, hex_digit, hex_digits};
 
-use crate::{MOST_NAME_CHARS, Sink, WriteStop};
+use crate::MOST_NAME_CHARS;
 use arrayvec::ArrayVec;
+use coll_devices::{Sink, WriteStop, write_bytes};
 
 // Most bytes of a name, whose characters have four at most.
 const MOST_NAME_BYTES: usize = 4 * MOST_NAME_CHARS;
 
 // Most bytes of a symbol: its two brackets, and its name with an escape before each byte.
 const MOST_SYMBOL_BYTES: usize = 2 * MOST_NAME_BYTES + 2;
-
-/// Writes all bytes, in as many writes as the device takes them in.
-///
-/// It stops where a write answers an error or takes no byte; then the device has taken a front of the bytes.
-pub fn write_bytes<W: Sink>(out: &mut W, bytes: &[u8]) -> Result<(), WriteStop>
-    ensures sent { Sends (W.taken out.old) (W.taken out.new) bytes.now result }
-    ensures errors { CountsErr (W.failed out.old) (W.failed out.new) result }
-{
-    let mut rest = bytes;
-    'writes: while !rest.is_empty() {
-        match out.write(rest) {
-            Ok(0) => return Err(WriteStop::WriteFault),
-            Ok(count) => rest = &rest[count..],
-            Err(_) => return Err(WriteStop::WriteFault),
-        }
-    }
-    Ok(())
-}
 
 /// Writes a name between `<` and `>`, with `/` before each `>` and `/` in it, as one write where it is short enough for
 /// a name.

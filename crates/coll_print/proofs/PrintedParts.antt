@@ -8,11 +8,11 @@ use lib.Utf8.{encode}
 use Rattle.std.proofs.lemmas.Grind.{flat_map-append}
 use Rattle.std.proofs.lemmas.Str.{encodes-append}
 use Rattle.std.proofs.lemmas.List.{drop_more}
-use Rattle.coll_lex.specs.Devices.{AppendsFront, Sends}
-use Rattle.coll_lex.specs.PhysicalLines.{line_feed}
+use Rattle.coll_devices.specs.Devices.{AppendsFront, Sends}
+use Rattle.coll_devices.specs.PhysicalLines.{line_feed}
 use Rattle.coll_lex.specs.Spelling.{spelled_symbol, spelled_code}
 use Rattle.coll_lex.proofs.SpellingLemmas.{spelled_symbol-append, spelled_code-append}
-use Rattle.coll_lex.proofs.WritingLemmas.{AppendsFront-before, AppendsFront-after, Sends-stopped, Sends-after}
+use Rattle.coll_devices.proofs.WritingLemmas.{AppendsFront-before, AppendsFront-after, Sends-stopped, Sends-after}
 use Rattle.coll_syntax.specs.declared.identifiers.Id.{Id}
 use Rattle.coll_syntax.specs.declared.identifiers.Id.TheVariants.{Char, Named, Undefined}
 use Rattle.coll_syntax.specs.declared.weights.Weight.{Weight}

@@ -7,8 +7,8 @@ use lib.Utf8.{encode}
 use Rattle.coll_lex.specs.Blanks.{past_blanks}
 use Rattle.coll_lex.specs.Category.{begins_category}
 use Rattle.coll_lex.specs.Directives.{operand_of, named_character, directive}
-use Rattle.coll_lex.specs.PhysicalLines.{line_feed, IsInLine, lines_of, without_return}
-use Rattle.coll_lex.proofs.PhysicalLinesLemmas.{lines_of-nil, lines_of-ended}
+use Rattle.coll_devices.specs.PhysicalLines.{line_feed, IsInLine, lines_of, without_return}
+use Rattle.coll_devices.proofs.PhysicalLinesLemmas.{lines_of-nil, lines_of-ended}
 use Rattle.coll_lex.specs.Limits.{most_lines}
 use Rattle.coll_lex.specs.LogicalLines.{served, outside, first_line, logical_lines}
 use Rattle.coll_lex.specs.declared.tokens.Token.{Token}

@@ -6,7 +6,7 @@ use Rattle.std.proofs.lemmas.List.{map-append, length-map}
 use Rattle.std.proofs.lemmas.List.Elements.{All-nil, All-cons, All-head, All-tail, All-append, All-weaker}
 use Rattle.coll_lex.specs.Limits.{most_lines}
 use Rattle.coll_lex.specs.Names.{IsName}
-use Rattle.coll_lex.specs.PhysicalLines.{IsInLine, lines_of}
+use Rattle.coll_devices.specs.PhysicalLines.{IsInLine, lines_of}
 use Rattle.coll_syntax.specs.Proper.{IsId, IsElementText, IsProperWeight}
 use Rattle.coll_syntax.specs.declared.lines.TableLine.TheVariants as line
 use Rattle.coll_nodes.specs.declared.declarations.Declaration.{Declaration}

@@ -9,10 +9,11 @@ use Rattle.std.proofs.lemmas.List.{get_or_default}
 use Rattle.std.proofs.lemmas.List.Elements.{All-nil, All-append, All-weaker}
 use Rattle.std.proofs.lemmas.Slice.Eq.{bytes_eq-Decides}
 use Rattle.std.proofs.lemmas.Str.{chars-encodes, inside_one}
-use Rattle.coll_lex.specs.Limits.{most_lines, most_line_bytes}
+use Rattle.coll_devices.specs.Limits.{most_line_bytes}
+use Rattle.coll_lex.specs.Limits.{most_lines}
 use Rattle.coll_lex.specs.LogicalLines.{LexerState, line_fault, reading_in, fed}
 use Rattle.coll_lex.specs.Marked.{marks, ends_escaped, joined_marks}
-use Rattle.coll_lex.specs.PhysicalLines.{line_feed, IsInLine, without_return}
+use Rattle.coll_devices.specs.PhysicalLines.{line_feed, IsInLine, without_return}
 use Rattle.coll_lex.specs.Tokens.{AtEnd, reading_of}
 use Rattle.coll_lex.specs.declared.tokens.Token.{Token}
 use Rattle.coll_print.proofs.PrintedSpellings.{is_clean}

@@ -5,7 +5,7 @@
 use Rattle.std.specs.Prelude.{◌≡◌, Ok, ℕ, Bool, true, false, if◌then◌else◌, List, [], ◌∷◌, ◌++◌, map, codes, encode_utf8_all}
 use Rattle.std.specs.List.{flat_map, list_all}
 use Rattle.coll_lex.specs.Characters.{space, quotation_mark, semicolon}
-use Rattle.coll_lex.specs.PhysicalLines.{line_feed}
+use Rattle.coll_devices.specs.PhysicalLines.{line_feed}
 use Rattle.coll_lex.specs.Spelling.{spelled_symbol, spelled_code}
 use Rattle.coll_syntax.specs.declared.identifiers.Id.{Id}
 use Rattle.coll_syntax.specs.declared.identifiers.Id.TheVariants.{Char, Named, Undefined}

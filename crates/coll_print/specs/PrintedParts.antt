@@ -2,7 +2,7 @@
 use Rattle.std.specs.Prelude.{ℕ, List, [], ◌∷◌, ◌++◌, codes, encode_utf8_all}
 use Rattle.std.specs.List.{flat_map}
 use Rattle.coll_lex.specs.Characters.{semicolon, quotation_mark}
-use Rattle.coll_lex.specs.PhysicalLines.{line_feed}
+use Rattle.coll_devices.specs.PhysicalLines.{line_feed}
 use Rattle.coll_lex.specs.Spelling.{spelled_symbol, spelled_code}
 use Rattle.coll_syntax.specs.declared.identifiers.Id.{Id}
 use Rattle.coll_nodes.specs.declared.declarations.Declaration.{Declaration}

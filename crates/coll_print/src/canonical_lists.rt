@@ -5,7 +5,7 @@
 
 ghost use Rattle.std.specs.Prelude.{◌++◌};
 ghost use Rattle.std.specs.List.{flat_map};
-ghost use Rattle.coll_lex.specs.Devices.{CountsErr, Sends};
+ghost use Rattle.coll_devices.specs.Devices.{CountsErr, Sends};
 ghost use Rattle.coll_print.specs.CanonicalText.{PrintedTablesAreReadBack};
 ghost use Rattle.coll_print.specs.PrintedParts.{declaration_bytes, met_bytes};
 

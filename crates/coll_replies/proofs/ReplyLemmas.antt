@@ -5,8 +5,8 @@ use Rattle.std.proofs.lemmas.List.{drop_all}
 use Rattle.std.specs.Io.KnownBytes.{Appends, Keeps}
 use Rattle.std.proofs.KnownBytes.{Appends-kept}
 use Rattle.std.specs.declared.cmp.Ordering.{Ordering}
-use Rattle.coll_lex.specs.Devices.{AppendsFront, Sends}
-use Rattle.coll_lex.proofs.WritingLemmas.{AppendsFront-after, AppendsFront-before, Sends-stopped}
+use Rattle.coll_devices.specs.Devices.{AppendsFront, Sends}
+use Rattle.coll_devices.proofs.WritingLemmas.{AppendsFront-after, AppendsFront-before, Sends-stopped}
 use Rattle.coll_syntax.specs.declared.rules.Rule.{Rule}
 use Rattle.coll_syntax.specs.declared.statements.Statement.{Statement}
 use Rattle.coll_table.specs.declared.refusals.Refusal.TheVariants as refusal

@@ -1,6 +1,7 @@
 -- The numbers and the names of the faults of a session, as replies and messages show them (the project's own).
 use Rattle.std.specs.Prelude.{ℕ, List, codes}
-use Rattle.coll_lex.specs.Faults.{read_stop_number, read_stop_name, write_stop_number, write_stop_name, lex_fault_number, lex_fault_name}
+use Rattle.coll_devices.specs.Stops.{read_stop_number, read_stop_name, write_stop_number, write_stop_name}
+use Rattle.coll_lex.specs.Faults.{lex_fault_number, lex_fault_name}
 use Rattle.coll_syntax.specs.SyntaxFaults.{syntax_fault_number, syntax_fault_name}
 use Rattle.coll_table.specs.Refusals.{refusal_number, refusal_name}
 use Rattle.coll_draft.specs.LoadFaults.{load_fault_number, load_fault_name}

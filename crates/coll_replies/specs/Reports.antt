@@ -1,6 +1,6 @@
 -- How the fault that ended a run is told (the project's own).
 use Rattle.std.specs.Prelude.{ℕ, ◌==◌, ◌||◌, if◌then◌else◌, List, [], ◌++◌, slice_get, Option, Some, None, codes}
-use Rattle.coll_lex.specs.declared.faults.WriteStop.TheVariants as write
+use Rattle.coll_devices.specs.declared.stops.WriteStop.TheVariants as write
 use Rattle.coll_replies.specs.Faults.{fault_number}
 use Rattle.coll_replies.specs.Replies.{count_part, told_line}
 use Rattle.coll_replies.specs.declared.faults.Fault.{Fault}

@@ -3,7 +3,7 @@
 //! None of this takes memory, so that want of memory can be told as well.
 
 ghost use Rattle.std.specs.Prelude.{◌≡◌, ◌<◌, ◌++◌, length, map, string_bytes, IfErr};
-ghost use Rattle.coll_lex.specs.Devices.{CountsErr, Sends};
+ghost use Rattle.coll_devices.specs.Devices.{CountsErr, Sends};
 ghost use Rattle.coll_replies.specs.Reports.{fault_line, placed, exit_status as stated_status, write_refused};
 
 use crate::faults::{Fault, RunFault};

@@ -1,6 +1,6 @@
 -- Lines that are handed in one after another are answered as the definition of reading says.
 use Rattle.std.proofs.Common.{◌≡◌, ℕ, suc, ◌+◌, Bool, true, false, List, [], ◌∷◌, length, Result, Ok, Err, sym, ap, ◌∙◌, refl, arith}
-use Rattle.coll_lex.specs.PhysicalLines.{lines_of}
+use Rattle.coll_devices.specs.PhysicalLines.{lines_of}
 use Rattle.coll_draft.specs.Drafts.{Numbered, table_of}
 use Rattle.coll_draft.specs.Loading.{LoaderState, first_loader, loaded_line, loaded, past_line, answer_to}
 use Rattle.coll_draft.specs.Reading.{answer_at_end, reads}

@@ -2,7 +2,7 @@
 use Rattle.std.proofs.Common.{◌≡◌, ℕ, ◌<◌, Bool, true, false, if◌then◌else◌, List, [], length, Option, Some, None, Ok, Err, sym, ap, subst, ◌∙◌, refl}
 use Rattle.std.proofs.lemmas.Bool.{false≢true}
 use Rattle.coll_lex.specs.LogicalLines.{OpenLine, number_of, fed, outside, first_of, line_left_open}
-use Rattle.coll_lex.specs.Limits.{most_line_bytes}
+use Rattle.coll_devices.specs.Limits.{most_line_bytes}
 use Rattle.coll_lex.specs.declared.faults.LexFault.TheVariants as lex
 use Rattle.coll_lex.proofs.LineSteps.{logical_lines-nil}
 use Rattle.coll_lex.proofs.LineEnds.{fed-too_long}

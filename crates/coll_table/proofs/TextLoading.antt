@@ -4,12 +4,12 @@ use Rattle.std.proofs.lemmas.Bool.{false≢true}
 use Rattle.std.proofs.lemmas.Grind.{flat_map-append}
 use Rattle.std.specs.Io.KnownBytes.{prepend_known}
 use Rattle.std.specs.Prelude.{IfOk, IfErr}
-use Rattle.coll_lex.specs.LineReading.{ReaderState, no_line, Advances, GivesLine, GivesEnd, EndsAgain, StopsNow, StopsAgain}
-use Rattle.coll_lex.specs.PhysicalLines.{line_feed, lines_of}
+use Rattle.coll_devices.specs.LineReading.{ReaderState, no_line, Advances, GivesLine, GivesEnd, EndsAgain, StopsNow, StopsAgain}
+use Rattle.coll_devices.specs.PhysicalLines.{line_feed, lines_of}
 use Rattle.coll_lex.specs.LogicalLines.{number_of}
 use Rattle.coll_lex.specs.declared.faults.LexFault.TheVariants as lex
-use Rattle.coll_lex.specs.declared.faults.ReadStop.{ReadStop}
-use Rattle.coll_lex.specs.declared.faults.ReadStop.TheVariants as stop
+use Rattle.coll_devices.specs.declared.stops.ReadStop.{ReadStop}
+use Rattle.coll_devices.specs.declared.stops.ReadStop.TheVariants as stop
 use Rattle.coll_syntax.specs.declared.syntax_faults.SyntaxFault.TheVariants as syntax
 use Rattle.coll_nodes.specs.Table.{Collation}
 use Rattle.coll_nodes.specs.TableLayout.{TableValue, collation}

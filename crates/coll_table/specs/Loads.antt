@@ -1,11 +1,11 @@
 -- What a load answers, and what it leaves of the text and of the device's count of errors.
 use Rattle.std.specs.Prelude.{◌≡◌, ℕ, false, List, [], ◌∷◌, ◌++◌, Option, Some, Result, Ok, Err, MatchResult}
 use Rattle.std.specs.List.{flat_map}
-use Rattle.coll_lex.specs.Devices.{raised}
-use Rattle.coll_lex.specs.PhysicalLines.{line_feed, lines_of, IsInLine}
+use Rattle.coll_devices.specs.Devices.{raised}
+use Rattle.coll_devices.specs.PhysicalLines.{line_feed, lines_of, IsInLine}
 use Rattle.coll_lex.specs.declared.faults.LexFault.TheVariants as lex
-use Rattle.coll_lex.specs.declared.faults.ReadStop.{ReadStop}
-use Rattle.coll_lex.specs.declared.faults.ReadStop.TheVariants as stop
+use Rattle.coll_devices.specs.declared.stops.ReadStop.{ReadStop}
+use Rattle.coll_devices.specs.declared.stops.ReadStop.TheVariants as stop
 use Rattle.coll_nodes.specs.TableLayout.{TableValue, collation}
 use Rattle.coll_draft.specs.Drafts.{at_line}
 use Rattle.coll_draft.specs.Reading.{Outcome, Decided, Undecided, outcome_of, reads}

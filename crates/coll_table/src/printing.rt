@@ -4,7 +4,7 @@
 
 ghost use Rattle.std.specs.Prelude.{◌++◌, codes};
 ghost use Rattle.std.specs.List.{flat_map};
-ghost use Rattle.coll_lex.specs.Devices.{CountsErr, Sends};
+ghost use Rattle.coll_devices.specs.Devices.{CountsErr, Sends};
 ghost use Rattle.coll_print.specs.CanonicalText.{line_bytes, rules_line, text};
 ghost use Rattle.coll_print.specs.PrintedParts.{category_bytes, order_bytes, sections_bytes};
 ghost use Rattle.coll_nodes.specs.TableLayout.{collation};

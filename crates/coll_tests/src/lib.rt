@@ -1,9 +1,9 @@
 //! Tests of the crates below, through their public calls alone.
 //!
-//! A module shows each crate: `lines` is of `coll_lex`, `ordered_rings` of `coll_order`, `grammar` of `coll_syntax`, `tables`
-//! of `coll_table`, `keys` of `coll_key`, `sessions` and `batches` of `coll_units` and `coll_bench`, and `faults` of the shown text
-//! of the faults of all of them; `statements` makes statements of their lines, `devices` has the devices that they use,
-//! `long_texts` makes their longest texts, and `assertions` compares what they are given.
+//! A module shows each crate: `lines` is of `coll_devices` and `coll_lex`, `ordered_rings` of `coll_order`, `grammar` of
+//! `coll_syntax`, `tables` of `coll_table`, `keys` of `coll_key`, `sessions` and `batches` of `coll_units` and `coll_bench`, and
+//! `faults` of the shown text of the faults of all of them; `statements` makes statements of their lines, `devices` has the
+//! devices that they use, `long_texts` makes their longest texts, and `assertions` compares what they are given.
 //! Expected values come from POSIX.1-2017 (7.3.2), from ISO/IEC 14651 and from docs/, and never from what a program wrote.
 //! What no public call shows is proved, and has no test. The crates below have no tests of their own, since a crate with
 //! tests is proved twice, but for those that name the private fields of a session, a table and a body.

@@ -1,4 +1,4 @@
-//! Tests of `coll_lex`: physical and logical lines, tokens, spellings and devices.
+//! Tests of `coll_devices` and `coll_lex`: devices, physical and logical lines, tokens and spellings.
 
 mod counting;
 mod lexing;

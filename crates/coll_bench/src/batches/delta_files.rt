@@ -4,7 +4,7 @@
 //! that a file of any length is read in the memory of its longest block.
 
 ghost use Rattle.std.specs.Prelude.{◌≡◌, option_map, option_to_list, IfSome, IfErr, OnOk, Ok, None, Some};
-ghost use Rattle.coll_lex.specs.LineReading.{no_line};
+ghost use Rattle.coll_devices.specs.LineReading.{no_line};
 ghost use Rattle.coll_units.specs.DeltaReading.{delta_end, first_delta};
 ghost use Rattle.coll_syntax.specs.Proper.{IsProper};
 ghost use Rattle.coll_table.specs.Delta.{delta as delta_of};

@@ -3,7 +3,7 @@
 //! A new statement is a case of `write_statement`, and of `statement_words` of `specs/Replies.antt`.
 
 ghost use Rattle.std.specs.Prelude.{◌++◌, ◌∷◌, [], codes, decimal};
-ghost use Rattle.coll_lex.specs.Devices.{CountsErr, Sends};
+ghost use Rattle.coll_devices.specs.Devices.{CountsErr, Sends};
 ghost use Rattle.coll_print.specs.PrintedParts.{id_bytes};
 ghost use Rattle.coll_replies.specs.Replies.{history_count, history_line, history_lines, history_listing, name_bytes, spaced, statement_words};
 

@@ -1,7 +1,7 @@
 //! The replies to `:key` and `:compare`: the whole answer is formed before the first byte is written.
 
 ghost use Rattle.std.specs.Prelude.{◌≡◌, ◌++◌, ◌∷◌, [], Bool, true};
-ghost use Rattle.coll_lex.specs.Devices.{CountsErr, Sends};
+ghost use Rattle.coll_devices.specs.Devices.{CountsErr, Sends};
 ghost use Rattle.coll_key.specs.WrittenKey.{has_key_form, written_key};
 ghost use Rattle.coll_replies.specs.Replies.{order_word, reply_if};
 ghost use Rattle.coll_units.specs.declared.session_lines.Command.TheVariants.{Key, Compare};

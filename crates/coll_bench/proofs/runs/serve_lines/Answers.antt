@@ -2,9 +2,9 @@
 use Rattle.std.proofs.Common.{◌≡◌, refl, sym, ap, ◌∙◌, subst}
 use Rattle.std.proofs.Common.{ℕ, List}
 use Rattle.std.specs.Prelude.{◌==◌, if◌then◌else◌}
-use Rattle.coll_lex.specs.Devices.{raised}
-use Rattle.coll_lex.specs.PhysicalLines.{IsInLine}
-use Rattle.coll_lex.specs.LineReading.{ReaderState, Cuts, unread}
+use Rattle.coll_devices.specs.Devices.{raised}
+use Rattle.coll_devices.specs.PhysicalLines.{IsInLine}
+use Rattle.coll_devices.specs.LineReading.{ReaderState, Cuts, unread}
 use Rattle.coll_replies.specs.Faults.{fault_number}
 use Rattle.coll_bench.proofs.ServingLemmas.{counts_after}
 use Rattle.coll_bench.proofs.RunSteps.{underway_begun, underway_on, unread_begun, gives_line, gives_end, count_at_end, stops_now, reads_kept}

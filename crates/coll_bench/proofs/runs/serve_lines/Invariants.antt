@@ -1,6 +1,6 @@
 -- What was read and written so far, and what was counted; each line is one of the most lines that a text may have.
 use Rattle.std.proofs.Common.{◌≡◌, ℕ, ◌-◌, List, Some, None}
-use Rattle.coll_lex.specs.LineReading.{unread}
+use Rattle.coll_devices.specs.LineReading.{unread}
 use Rattle.coll_lex.specs.Limits.{most_lines}
 use Rattle.coll_nodes.specs.Table.{Collation}
 use Rattle.coll_bench.specs.Serving.{IsBegun}

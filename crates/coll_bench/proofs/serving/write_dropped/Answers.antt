@@ -1,5 +1,5 @@
 use Rattle.std.proofs.Common.{◌++◌}
-use Rattle.coll_lex.proofs.WritingLemmas.{AppendsFront-before, Sends-after, Sends-stopped}
+use Rattle.coll_devices.proofs.WritingLemmas.{AppendsFront-before, Sends-after, Sends-stopped}
 use Rattle.coll_replies.specs.Replies.{refused_line}
 use Rattle.coll_replies.specs.declared.faults.Fault.TheVariants.{Lex}
 use Rattle.coll_bench.proofs.serving.write_dropped.Goals as goal

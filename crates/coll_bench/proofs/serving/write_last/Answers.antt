@@ -1,5 +1,5 @@
 use Rattle.std.proofs.Common.{List, ℕ, subst}
-use Rattle.coll_lex.specs.Devices.{Sends}
+use Rattle.coll_devices.specs.Devices.{Sends}
 use Rattle.coll_bench.proofs.ServingLemmas.{dropped_replies}
 use Rattle.coll_bench.proofs.serving.write_last.Goals as goal
 

@@ -1,8 +1,8 @@
 -- Each level is one part, and the end of the line the last.
 use Rattle.std.proofs.Common.{◌+◌, drop, ap, [], ◌∷◌, refl, arith, ◌∙◌}
 use Rattle.std.proofs.lemmas.List.{drop_all}
-use Rattle.coll_lex.specs.PhysicalLines.{line_feed}
-use Rattle.coll_lex.proofs.WritingLemmas.{AppendsFront-before}
+use Rattle.coll_devices.specs.PhysicalLines.{line_feed}
+use Rattle.coll_devices.proofs.WritingLemmas.{AppendsFront-before}
 use Rattle.coll_print.proofs.PrintedParts.{writes_rest}
 use Rattle.coll_key.specs.ListingParts.{is_star, level_bytes, levels_bytes, levels_ended}
 use Rattle.coll_ranks.specs.Ranks.{compiled_weight}

@@ -1,6 +1,6 @@
 -- Each item that is an entry is one line, with the next rank.
 use Rattle.std.proofs.Common.{◌≤◌, ◌+◌, length, refl, sym, subst, ◌∙◌}
-use Rattle.coll_lex.proofs.WritingLemmas.{Sends-stopped}
+use Rattle.coll_devices.proofs.WritingLemmas.{Sends-stopped}
 use Rattle.coll_nodes.specs.WalkItems.{met_by}
 use Rattle.coll_nodes.specs.Walks.{entry_met, entries_met}
 use Rattle.coll_key.specs.ListingParts.{met_line, ranked_lines}

@@ -1,7 +1,7 @@
 use Rattle.std.proofs.Common.{◌≡◌, [], ◌∷◌, ◌++◌, chars, encode_utf8_all, ap, ◌∙◌}
 use Rattle.std.proofs.lemmas.Str.{encodes-chars}
 use Rattle.coll_lex.specs.Spelling.{spelled_name, spelled_symbol}
-use Rattle.coll_lex.proofs.WritingLemmas.{AppendsFront-before, AppendsFront-after, Sends-after, Sends-stopped}
+use Rattle.coll_devices.proofs.WritingLemmas.{AppendsFront-before, AppendsFront-after, Sends-after, Sends-stopped}
 use Rattle.coll_lex.proofs.SpellingLemmas.{encodes-spelled_symbol}
 use Rattle.coll_lex.proofs.spelling.write_long_symbol.Goals as goal
 

@@ -2,7 +2,7 @@ use Rattle.std.proofs.Common.{◌≡◌, ◌+◌, ◌-◌, [], ◌∷◌, ◌++�
 use Rattle.std.proofs.KnownBytes.{Appends-trans}
 use Rattle.std.proofs.lemmas.List.{take_rest, drop-drop, get_or-drop}
 use Rattle.coll_lex.specs.Spelling.{spelled_name}
-use Rattle.coll_lex.proofs.WritingLemmas.{AppendsFront-before, AppendsFront-after, Sends-after, Sends-stopped}
+use Rattle.coll_devices.proofs.WritingLemmas.{AppendsFront-before, AppendsFront-after, Sends-after, Sends-stopped}
 use Rattle.coll_lex.proofs.SpellingLemmas.{spelled_name-all_bare, spelled_name-cut}
 use Rattle.coll_lex.proofs.spelling.write_name.Goals as goal
 

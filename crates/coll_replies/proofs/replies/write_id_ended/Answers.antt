@@ -1,5 +1,5 @@
 use Rattle.std.proofs.Common.{[], ◌∷◌, ◌++◌}
-use Rattle.coll_lex.proofs.WritingLemmas.{AppendsFront-before, Sends-after, Sends-stopped}
+use Rattle.coll_devices.proofs.WritingLemmas.{AppendsFront-before, Sends-after, Sends-stopped}
 use Rattle.coll_print.specs.PrintedParts.{id_bytes}
 use Rattle.coll_replies.proofs.replies.write_id_ended.Goals as goal
 

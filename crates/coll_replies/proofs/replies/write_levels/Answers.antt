@@ -1,5 +1,5 @@
 use Rattle.std.proofs.Common.{◌++◌, length, codes, [], ◌∷◌}
-use Rattle.coll_lex.proofs.WritingLemmas.{AppendsFront-before, Sends-after, Sends-stopped}
+use Rattle.coll_devices.proofs.WritingLemmas.{AppendsFront-before, Sends-after, Sends-stopped}
 use Rattle.coll_nodes.specs.TableLayout.{collation}
 use Rattle.coll_replies.specs.Replies.{count_part}
 use Rattle.coll_replies.proofs.replies.write_levels.Goals as goal

@@ -1,5 +1,5 @@
 use Rattle.std.proofs.Common.{[], ◌∷◌, ◌++◌, chars, encode_utf8_all}
-use Rattle.coll_lex.proofs.WritingLemmas.{AppendsFront-before, Sends-after, Sends-stopped}
+use Rattle.coll_devices.proofs.WritingLemmas.{AppendsFront-before, Sends-after, Sends-stopped}
 use Rattle.coll_lex.specs.Spelling.{spelled_symbol}
 use Rattle.coll_replies.proofs.replies.write_name_ended.Goals as goal
 

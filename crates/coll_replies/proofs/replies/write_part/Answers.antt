@@ -1,5 +1,5 @@
 use Rattle.std.proofs.Common.{◌≡◌, ◌++◌, decimal, ◌∙◌}
-use Rattle.coll_lex.proofs.WritingLemmas.{AppendsFront-before, Sends-after, Sends-stopped}
+use Rattle.coll_devices.proofs.WritingLemmas.{AppendsFront-before, Sends-after, Sends-stopped}
 use Rattle.coll_replies.proofs.replies.write_part.Goals as goal
 
 pub returns-in_err-write_bytes-clause-sent : goal.returns-in_err-write_bytes-clause-sent

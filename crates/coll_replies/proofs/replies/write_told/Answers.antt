@@ -1,5 +1,5 @@
 use Rattle.std.proofs.Common.{◌≡◌, ◌++◌, decimal, ap, ◌∙◌}
-use Rattle.coll_lex.proofs.WritingLemmas.{AppendsFront-before, Sends-after, Sends-stopped}
+use Rattle.coll_devices.proofs.WritingLemmas.{AppendsFront-before, Sends-after, Sends-stopped}
 use Rattle.coll_replies.specs.Faults.{fault_number, fault_name}
 use Rattle.coll_replies.specs.Replies.{worded}
 use Rattle.coll_replies.proofs.replies.write_told.Goals as goal

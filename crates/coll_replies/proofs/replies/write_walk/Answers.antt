@@ -1,8 +1,8 @@
 -- What was written so far and the lines of what is still to be met are the whole listing.
 use Rattle.std.proofs.Common.{◌≡◌, ◌≤◌, ◌+◌, ◌++◌, [], ℕ, List, length, refl, sym, ap, ◌∙◌, subst, append_assoc, append-nil, arith}
 use Rattle.std.proofs.KnownBytes.{Appends-nil, Appends-trans}
-use Rattle.coll_lex.proofs.WritingLemmas.{AppendsFront-after, AppendsFront-before}
-use Rattle.coll_lex.specs.Devices.{AppendsFront}
+use Rattle.coll_devices.proofs.WritingLemmas.{AppendsFront-after, AppendsFront-before}
+use Rattle.coll_devices.specs.Devices.{AppendsFront}
 use Rattle.coll_nodes.specs.TableLayout.{collation}
 use Rattle.coll_nodes.specs.Walks.{Met, met}
 use Rattle.coll_nodes.specs.WalkItems.{met_by}

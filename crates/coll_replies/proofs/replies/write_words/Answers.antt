@@ -1,5 +1,5 @@
 use Rattle.std.proofs.Common.{[], ◌∷◌, ◌++◌}
-use Rattle.coll_lex.proofs.WritingLemmas.{AppendsFront-before, Sends-after, Sends-stopped}
+use Rattle.coll_devices.proofs.WritingLemmas.{AppendsFront-before, Sends-after, Sends-stopped}
 use Rattle.coll_replies.proofs.replies.write_words.Goals as goal
 
 pub returns-in_err-write_spaced-clause-sent : goal.returns-in_err-write_spaced-clause-sent

@@ -1,7 +1,7 @@
 -- The name that is written is that of the input.
 use Rattle.std.proofs.Common.{◌++◌, List, ℕ, Option, ap, sym, ◌∙◌, subst}
 use Rattle.std.specs.Prelude.{string_bytes}
-use Rattle.coll_lex.specs.Devices.{AppendsFront}
+use Rattle.coll_devices.specs.Devices.{AppendsFront}
 use Rattle.std.specs.Io.KnownBytes.{Appends}
 use Rattle.coll_replies.specs.Reports.{fault_line, name_written, placed}
 use Rattle.coll_replies.proofs.Members.{got, got-map}

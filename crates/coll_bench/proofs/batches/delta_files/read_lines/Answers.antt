@@ -1,6 +1,6 @@
 -- Each way out of the reading is what the text says.
 use Rattle.std.proofs.Common.{◌≡◌, List, ℕ, Ok, arith, refl, sym, subst, ◌∙◌, ap}
-use Rattle.coll_lex.specs.LineReading.{ReaderState, no_line}
+use Rattle.coll_devices.specs.LineReading.{ReaderState, no_line}
 use Rattle.coll_nodes.specs.TableLayout.{collation}
 use Rattle.coll_table.proofs.TextLoading.{gives_line, gives_none}
 use Rattle.coll_units.specs.DeltaReading.{DeltaState}

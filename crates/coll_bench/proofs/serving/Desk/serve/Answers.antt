@@ -1,7 +1,7 @@
 -- A line is taken, and either ends the session or is answered by the history.
 use Rattle.std.proofs.Common.{Ok, Err, ap, ◌∙◌}
 use Rattle.coll_lex.specs.LogicalLines.{LexerState}
-use Rattle.coll_lex.specs.declared.faults.WriteStop.{WriteStop}
+use Rattle.coll_devices.specs.declared.stops.WriteStop.{WriteStop}
 use Rattle.coll_bench.proofs.ServingLemmas.{counts_line, serves_stop, serves_taken, serves_failed}
 use Rattle.coll_bench.proofs.serving.Desk.serve.Goals as goal
 

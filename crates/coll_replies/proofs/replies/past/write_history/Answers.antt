@@ -1,5 +1,5 @@
 use Rattle.coll_replies.specs.Replies.{history_lines, history_listing, history_count}
-use Rattle.coll_lex.proofs.WritingLemmas.{Sends-after}
+use Rattle.coll_devices.proofs.WritingLemmas.{Sends-after}
 use Rattle.coll_replies.proofs.ReplyLemmas.{stopped_at_first}
 use Rattle.coll_replies.proofs.replies.past.write_history.Goals as goal
 

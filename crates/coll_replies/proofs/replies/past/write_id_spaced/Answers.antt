@@ -1,6 +1,6 @@
 use Rattle.std.proofs.Common.{[], ◌∷◌}
 use Rattle.coll_print.specs.PrintedParts.{id_bytes}
-use Rattle.coll_lex.proofs.WritingLemmas.{Sends-after}
+use Rattle.coll_devices.proofs.WritingLemmas.{Sends-after}
 use Rattle.coll_replies.proofs.ReplyLemmas.{stopped_at_first}
 use Rattle.coll_replies.proofs.replies.past.write_id_spaced.Goals as goal
 

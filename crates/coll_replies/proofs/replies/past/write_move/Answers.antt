@@ -1,6 +1,6 @@
 use Rattle.std.proofs.Common.{[], ◌∷◌, ◌++◌, codes}
 use Rattle.coll_replies.specs.Replies.{name_bytes, spaced}
-use Rattle.coll_lex.proofs.WritingLemmas.{Sends-after}
+use Rattle.coll_devices.proofs.WritingLemmas.{Sends-after}
 use Rattle.coll_replies.proofs.ReplyLemmas.{stopped_at_first}
 use Rattle.coll_replies.proofs.replies.past.write_move.Goals as goal
 

@@ -1,7 +1,7 @@
 -- What was written so far and the lines of the statements that are left are the lines of all that remain.
 use Rattle.std.proofs.Common.{◌≡◌, ◌≤◌, ◌+◌, ◌++◌, [], ℕ, List, drop, length, refl, sym, ap, ◌∙◌, subst, append_assoc, append-nil, arith}
 use Rattle.std.proofs.KnownBytes.{Appends-nil, Appends-trans}
-use Rattle.coll_lex.specs.Devices.{raised}
+use Rattle.coll_devices.specs.Devices.{raised}
 use Rattle.coll_replies.specs.Replies.{history_line, history_lines}
 use Rattle.coll_replies.proofs.ReplyLemmas.{past_more, past_stopped, past_end}
 use Rattle.coll_replies.proofs.replies.past.write_past.Goals as goal

@@ -1,0 +1,4 @@
+mod AdvanceLemmas
+mod LineReaderLemmas
+pub mod PhysicalLinesLemmas
+pub mod WritingLemmas
