@@ -1,16 +1,12 @@
-//! Rings of nodes: worked examples, and random sequences of calls against plain lists.
+//! Rings of nodes: worked examples.
 //!
 //! A test has its rings and nodes by numbers, and its calls as a table. Each call is made as a caller from outside
-//! would: what it asks for is asserted first. A ring is shown as the list of its nodes' tags; in the random sequences
-//! a node's tag is its number.
+//! would: what it asks for is asserted first. A ring is shown as the list of its nodes' tags.
 
 use crate::assertions::{assert_same, assert_that};
 use coll_order::{NodeId, Place, RingId, Rings};
 use std::alloc::{AllocError, Global};
 use std::process::Abort;
-
-// More nodes than any ring here has.
-const MOST_NODES: usize = 1_000;
 
 // A place, by the number of a ring or a node.
 #[derive(Clone, Copy)]
@@ -163,14 +159,6 @@ impl Stage {
             self.perform(rt, *call);
         }
     }
-
-    // Makes another node with the number of one that was dropped.
-    fn make_again(&mut self, rt: &impl Abort, node: usize) -> Result<(), AllocError> {
-        let name = self.rings.new_node(node)?;
-        assert!(rt; node < self.node_names.len());
-        self.node_names[node] = name;
-        Ok(())
-    }
 }
 
 // A store of so many rings, and of loose nodes with these tags.
@@ -231,118 +219,4 @@ fn a_copy_and_its_source_change_apart(rt: HostRuntime) {
     copy.assert_ring(&rt, 0, &[1, 2]);
     let other = copy.ring(&rt, 1);
     assert_that(&rt, "no ring here", !stage.rings.is_ring(other));
-}
-
-// A sequence of numbers that look random, from a seed.
-#[derive(Drop)]
-struct Random {
-    state: u64,
-}
-
-impl Random {
-    // The next number, below a bound that isn't 0.
-    fn below(&mut self, rt: &impl Abort, bound: usize) -> usize {
-        assert!(rt; bound > 0);
-        let product = self.state.wrapping_mul(6_364_136_223_846_793_005);
-        self.state = product.wrapping_add(1_442_695_040_888_963_407);
-        (self.state >> 33) as usize % bound
-    }
-}
-
-// The ring and the position of a node in plain lists of numbers, if it stands in one.
-fn find(lists: &[Vec<usize>], node: usize) -> Option<(usize, usize)> {
-    for (ring, nodes) in lists.iter().enumerate() {
-        if let Some(at) = nodes.iter().position(|other| *other == node) {
-            return Some((ring, at));
-        }
-    }
-    None
-}
-
-// What stands directly before a position of a list.
-fn place_in(ring: usize, nodes: &[usize], at: usize) -> At {
-    match at.checked_sub(1).and_then(|before| nodes.get(before)) {
-        Some(before) => At::After(*before),
-        None => At::Head(ring),
-    }
-}
-
-// Takes a node out of a list, and says by which call.
-fn take_out(rt: &impl Abort, lists: &mut [Vec<usize>], ring: usize, at: usize) -> Call {
-    assert!(rt; ring < lists.len());
-    let nodes = &mut lists[ring];
-    assert!(rt; at < nodes.len());
-    let node = nodes.remove(at);
-    Call::Unlink(node, place_in(ring, nodes.as_slice(), at))
-}
-
-// Puts a node into a list at random, and says by which call.
-fn put_in(
-    rt: &impl Abort,
-    lists: &mut [Vec<usize>],
-    random: &mut Random,
-    node: usize,
-) -> Result<Call, AllocError> {
-    let ring = random.below(rt, lists.len());
-    assert!(rt; ring < lists.len());
-    let nodes = &mut lists[ring];
-    assert!(rt; nodes.len() < MOST_NODES);
-    let at = random.below(rt, nodes.len() + 1);
-    let place = place_in(ring, nodes.as_slice(), at);
-    assert!(rt; at <= nodes.len());
-    nodes.insert(at, node)?;
-    Ok(Call::Link(node, place))
-}
-
-// Changes the store as it changes the lists, at a node picked at random.
-fn change(
-    rt: &impl Abort,
-    stage: &mut Stage,
-    lists: &mut [Vec<usize>],
-    random: &mut Random,
-) -> Result<(), AllocError> {
-    let node = random.below(rt, stage.node_names.len());
-    if let Some((ring, at)) = find(lists, node) {
-        stage.perform(rt, take_out(rt, lists, ring, at));
-        return Ok(());
-    }
-    if random.below(rt, 4) == 0 {
-        stage.perform(rt, Call::Drop(node));
-        return stage.make_again(rt, node);
-    }
-    let call = put_in(rt, lists, random, node)?;
-    stage.perform(rt, call);
-    Ok(())
-}
-
-// Asserts that the rings are these lists.
-fn assert_rings(rt: &impl Abort, stage: &Stage, lists: &[Vec<usize>]) {
-    for (ring, nodes) in lists.iter().enumerate() {
-        stage.assert_ring(rt, ring, nodes.as_slice());
-        stage.assert_end(rt, ring, place_in(ring, nodes.as_slice(), nodes.len()));
-    }
-}
-
-// A thousand changes, each compared.
-fn change_often(rt: &impl Abort, alloc: Global, seed: u64) -> Result<(), AllocError> {
-    let mut random = Random { state: seed };
-    let mut stage = stage_with(rt, alloc, 4, &[0, 1, 2, 3, 4, 5, 6, 7, 8, 9]);
-    let mut lists = vec![in alloc;
-        Vec::new(alloc),
-        Vec::new(alloc),
-        Vec::new(alloc),
-        Vec::new(alloc),
-    ]?;
-    for _ in 0..1_000 {
-        change(rt, &mut stage, lists.as_mut_slice(), &mut random)?;
-        assert_rings(rt, &stage, lists.as_slice());
-    }
-    Ok(())
-}
-
-#[test]
-fn random_calls_do_what_they_do_to_lists(rt: HostRuntime) {
-    for seed in 0..20 {
-        change_often(&rt, rt.alloc(), seed).expect(&rt, "memory");
-    }
 }
