@@ -8,8 +8,8 @@ Run by hand, after `make`, which builds the program; no gate runs it:
 The table is that of load_table.py. Of a session, what is printed goes beyond a session without lines, which is the load.
 
 Targets: 0.4 s for `print` in all; 0.05 s for 2,000 blocks of one to ten lines; 0.02 s for a block of 4,096 lines; 0.1 s for a
-listing; 0.5 s and 60 MB for 65,535 blocks without lines and as many `:undo`, on the small table; and an undo of a block of one line
-takes as long on a table of 1,000 entries as on one of 105,000. `check` takes at most 1.1 times what load_table.py shows for a load.
+listing; 0.5 s and 60 MB for 65,535 blocks without lines and as many `:undo`; and an undo of a block of one line takes as long on
+a table of 1,000 entries as on one of 105,000. `check` takes at most 1.1 times what load_table.py shows for a load.
 """
 
 import os
@@ -92,9 +92,9 @@ def main(program, work):
     load_small, memory = measured([program, "session", small])
     show("small session without lines", load_small, memory)
     show(f"small, {TURNS:,} times :undo and :redo", *measured([program, "session", small], turns), load_small)
-    empty = block(11, []) * REMAINING
-    show("small, 65,535 blocks", *measured([program, "session", small], empty), load_small)
-    show("small, 65,535 blocks and :undo", *measured([program, "session", small], empty + ":undo\n" * REMAINING), load_small)
+    empty = block(11, []) * REMAINING + ":undo\n" * REMAINING
+    show("65,535 blocks and :undo", *measured([program, "session", table], empty), load)
+    show("small, 65,535 blocks and :undo", *measured([program, "session", small], empty), load_small)
 
 
 if __name__ == "__main__":
