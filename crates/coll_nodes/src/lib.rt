@@ -6,10 +6,12 @@
 //!
 //! - `declarations`, `entries` and `limits`: what a table is made of (`Table`, `Entries`, `WellFormed`, `Limits`, `Placement`);
 //! - `contents` and `nodes`: rings of nodes, and what each node is (`TableLayout`, `Bodies`, `Moving`);
-//! - `node_names`, `node_ids` and `node_keys`: which node has a name, and which an identifier (`NodeLookUps`, `KeyedNodes`);
+//! - `node_names`, `node_ids` and `node_keys`: which node has a name, and which an identifier (`NodeLookUps`, `NodeMaps`,
+//!   `KeyedNodes`);
 //! - `bodies`, and `bodies/linking`: the whole, with its look-ups and `counts`, and what is put in, moved and taken out
-//!   (`SoundBodies`, `SoundLayouts`, `BodyInvariant`, `Linking`);
-//! - `walks` and `met_nodes`: a body, read in order (`Walks`, `WalkStates`, `WalkItems`).
+//!   (`SoundBodies`, `SoundLayouts`, `BodyInvariant`, `Counting`, `Linking`);
+//! - `walks` and `met_nodes`: a body, read in order (`Walks`, `WalkStates`, `WalkItems`);
+//! - and, for the look-ups of blocks in `coll_table`, `LookUps`.
 #![tactic(auto)]
 
 mod bodies;

@@ -1,4 +1,4 @@
--- Lists of nodes: which nodes are the same, what stands beside a node, a node put in and taken out.
+-- Lists of nodes: which nodes are the same, what stands beside a node, where a list ends, a node put in and taken out.
 use Rattle.std.specs.Prelude.{◌==◌, Bool, false, List, [], ◌∷◌, Option, Some, None, if◌then◌else◌}
 use Rattle.std.specs.List.{list_any}
 use Rattle.coll_order.specs.declared.places.NodeId.{NodeId}

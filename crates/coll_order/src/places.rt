@@ -2,7 +2,7 @@
 //!
 //! They are plain numbers, copied freely. Only the store that handed a name out can say what it stands for: each call
 //! asks, in its `requires`, that the name is one of its own. A new kind of place is a new case of `Place`, of
-//! `specs/Lists.antt` and of `Store::next`, `Store::set_next` and `Store::ring`.
+//! `specs/Lists.antt`, `specs/Layout.antt` and `specs/Store.antt`, and of `Store::next`, `Store::set_next` and `Store::ring`.
 
 /// The name of a ring. It stays valid as long as its store.
 #[derive(Clone, Copy, Debug, PartialEq, Eq)]

@@ -4,7 +4,7 @@
 //! layout is read from the links by walking from each head, and the invariant says that the links lead through just
 //! these lists, and that the ring of each node and the last place of each ring are stored (`specs/Laid.antt`). So a call
 //! writes the few links that it changes, and its proof says which lists they then hold. A new call has to leave links that
-//! hold lists, and to count a step only if it moves a node.
+//! hold lists, and the ring of each node and the end of each ring stored, and to count a step only if it moves a node.
 
 ghost use Rattle.std.specs.Prelude.{◌≡◌, ◌↔◌, IsTrue, None, Some, IfOk, OnOk, OnErr};
 ghost use Rattle.coll_order.specs.Changes.{empty_store, with_ring, next_ring, with_node, without_node, unlinked, linked, one_step_more};

@@ -24,6 +24,7 @@ pub(crate) fn weights(alloc: Global, tokens: &[Token]) -> Result<ListBuf<Weight>
         let weight = operand_weight(alloc, operand)?;
         weights.push(weight)?;
     }
+    weights.shrink_to_fit();
     Ok(ListBuf::new(weights))
 }
 

@@ -3,7 +3,7 @@
 //! The way of a line: a physical line is heard (`hearing`) as what its logical line is (`session_lines`, `commands`), once that
 //! is whole; a block takes it (`open_blocks`, `gathering`), which may complete a unit of the session (`units`). `taking` does this
 //! for one physical line of a session, and `delta_files` for those of a delta file; `laws` says what follows from the
-//! definitions, and `unit_faults` has the faults.
+//! definitions, `unit_faults` and `delta_faults` have the faults, and `limits` says how many lines a block has at most.
 #![tactic(auto)]
 
 mod commands;

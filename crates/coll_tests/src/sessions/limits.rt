@@ -45,21 +45,31 @@ fn a_line_too_long_drops_the_open_block_and_ends_the_session(rt: HostRuntime) {
     assert_written(&rt, rt.alloc(), &text, Err(LINE_TOO_LONG), replies);
 }
 
-// The replies to one block more than may remain, and to an undo.
+// The replies to one block more than may remain, to one that is spoiled, and to an undo.
 fn full_history_replies(alloc: Global) -> Result<String, AllocError> {
     let mut replies = String::new(alloc);
     for remaining in 1..=MOST_REMAINING {
         write!(replies, "ok {remaining}\n")?;
     }
-    replies.push_str("refused 66 HistoryFull\nundone 65534\n")?;
+    replies.push_str("refused 66 HistoryFull\nrefused 20 UnknownStatement\nundone 65534\n")?;
     Ok(replies)
 }
+
+// What comes behind a full history: a block that is spoiled, which nobody judges, and an undo.
+const SPOILED_AND_UNDO: &[u8] = b"reorder-after <U0061>\nbogus\nreorder-end\n:undo\n";
 
 // One block more than may remain, and then one is taken back.
 #[test]
 fn a_full_history_refuses_a_statement(rt: HostRuntime) {
     let block = b"reorder-after <U0061>\nreorder-end\n";
-    let text = repeated(&rt, rt.alloc(), b"", block, MOST_REMAINING + 1, b":undo\n");
+    let text = repeated(
+        &rt,
+        rt.alloc(),
+        b"",
+        block,
+        MOST_REMAINING + 1,
+        SPOILED_AND_UNDO,
+    );
     let replies = full_history_replies(rt.alloc()).expect(&rt, "the replies");
     assert_written(&rt, rt.alloc(), &text, Ok(()), replies.as_str());
 }
@@ -76,14 +86,20 @@ fn push_characters(text: &mut String, count: u32) -> Result<(), AllocError> {
 fn block_text(alloc: Global, count: u32) -> Result<String, AllocError> {
     let mut text = String::from_str(alloc, "reorder-after <U0061>\n# note\n\nescape_char /\n")?;
     push_characters(&mut text, count)?;
-    text.push_str("# note\nreorder-end\n:history\n")?;
+    text.push_str("# note\n:list\nreorder-end\n:history\n")?;
     Ok(text)
 }
 
 // A count of order lines, and the replies to a block of so many.
 const BLOCKS: &[(u32, &str)] = &[
-    (4_096, "ok 1\n1 block <U0061> 4096\nhistory 1 0\n"),
-    (4_097, "refused 27 BlockTooLong\nhistory 0 0\n"),
+    (
+        4_096,
+        "refused 62 BlockOpen\nok 1\n1 block <U0061> 4096\nhistory 1 0\n",
+    ),
+    (
+        4_097,
+        "refused 62 BlockOpen\nrefused 27 BlockTooLong\nhistory 0 0\n",
+    ),
 ];
 
 #[test]

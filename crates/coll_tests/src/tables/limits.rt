@@ -115,27 +115,23 @@ fn full_table(alloc: Global, kind: Kind) -> Result<Table, LoadFault> {
     loader.finish()
 }
 
-fn assert_full(rt: &impl Abort, alloc: Global, table: &mut Table) {
-    assert_applied(
-        rt,
-        alloc,
-        table,
-        &["reorder-after <U00010001>", "a"],
-        Some(Refusal::Full),
-    );
-    assert_applied(
-        rt,
-        alloc,
-        table,
-        &["reorder-after <U00010001>", "<U00010000>"],
-        None,
-    );
-}
+// Blocks, and what a full table answers to each, in turn: that it is full comes after the faults of a line and before those of weights.
+const BLOCKS: &[(&[&str], Option<Refusal>)] = &[
+    (&["reorder-after <U00010001>", "a"], Some(Refusal::Full)),
+    (&["reorder-after <U00010001>", "a <Q>"], Some(Refusal::Full)),
+    (
+        &["reorder-after <U00010001>", "a ;"],
+        Some(Refusal::TooManyWeights),
+    ),
+    (&["reorder-after <U00010001>", "<U00010000>"], None),
+];
 
 #[test]
 fn a_full_table_takes_no_new_entry_and_moves_those_it_has(rt: HostRuntime) {
     let mut table = full_table(rt.alloc(), Kind::Characters).expect(&rt, "a table");
-    assert_full(&rt, rt.alloc(), &mut table);
+    for (lines, refusal) in BLOCKS {
+        assert_applied(&rt, rt.alloc(), &mut table, lines, *refusal);
+    }
 }
 
 #[test]

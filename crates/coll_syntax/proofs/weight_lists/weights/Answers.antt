@@ -24,4 +24,4 @@ returns-in_err-weight-clause-err c =
 pub returns-clause-ok : goal.returns-clause-ok
 returns-clause-ok c =
     let t = YieldsList-end (YieldsList-from_slice_split _ is_semicolon c.args.tokens.now (cc) (cc) (cc) (λ x r q k. search (rules, tests))) c.loop-operand.yielded _ c.loop-operand.yielded_by _ _ c.in-None.is c.next.ensures.steps in
-    rw c.new.ensures (weights_all c.args.tokens.now c.loop-operand.weights.items (length c.loop-operand.yielded) c.loop-operand.invariant (omega (arith, t.1)))
+    rw (c.new.ensures, c.shrink_to_fit.ensures.items) (weights_all c.args.tokens.now c.loop-operand.weights.items (length c.loop-operand.yielded) c.loop-operand.invariant (omega (arith, t.1)))
