@@ -16,9 +16,13 @@ tests/runs/NAME.json is one run, in a folder of its own, which has the examples 
     errors        what it writes to standard error, a value; empty if left out, and not looked at if null
     errors_to     the path that standard error is opened at; `errors` is then not looked at
     status        the exit status; 0 if left out
+    rows          a list of runs that have these members alike: the file is then as many runs as there are rows, and the
+                  members of each row go over those of the file
 
 A value stands for bytes: a string for its UTF-8, a list for its members joined, {"hex": ".."} for those bytes,
-{"repeat": value, "times": n} for a value n times, and {"file": path} for a file of the repository.
+{"repeat": value, "times": n} for a value n times, {"each": format, "first": n, "last": m} for a format of Python with
+each number from n to m filled in, {"file": path} for a file of the repository, and {"file": path, "lines": {"n": value}}
+for that file with other values in place of its lines n, counted from 1.
 
 For each run that fails, what differs is printed. The last line is 'N passed, M failed', and the status is 1 where one
 failed.
@@ -49,6 +53,8 @@ def bytes_of(value):
         return bytes.fromhex(value["hex"])
     if set(value) == {"repeat", "times"}:
         return bytes_of(value["repeat"]) * value["times"]
+    if set(value) == {"each", "first", "last"}:
+        return "".join(map(value["each"].format, range(value["first"], value["last"] + 1))).encode()
     if set(value) | {"lines"} == {"file", "lines"}:
         with open(f"{ROOT}/{value['file']}", "rb") as file:
             lines = file.readlines()
@@ -110,16 +116,26 @@ def differences(program, run):
     return lines
 
 
+def runs_of(name):
+    """Returns the runs of a file, each with what it is called."""
+    with open(f"{RUNS}/{name}.json", encoding="utf-8") as file:
+        run = json.load(file)
+    if not run.get("rows"):
+        return [(name, run)]
+    rows = run.pop("rows")
+    return [(f"{name}, row {number}", {**run, **row}) for number, row in enumerate(rows, 1)]
+
+
 def run_all(program, names=()):
     """Runs the program for each name, or for each run there is. Returns how many passed, and how many failed."""
     program = os.path.abspath(program)
     passed = failed = 0
     for name in names or sorted(file[:-5] for file in os.listdir(RUNS) if file.endswith(".json")):
-        with open(f"{RUNS}/{name}.json", encoding="utf-8") as file:
-            lines = differences(program, json.load(file))
-        for line in [f"FAILED: {name}", *(f"  {line}" for line in lines)] if lines else []:
-            print(line, flush=True)
-        passed, failed = passed + (not lines), failed + bool(lines)
+        for called, run in runs_of(name):
+            lines = differences(program, run)
+            for line in [f"FAILED: {called}", *(f"  {line}" for line in lines)] if lines else []:
+                print(line, flush=True)
+            passed, failed = passed + (not lines), failed + bool(lines)
     return passed, failed
 
 

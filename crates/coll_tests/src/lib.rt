@@ -5,6 +5,7 @@
 //! `faults` of the shown text of the faults of all of them; `statements` makes statements of their lines, `devices` has the
 //! devices that they use, `long_texts` makes their longest texts, and `assertions` compares what they are given.
 //! Expected values come from POSIX.1-2017 (7.3.2), from ISO/IEC 14651 and from docs/, and never from what a program wrote.
+//! What only takes a text and gives one is a run of the program, in tests/runs, unless it is a worked example.
 //! What no public call shows is proved, and has no test. The crates below have no tests of their own, since a crate with
 //! tests is proved twice, but for those that name the private fields of a session, a table and a body.
 #![tactic(auto)]

@@ -4,11 +4,10 @@ mod device_faults;
 mod flushes;
 mod histories;
 mod limits;
-mod replies;
 mod statements;
-pub mod worked;
+mod worked;
 
-use crate::tables::examples::first_table;
+use crate::tables::examples::{FIRST_TABLE, loaded_lines};
 use coll_bench::{RunFault, run_session};
 use coll_lex::{Sink, Source};
 use std::alloc::Global;
@@ -21,16 +20,16 @@ fn run<R: Source, W: Sink>(
     input: &mut R,
     output: &mut W,
 ) -> Result<(), RunFault> {
-    let table = first_table(rt, alloc);
+    let table = loaded_lines(alloc, FIRST_TABLE).expect(rt, "a table");
     run_session(alloc, table, input, output)
 }
 
 /// The lines of the session in which a character is moved, and moved back.
-pub const MOVED_TEXT: &[u8] =
+const MOVED_TEXT: &[u8] =
     b":list\nreorder-after <U0063>\n<U0061>\nreorder-end\n:list\n:undo\n:list\n";
 
 /// Each of these lines, and what is written once it is served.
-pub const MOVED: &[(&str, &str)] = &[
+const MOVED: &[(&str, &str)] = &[
     (
         ":list\n",
         "1 <BASE>\n2 <U0061>\n3 <U0062>\n4 <U0063>\nlisted 4\n",

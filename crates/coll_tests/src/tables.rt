@@ -2,9 +2,8 @@
 
 mod deltas;
 pub mod examples;
-mod limits;
+mod faults;
 mod line_by_line;
 mod loading;
-mod printing;
 mod reading;
 mod shown;

@@ -6,7 +6,7 @@ ghost use Rattle.coll_syntax.specs.Proper.{IsProper};
 
 use crate::assertions::{assert_same, assert_that};
 use crate::statements::{Lines, statement_of};
-use crate::tables::examples::{BASE_TABLE, SECTIONS_TABLE, loaded_lines, printed};
+use crate::tables::examples::{BASE_TABLE, SECTIONS_TABLE, assert_printed, loaded_lines, printed};
 use coll_bench::{BenchFault, Session};
 use coll_syntax::Statement;
 use coll_table::{Refusal, Table};
@@ -127,21 +127,20 @@ fn assert_judged(
     requires { IsProper statement.now }
 {
     let before = printed(rt, alloc, table);
-    let judged = table.check(statement);
-    assert_same(rt, "the judgement", judged, refusal_of(answer));
+    assert_same(
+        rt,
+        "the judgement",
+        table.check(statement),
+        refusal_of(answer),
+    );
+    assert_printed(rt, alloc, table, &before);
+    assert_copied(rt, alloc, table, &before);
+}
+
+fn assert_copied(rt: &impl Abort, alloc: Global, table: &Table, printed: &[u8]) {
     let copy = table.try_copy(alloc).expect(rt, "a copy");
-    assert_same(
-        rt,
-        "the copy",
-        printed(rt, alloc, &copy).as_slice(),
-        &before,
-    );
-    assert_same(
-        rt,
-        "the table",
-        printed(rt, alloc, table).as_slice(),
-        &before,
-    );
+    assert_printed(rt, alloc, &copy, printed);
+    drop(copy);
 }
 
 fn assert_stated(
@@ -170,6 +169,7 @@ fn assert_calls(rt: &impl Abort, alloc: Global, table: &[&str], calls: &[Call]) 
     for call in calls {
         assert_call(rt, alloc, &mut session, call);
     }
+    drop(session);
 }
 
 #[test]
@@ -194,11 +194,16 @@ fn assert_first(rt: &impl Abort, session: &Session, remaining: &str, undone: &st
     assert_that(rt, "two were undone", session.undone(3).is_none());
 }
 
+const DECLARATIONS: &[Lines] = &[
+    &["collating-symbol <X>"],
+    &["collating-symbol <Y>"],
+    &["collating-symbol <Z>"],
+];
+
 fn assert_history(rt: &impl Abort, alloc: Global, session: &mut Session) {
-    for name in ["<X>", "<Y>", "<Z>"] {
-        let line = format!(in alloc; "collating-symbol {name}").expect(rt, name);
-        let answer = session.statement(statement_of(rt, alloc, &[line.as_str()]));
-        assert_that(rt, name, answer.is_ok());
+    for lines in DECLARATIONS {
+        let answer = session.statement(statement_of(rt, alloc, lines));
+        assert_that(rt, "a declaration", answer.is_ok());
     }
     assert_same(rt, "an undo", session.undo(), Ok(2));
     assert_same(rt, "an undo", session.undo(), Ok(1));
@@ -212,4 +217,5 @@ fn the_first_undone_statement_is_redone_next(rt: HostRuntime) {
     let table = loaded_lines(rt.alloc(), BASE_TABLE).expect(&rt, "a table");
     let mut session = Session::new(rt.alloc(), table);
     assert_history(&rt, rt.alloc(), &mut session);
+    drop(session);
 }

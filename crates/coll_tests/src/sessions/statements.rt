@@ -1,129 +1,78 @@
-//! Sessions of statements of every kind: what is accepted, refused, taken back, put again and listed.
+//! Worked sessions: what is accepted, refused, taken back, put again and listed.
+//!
+//! A text is one constant, and the base table is written by its name: the more constants a table of rows has, the dearer is the
+//! proof of the test that goes over it.
 
-use crate::sessions::worked::Reply::{Printed, Told};
-use crate::sessions::worked::{Worked, assert_sessions};
-use crate::tables::examples::{BASE_TABLE, Change, SECTIONS_TABLE};
+use crate::sessions::worked::Reply::{Base, Printed, Told};
+use crate::sessions::worked::Worked;
+use crate::tables::examples::Change;
 
-const BLOCKS: &[Worked] = &[
+/// Sessions over the first table.
+pub const ON_FIRST: &[Worked] = &[
     Worked {
-        table: BASE_TABLE,
-        lines: &[
-            "reorder-after <U0061>",
-            "<U0063>",
-            "reorder-end",
-            ":key \"c\"",
-        ],
-        replies: &[Told(&["ok 1", "5 | 1 | 2 | |"])],
+        text: ":undo\nreorder-after <Q>\n:list\nreorder-end\nreorder-after a\na\nreorder-end\nb\nreorder-end\n",
+        replies: &[Told(
+            "refused 60 NothingToUndo\nrefused 62 BlockOpen\nrefused 50 TargetNotPlaced\nrefused 51 TwiceInBlock\nrefused 55 NoWeights\nrefused 69 NoBlock\n",
+        )],
     },
     Worked {
-        table: BASE_TABLE,
-        lines: &[
-            "reorder-after <U0061>",
-            "<U0063>",
-            "reorder-end",
-            ":undo",
-            ":redo",
-            ":undo",
-            ":print",
-        ],
-        replies: &[
-            Told(&["ok 1", "undone 0", "redone 1", "undone 0"]),
-            Told(BASE_TABLE),
-        ],
+        text: ":list \\\n",
+        replies: &[Told("refused 9 DanglingEscape\n")],
+    },
+];
+
+/// Sessions over the base table.
+pub const ON_BASE: &[Worked] = &[
+    Worked {
+        text: "reorder-after <U0061>\n<U0063>\nreorder-end\n:key \"c\"\n",
+        replies: &[Told("ok 1\n5 | 1 | 2 | |\n")],
+    },
+    Worked {
+        text: "reorder-after <U0061>\n<U0063>\nreorder-end\n:undo\n:redo\n:undo\n:print\n",
+        replies: &[Told("ok 1\nundone 0\nredone 1\nundone 0\n"), Base],
     },
     // Each line is placed behind the line before, in whichever order they stood.
     Worked {
-        table: BASE_TABLE,
-        lines: &[
-            "reorder-after <U0064>",
-            "<U0061>",
-            "<U0041>",
-            "reorder-end",
-            ":key \"aA\"",
-            ":undo",
-            ":key \"aA\"",
-            ":print",
-        ],
+        text: "reorder-after <U0064>\n<U0061>\n<U0041>\nreorder-end\n:key \"aA\"\n:undo\n:key \"aA\"\n:print\n",
         replies: &[
-            Told(&[
-                "ok 1",
-                "7 7 | 1 1 | 2 3 | |",
-                "undone 0",
-                "4 4 | 1 1 | 2 3 | |",
-            ]),
-            Told(BASE_TABLE),
+            Told("ok 1\n7 7 | 1 1 | 2 3 | |\nundone 0\n4 4 | 1 1 | 2 3 | |\n"),
+            Base,
         ],
     },
     Worked {
-        table: BASE_TABLE,
-        lines: &[
-            "reorder-after <U0064>",
-            "<U0041>",
-            "<U0061>",
-            "reorder-end",
-            ":key \"aA\"",
-            ":undo",
-            ":print",
-        ],
-        replies: &[
-            Told(&["ok 1", "8 8 | 1 1 | 2 3 | |", "undone 0"]),
-            Told(BASE_TABLE),
-        ],
+        text: "reorder-after <U0064>\n<U0041>\n<U0061>\nreorder-end\n:key \"aA\"\n:undo\n:print\n",
+        replies: &[Told("ok 1\n8 8 | 1 1 | 2 3 | |\nundone 0\n"), Base],
     },
     // A section may be left empty.
     Worked {
-        table: BASE_TABLE,
-        lines: &[
-            "reorder-after <U0064>",
-            "<U002D>",
-            "reorder-end",
-            ":print",
-            ":undo",
-            ":print",
-        ],
+        text: "reorder-after <U0064>\n<U002D>\nreorder-end\n:print\n:undo\n:print\n",
         replies: &[
-            Told(&["ok 1"]),
+            Told("ok 1\n"),
             Printed(Change {
                 first: 16,
                 last: 17,
                 others: &["<U002D> IGNORE;IGNORE;IGNORE;<U002D>", "section <PUNCT>"],
             }),
-            Told(&["undone 0"]),
-            Told(BASE_TABLE),
+            Told("undone 0\n"),
+            Base,
         ],
     },
     // A block that is refused at its last line changes nothing.
     Worked {
-        table: BASE_TABLE,
-        lines: &[
-            "reorder-after <U0061>",
-            "<U0063>",
-            "<U0064>",
-            "<U0062> <U0062>;<X>",
-            "reorder-end",
-            ":key \"c\"",
-        ],
-        replies: &[Told(&["refused 34 NotDeclared", "7 | 1 | 2 | |"])],
+        text: "reorder-after <U0061>\n<U0063>\n<U0064>\n<U0062> <U0062>;<X>\nreorder-end\n:key \"c\"\n",
+        replies: &[Told("refused 34 NotDeclared\n7 | 1 | 2 | |\n")],
     },
     // A new entry of UNDEFINED, with the weights that are given, and its own where none is.
     Worked {
-        table: BASE_TABLE,
-        lines: &[
-            "reorder-after <CAP>",
-            "UNDEFINED ;IGNORE;IGNORE;IGNORE",
-            "reorder-end",
-            ":print",
-            "UNDEFINED <BASE>",
-            ":print",
-        ],
+        text: "reorder-after <CAP>\nUNDEFINED ;IGNORE;IGNORE;IGNORE\nreorder-end\n:print\nUNDEFINED <BASE>\n:print\n",
         replies: &[
-            Told(&["ok 1"]),
+            Told("ok 1\n"),
             Printed(Change {
                 first: 11,
                 last: 10,
                 others: &["UNDEFINED ;IGNORE;IGNORE;IGNORE"],
             }),
-            Told(&["ok 2"]),
+            Told("ok 2\n"),
             Printed(Change {
                 first: 11,
                 last: 10,
@@ -131,355 +80,79 @@ const BLOCKS: &[Worked] = &[
             }),
         ],
     },
-];
-
-#[test]
-fn a_block_is_placed_taken_back_and_put_again(rt: HostRuntime) {
-    assert_sessions(&rt, rt.alloc(), BLOCKS);
-}
-
-const DECLARATIONS_AND_WEIGHTS: &[Worked] = &[
     // An element fits once it is placed.
     Worked {
-        table: BASE_TABLE,
-        lines: &[
-            "collating-element <ch> from \"<U0063><U0068>\"",
-            ":key \"cha\"",
-            "reorder-after <U0063>",
-            "<ch> <ch>;<BASE>;<MIN>;IGNORE",
-            "reorder-end",
-            ":key \"cha\"",
-            ":history",
-        ],
-        replies: &[Told(&[
-            "ok 1",
-            "7 10+104 4 | 1 10+104 1 | 2 10+104 2 | @2 10+104 |",
-            "ok 2",
-            "8 4 | 1 1 | 2 2 | |",
-            "1 element <ch>",
-            "2 block <U0063> 1",
-            "history 2 0",
-        ])],
+        text: "collating-element <ch> from \"<U0063><U0068>\"\n:key \"cha\"\nreorder-after <U0063>\n<ch> <ch>;<BASE>;<MIN>;IGNORE\nreorder-end\n:key \"cha\"\n:history\n",
+        replies: &[Told(
+            "ok 1\n7 10+104 4 | 1 10+104 1 | 2 10+104 2 | @2 10+104 |\nok 2\n8 4 | 1 1 | 2 2 | |\n1 element <ch>\n2 block <U0063> 1\nhistory 2 0\n",
+        )],
     },
     // A declaration that was taken back is none, and a refused statement leaves what can be put again.
     Worked {
-        table: BASE_TABLE,
-        lines: &[
-            "collating-symbol <X>",
-            ":undo",
-            "reorder-after <X>",
-            "reorder-end",
-            ":redo",
-            ":undo",
-            "collating-symbol <X>",
-            ":redo",
+        text: "collating-symbol <X>\n:undo\nreorder-after <X>\nreorder-end\n:redo\n:undo\ncollating-symbol <X>\n:redo\n",
+        replies: &[Told(
+            "ok 1\nundone 0\nrefused 50 TargetNotPlaced\nredone 1\nundone 0\nok 1\nrefused 61 NothingToRedo\n",
+        )],
+    },
+    Worked {
+        text: "<U0062> <U0063>\n:key \"b\"\n:undo\n:key \"b\"\n",
+        replies: &[Told("ok 1\n7 | 6 | 6 | @1 6 |\nundone 0\n6 | 1 | 2 | |\n")],
+    },
+    Worked {
+        text: "<U0062> <U0062>;\"<MIN><CAP>\"\n:key \"ab\"\n",
+        replies: &[Told("ok 1\n4 6 | 3 2 1 | 2 6 | @2 6 |\n")],
+    },
+    // Statements of every kind, and lines that are none and get no reply.
+    Worked {
+        text: "collating-symbol <X>\nreorder-after <MIN>\n<X>\n<U0061> <U0061>;<X>;<MIN>;IGNORE\nreorder-end\ncopy \"iso14651_t1\"\nscript <Latn>\nLC_COLLATE\nEND LC_COLLATE\n<U0041> <U0061>\ncollating-symbol <BASE>\n:history\n:undo\n:list\n:redo\n:undo\n:undo\n:undo\n:history\n:print\n",
+        replies: &[
+            Told(
+                "ok 1\nok 2\nok 3\nrefused 33 DeclaredTwice\n1 symbol <X>\n2 block <MIN> 2\n3 reweight <U0041>\nhistory 3 0\nundone 2\n1 <BASE>\n2 <MIN>\n3 <X>\n4 <U0061>\n5 <CAP>\n6 <U0041>\n7 <U0062>\n8 <U0063>\n9 <U0064>\nsection <PUNCT>\n10 <U002D>\nlisted 10\nredone 3\nundone 2\nundone 1\nundone 0\nhistory 0 3\n",
+            ),
+            Base,
         ],
-        replies: &[Told(&[
-            "ok 1",
-            "undone 0",
-            "refused 50 TargetNotPlaced",
-            "redone 1",
-            "undone 0",
-            "ok 1",
-            "refused 61 NothingToRedo",
-        ])],
     },
     Worked {
-        table: BASE_TABLE,
-        lines: &["<U0062> <U0063>", ":key \"b\"", ":undo", ":key \"b\""],
-        replies: &[Told(&["ok 1", "7 | 6 | 6 | @1 6 |", "undone 0", "6 | 1 | 2 | |"])],
+        text: "reorder-after <U0061>\n:key \"a\"\nbogus\nalso <U0063>\nreorder-end\nreorder-after <U0061>\n<U0063>\n",
+        replies: &[Told(
+            "refused 62 BlockOpen\nrefused 20 UnknownStatement\nrefused 63 BlockNotEnded\n",
+        )],
     },
     Worked {
-        table: BASE_TABLE,
-        lines: &["<U0062> <U0062>;\"<MIN><CAP>\"", ":key \"ab\""],
-        replies: &[Told(&["ok 1", "4 6 | 3 2 1 | 2 6 | @2 6 |"])],
-    },
-    // A string is one element's, a name is declared once, and an order line outside a block is judged in this order.
-    Worked {
-        table: BASE_TABLE,
-        lines: &[
-            "collating-element <p> from \"xy\"",
-            "collating-element <q> from \"<U0078>y\"",
-            "collating-element <p> from \"xy\"",
-            "<U0062> <Q>",
-            "<U0062> z",
-            "<p> a;;;;",
-        ],
-        replies: &[Told(&[
-            "ok 1",
-            "refused 39 StringTwice",
-            "refused 33 DeclaredTwice",
-            "refused 34 NotDeclared",
-            "refused 38 WeightNotPlaced",
-            "refused 54 NotPlaced",
-        ])],
-    },
-];
-
-#[test]
-fn declarations_and_weights_are_kept_and_taken_back(rt: HostRuntime) {
-    assert_sessions(&rt, rt.alloc(), DECLARATIONS_AND_WEIGHTS);
-}
-
-const SECTIONS: &[Worked] = &[Worked {
-    table: SECTIONS_TABLE,
-    lines: &[
-        "reorder-section-after <S2> <S1>",
-        ":undo",
-        "reorder-section-after <S1> <S3>",
-        ":list",
-        "reorder-section-after <S1> <S1>",
-        "reorder-section-after <S1> <Q>",
-        "reorder-section-after <Q> <Q>",
-        ":history",
-        ":undo",
-        ":key \"b\"",
-    ],
-    replies: &[Told(&[
-        "ok 1",
-        "undone 0",
-        "ok 1",
-        "1 <U0061>",
-        "section <S2>",
-        "2 <U0063>",
-        "section <S3>",
-        "3 <U0064>",
-        "section <S1>",
-        "4 <U0062>",
-        "listed 4",
-        "refused 53 SectionAfterItself",
-        "refused 52 NoSuchSection",
-        "refused 52 NoSuchSection",
-        "1 section <S1> <S3>",
-        "history 1 0",
-        "undone 0",
-        "2 |",
-    ])],
-}];
-
-#[test]
-fn a_section_is_moved_whole(rt: HostRuntime) {
-    assert_sessions(&rt, rt.alloc(), SECTIONS);
-}
-
-// Statements of every kind, and lines that are none and get no reply.
-const HISTORY: &[Worked] = &[Worked {
-    table: BASE_TABLE,
-    lines: &[
-        "collating-symbol <X>",
-        "reorder-after <MIN>",
-        "<X>",
-        "<U0061> <U0061>;<X>;<MIN>;IGNORE",
-        "reorder-end",
-        "copy \"iso14651_t1\"",
-        "script <Latn>",
-        "LC_COLLATE",
-        "END LC_COLLATE",
-        "<U0041> <U0061>",
-        "collating-symbol <BASE>",
-        ":history",
-        ":undo",
-        ":list",
-        ":redo",
-        ":undo",
-        ":undo",
-        ":undo",
-        ":history",
-        ":print",
-    ],
-    replies: &[
-        Told(&[
-            "ok 1",
-            "ok 2",
-            "ok 3",
-            "refused 33 DeclaredTwice",
-            "1 symbol <X>",
-            "2 block <MIN> 2",
-            "3 reweight <U0041>",
-            "history 3 0",
-            "undone 2",
-            "1 <BASE>",
-            "2 <MIN>",
-            "3 <X>",
-            "4 <U0061>",
-            "5 <CAP>",
-            "6 <U0041>",
-            "7 <U0062>",
-            "8 <U0063>",
-            "9 <U0064>",
-            "section <PUNCT>",
-            "10 <U002D>",
-            "listed 10",
-            "redone 3",
-            "undone 2",
-            "undone 1",
-            "undone 0",
-            "history 0 3",
-        ]),
-        Told(BASE_TABLE),
-    ],
-}];
-
-#[test]
-fn all_statements_are_taken_back(rt: HostRuntime) {
-    assert_sessions(&rt, rt.alloc(), HISTORY);
-}
-
-const REFUSALS: &[Worked] = &[
-    Worked {
-        table: BASE_TABLE,
-        lines: &[
-            "reorder-after <U0061>",
-            ":key \"a\"",
-            "bogus",
-            "also <U0063>",
-            "reorder-end",
-            "reorder-after <U0061>",
-            "<U0063>",
-        ],
-        replies: &[Told(&[
-            "refused 62 BlockOpen",
-            "refused 20 UnknownStatement",
-            "refused 63 BlockNotEnded",
-        ])],
+        text: "<U0062>\n<U007A> <U0061>\n<MIN> IGNORE\n<U0062> <U0062>;;;;\nreorder-end\n:frob\n:key\n:undo\n",
+        replies: &[Told(
+            "refused 55 NoWeights\nrefused 54 NotPlaced\nrefused 36 SymbolWithWeights\nrefused 37 TooManyWeights\nrefused 69 NoBlock\nrefused 64 UnknownCommand\nrefused 21 MissingOperand\nrefused 60 NothingToUndo\n",
+        )],
     },
     Worked {
-        table: BASE_TABLE,
-        lines: &[
-            "<U0062>",
-            "<U007A> <U0061>",
-            "<MIN> IGNORE",
-            "<U0062> <U0062>;;;;",
-            "reorder-end",
-            ":frob",
-            ":key",
-            ":undo",
-        ],
-        replies: &[Told(&[
-            "refused 55 NoWeights",
-            "refused 54 NotPlaced",
-            "refused 36 SymbolWithWeights",
-            "refused 37 TooManyWeights",
-            "refused 69 NoBlock",
-            "refused 64 UnknownCommand",
-            "refused 21 MissingOperand",
-            "refused 60 NothingToUndo",
-        ])],
+        text: "reorder-after <U0061\n<U0063> <U0062>\nreorder-end\nreorder-after <U0061>\n<U0063>\n<U0063>\nreorder-end\n",
+        replies: &[Told("refused 2 OpenSymbol\nrefused 51 TwiceInBlock\n")],
     },
     Worked {
-        table: BASE_TABLE,
-        lines: &[
-            "reorder-after <U0061",
-            "<U0063> <U0062>",
-            "reorder-end",
-            "reorder-after <U0061>",
-            "<U0063>",
-            "<U0063>",
-            "reorder-end",
-        ],
-        replies: &[Told(&["refused 2 OpenSymbol", "refused 51 TwiceInBlock"])],
-    },
-];
-
-#[test]
-fn a_refused_line_changes_nothing(rt: HostRuntime) {
-    assert_sessions(&rt, rt.alloc(), REFUSALS);
-}
-
-const COMPARISONS: &[Worked] = &[
-    Worked {
-        table: BASE_TABLE,
-        lines: &[
-            ":compare \"a\" \"A\"",
-            ":compare \"ab\" \"a-b\"",
-            ":compare \"a\" \"a\"",
-            ":check",
-        ],
-        replies: &[Told(&[
-            "less",
-            "less",
-            "equal",
-            "table entries 9 declared 3 sections 2 levels 4",
-        ])],
+        text: ":compare \"a\" \"A\"\n:compare \"ab\" \"a-b\"\n:compare \"a\" \"a\"\n:check\n",
+        replies: &[Told("less\nless\nequal\ntable entries 9 declared 3 sections 2 levels 4\n")],
     },
     Worked {
-        table: BASE_TABLE,
-        lines: &[":key \"a-b-\"", ":key \"--a\"", ":compare \"a-b-\" \"--a\""],
-        replies: &[Told(&[
-            "4 6 | 1 1 | 2 2 | @2 9 @2 9 |",
-            "4 | 1 | 2 | @1 9 @1 9 |",
-            "greater",
-        ])],
+        text: ":key \"a-b-\"\n:key \"--a\"\n:compare \"a-b-\" \"--a\"\n",
+        replies: &[Told("4 6 | 1 1 | 2 2 | @2 9 @2 9 |\n4 | 1 | 2 | @1 9 @1 9 |\ngreater\n")],
     },
     Worked {
-        table: BASE_TABLE,
-        lines: &[
-            "reorder-after <CAP>",
-            "UNDEFINED ;IGNORE;IGNORE;IGNORE",
-            "reorder-end",
-            ":key \"e\"",
-            ":compare \"e\" \"f\"",
-            ":compare \"e\" \"a\"",
-        ],
-        replies: &[Told(&["ok 1", "4+101 | | | |", "less", "less"])],
+        text: "reorder-after <CAP>\nUNDEFINED ;IGNORE;IGNORE;IGNORE\nreorder-end\n:key \"e\"\n:compare \"e\" \"f\"\n:compare \"e\" \"a\"\n",
+        replies: &[Told("ok 1\n4+101 | | | |\nless\nless\n")],
     },
     // The order changes with each statement, and with each that is taken back or put again.
     Worked {
-        table: BASE_TABLE,
-        lines: &[
-            ":compare \"b\" \"c\"",
-            "reorder-after <U0061>",
-            "<U0063>",
-            "reorder-end",
-            ":compare \"b\" \"c\"",
-            "reorder-after <U0061>",
-            "<X>",
-            "reorder-end",
-            ":compare \"b\" \"c\"",
-            ":undo",
-            ":compare \"b\" \"c\"",
-            ":redo",
-            ":compare \"b\" \"c\"",
-        ],
-        replies: &[Told(&[
-            "less",
-            "ok 1",
-            "greater",
-            "refused 34 NotDeclared",
-            "greater",
-            "undone 0",
-            "less",
-            "redone 1",
-            "greater",
-        ])],
-    },
-    // An argument that is missing comes before one that is wrong, and that before one too many.
-    Worked {
-        table: BASE_TABLE,
-        lines: &[
-            ":compare \"<BASE>\"",
-            ":compare \"a\" \"<BASE>\" \"b\"",
-            ":compare \"a\" \"b\" \"c\"",
-            ":key a",
-            ":key \"<BASE>\"",
-            ":key\"a\"",
-            ":history x",
-            ":redo",
-        ],
-        replies: &[Told(&[
-            "refused 21 MissingOperand",
-            "refused 29 BadOperand",
-            "refused 22 ExtraOperand",
-            "refused 29 BadOperand",
-            "refused 29 BadOperand",
-            "4 | 1 | 2 | |",
-            "refused 22 ExtraOperand",
-            "refused 61 NothingToRedo",
-        ])],
+        text: ":compare \"b\" \"c\"\nreorder-after <U0061>\n<U0063>\nreorder-end\n:compare \"b\" \"c\"\nreorder-after <U0061>\n<X>\nreorder-end\n:compare \"b\" \"c\"\n:undo\n:compare \"b\" \"c\"\n:redo\n:compare \"b\" \"c\"\n",
+        replies: &[Told(
+            "less\nok 1\ngreater\nrefused 34 NotDeclared\ngreater\nundone 0\nless\nredone 1\ngreater\n",
+        )],
     },
 ];
 
-#[test]
-fn texts_are_compared_in_the_table_now(rt: HostRuntime) {
-    assert_sessions(&rt, rt.alloc(), COMPARISONS);
-}
+/// Sessions over the table of sections.
+pub const ON_SECTIONS: &[Worked] = &[Worked {
+    text: "reorder-section-after <S2> <S1>\n:undo\nreorder-section-after <S1> <S3>\n:list\nreorder-section-after <S1> <S1>\nreorder-section-after <S1> <Q>\nreorder-section-after <Q> <Q>\n:history\n:undo\n:key \"b\"\n",
+    replies: &[Told(
+        "ok 1\nundone 0\nok 1\n1 <U0061>\nsection <S2>\n2 <U0063>\nsection <S3>\n3 <U0064>\nsection <S1>\n4 <U0062>\nlisted 4\nrefused 53 SectionAfterItself\nrefused 52 NoSuchSection\nrefused 52 NoSuchSection\n1 section <S1> <S3>\nhistory 1 0\nundone 0\n2 |\n",
+    )],
+}];

@@ -1,77 +1,83 @@
 //! Whole sessions over whole tables: the lines, and what is written for them.
+//!
+//! Devices give and take all at once, and then a few bytes at a time. Sessions that show one refusal after another, and each turn
+//! of a block, are runs of the program: tests/runs has them.
 
+use super::statements::{ON_BASE, ON_FIRST, ON_SECTIONS};
 use crate::assertions::{assert_same, assert_text};
 use crate::devices::{Failure, ShortReader, ShortWriter};
 use crate::statements::Lines;
-use crate::tables::examples::{BASE_TABLE, Change, loaded_lines, text_of};
+use crate::tables::examples::{
+    BASE_TABLE, Change, FIRST_TABLE, SECTIONS_TABLE, loaded_lines, push_lines,
+};
 use coll_bench::run_session;
 use coll_lex::Counted;
-use coll_table::Table;
 use std::alloc::{AllocError, Global};
 use std::process::Abort;
 
 /// A part of what is written.
 pub enum Reply {
-    /// These lines.
-    Told(Lines),
+    /// This text.
+    Told(&'static str),
+    /// The base table.
+    Base,
     /// The lines of the base table with a change.
     Printed(Change),
 }
 
-/// A table, the lines of a session over it, and what is written.
+/// The text of a session, and what is written.
 pub struct Worked {
-    pub table: Lines,
-    pub lines: Lines,
+    pub text: &'static str,
     pub replies: &'static [Reply],
 }
 
-// What is written for a session, as one text.
-fn wanted(alloc: Global, replies: &[Reply]) -> Result<Vec<u8>, AllocError> {
-    let mut wanted = Vec::new(alloc);
-    for reply in replies {
-        let part = match reply {
-            Reply::Told(lines) => text_of(alloc, lines)?,
-            Reply::Printed(change) => change.text(alloc, BASE_TABLE)?,
-        };
-        wanted.extend_from_slice(part.as_slice())?;
+fn push_reply(text: &mut Vec<u8>, reply: &Reply) -> Result<(), AllocError> {
+    match reply {
+        Reply::Told(told) => text.extend_from_slice(told.as_bytes()),
+        Reply::Base => push_lines(text, BASE_TABLE),
+        Reply::Printed(change) => change.push(text, BASE_TABLE),
     }
-    Ok(wanted)
 }
 
-/// What a session over devices that take and give all at once writes. It ends with its input.
-pub fn written(rt: &impl Abort, alloc: Global, table: Table, text: &[u8]) -> Vec<u8> {
+fn push_replies(text: &mut Vec<u8>, replies: &[Reply]) -> Result<(), AllocError> {
+    for reply in replies {
+        push_reply(text, reply)?;
+    }
+    Ok(())
+}
+
+// Asserts what a session writes over devices that give and take all at once.
+fn assert_whole(rt: &impl Abort, alloc: Global, table: Lines, text: &[u8], replies: &[u8]) {
+    let table = loaded_lines(alloc, table).expect(rt, "a table");
     let mut output = Counted::new(Vec::new(alloc));
     let answer = run_session(alloc, table, &mut Counted::new(text), &mut output);
     assert_same(rt, "the answer", answer, Ok(()));
-    output.device().clone().expect(rt, "a copy")
+    assert_text(rt, alloc, output.device().as_slice(), replies);
 }
 
-/// What it writes over devices that give and take a few bytes at a time.
-pub fn written_in_parts(rt: &impl Abort, alloc: Global, table: Table, text: &[u8]) -> Vec<u8> {
-    let writer = ShortWriter::new(Vec::new(alloc), 0, Failure::Error);
-    let mut output = Counted::new(writer);
+// Asserts what it writes over devices that give and take a few bytes at a time.
+fn assert_in_parts(rt: &impl Abort, alloc: Global, table: Lines, text: &[u8], replies: &[u8]) {
+    let table = loaded_lines(alloc, table).expect(rt, "a table");
+    let mut output = Counted::new(ShortWriter::new(Vec::new(alloc), 0, Failure::Error));
     let mut input = Counted::new(ShortReader::new(text, 0));
     let answer = run_session(alloc, table, &mut input, &mut output);
     assert_same(rt, "the answer", answer, Ok(()));
-    output.device().taken.clone().expect(rt, "a copy")
+    assert_text(rt, alloc, output.device().taken.as_slice(), replies);
 }
 
-fn table_of(rt: &impl Abort, alloc: Global, session: &Worked) -> Table {
-    loaded_lines(alloc, session.table).expect(rt, "a table")
-}
-
-fn assert_session(rt: &impl Abort, alloc: Global, session: &Worked) {
-    let text = text_of(alloc, session.lines).expect(rt, "the lines");
-    let wanted = wanted(alloc, session.replies).expect(rt, "the replies");
-    let given = written(rt, alloc, table_of(rt, alloc, session), &text);
-    assert_text(rt, alloc, &given, &wanted);
-    let given = written_in_parts(rt, alloc, table_of(rt, alloc, session), &text);
-    assert_text(rt, alloc, &given, &wanted);
-}
-
-/// Asserts what sessions write, also where a few bytes are read and written at a time.
-pub fn assert_sessions(rt: &impl Abort, alloc: Global, sessions: &[Worked]) {
+// Asserts what sessions over a table write.
+fn assert_sessions(rt: &impl Abort, alloc: Global, table: Lines, sessions: &[Worked]) {
     for session in sessions {
-        assert_session(rt, alloc, session);
+        let mut replies = Vec::new(alloc);
+        push_replies(&mut replies, session.replies).expect(rt, "the replies");
+        assert_whole(rt, alloc, table, session.text.as_bytes(), &replies);
+        assert_in_parts(rt, alloc, table, session.text.as_bytes(), &replies);
     }
+}
+
+#[test]
+fn each_session_has_its_replies(rt: HostRuntime) {
+    assert_sessions(&rt, rt.alloc(), FIRST_TABLE, ON_FIRST);
+    assert_sessions(&rt, rt.alloc(), BASE_TABLE, ON_BASE);
+    assert_sessions(&rt, rt.alloc(), SECTIONS_TABLE, ON_SECTIONS);
 }

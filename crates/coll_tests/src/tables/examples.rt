@@ -1,17 +1,27 @@
 //! Tables, identifiers and statements that several tests use.
+//!
+//! A function that holds a table ends with a call of `drop`: the proof of that call is std's, and goes through no field of a table.
 
-use crate::assertions::assert_same;
+use crate::assertions::{assert_same, assert_text};
 use crate::statements::{Lines, statement_of};
-use crate::tables::shown::shown;
 use coll_lex::{Counted, TextBuf};
 use coll_syntax::Id;
-use coll_table::{LoadCause, LoadFault, Loader, Table, WalkItem, load};
+use coll_table::{LoadFault, Loader, Table, load};
 use std::alloc::{AllocError, Global};
 use std::process::Abort;
 
-/// A name and three characters.
-pub const FIRST_TABLE: &[u8] =
-    b"LC_COLLATE\ncollating-symbol <BASE>\norder_start forward\n<BASE>\n<U0061>\n<U0062>\n<U0063>\norder_end\nEND LC_COLLATE\n";
+/// A name and three characters, line by line.
+pub const FIRST_TABLE: &[&str] = &[
+    "LC_COLLATE",
+    "collating-symbol <BASE>",
+    "order_start forward",
+    "<BASE>",
+    "<U0061>",
+    "<U0062>",
+    "<U0063>",
+    "order_end",
+    "END LC_COLLATE",
+];
 
 /// A table of four levels with two sections, line by line.
 pub const BASE_TABLE: &[&str] = &[
@@ -82,6 +92,23 @@ pub const SECTIONS_TABLE: &[&str] = &[
     "END LC_COLLATE",
 ];
 
+/// Sections by `order_start`, one that is empty, rules that are given twice and once left out, weights that are left out or
+/// name the entry alone, and UNDEFINED.
+pub const TWO_SECTIONS: &[&str] = &[
+    "LC_COLLATE",
+    "script <Latn>",
+    "order_start <L>;forward;position",
+    "a a",
+    "order_end",
+    "collating-element <ch> from \"ch\"",
+    "order_start <M>",
+    "<ch> \"<ch>\"",
+    "order_start forward;forward,position",
+    "UNDEFINED IGNORE",
+    "order_end",
+    "END LC_COLLATE",
+];
+
 /// A text that spells what it may in other ways than the canonical ones.
 pub const SPELLED_OTHERWISE: &[&str] = &[
     "LC_COLLATE            # the defaults stand",
@@ -104,11 +131,6 @@ pub fn loaded(alloc: Global, text: &[u8]) -> Result<Table, LoadFault> {
     load(alloc, &mut Counted::new(text))
 }
 
-/// The first table.
-pub fn first_table(rt: &impl Abort, alloc: Global) -> Table {
-    loaded(alloc, FIRST_TABLE).expect(rt, "the first table")
-}
-
 /// Hands lines to a loader.
 pub fn hand_in(loader: &mut Loader, lines: &[&str]) -> Result<(), LoadFault> {
     for line in lines {
@@ -120,7 +142,8 @@ pub fn hand_in(loader: &mut Loader, lines: &[&str]) -> Result<(), LoadFault> {
 /// The table that these lines are.
 pub fn loaded_lines(alloc: Global, lines: &[&str]) -> Result<Table, LoadFault> {
     let mut loader = Loader::new(alloc)?;
-    hand_in(&mut loader, lines)?;
+    // A fault is stored, and answered again at the end.
+    let _ = hand_in(&mut loader, lines);
     loader.finish()
 }
 
@@ -128,10 +151,20 @@ pub fn loaded_lines(alloc: Global, lines: &[&str]) -> Result<Table, LoadFault> {
 pub fn rewritten(rt: &impl Abort, alloc: Global, lines: &[&str], statements: &[Lines]) -> Table {
     let mut table = loaded_lines(alloc, lines).expect(rt, "a table");
     for lines in statements {
-        let statement = statement_of(rt, alloc, lines);
-        table.apply(&statement).expect(rt, "a record");
+        rewrite(rt, alloc, &mut table, lines);
     }
     table
+}
+
+fn rewrite(rt: &impl Abort, alloc: Global, table: &mut Table, lines: &[&str]) {
+    let statement = statement_of(rt, alloc, lines);
+    drop(table.apply(&statement).expect(rt, "a record"));
+}
+
+/// Asserts that a table's canonical text is this one.
+pub fn assert_printed(rt: &impl Abort, alloc: Global, table: &Table, wanted: &[u8]) {
+    let text = printed(rt, alloc, table);
+    assert_text(rt, alloc, &text, wanted);
 }
 
 /// A table's canonical text.
@@ -170,16 +203,15 @@ impl Change {
     /// The table that these lines are once they are changed.
     pub fn loaded(&self, alloc: Global, lines: &[&'static str]) -> Result<Table, LoadFault> {
         let mut loader = Loader::new(alloc)?;
-        self.hand_in(&mut loader, lines)?;
+        let _ = self.hand_in(&mut loader, lines);
         loader.finish()
     }
 
-    /// The changed lines as one text.
-    pub fn text(&self, alloc: Global, lines: &[&'static str]) -> Result<Vec<u8>, AllocError> {
-        let mut text = text_of(alloc, self.front(lines))?;
-        push_lines(&mut text, self.others)?;
-        push_lines(&mut text, self.rest(lines))?;
-        Ok(text)
+    /// The changed lines behind a text.
+    pub fn push(&self, text: &mut Vec<u8>, lines: &[&'static str]) -> Result<(), AllocError> {
+        push_lines(text, self.front(lines))?;
+        push_lines(text, self.others)?;
+        push_lines(text, self.rest(lines))
     }
 }
 
@@ -190,49 +222,13 @@ pub fn text_of(alloc: Global, lines: &[&str]) -> Result<Vec<u8>, AllocError> {
     Ok(text)
 }
 
-fn push_lines(text: &mut Vec<u8>, lines: &[&str]) -> Result<(), AllocError> {
+/// Lines behind a text, each with its line feed.
+pub fn push_lines(text: &mut Vec<u8>, lines: &[&str]) -> Result<(), AllocError> {
     for line in lines {
         text.extend_from_slice(line.as_bytes())?;
         text.push(b'\n')?;
     }
     Ok(())
-}
-
-/// Asserts that a text isn't a table, and where its first fault is.
-pub fn assert_fault(rt: &impl Abort, alloc: Global, text: &[u8], line: u32, cause: LoadCause) {
-    let want = LoadFault { line, cause };
-    assert_same(rt, want, loaded(alloc, text).err(), Some(want));
-}
-
-/// Asserts that a table is so, shown in short.
-pub fn assert_shown(rt: &impl Abort, alloc: Global, table: &Table, want: &str) {
-    let given = shown(alloc, table).expect(rt, want);
-    assert_same(rt, "the table", given.as_str(), want);
-}
-
-/// Asserts that a table has these identifiers in order, where `<` stands for a name and `?` for UNDEFINED.
-pub fn assert_order(rt: &impl Abort, table: &Table, order: &str) {
-    assert!(rt; has_order(table, order), "another order than {order}");
-}
-
-fn has_order(table: &Table, order: &str) -> bool {
-    let mut wanted = order.chars();
-    for item in table.walk() {
-        if let WalkItem::Entry(entry) = item {
-            if wanted.next() != Some(short(entry.id())) {
-                return false;
-            }
-        }
-    }
-    wanted.next().is_none()
-}
-
-fn short(id: &Id) -> char {
-    match id {
-        Id::Char(c) => *c,
-        Id::Named(_) => '<',
-        Id::Undefined => '?',
-    }
 }
 
 /// The identifier of a text: a character, `UNDEFINED`, or else a name.

@@ -5,21 +5,29 @@
 
 use crate::grammar::{show_id, show_rules, show_weight};
 use coll_table::{DeclaredItem, Entry, Table, WalkItem};
-use std::alloc::{AllocError, Global};
+use std::alloc::AllocError;
 
-/// What a table is, read by `rules`, `declared` and `walk`.
-pub fn shown(alloc: Global, table: &Table) -> Result<String, AllocError> {
-    let mut out = String::new(alloc);
+/// Shows what a table is, read by `rules`, `declared` and `walk`.
+pub fn show(out: &mut String, table: &Table) -> Result<(), AllocError> {
     out.push_str("rules")?;
-    show_rules(&mut out, table.rules())?;
+    show_rules(out, table.rules())?;
     out.push('\n')?;
+    show_declarations(out, table)?;
+    show_walk(out, table)
+}
+
+fn show_declarations(out: &mut String, table: &Table) -> Result<(), AllocError> {
     for item in table.declared() {
-        show_declared(&mut out, &item)?;
+        show_declared(out, &item)?;
     }
+    Ok(())
+}
+
+fn show_walk(out: &mut String, table: &Table) -> Result<(), AllocError> {
     for item in table.walk() {
-        show_met(&mut out, &item)?;
+        show_met(out, &item)?;
     }
-    Ok(out)
+    Ok(())
 }
 
 fn show_declared(out: &mut String, item: &DeclaredItem<'_>) -> Result<(), AllocError> {
