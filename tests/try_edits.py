@@ -15,7 +15,6 @@ import hashlib
 import os
 import queue
 import re
-import shutil
 import signal
 import subprocess
 import sys
@@ -25,31 +24,12 @@ import time
 
 from edits import PARTS, BadEdit, applied, edits_of
 from run_program import ROOT
+from scratch_copies import copied, lanes, libraries
 
 MEMORY = os.path.join(os.environ.get("XDG_CACHE_HOME") or os.path.expanduser("~/.cache"), "collbench", "edits")
-# The most memory that a check of one edit is likely to take, in bytes.
-NEED = 3_000_000_000
 # An error in a text that the prover could not read, as it writes one: such an edit shows nothing of a contract.
 ERROR = re.compile(r"^(?:\./)?(\S+?):\d+:\d+: error: (`[^`]*`: )?(.*)", re.M)
 UNREAD = re.compile(r"is not in scope|has no field|is no name|operand is missing|expected the end|cannot continue")
-
-
-def libraries():
-    """Returns for each crate those of the repository that stand below it, lowest first."""
-    listed, below = {}, {}
-    with open(f"{ROOT}/crates.txt", encoding="utf-8") as lines:
-        for line in lines:
-            name, colon, named = line.partition("#")[0].partition(":")
-            if colon:
-                listed[name.split()[0]] = named.split()
-
-    def of(name):
-        if name not in below:
-            found = [it for library in listed[name] if library in listed for it in [*of(library), library]]
-            below[name] = list(dict.fromkeys(found))
-        return below[name]
-
-    return {name: of(name) for name in sorted(listed, key=lambda it: len(of(it)))}
 
 
 def sums(crates):
@@ -81,29 +61,6 @@ def prove(crates):
             print(f"{name} is not proved as it stands: see `rt check`", flush=True)
             return False
     return True
-
-
-def copied(room):
-    """Copies the repository with what its checks kept, which is linked, since it is only ever replaced."""
-    os.makedirs(f"{room}/crates")
-    for name in ("crates.txt", "HANDLES"):
-        shutil.copy(f"{ROOT}/{name}", room)
-    for crate in os.listdir(f"{ROOT}/crates"):
-        os.makedirs(f"{room}/crates/{crate}/out")
-        for part in PARTS:
-            if os.path.isdir(f"{ROOT}/crates/{crate}/{part}"):
-                shutil.copytree(f"{ROOT}/crates/{crate}/{part}", f"{room}/crates/{crate}/{part}")
-        for part in ("incremental", "rlib"):
-            if os.path.isdir(f"{ROOT}/crates/{crate}/out/{part}"):
-                shutil.copytree(f"{ROOT}/crates/{crate}/out/{part}", f"{room}/crates/{crate}/out/{part}", copy_function=linked)
-
-
-def linked(from_, to):
-    """Links a file, or copies it where it has to be one of its own."""
-    if os.path.basename(from_) == "rattle-last-used":
-        shutil.copy2(from_, to)
-    else:
-        os.link(from_, to)
 
 
 def module_of(crate, path):
@@ -202,13 +159,6 @@ class Run:
                 self.stopped = True
                 for it in threads:
                     it.join()
-
-
-def lanes():
-    """Returns how many edits can be tried side by side."""
-    with open("/proc/meminfo", encoding="utf-8") as file:
-        free = 1024 * int(re.search(r"MemAvailable:\s+(\d+)", file.read())[1])
-    return max(1, min(len(os.sched_getaffinity(0)), free // NEED))
 
 
 def interrupted(*_):
