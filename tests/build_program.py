@@ -10,7 +10,6 @@ import concurrent.futures
 import os
 import re
 import shutil
-import signal
 import subprocess
 import sys
 import tempfile
@@ -76,13 +75,8 @@ def all_proved(below):
     return True
 
 
-def interrupted(*_):
-    raise KeyboardInterrupt
-
-
 def main():
     print("Proving and building the program: ten minutes or more from nothing, and less after a change.", flush=True)
-    signal.signal(signal.SIGTERM, interrupted)
     try:
         built = all_proved(libraries()) and told(TOP, ["run", "--", "--help"], f"{ROOT}/crates/{TOP}") == 0
     except KeyboardInterrupt:
