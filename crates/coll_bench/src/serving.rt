@@ -15,9 +15,8 @@ ghost use Rattle.coll_replies.specs.Replies.{refused_line, refused_lines};
 ghost use Rattle.coll_units.specs.Units.{dangling as dangling_faults};
 ghost use Rattle.coll_bench.specs.Serving.{EndsWith, FinishesWith, IsCutOff, CountsEnd, CountsWrites, CountsStop, ReadsNone, write_failed as failed_write, too_long};
 
-use coll_history::RankedSession;
 use coll_lex::{LexFault, ReadStop, Sink, WriteStop};
-use coll_replies::{Fault, RunFault, answer, refuse};
+use coll_replies::{Fault, RankedSession, RunFault, answer, refuse};
 use coll_table::Table;
 use coll_units::{FaultAt, Listener, OpenBlock, SessionUnit, UnitFault};
 use std::alloc::{AllocError, Global};

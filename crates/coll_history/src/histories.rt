@@ -13,9 +13,6 @@ ghost use Rattle.coll_nodes.specs.TableLayout.{collation};
 ghost use Rattle.coll_history.specs.Kept.{added_by_all, statements_of};
 ghost use Rattle.coll_history.specs.Histories.{History, begun, judged, taken_back, put_again, undo_steps, redo_steps, numbered, table_now, RefusesStatement};
 
-#[cfg(test)]
-mod fields;
-
 use crate::history_faults::BenchFault;
 use crate::limits::MOST_REMAINING;
 use coll_syntax::Statement;

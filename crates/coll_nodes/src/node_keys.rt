@@ -116,18 +116,3 @@ impl NodeKeys {
         }
     }
 }
-
-#[test]
-fn keys_are_four_look_ups(rt: HostRuntime) {
-    let keys = NodeKeys::new(rt.alloc());
-    let NodeKeys {
-        names,
-        texts,
-        sections,
-        placed,
-    } = &keys;
-    crate::fields::is_a::<NodeNames>(names);
-    crate::fields::is_a::<NodeNames>(texts);
-    crate::fields::is_a::<NodeNames>(sections);
-    crate::fields::is_a::<NodeIds>(placed);
-}

@@ -239,11 +239,3 @@ impl Nodes {
         let _ = self.contents.capacity();
     }
 }
-
-#[test]
-fn nodes_are_rings_and_contents(rt: HostRuntime) {
-    let nodes = Nodes::new(rt.alloc());
-    let Nodes { rings, contents } = &nodes;
-    crate::fields::is_a::<Rings>(rings);
-    crate::fields::is_a::<Slab<Content>>(contents);
-}

@@ -6,7 +6,7 @@
 //! devices that they use, `long_texts` makes their longest texts, and `assertions` compares what they are given.
 //! Expected values come from POSIX.1-2017 (7.3.2), from ISO/IEC 14651 and from docs/, and never from what a program wrote.
 //! What no public call shows is proved, and has no test. The crates below have no tests of their own, since a crate with
-//! tests is proved twice, but for those that name the private fields of a session, a table and a body.
+//! tests is proved twice.
 #![tactic(auto)]
 
 #[cfg(test)]

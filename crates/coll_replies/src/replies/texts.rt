@@ -9,7 +9,7 @@ ghost use Rattle.coll_units.specs.declared.units.Request.TheVariants.{Asks};
 
 use super::{write_ended, write_refused};
 use crate::faults::Fault;
-use coll_history::RankedSession;
+use crate::ranked_sessions::RankedSession;
 use coll_key::write_key;
 use coll_lex::{Sink, TextBuf, WriteStop, write_bytes};
 use coll_syntax::Rule;

@@ -13,10 +13,9 @@ ghost use Rattle.coll_key.specs.TextOrder.{order_of};
 ghost use Rattle.coll_key.specs.WrittenKey.{has_key_form};
 ghost use Rattle.coll_key.specs.declared.key_faults.KeyFault.TheVariants.{OutOfMemory};
 ghost use Rattle.coll_history.specs.Histories.{begun, judged, taken_back, put_again, table_now, RefusesStatement};
-ghost use Rattle.coll_history.specs.Ranked.{AreRanksIfAny};
+ghost use Rattle.coll_replies.specs.Ranked.{AreRanksIfAny};
 
-use crate::histories::Session;
-use crate::history_faults::BenchFault;
+use coll_history::{BenchFault, Session};
 use coll_key::{KeyFault, Ranks, compare, key};
 use coll_syntax::Statement;
 use coll_table::Table;
@@ -33,7 +32,7 @@ pub struct RankedSession {
 
 impl Model for RankedSession {
     ghost use Rattle.coll_history.specs.Histories.{History, table_now};
-    ghost use Rattle.coll_history.specs.Ranked.{AreRanksIfAny};
+    ghost use Rattle.coll_replies.specs.Ranked.{AreRanksIfAny};
 
     ghost Value = { History };
 
