@@ -1,7 +1,7 @@
 //! What a session and a batch write: replies, and the line of the fault that ended a run.
 //!
-//! Replies are answered from a `RankedSession`, which keeps with a history the ranks of its table, for keys and comparisons. A way
-//! through the crate, each file with its definitions in `specs/`:
+//! Replies are answered from a `RankedSession`, which keeps with a history the ranks of its table, for keys and comparisons. A
+//! way through the crate, each file with its definitions in `specs/`:
 //!
 //! - `ranked_sessions`: a history, with ranks (`Ranked`);
 //! - `faults`: all faults of a session and a batch, and the one that ends a run (`Faults`);

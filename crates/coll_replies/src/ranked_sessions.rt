@@ -64,7 +64,7 @@ impl RankedSession {
         ensures unchanged { OnErr result (self.new ≡ self.old) }
     {
         let count = self.session.statement(statement)?;
-        self.ranks = None;
+        keep(&mut self.ranks, None);
         Ok(count)
     }
 
@@ -78,7 +78,7 @@ impl RankedSession {
         ensures unchanged { OnErr result (self.new ≡ self.old) }
     {
         let count = self.session.undo()?;
-        self.ranks = None;
+        keep(&mut self.ranks, None);
         Ok(count)
     }
 
@@ -92,7 +92,7 @@ impl RankedSession {
         ensures unchanged { OnErr result (self.new ≡ self.old) }
     {
         let count = self.session.redo()?;
-        self.ranks = None;
+        keep(&mut self.ranks, None);
         Ok(count)
     }
 
@@ -141,6 +141,13 @@ impl RankedSession {
     }
 }
 
+// Keeps ranks, or none, in place of what was kept. It alone drops what was.
+fn keep(kept: &mut Option<Ranks>, ranks: Option<Ranks>)
+    ensures { kept.new ≡ ranks }
+{
+    *kept = ranks;
+}
+
 // Makes the ranks of a table, unless they are there.
 fn make_ranks(alloc: Global, table: &Table, ranks: &mut Option<Ranks>) -> Result<(), AllocError>
     requires { AreRanksIfAny ranks.old (collation table.now) }
@@ -151,6 +158,6 @@ fn make_ranks(alloc: Global, table: &Table, ranks: &mut Option<Ranks>) -> Result
         return Ok(());
     }
     let made = Ranks::new(alloc, table)?;
-    *ranks = Some(made);
+    keep(ranks, Some(made));
     Ok(())
 }
