@@ -24,14 +24,14 @@ use std::alloc::{AllocError, Global};
 use std::marker::Model;
 
 /// An accepted statement, with the record that takes it back, or, once it is undone, puts it again.
-#[derive(Debug, Drop)]
+#[derive(Drop)]
 pub struct Kept {
     statement: Statement,
     change: Record,
 }
 
 /// A table, the statements that remain, and those that were taken back.
-#[derive(Debug, Drop)]
+#[derive(Drop)]
 pub struct Session {
     /// The table as the remaining statements have made it.
     table: Table,
@@ -79,9 +79,13 @@ impl Session {
         ensures unchanged { OnErr result (self.new ≡ self.old) }
     {
         if self.remaining.len() >= MOST_REMAINING {
+            drop(statement);
             return Err(BenchFault::HistoryFull);
         }
-        make_room(&mut self.remaining, &mut self.undone)?;
+        if let Err(refused) = make_room(&mut self.remaining, &mut self.undone) {
+            drop(statement);
+            return Err(BenchFault::from(refused));
+        }
         records_turn_back();
         records_fit_wider();
         records_fit_narrower();
@@ -90,7 +94,10 @@ impl Session {
         self.table.check_table();
         let change = match self.table.apply(&statement) {
             Ok(change) => change,
-            Err(refusal) => return Err(BenchFault::Table(refusal)),
+            Err(refusal) => {
+                drop(statement);
+                return Err(BenchFault::Table(refusal));
+            }
         };
         self.table.check_table();
         self.remaining.push_reserved(Kept { statement, change });
@@ -240,9 +247,7 @@ fn give_up_one(table: &mut Table, kept: Kept)
     requires loose { AreLoose table.old.layout (dropped_nodes kept.change) }
     ensures { table.new ≡ without_nodes table.old (dropped_nodes kept.change) }
 {
-    let Kept {
-        statement: _,
-        change,
-    } = kept;
+    let Kept { statement, change } = kept;
+    drop(statement);
     table.forget(change);
 }

@@ -28,7 +28,11 @@ pub(crate) fn answer_key<W: Sink>(
     ensures errors { CountsErr (W.failed out.old) (W.failed out.new) result }
 {
     match session.key(alloc, text.get()) {
-        Ok(key) => write_key_ended(out, session.session().table().rules(), &key),
+        Ok(key) => {
+            let wrote = write_key_ended(out, session.session().table().rules(), &key);
+            drop(key);
+            wrote
+        }
         Err(fault) => write_refused(out, Fault::Key(fault)),
     }
 }
