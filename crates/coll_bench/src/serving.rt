@@ -22,7 +22,7 @@ use coll_units::{FaultAt, Listener, OpenBlock, SessionUnit, UnitFault};
 use std::alloc::{AllocError, Global};
 
 /// Where a session stands between two lines.
-#[derive(Debug, Drop)]
+#[derive(Drop)]
 pub struct Desk {
     listener: Listener,
     block: Option<OpenBlock>,
@@ -36,12 +36,17 @@ impl Desk {
     pub fn new(alloc: Global, table: Table) -> Result<Desk, AllocError>
         ensures { IfOk result (λ desk. IsBegun desk (collation table)) }
     {
-        let listener = Listener::new(alloc)?;
-        Ok(Desk {
-            listener,
-            block: None,
-            session: RankedSession::new(alloc, table),
-        })
+        match Listener::new(alloc) {
+            Ok(listener) => Ok(Desk {
+                listener,
+                block: None,
+                session: RankedSession::new(alloc, table),
+            }),
+            Err(refused) => {
+                drop(table);
+                Err(refused)
+            }
+        }
     }
 
     /// Serves one physical line.
