@@ -27,14 +27,14 @@ use std::alloc::{AllocError, Global};
 use std::marker::Model;
 
 /// An accepted statement, with the record that takes it back, or, once it is undone, puts it again.
-#[derive(Debug, Drop)]
+#[derive(Drop)]
 pub struct Kept {
     statement: Statement,
     change: Record,
 }
 
 /// A table, the statements that remain, and those that were taken back.
-#[derive(Debug, Drop)]
+#[derive(Drop)]
 pub struct Session {
     /// The table as the remaining statements have made it.
     table: Table,
