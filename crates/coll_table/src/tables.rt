@@ -12,7 +12,7 @@ use std::alloc::{AllocError, Global};
 use std::marker::Model;
 
 /// A table of a collation order.
-#[derive(Debug, Drop)]
+#[derive(Drop)]
 pub struct Table {
     pub(super) rules: Rules,
     pub(super) body: Body,

@@ -4,8 +4,8 @@ use Rattle.std.proofs.lemmas.Result.{err_from_is_err_and}
 use Rattle.coll_nodes.specs.Table.{is_placed}
 use Rattle.coll_nodes.specs.TableLayout.{collation}
 use Rattle.coll_table.proofs.DeltaLines.{judging_refused, judging_more, judging_few}
-use Rattle.coll_table.proofs.tables.Table.judge_lines.Goals.{then-not-is_placed, else-not-is_placed}
-use Rattle.coll_table.proofs.tables.Table.judge_lines.Goals as goal
+use Rattle.coll_table.proofs.tables.Table.judge_each.Goals.{then-not-is_placed, else-not-is_placed}
+use Rattle.coll_table.proofs.tables.Table.judge_each.Goals as goal
 
 pub returns-in_err-judge_line-clause-err : goal.returns-in_err-judge_line-clause-err
 returns-in_err-judge_line-clause-err c =

@@ -2,7 +2,7 @@
 use Rattle.std.proofs.Common.{◌≡◌, ◌-◌, false, None}
 use Rattle.coll_lex.specs.Limits.{most_lines}
 use Rattle.coll_table.proofs.TextLoading.{OnWay}
-use Rattle.coll_table.proofs.loading.load.Given as goal
+use Rattle.coll_table.proofs.loading.read_lines.Given as goal
 
 abbrev pub invariant-lines : goal.invariant-lines
 invariant-lines g l = record {
