@@ -23,7 +23,7 @@ use coll_units::{FaultAt, Listener, OpenBlock, SessionUnit, UnitFault};
 use std::alloc::{AllocError, Global};
 
 /// Where a session stands between two lines.
-#[derive(Debug, Drop)]
+#[derive(Drop)]
 pub struct Desk {
     listener: Listener,
     block: Option<OpenBlock>,

@@ -25,7 +25,7 @@ use std::cmp::Ordering;
 use std::marker::Model;
 
 /// A session, and the ranks of its table if they were made.
-#[derive(Debug, Drop)]
+#[derive(Drop)]
 pub struct RankedSession {
     session: Session,
     ranks: Option<Ranks>,
