@@ -24,7 +24,7 @@ use std::alloc::{AllocError, Global};
 use std::marker::Model;
 
 /// The body of a table.
-#[derive(Debug, Drop)]
+#[derive(Drop)]
 pub struct Body {
     nodes: Nodes,
     /// The ring of the declarations.

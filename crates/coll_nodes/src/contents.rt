@@ -14,7 +14,7 @@ use std::alloc::AllocError;
 use std::mem;
 
 /// What a node of a table is.
-#[derive(Debug, Drop)]
+#[derive(Drop)]
 pub enum Content {
     /// A declaration, in the ring of the declarations.
     Declared(Declaration),

@@ -6,7 +6,7 @@ ghost use Rattle.coll_nodes.specs.Counting.{no_counts, counts_with, HasRoomFor, 
 use crate::contents::Content;
 
 /// How many nodes stand in rings, by what they are.
-#[derive(Clone, Copy, Debug)]
+#[derive(Clone, Copy)]
 pub(crate) struct Counts {
     /// The number of declarations.
     pub(crate) declarations: usize,

@@ -13,7 +13,7 @@ use std::alloc::{AllocError, Global};
 use std::marker::Model;
 
 /// Nodes by identifier.
-#[derive(Debug, Drop)]
+#[derive(Drop)]
 pub(crate) struct NodeIds {
     names: NodeNames,
     characters: IndexMap<char, Option<NodeId>>,

@@ -16,7 +16,7 @@ use coll_order::NodeId;
 use std::alloc::{AllocError, Global};
 
 /// Nodes by their keys.
-#[derive(Debug, Drop)]
+#[derive(Drop)]
 pub(crate) struct NodeKeys {
     /// The declarations by their names.
     pub(crate) names: NodeNames,

@@ -12,7 +12,7 @@ use std::alloc::{AllocError, Global};
 use std::marker::Model;
 
 /// Nodes by name.
-#[derive(Debug, Drop)]
+#[derive(Drop)]
 pub(crate) struct NodeNames {
     names: IndexMap<String, Option<NodeId>>,
     alloc: Global,
