@@ -124,7 +124,9 @@ impl Loader {
             drop(self);
             return Err(fault);
         }
-        let (rules, body) = self.draft.into_parts();
+        let Loader { lexer, draft, .. } = self;
+        drop(lexer);
+        let (rules, body) = draft.into_parts();
         Ok(Table { rules, body })
     }
 
