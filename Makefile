@@ -1,11 +1,12 @@
 # make        proves and builds the program, crates/collbench/out/collbench, and says how far it is
 # make demo   compiles the program without a proof, in half a minute, and runs a first session on a table of examples
 # make test   the merge gate: every proof, the edits that must fail, the tests, and runs of the program that was built
+# make edits  tries the further edits that the prover must refuse; make edits CRATES="coll_key coll_order" those of some crates
 
 TABLE := examples/first_table.txt
 SESSION := examples/first_session.txt
 
-.PHONY: program demo test
+.PHONY: program demo test edits
 
 program:
 	@tests/build_program.py
@@ -23,3 +24,6 @@ demo:
 
 test:
 	@tests/gate.py
+
+edits:
+	@tests/try_edits.py $(CRATES)

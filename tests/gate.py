@@ -1,5 +1,6 @@
 #!/usr/bin/env python3
-"""The merge gate: `rt ci`, and then the runs of the programs that it built.
+"""The merge gate: whether each edit of crates/*/more-edits/ can still be applied, `rt ci`, and then the runs of the programs that it
+built. What the prover says of those edits, `make edits` tells.
 
 usage: tests/gate.py
 
@@ -10,6 +11,7 @@ import re
 import subprocess
 import sys
 
+import edits
 import refuse_growths
 import run_program
 
@@ -38,12 +40,14 @@ def proofs_and_tests():
 
 
 def main():
+    can_be_applied = edits.run_all()
+    print(f"edits that can be applied: {can_be_applied[0]} passed, {can_be_applied[1]} failed", flush=True)
     proved = proofs_and_tests()
     ran = run_program.run_all(run_program.PROGRAM)
     print(f"runs of the program: {ran[0]} passed, {ran[1]} failed")
     refused = refuse_growths.run_all()
     print(f"runs with refused growths: {refused[0]} passed, {refused[1]} failed")
-    passed, failed = (sum(counts) for counts in zip(proved, ran, refused))
+    passed, failed = (sum(counts) for counts in zip(can_be_applied, proved, ran, refused))
     print(f"{passed} passed, {failed} failed")
     return 1 if failed or not ran[0] else 0
 

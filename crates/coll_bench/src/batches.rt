@@ -25,7 +25,7 @@ use output::write_output;
 use std::alloc::Global;
 
 /// What is asked of the table that the inputs of a batch give.
-#[derive(Debug, Drop)]
+#[derive(Drop)]
 pub enum Batch {
     /// How many entries, declarations, sections and levels it has.
     Check,
@@ -59,8 +59,16 @@ pub fn run_batch<R: Source, W: Sink>(
     ensures writes { CountsWrites (W.failed output.old) (W.failed output.new) result }
 {
     match read_inputs(alloc, table, deltas) {
-        Ok(changed) => answer_batch(alloc, &batch, &changed, output),
-        Err(ended) => Err(ended),
+        Ok(changed) => {
+            let answer = answer_batch(alloc, &batch, &changed, output);
+            drop(changed);
+            drop(batch);
+            answer
+        }
+        Err(ended) => {
+            drop(batch);
+            Err(ended)
+        }
     }
 }
 

@@ -2,8 +2,8 @@
 //!
 //! `run_session` carries the theorem of the session: what is written is the stated function of what is read. It makes the
 //! `Desk`, `serve_text` the reader, and the loop of `serve_lines` hands one physical line after another to the desk; its
-//! lemmas put together what each line does, over all that may come later. The desk and the reader are each dropped in one
-//! place, since a check pays for each field of a value at each place that drops it.
+//! lemmas put together what each line does, over all that may come later. The desk and the reader are dropped by calls,
+//! since a check pays for each field of a value at each place that drops it.
 
 ghost use Rattle.std.specs.Prelude.{◌≡◌, IfErr};
 ghost use Rattle.coll_devices.specs.LineReading.{no_line};
@@ -36,7 +36,11 @@ pub fn run_session<R: Source, W: Sink>(
     ensures writes { CountsWrites (W.failed output.old) (W.failed output.new) result }
 {
     match Desk::new(alloc, table) {
-        Ok(mut desk) => serve_text(alloc, &mut desk, input, output),
+        Ok(mut desk) => {
+            let ran = serve_text(alloc, &mut desk, input, output);
+            drop(desk);
+            ran
+        }
         Err(_) => Err(no_memory()),
     }
 }
@@ -54,7 +58,11 @@ fn serve_text<R: Source, W: Sink>(
     ensures writes { CountsWrites (W.failed output.old) (W.failed output.new) result }
 {
     match LineReader::new(alloc) {
-        Ok(mut reader) => serve_lines(alloc, desk, &mut reader, input, output),
+        Ok(mut reader) => {
+            let ran = serve_lines(alloc, desk, &mut reader, input, output);
+            drop(reader);
+            ran
+        }
         Err(_) => Err(no_memory()),
     }
 }

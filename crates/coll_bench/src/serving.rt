@@ -15,15 +15,14 @@ ghost use Rattle.coll_replies.specs.Replies.{refused_line, refused_lines};
 ghost use Rattle.coll_units.specs.Units.{dangling as dangling_faults};
 ghost use Rattle.coll_bench.specs.Serving.{EndsWith, FinishesWith, IsCutOff, CountsEnd, CountsWrites, CountsStop, ReadsNone, write_failed as failed_write, too_long};
 
-use coll_history::RankedSession;
 use coll_lex::{LexFault, ReadStop, Sink, WriteStop};
-use coll_replies::{Fault, RunFault, answer, refuse};
+use coll_replies::{Fault, RankedSession, RunFault, answer, refuse};
 use coll_table::Table;
 use coll_units::{FaultAt, Listener, OpenBlock, SessionUnit, UnitFault};
 use std::alloc::{AllocError, Global};
 
 /// Where a session stands between two lines.
-#[derive(Debug, Drop)]
+#[derive(Drop)]
 pub struct Desk {
     listener: Listener,
     block: Option<OpenBlock>,
@@ -37,12 +36,17 @@ impl Desk {
     pub fn new(alloc: Global, table: Table) -> Result<Desk, AllocError>
         ensures { IfOk result (λ desk. IsBegun desk (collation table)) }
     {
-        let listener = Listener::new(alloc)?;
-        Ok(Desk {
-            listener,
-            block: None,
-            session: RankedSession::new(alloc, table),
-        })
+        match Listener::new(alloc) {
+            Ok(listener) => Ok(Desk {
+                listener,
+                block: None,
+                session: RankedSession::new(alloc, table),
+            }),
+            Err(refused) => {
+                drop(table);
+                Err(refused)
+            }
+        }
     }
 
     /// Serves one physical line.

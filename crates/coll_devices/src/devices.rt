@@ -58,7 +58,7 @@ pub trait Sink {
 }
 
 /// A std device with a count of its errors, which begins at 0.
-#[derive(Debug, Drop)]
+#[derive(Drop)]
 pub struct Counted<T> {
     device: T,
     errors: u64,

@@ -25,7 +25,7 @@ const BUFFER_BYTES: usize = 2 * MOST_LINE_BYTES;
 /// It stops where a line has more than 65,536 bytes before its line feed or the end, and where a read answers
 /// an error; from then on each call answers the same stop, and reads nothing. Once it has met the end of the input,
 /// each call answers the end, and reads nothing. So all lines given before a read error ended in a line feed.
-#[derive(Debug, Drop)]
+#[derive(Drop)]
 pub struct LineReader {
     // Always BUFFER_BYTES long.
     buffer: Vec<u8>,

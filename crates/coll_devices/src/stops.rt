@@ -7,11 +7,11 @@
 ghost use Rattle.std.specs.Prelude.{◌≡◌};
 ghost use Rattle.coll_devices.specs.Stops.{read_stop_number, read_stop_name, write_stop_number, write_stop_name};
 
+use std::fmt;
 use thiserror::Error;
 
 /// Why no physical line could be read. A reader that has stopped answers the same stop from then on.
 #[derive(Clone, Copy, Debug, PartialEq, Eq, Error)]
-#[error("{} {}", self.number(), self.name())]
 pub enum ReadStop {
     /// More than 65,536 bytes stand before a line feed.
     LineTooLong,
@@ -41,9 +41,14 @@ impl ReadStop {
     }
 }
 
+impl fmt::Display for ReadStop {
+    fn fmt<W: fmt::Write>(&self, f: &mut fmt::Formatter<W>) -> fmt::Result {
+        write!(f, "{} {}", self.number(), self.name())
+    }
+}
+
 /// Why bytes could not be written.
 #[derive(Clone, Copy, Debug, PartialEq, Eq, Error)]
-#[error("{} {}", self.number(), self.name())]
 pub enum WriteStop {
     /// A write or a flush of the device answered an error, or a write took no byte.
     WriteFault,
@@ -66,5 +71,11 @@ impl WriteStop {
         match self {
             WriteStop::WriteFault => "WriteFault",
         }
+    }
+}
+
+impl fmt::Display for WriteStop {
+    fn fmt<W: fmt::Write>(&self, f: &mut fmt::Formatter<W>) -> fmt::Result {
+        write!(f, "{} {}", self.number(), self.name())
     }
 }

@@ -17,7 +17,7 @@ use std::alloc::{AllocError, Global};
 use std::marker::Model;
 
 /// A table that grows.
-#[derive(Debug, Drop)]
+#[derive(Drop)]
 pub(crate) struct Builder {
     body: Body,
     /// The place behind the last section.
@@ -54,12 +54,17 @@ impl Builder {
         let mut body = Body::new(alloc)?;
         body.check_layout();
         let sections = body.sections();
-        let (section, ring) = body.begin_unnamed(Place::Head(sections))?;
-        Ok(Builder {
-            body,
-            sections_end: Place::After(section),
-            entries_end: Place::Head(ring),
-        })
+        match body.begin_unnamed(Place::Head(sections)) {
+            Ok((section, ring)) => Ok(Builder {
+                body,
+                sections_end: Place::After(section),
+                entries_end: Place::Head(ring),
+            }),
+            Err(error) => {
+                drop(body);
+                Err(error)
+            }
+        }
     }
 
     /// Whether a name is declared.

@@ -32,7 +32,7 @@ use std::alloc::{AllocError, Global};
 use std::marker::Model;
 
 /// A table that is being read.
-#[derive(Debug, Drop)]
+#[derive(Drop)]
 pub struct Draft {
     // Whether an order is open.
     order_open: bool,

@@ -11,6 +11,7 @@ ghost use Rattle.coll_draft.specs.declared.load_faults.LoadCause.TheVariants.{Ou
 use coll_lex::LexFault;
 use coll_syntax::SyntaxFault;
 use std::alloc::{AllocError, AllocFailed};
+use std::fmt;
 use thiserror::Error;
 
 /// Why a table could not be loaded, and where.
@@ -44,7 +45,6 @@ impl LoadFault {
 
 /// Why a table could not be loaded.
 #[derive(Clone, Copy, Debug, PartialEq, Eq, Error)]
-#[error("{} {}", self.number(), self.name())]
 pub enum LoadCause {
     /// A line could not be lexed.
     Lex(LexFault),
@@ -137,6 +137,12 @@ impl LoadCause {
             LoadCause::ReadFault => "ReadFault",
             LoadCause::OutOfMemory => "OutOfMemory",
         }
+    }
+}
+
+impl fmt::Display for LoadCause {
+    fn fmt<W: fmt::Write>(&self, f: &mut fmt::Formatter<W>) -> fmt::Result {
+        write!(f, "{} {}", self.number(), self.name())
     }
 }
 

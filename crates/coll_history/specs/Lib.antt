@@ -2,5 +2,4 @@ pub mod Histories
 pub mod HistoryFaults
 pub mod Kept
 pub mod Limits
-pub mod Ranked
 pub mod Replay

@@ -13,9 +13,6 @@ ghost use Rattle.coll_nodes.specs.TableLayout.{collation};
 ghost use Rattle.coll_history.specs.Kept.{added_by_all, statements_of};
 ghost use Rattle.coll_history.specs.Histories.{History, begun, judged, taken_back, put_again, undo_steps, redo_steps, numbered, table_now, RefusesStatement};
 
-#[cfg(test)]
-mod fields;
-
 use crate::history_faults::BenchFault;
 use crate::limits::MOST_REMAINING;
 use coll_syntax::Statement;
@@ -27,14 +24,14 @@ use std::alloc::{AllocError, Global};
 use std::marker::Model;
 
 /// An accepted statement, with the record that takes it back, or, once it is undone, puts it again.
-#[derive(Debug, Drop)]
+#[derive(Drop)]
 pub struct Kept {
     statement: Statement,
     change: Record,
 }
 
 /// A table, the statements that remain, and those that were taken back.
-#[derive(Debug, Drop)]
+#[derive(Drop)]
 pub struct Session {
     /// The table as the remaining statements have made it.
     table: Table,
@@ -82,9 +79,13 @@ impl Session {
         ensures unchanged { OnErr result (self.new ≡ self.old) }
     {
         if self.remaining.len() >= MOST_REMAINING {
+            drop(statement);
             return Err(BenchFault::HistoryFull);
         }
-        make_room(&mut self.remaining, &mut self.undone)?;
+        if let Err(refused) = make_room(&mut self.remaining, &mut self.undone) {
+            drop(statement);
+            return Err(BenchFault::from(refused));
+        }
         records_turn_back();
         records_fit_wider();
         records_fit_narrower();
@@ -93,7 +94,10 @@ impl Session {
         self.table.check_table();
         let change = match self.table.apply(&statement) {
             Ok(change) => change,
-            Err(refusal) => return Err(BenchFault::Table(refusal)),
+            Err(refusal) => {
+                drop(statement);
+                return Err(BenchFault::Table(refusal));
+            }
         };
         self.table.check_table();
         self.remaining.push_reserved(Kept { statement, change });
@@ -243,9 +247,7 @@ fn give_up_one(table: &mut Table, kept: Kept)
     requires loose { AreLoose table.old.layout (dropped_nodes kept.change) }
     ensures { table.new ≡ without_nodes table.old (dropped_nodes kept.change) }
 {
-    let Kept {
-        statement: _,
-        change,
-    } = kept;
+    let Kept { statement, change } = kept;
+    drop(statement);
     table.forget(change);
 }

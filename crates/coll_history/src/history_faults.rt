@@ -10,11 +10,11 @@ ghost use Rattle.coll_history.specs.declared.history_faults.BenchFault.TheVarian
 
 use coll_table::Refusal;
 use std::alloc::AllocError;
+use std::fmt;
 use thiserror::Error;
 
 /// Why a history refused a statement, or had nothing to take back or to put again.
 #[derive(Clone, Copy, Debug, PartialEq, Eq, Error)]
-#[error("{} {}", self.number(), self.name())]
 pub enum BenchFault {
     /// The table refused the statement.
     Table(Refusal),
@@ -49,6 +49,12 @@ impl BenchFault {
             BenchFault::NothingToRedo => "NothingToRedo",
             BenchFault::HistoryFull => "HistoryFull",
         }
+    }
+}
+
+impl fmt::Display for BenchFault {
+    fn fmt<W: fmt::Write>(&self, f: &mut fmt::Formatter<W>) -> fmt::Result {
+        write!(f, "{} {}", self.number(), self.name())
     }
 }
 

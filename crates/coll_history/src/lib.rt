@@ -1,19 +1,16 @@
 //! The history of a table: statements, each accepted or refused, and what is taken back and put again.
 //!
-//! A `Session` keeps a table with a record for each statement that was accepted, and a `RankedSession` also the ranks of that table,
-//! for keys and comparisons. A way through the crate, each file with its definitions in `specs/`:
+//! A `Session` keeps a table with a record for each statement that was accepted. A way through the crate, each file with its
+//! definitions in `specs/`:
 //!
 //! - `histories`: a table with its history (`Histories`, `Replay`, and of what is kept `Kept`);
-//! - `ranked_sessions`: the same, with ranks (`Ranked`);
 //! - `history_faults` and `limits`: why a history refuses, and how many statements remain at most (`HistoryFaults`, `Limits`).
 #![tactic(auto)]
 
 mod histories;
 mod history_faults;
 mod limits;
-mod ranked_sessions;
 
 pub use histories::Session;
 pub use history_faults::BenchFault;
 pub use limits::{MOST_REMAINING, limits_are_stated};
-pub use ranked_sessions::RankedSession;

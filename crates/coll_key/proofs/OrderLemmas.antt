@@ -1,5 +1,5 @@
 -- The order of two texts, and the key of a text, by the levels that are done and those that are left.
-use Rattle.std.proofs.Common.{◌≡◌, ℕ, suc, ◌+◌, ◌<◌, ◌≤◌, true, List, ◌++◌, length, get_or, drop, Ordering, Less, Equal, Greater, refl, sym, ap, ◌∙◌, append-nil}
+use Rattle.std.proofs.Common.{◌≡◌, ℕ, suc, ◌+◌, ◌<◌, ◌≤◌, true, false, List, ◌++◌, length, get_or, drop, Ordering, Less, Equal, Greater, refl, sym, ap, ◌∙◌, append-nil, append_assoc, arith, [], ◌∷◌}
 use Rattle.std.specs.List.{flat_map}
 use Rattle.std.specs.Ordering.{is_ne, ordering_then}
 use Rattle.std.proofs.lemmas.List.{at_drop_more, at_drop_all}
@@ -19,6 +19,12 @@ ne_decides Less later ne = refl
 ne_decides Equal later ne = absurd cc
 ne_decides Greater later ne = refl
 
+-- and `Equal` leaves it to what comes later
+equal_passes : (order later : Ordering) → false ≡ is_ne order → ordering_then order later ≡ later
+equal_passes Less later eq = absurd cc
+equal_passes Equal later eq = refl
+equal_passes Greater later eq = absurd cc
+
 module _ {P : Type 0} (f : ℕ → P → List ℕ) (ps qs : List P) where
   -- the order by the levels of these rules, from a level on
   abbrev pub order_from : (level : ℕ) → List Rule → Ordering
@@ -31,6 +37,17 @@ module _ {P : Type 0} (f : ℕ → P → List ℕ) (ps qs : List P) where
       ∙ at_drop_more (order_from level) items level rule within
       ∙ ap (λ o. ordering_then o (order_from (suc level) (drop (level + 1) items))) (sym decides)
       ∙ ne_decides order (order_from (suc level) (drop (level + 1) items)) ne
+
+  -- the level at hand leaves it to the next one
+  pub order_goes_on : (level : ℕ) (items rules : List Rule) (rule : Rule) (order whole : Ordering) → items ≡ rules → level < length items → false ≡ is_ne order → order ≡ list_order (level_list (get_or items level rule) (f level) ps) (level_list (get_or items level rule) (f level) qs) → whole ≡ order_from level (drop level rules) → whole ≡ order_from (level + 1) (drop (level + 1) rules)
+  order_goes_on level items rules rule order whole same within eq passes so_far =
+      so_far
+      ∙ ap (λ rs. order_from level (drop level rs)) (sym same)
+      ∙ at_drop_more (order_from level) items level rule within
+      ∙ ap (λ o. ordering_then o (order_from (suc level) (drop (level + 1) items))) (sym passes)
+      ∙ equal_passes order (order_from (suc level) (drop (level + 1) items)) eq
+      ∙ ap (λ rs. order_from (suc level) (drop (level + 1) rs)) same
+      ∙ ap (λ n. order_from n (drop (level + 1) rules)) (let next : suc level ≡ level + 1 = omega arith in next)
 
   -- no level is left
   pub order_undecided : (level : ℕ) (items rules : List Rule) → items ≡ rules → length items ≤ level → order_from level (drop level rules) ≡ Equal
@@ -47,6 +64,26 @@ order_by_parts ranks table are well text other =
 key_by_parts : (ranks : RanksValue) (table : Collation) → AreRanksOf ranks table → IsWellFormed table → (text : List ℕ) → key_of table text ≡ flat_map ended (level_lists_from table.rules 0 (part_numbers ranks) (parts_of ranks text))
 unfolding key_of
 key_by_parts ranks table are well text = ap (flat_map ended) (level_lists_by_parts ranks table are well text)
+
+-- a key goes on by the list of a level, and its end
+pub key_goes_on : {P : Type 0} (f : ℕ → P → List ℕ) (level : ℕ) (items rules : List Rule) (rule : Rule) (ps kept : List P) (old grown now whole : List ℕ) → items ≡ rules → level < length items → kept ≡ ps → grown ≡ old ++ level_list (get_or items level rule) (f level) kept → now ≡ grown ++ 0 ∷ [] → whole ≡ old ++ flat_map ended (level_lists_from (drop level rules) level f ps) → whole ≡ now ++ flat_map ended (level_lists_from (drop (level + 1) rules) (level + 1) f ps)
+key_goes_on f level items rules rule ps kept old grown now whole same within keeps pushed closed so_far =
+    so_far
+    ∙ ap (λ rs. old ++ flat_map ended (level_lists_from (drop level rs) level f ps)) (sym same)
+    ∙ ap (λ lists. old ++ lists) (at_drop_more (λ rs. flat_map ended (level_lists_from rs level f ps)) items level rule within)
+    ∙ sym (append_assoc old (ended list) others)
+    ∙ ap (λ front. front ++ others) (sym (append_assoc old list (0 ∷ [])) ∙ ap (λ xs. xs ++ 0 ∷ []) (sym (pushed ∙ ap (λ qs. old ++ level_list (get_or items level rule) (f level) qs) keeps)) ∙ sym closed)
+    ∙ ap (λ rs. now ++ flat_map ended (level_lists_from (drop (level + 1) rs) (suc level) f ps)) same
+    ∙ ap (λ n. now ++ flat_map ended (level_lists_from (drop (level + 1) rules) n f ps)) next
+  where
+    list : List ℕ
+    list = level_list (get_or items level rule) (f level) ps
+
+    others : List ℕ
+    others = flat_map ended (level_lists_from (drop (level + 1) items) (suc level) f ps)
+
+    next : suc level ≡ level + 1
+    next = omega arith
 
 -- a key is whole where no level is left
 key_is_whole : {P : Type 0} (f : ℕ → P → List ℕ) (ps : List P) (level : ℕ) (items rules : List Rule) (key : List ℕ) → items ≡ rules → length items ≤ level → key ++ flat_map ended (level_lists_from (drop level rules) level f ps) ≡ key

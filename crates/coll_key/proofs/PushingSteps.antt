@@ -1,7 +1,7 @@
 -- What is put behind a key for a part, and for a level.
-use Rattle.std.proofs.Common.{◌≡◌, ℕ, Bool, List, [], ◌∷◌, ◌++◌, map, Option, Some, true, false, refl, sym, ap, ◌∙◌, append-nil, append_assoc}
+use Rattle.std.proofs.Common.{◌≡◌, ◌≤◌, ◌+◌, ℕ, Bool, List, [], ◌∷◌, ◌++◌, length, map, Option, Some, true, false, refl, sym, ap, ◌∙◌, append-nil, append_assoc, arith}
 use Rattle.coll_key.specs.LevelList.{items_of, items, directed, listed, level_list, position_of}
-use Rattle.coll_key.proofs.DirectionLemmas.{directed_numbers, map-directed, items-directed}
+use Rattle.coll_key.proofs.DirectionLemmas.{directed_numbers, map-directed, length-directed, items-directed}
 
 module _ (p b : Bool) (gaps : ℕ) (g : ℕ → ℕ) (ranks others old now : List ℕ) (first : ℕ) (begins : directed b ranks ≡ first ∷ directed b others) (pushed : (list : List ℕ) → old ++ position_of p gaps ++ g first ∷ list ≡ now ++ list) where
   -- the first number of a part is put behind a key
@@ -19,6 +19,19 @@ module _ (p b : Bool) (gaps : ℕ) (g : ℕ → ℕ) (ranks others old now : Lis
       nothing : (b : Bool) → directed {X = ℕ} b [] ≡ []
       nothing true = refl
       nothing false = refl
+
+module _ {P : Type 0} (b : Bool) (left later : List P) (part : P) (begins : directed b left ≡ part ∷ directed b later) (gaps after : ℕ) where
+  -- with one part more behind a key the gaps and the parts that are left are no more than before
+  pub fewer_left : (most : ℕ) → after ≤ gaps + 1 → gaps + length left ≤ most → after + length later ≤ most
+  fewer_left most few within = omega (arith, few, within, ap length begins, length-directed b left, length-directed b later)
+
+  -- what is put behind a key for one part more, and what is left, is the whole
+  pub level_goes_on : (p : Bool) (f : P → List ℕ) (ns whole old now : List ℕ) → ns ≡ f part → ((rest : List (Option ℕ)) → old ++ listed p gaps (items_of (directed b ns) ++ rest) ≡ now ++ listed p after rest) → whole ≡ old ++ listed p gaps (items (directed_numbers b f) (directed b left)) → whole ≡ now ++ listed p after (items (directed_numbers b f) (directed b later))
+  level_goes_on p f ns whole old now numbers pushed so_far =
+      so_far
+      ∙ ap (λ ps. old ++ listed p gaps (items (directed_numbers b f) ps)) begins
+      ∙ ap (λ ms. old ++ listed p gaps (items_of (directed b ms) ++ items (directed_numbers b f) (directed b later))) (sym numbers)
+      ∙ pushed (items (directed_numbers b f) (directed b later))
 
 -- all parts of a level are put behind a key
 pub level_ends : {P : Type 0} (p b : Bool) (gaps : ℕ) (f : P → List ℕ) (parts left : List P) (old now : List ℕ) → old ++ listed p 0 (items (directed_numbers b f) (directed b parts)) ≡ now ++ listed p gaps (items (directed_numbers b f) (directed b left)) → directed b left ≡ [] → now ≡ old ++ level_list (record { backward = b; position = p }) f parts

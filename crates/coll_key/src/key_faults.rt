@@ -8,11 +8,11 @@ ghost use Rattle.coll_key.specs.KeyFaults.{fault_number, fault_name};
 ghost use Rattle.coll_key.specs.declared.key_faults.KeyFault.TheVariants.{OutOfMemory};
 
 use std::alloc::{AllocError, AllocFailed};
+use std::fmt;
 use thiserror::Error;
 
 /// Why a text has no key.
 #[derive(Clone, Copy, Debug, PartialEq, Eq, Error)]
-#[error("{} {}", self.number(), self.name())]
 pub enum KeyFault {
     /// A text has more characters than `MOST_TEXT_CHARACTERS`.
     TextTooLong,
@@ -39,6 +39,12 @@ impl KeyFault {
             KeyFault::TextTooLong => "TextTooLong",
             KeyFault::OutOfMemory => "OutOfMemory",
         }
+    }
+}
+
+impl fmt::Display for KeyFault {
+    fn fmt<W: fmt::Write>(&self, f: &mut fmt::Formatter<W>) -> fmt::Result {
+        write!(f, "{} {}", self.number(), self.name())
     }
 }
 

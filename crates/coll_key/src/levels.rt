@@ -124,11 +124,9 @@ pub(crate) fn number_of(rank: u32, added: u32) -> u64
 fn split_towards<X: Copy>(list: &[X], backward: bool) -> Option<(X, &[X])>
     ensures { MatchOption result (directed backward list.now ≡ []) (λ found. directed backward list.now ≡ found.0 ∷ directed backward found.1.now) }
 {
-    if backward {
-        let (last, others) = list.split_last()?;
-        Some((*last, others))
-    } else {
-        let (first, others) = list.split_first()?;
-        Some((*first, others))
+    match (backward, list) {
+        (true, [others @ .., last]) => Some((*last, others)),
+        (false, [first, others @ ..]) => Some((*first, others)),
+        _ => None,
     }
 }

@@ -163,26 +163,10 @@ fn write_line<W: Sink>(
     ensures sent { Sends (W.taken out.old) (W.taken out.new) (ranked_line ranks.now rank id.now weights.now) result }
     ensures errors { CountsErr (W.failed out.old) (W.failed out.new) result }
 {
-    write_ranked_id(out, ranks, rank, id)?;
-    write_levels(out, ranks, rank, id, weights)
-}
-
-// Writes a rank, and the spelling of its identifier.
-fn write_ranked_id<W: Sink>(out: &mut W, ranks: &Ranks, rank: u32, id: &Id) -> Result<(), WriteStop>
-    ensures sent { Sends (W.taken out.old) (W.taken out.new) (ranked_id ranks.now rank id.now) result }
-    ensures errors { CountsErr (W.failed out.old) (W.failed out.new) result }
-{
     write_number(out, u64::from(rank))?;
-    write_spaced_id(out, ranks, id)
-}
-
-// Writes a space, and the spelling of an identifier.
-fn write_spaced_id<W: Sink>(out: &mut W, ranks: &Ranks, id: &Id) -> Result<(), WriteStop>
-    ensures sent { Sends (W.taken out.old) (W.taken out.new) (spaced (spelled_with ranks.now id.now)) result }
-    ensures errors { CountsErr (W.failed out.old) (W.failed out.new) result }
-{
     write_bytes(out, b" ")?;
-    write_id(out, ranks, id)
+    write_id(out, ranks, id)?;
+    write_levels(out, ranks, rank, id, weights)
 }
 
 // Writes the words of all weights, and the line's end.
@@ -228,29 +212,13 @@ fn write_string<W: Sink>(out: &mut W, ranks: &Ranks, name: &str) -> Result<(), W
     }
 }
 
-// Writes the first line.
+// Writes the first line: the version, the number of levels and that of entries.
 fn write_head<W: Sink>(out: &mut W, table: &Table) -> Result<(), WriteStop>
     ensures sent { Sends (W.taken out.old) (W.taken out.new) (listing_head (collation table.now)) result }
     ensures errors { CountsErr (W.failed out.old) (W.failed out.new) result }
 {
     write_bytes(out, b"compiled 1")?;
-    write_counts(out, table)
-}
-
-// Writes the number of levels and that of entries, and the line's end.
-fn write_counts<W: Sink>(out: &mut W, table: &Table) -> Result<(), WriteStop>
-    ensures sent { Sends (W.taken out.old) (W.taken out.new) (counts_bytes (collation table.now)) result }
-    ensures errors { CountsErr (W.failed out.old) (W.failed out.new) result }
-{
     write_spaced_number(out, table.rules().len() as u64)?;
-    write_count_ended(out, table)
-}
-
-// Writes the number of entries, and the line's end.
-fn write_count_ended<W: Sink>(out: &mut W, table: &Table) -> Result<(), WriteStop>
-    ensures sent { Sends (W.taken out.old) (W.taken out.new) (count_bytes (collation table.now)) result }
-    ensures errors { CountsErr (W.failed out.old) (W.failed out.new) result }
-{
     write_spaced_number(out, table.len() as u64)?;
     write_bytes(out, b"\n")
 }
@@ -274,14 +242,6 @@ fn write_rule_line<W: Sink>(out: &mut W, rule: Rule) -> Result<(), WriteStop>
     ensures errors { CountsErr (W.failed out.old) (W.failed out.new) result }
 {
     write_bytes(out, b"rule ")?;
-    write_rule_ended(out, rule)
-}
-
-// Writes a rule, and the line's end.
-fn write_rule_ended<W: Sink>(out: &mut W, rule: Rule) -> Result<(), WriteStop>
-    ensures sent { Sends (W.taken out.old) (W.taken out.new) (encode_utf8_all (spelled_rule rule []) ++ line_feed ∷ []) result }
-    ensures errors { CountsErr (W.failed out.old) (W.failed out.new) result }
-{
     write_rule(out, rule)?;
     write_bytes(out, b"\n")
 }

@@ -9,11 +9,11 @@ ghost use Rattle.coll_lex.specs.Faults.{lex_fault_number, lex_fault_name, ends_t
 ghost use Rattle.coll_lex.specs.declared.faults.LexFault.TheVariants.{OutOfMemory};
 
 use std::alloc::{AllocError, AllocFailed};
+use std::fmt;
 use thiserror::Error;
 
 /// Why a line could not be lexed.
 #[derive(Clone, Copy, Debug, PartialEq, Eq, Error)]
-#[error("{} {}", self.number(), self.name())]
 pub enum LexFault {
     /// A physical line isn't UTF-8.
     NotUtf8,
@@ -82,6 +82,12 @@ impl LexFault {
             LexFault::TooManyLines => "TooManyLines",
             LexFault::OutOfMemory => "OutOfMemory",
         }
+    }
+}
+
+impl fmt::Display for LexFault {
+    fn fmt<W: fmt::Write>(&self, f: &mut fmt::Formatter<W>) -> fmt::Result {
+        write!(f, "{} {}", self.number(), self.name())
     }
 }
 

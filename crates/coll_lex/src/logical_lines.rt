@@ -18,7 +18,7 @@ use std::marker::Model;
 use std::str;
 
 // A logical line that goes on in the next physical line.
-#[derive(Debug, Drop)]
+#[derive(Drop)]
 struct Open {
     // The number of its first physical line.
     number: u32,
@@ -100,7 +100,7 @@ pub fn lexers_hold_text()
 {}
 
 /// Cuts physical lines into logical lines, and these into tokens.
-#[derive(Debug, Drop)]
+#[derive(Drop)]
 pub struct Lexer {
     special: Chars,
     count: u32,

@@ -19,7 +19,7 @@ use crate::{Chars, LexFault, ListBuf, Piece, TextBuf, Token};
 use std::alloc::Global;
 
 /// Where in a line the scan is.
-#[derive(Clone, Copy, Debug, PartialEq, Eq)]
+#[derive(Clone, Copy, PartialEq, Eq)]
 pub(crate) enum Mode {
     /// Outside symbols and strings, perhaps in a word.
     Plain,
@@ -34,7 +34,7 @@ pub(crate) enum Mode {
 }
 
 /// The state of the scan of a logical line.
-#[derive(Debug, Drop)]
+#[derive(Drop)]
 pub(crate) struct Scan {
     // The mode that the next character is met in.
     mode: Mode,

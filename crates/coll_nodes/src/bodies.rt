@@ -24,7 +24,7 @@ use std::alloc::{AllocError, Global};
 use std::marker::Model;
 
 /// The body of a table.
-#[derive(Debug, Drop)]
+#[derive(Drop)]
 pub struct Body {
     nodes: Nodes,
     /// The ring of the declarations.
@@ -329,22 +329,4 @@ impl Body {
         self.put_in(node, place);
         Ok(node)
     }
-}
-
-// A body stores these fields and no other: no room for another body, so a table keeps no old one.
-#[test]
-fn a_body_stores_nodes_rings_look_ups_and_counts(rt: HostRuntime) {
-    let body = Body::new(rt.alloc()).expect(&rt, "a body");
-    let Body {
-        nodes,
-        declarations,
-        sections,
-        keys,
-        counts,
-    } = &body;
-    crate::fields::is_a::<Nodes>(nodes);
-    crate::fields::is_a::<NodeKeys>(keys);
-    crate::fields::is_a::<Counts>(counts);
-    crate::fields::is_a::<RingId>(declarations);
-    crate::fields::is_a::<RingId>(sections);
 }

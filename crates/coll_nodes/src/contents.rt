@@ -14,7 +14,7 @@ use std::alloc::AllocError;
 use std::mem;
 
 /// What a node of a table is.
-#[derive(Debug, Drop)]
+#[derive(Drop)]
 pub enum Content {
     /// A declaration, in the ring of the declarations.
     Declared(Declaration),
@@ -73,32 +73,4 @@ fn copied_if_any(name: &Option<TextBuf>) -> Result<Option<TextBuf>, AllocError>
             Ok(Some(copy))
         }
     }
-}
-
-// What a content is made of.
-#[cfg(test)]
-fn assert_parts(content: &Content) {
-    match content {
-        Content::Declared(Declaration::Symbol(name)) => {
-            crate::fields::is_a::<TextBuf>(name);
-        }
-        Content::Declared(Declaration::Element { name, text }) => {
-            crate::fields::is_a::<TextBuf>(name);
-            crate::fields::is_a::<TextBuf>(text);
-        }
-        Content::Begun { name, ring } => {
-            crate::fields::is_a::<Option<TextBuf>>(name);
-            crate::fields::is_a::<RingId>(ring);
-        }
-        Content::Placed(Entry { id, weights }) => {
-            crate::fields::is_a::<coll_syntax::Id>(id);
-            crate::fields::is_a::<ListBuf<Weight>>(weights);
-        }
-    }
-}
-
-#[test]
-fn a_content_is_a_declaration_a_section_or_an_entry(rt: HostRuntime) {
-    let name = String::new(rt.alloc());
-    assert_parts(&Content::Declared(Declaration::Symbol(TextBuf::new(name))));
 }

@@ -20,8 +20,9 @@ impl Clone for Entry {
     ghost is_clone = { λ entry copy. copy ≡ entry };
 
     fn clone(&self) -> Result<Entry, AllocError> {
-        let id = self.id.clone()?;
-        let weights = self.weights.clone()?;
+        let Entry { id, weights } = self;
+        let id = id.clone()?;
+        let weights = weights.clone()?;
         Ok(Entry { id, weights })
     }
 }

@@ -19,8 +19,6 @@ mod contents;
 mod counts;
 mod declarations;
 mod entries;
-#[cfg(test)]
-mod fields;
 mod limits;
 mod met_nodes;
 mod node_ids;

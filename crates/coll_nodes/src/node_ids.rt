@@ -13,7 +13,7 @@ use std::alloc::{AllocError, Global};
 use std::marker::Model;
 
 /// Nodes by identifier.
-#[derive(Debug, Drop)]
+#[derive(Drop)]
 pub(crate) struct NodeIds {
     names: NodeNames,
     characters: IndexMap<char, Option<NodeId>>,
@@ -96,25 +96,17 @@ impl NodeIds {
     pub(crate) fn try_copy(&self, alloc: Global) -> Result<NodeIds, AllocError>
         ensures { IfOk result (λ copy. copy ≡ self.now) }
     {
-        let names = self.names.try_copy(alloc)?;
-        let characters = self.characters.clone()?;
+        let NodeIds {
+            names,
+            characters,
+            undefined,
+        } = self;
+        let names = names.try_copy(alloc)?;
+        let characters = characters.clone()?;
         Ok(NodeIds {
             names,
             characters,
-            undefined: self.undefined,
+            undefined: *undefined,
         })
     }
-}
-
-#[test]
-fn an_identifier_leads_to_a_node_or_to_none(rt: HostRuntime) {
-    let found = NodeIds::new(rt.alloc());
-    let NodeIds {
-        names,
-        characters,
-        undefined,
-    } = &found;
-    crate::fields::is_a::<NodeNames>(names);
-    crate::fields::is_a::<Option<NodeId>>(undefined);
-    crate::fields::is_a::<IndexMap<char, Option<NodeId>>>(characters);
 }

@@ -16,7 +16,7 @@ use coll_order::NodeId;
 use std::alloc::{AllocError, Global};
 
 /// Nodes by their keys.
-#[derive(Debug, Drop)]
+#[derive(Drop)]
 pub(crate) struct NodeKeys {
     /// The declarations by their names.
     pub(crate) names: NodeNames,
@@ -115,19 +115,4 @@ impl NodeKeys {
             self.sections.set(name, node);
         }
     }
-}
-
-#[test]
-fn keys_are_four_look_ups(rt: HostRuntime) {
-    let keys = NodeKeys::new(rt.alloc());
-    let NodeKeys {
-        names,
-        texts,
-        sections,
-        placed,
-    } = &keys;
-    crate::fields::is_a::<NodeNames>(names);
-    crate::fields::is_a::<NodeNames>(texts);
-    crate::fields::is_a::<NodeNames>(sections);
-    crate::fields::is_a::<NodeIds>(placed);
 }

@@ -12,7 +12,7 @@ use std::alloc::{AllocError, Global};
 use std::marker::Model;
 
 /// Nodes by name.
-#[derive(Debug, Drop)]
+#[derive(Drop)]
 pub(crate) struct NodeNames {
     names: IndexMap<String, Option<NodeId>>,
     alloc: Global,
@@ -84,7 +84,8 @@ impl NodeNames {
     pub(crate) fn try_copy(&self, alloc: Global) -> Result<NodeNames, AllocError>
         ensures { IfOk result (λ copy. copy ≡ self.now) }
     {
-        let names = self.names.clone()?;
+        let NodeNames { names, alloc: _ } = self;
+        let names = names.clone()?;
         Ok(NodeNames { names, alloc })
     }
 
@@ -98,12 +99,4 @@ impl NodeNames {
         self.names.insert(text, node)?;
         Ok(())
     }
-}
-
-#[test]
-fn a_name_leads_to_a_node_or_to_none(rt: HostRuntime) {
-    let found = NodeNames::new(rt.alloc());
-    let NodeNames { names, alloc } = &found;
-    crate::fields::is_a::<IndexMap<String, Option<NodeId>>>(names);
-    crate::fields::is_a::<Global>(alloc);
 }

@@ -18,7 +18,7 @@ use std::alloc::{AllocError, Global};
 use std::marker::Model;
 
 /// Nodes in rings, each with a content.
-#[derive(Debug, Drop)]
+#[derive(Drop)]
 pub(crate) struct Nodes {
     rings: Rings,
     /// What each node is, by its tag.
@@ -238,12 +238,4 @@ impl Nodes {
     {
         let _ = self.contents.capacity();
     }
-}
-
-#[test]
-fn nodes_are_rings_and_contents(rt: HostRuntime) {
-    let nodes = Nodes::new(rt.alloc());
-    let Nodes { rings, contents } = &nodes;
-    crate::fields::is_a::<Rings>(rings);
-    crate::fields::is_a::<Slab<Content>>(contents);
 }

@@ -20,7 +20,7 @@ use std::marker::Model;
 ///
 /// A node carries a tag, and is linked, standing in one ring, or loose. Only `new_ring`, `new_node` and `try_copy`
 /// take memory; where it is refused, they answer `AllocError`, and nothing has changed.
-#[derive(Debug, Drop)]
+#[derive(Drop)]
 pub struct Rings {
     store: Store,
     /// The ring steps taken, modulo 2 to the power 64.

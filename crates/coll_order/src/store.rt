@@ -14,7 +14,6 @@ use slab::Slab;
 use std::alloc::{AllocError, Global};
 
 /// A node: its tag, its ring and its two neighbours.
-#[derive(Debug)]
 pub(crate) struct Node {
     pub(crate) tag: usize,
     /// The ring in which the node stands. Of a loose node it says nothing.
@@ -36,7 +35,7 @@ impl Clone for Node {
 }
 
 /// The nodes by their names, and for each ring its first node and the place behind its last.
-#[derive(Debug, Drop)]
+#[derive(Drop)]
 pub(crate) struct Store {
     pub(crate) nodes: Slab<Node>,
     pub(crate) heads: Vec<Option<NodeId>>,

@@ -22,19 +22,7 @@ pub(crate) fn write_entry<W: Sink>(out: &mut W, entry: &Entry) -> Result<(), Wri
 {
     let id = entry.id();
     write_id(out, id)?;
-    write_weights_ended(out, id, entry.weights())
-}
-
-// Writes the weights behind an identifier, and the line's end.
-fn write_weights_ended<W: Sink>(
-    out: &mut W,
-    owner: &Id,
-    weights: &[Weight],
-) -> Result<(), WriteStop>
-    ensures sent { Sends (W.taken out.old) (W.taken out.new) (encode_utf8_all (weights_behind owner.now weights.now) ++ line_feed ∷ []) result }
-    ensures errors { CountsErr (W.failed out.old) (W.failed out.new) result }
-{
-    write_weights_behind_id(out, owner, weights)?;
+    write_weights_behind_id(out, id, entry.weights())?;
     write_bytes(out, b"\n")
 }
 
@@ -150,14 +138,6 @@ fn write_string<W: Sink>(out: &mut W, ids: &[Id]) -> Result<(), WriteStop>
     ensures errors { CountsErr (W.failed out.old) (W.failed out.new) result }
 {
     write_bytes(out, b"\"")?;
-    write_ids_closed(out, ids)
-}
-
-// Writes identifiers, and the mark that closes a string.
-fn write_ids_closed<W: Sink>(out: &mut W, ids: &[Id]) -> Result<(), WriteStop>
-    ensures sent { Sends (W.taken out.old) (W.taken out.new) (flat_map id_bytes ids.now ++ quotation_mark ∷ []) result }
-    ensures errors { CountsErr (W.failed out.old) (W.failed out.new) result }
-{
     write_ids(out, ids)?;
     write_bytes(out, b"\"")
 }

@@ -67,32 +67,8 @@ fn write_element<W: Sink>(out: &mut W, name: &str, text: &str) -> Result<(), Wri
     ensures errors { CountsErr (W.failed out.old) (W.failed out.new) result }
 {
     write_bytes(out, b"collating-element ")?;
-    write_element_named(out, name, text)
-}
-
-// Writes the name of a collating element, and its string.
-fn write_element_named<W: Sink>(out: &mut W, name: &str, text: &str) -> Result<(), WriteStop>
-    ensures sent { Sends (W.taken out.old) (W.taken out.new) (element_bytes (chars name.now) (chars text.now)) result }
-    ensures errors { CountsErr (W.failed out.old) (W.failed out.new) result }
-{
     write_symbol(out, name)?;
-    write_from(out, text)
-}
-
-// Writes the string of a collating element, and the line's end.
-fn write_from<W: Sink>(out: &mut W, text: &str) -> Result<(), WriteStop>
-    ensures sent { Sends (W.taken out.old) (W.taken out.new) (codes " from \"" ++ text_bytes (chars text.now)) result }
-    ensures errors { CountsErr (W.failed out.old) (W.failed out.new) result }
-{
     write_bytes(out, b" from \"")?;
-    write_text_ended(out, text)
-}
-
-// Writes the characters of a string, the mark that closes it, and the line's end.
-fn write_text_ended<W: Sink>(out: &mut W, text: &str) -> Result<(), WriteStop>
-    ensures sent { Sends (W.taken out.old) (W.taken out.new) (text_bytes (chars text.now)) result }
-    ensures errors { CountsErr (W.failed out.old) (W.failed out.new) result }
-{
     write_text(out, text)?;
     write_bytes(out, b"\"\n")
 }
@@ -116,14 +92,6 @@ pub fn write_rules_line<W: Sink>(out: &mut W, rules: &[Rule]) -> Result<(), Writ
     ensures errors { CountsErr (W.failed out.old) (W.failed out.new) result }
 {
     write_bytes(out, b"order_start ")?;
-    write_rules_ended(out, rules)
-}
-
-// Writes the rules, and the line's end.
-fn write_rules_ended<W: Sink>(out: &mut W, rules: &[Rule]) -> Result<(), WriteStop>
-    ensures sent { Sends (W.taken out.old) (W.taken out.new) (encode_utf8_all (spelled_joined spelled_rule rules.now []) ++ line_feed ∷ []) result }
-    ensures errors { CountsErr (W.failed out.old) (W.failed out.new) result }
-{
     write_rules(out, rules)?;
     write_bytes(out, b"\n")
 }

@@ -1,7 +1,7 @@
 -- Lists of ranks that stand one behind another: what one more does, and where a list stands.
-use Rattle.std.proofs.Common.{◌≡◌, ◌≤◌, ◌<◌, ℕ, zero, suc, ◌-◌, List, [], ◌∷◌, ◌++◌, length, get_or, take, drop, sym, ap, ap₂, subst, ◌∙◌, refl, arith, length-append, length-drop}
-use Rattle.std.proofs.lemmas.List.{take-append-le, drop-append-le}
-use Rattle.std.proofs.Math.Seq.{drop-append_seam, take-length, take-append_seam}
+use Rattle.std.proofs.Common.{◌≡◌, ◌≤◌, ◌<◌, ℕ, zero, suc, ◌+◌, ◌-◌, List, [], ◌∷◌, ◌++◌, length, get_or, take, drop, sym, ap, ap₂, subst, ◌∙◌, refl, arith, length-append, length-drop, append_assoc, map}
+use Rattle.std.proofs.lemmas.List.{take-append-le, drop-append-le, map-append}
+use Rattle.std.proofs.Math.Seq.{drop-append_seam, take-length, take-append_seam, take-suc}
 use Rattle.coll_ranks.specs.RankLists.{lists_from, AreEnds, IsLonger}
 
 -- the first list begins within the ranks
@@ -62,6 +62,19 @@ ends_within start ranks (end ∷ ends) (suc place) h l = ends_within end ranks e
 -- what goes on behind a list is cut off again
 pub cut_off : (ranks now : List ℕ) → IsLonger ranks now → take (length ranks) now ≡ ranks
 cut_off ranks now h = ap (take (length ranks)) h.1 ∙ take-append_seam ranks h.0
+
+-- the number of one member more is put behind those of the members before it
+pub one_further : {X : Type 0} (number : X → ℕ) (old before now : List ℕ) (xs : List X) (place : ℕ) (x : X) → place < length xs → x ≡ get_or xs place x → before ≡ old ++ map number (take place xs) → now ≡ before ++ number x ∷ [] → now ≡ old ++ map number (take (place + 1) xs)
+one_further number old before now xs place x within is so_far put =
+    let next : place + 1 ≡ suc place = omega arith in
+    let taken : take (place + 1) xs ≡ take place xs ++ x ∷ [] = ap (λ n. take n xs) next ∙ (take-suc xs place x within ∙ ap (λ y. take place xs ++ y ∷ []) (sym is)) in
+    put ∙ (ap (λ ns. ns ++ number x ∷ []) so_far
+    ∙ (append_assoc old (map number (take place xs)) (number x ∷ [])
+    ∙ ap (λ ns. old ++ ns) (sym (map-append number (take place xs) (x ∷ [])) ∙ ap (map number) (sym taken))))
+
+-- what goes on behind a list that goes on behind another goes on behind that one
+pub longer_still : (old more before now : List ℕ) → before ≡ old ++ more → IsLonger before now → IsLonger old now
+longer_still old more before now so_far h = (more ++ h.0, h.1 ∙ (ap (λ ns. ns ++ h.0) so_far ∙ append_assoc old more h.0))
 
 -- a list is put behind others, and ends where the ranks do
 pub put_behind : (ranks ends more now last : List ℕ) (end : ℕ) → AreEnds 0 ranks ends → now ≡ ranks ++ more → end ≡ length now → last ≡ ends ++ end ∷ [] → lists_from 0 now last ≡ lists_from 0 ranks ends ++ more ∷ []

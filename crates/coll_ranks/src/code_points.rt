@@ -9,7 +9,7 @@ use std::alloc::{AllocError, Global};
 use std::marker::Model;
 
 /// Numbers by code point.
-#[derive(Debug, Drop)]
+#[derive(Drop)]
 pub(crate) struct CodePoints {
     numbers: Vec<u32>,
 }

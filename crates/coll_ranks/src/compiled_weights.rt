@@ -15,7 +15,7 @@ use std::alloc::{AllocError, Global};
 use std::marker::Model;
 
 /// Lists of ranks, one behind another.
-#[derive(Debug, Drop)]
+#[derive(Drop)]
 pub(crate) struct RankLists {
     ranks: Vec<u32>,
     /// Where each list ends, which is where the next one begins.
@@ -173,7 +173,7 @@ fn push_rank(ranks: &mut Vec<u32>, ids: &IdRanks, id: &Id) -> Result<(), AllocEr
 }
 
 /// The weights of entries as ranks.
-#[derive(Debug, Drop)]
+#[derive(Drop)]
 pub(crate) struct CompiledWeights {
     levels: usize,
     lists: RankLists,

@@ -16,7 +16,7 @@ use std::alloc::{AllocError, Global};
 use std::marker::Model;
 
 /// Ranks by identifier.
-#[derive(Debug, Drop)]
+#[derive(Drop)]
 pub(crate) struct IdRanks {
     names: NameNumbers,
     characters: CodePoints,

@@ -8,7 +8,7 @@ use std::alloc::{AllocError, Global};
 use std::marker::Model;
 
 /// Numbers by name.
-#[derive(Debug, Drop)]
+#[derive(Drop)]
 pub(crate) struct NameNumbers {
     numbers: IndexMap<String, u32>,
     alloc: Global,

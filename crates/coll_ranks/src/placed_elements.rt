@@ -4,8 +4,8 @@
 //! stands among how many elements from the first on the next one of the chain is the last. So a text is compared with those alone
 //! that begin as it does.
 
-ghost use Rattle.std.specs.Prelude.{◌≡◌, ◌<◌, ◌≤◌, ◌++◌, ◌∷◌, [], ℕ, List, Option, None, false, chars, length, option_copied, IfOk};
-ghost use Rattle.coll_ranks.specs.ElementChains.{Finds, first_of, longer_of};
+ghost use Rattle.std.specs.Prelude.{◌≡◌, ◌<◌, ◌≤◌, ◌++◌, ◌∷◌, [], ℕ, List, Option, None, false, chars, length, option_copied, vec_len, IfOk, OnOk};
+ghost use Rattle.coll_ranks.specs.ElementChains.{AreSoundElements, Finds, elements_in, first_of, longer_of, ranked_element};
 ghost use Rattle.coll_ranks.specs.Ranks.{RankedElement};
 
 use crate::code_points::CodePoints;
@@ -15,7 +15,7 @@ use std::alloc::{AllocError, Global};
 use std::marker::Model;
 
 /// A collating element that is placed.
-#[derive(Debug, Drop)]
+#[derive(Drop)]
 pub(crate) struct PlacedElement {
     name: TextBuf,
     text: TextBuf,
@@ -27,7 +27,7 @@ pub(crate) struct PlacedElement {
 }
 
 /// The collating elements that are placed, in the order of their declarations.
-#[derive(Debug, Drop)]
+#[derive(Drop)]
 pub(crate) struct PlacedElements {
     elements: Vec<PlacedElement>,
     /// For each character, among how many elements the first of its chain is the last.
@@ -103,13 +103,15 @@ impl PlacedElements {
             mut places,
             alloc,
         } = self;
-        let place = elements.len() as u32;
-        let first = first_character(text);
-        let among = chains.get(first);
-        let element = PlacedElement::new(alloc, name, text, rank, among)?;
-        chains.set(first, place + 1)?;
-        places.set(name, place)?;
-        elements.push(element)?;
+        put(
+            alloc,
+            &mut elements,
+            &mut chains,
+            &mut places,
+            name,
+            text,
+            rank,
+        )?;
         Ok(PlacedElements {
             elements,
             chains,
@@ -191,6 +193,31 @@ impl PlacedElement {
             rest,
         })
     }
+}
+
+// Puts an element, whose string has a character, behind others, to which its chain and its name lead.
+fn put(
+    alloc: Global,
+    elements: &mut Vec<PlacedElement>,
+    chains: &mut CodePoints,
+    places: &mut NameNumbers,
+    name: &str,
+    text: &str,
+    rank: u32,
+) -> Result<(), AllocError>
+    requires some { 0 < length (chars text.now) }
+    requires few { vec_len elements.old < 1_000_000 }
+    ensures sound { OnOk result (AreSoundElements elements.old.items chains.old places.old → AreSoundElements elements.new.items chains.new places.new) }
+    ensures element { OnOk result (elements_in elements.new.items ≡ elements_in elements.old.items ++ ranked_element (chars name.now) (chars text.now) rank ∷ []) }
+{
+    let place = elements.len() as u32;
+    let first = first_character(text);
+    let among = chains.get(first);
+    chains.set(first, place + 1)?;
+    places.set(name, place)?;
+    let element = PlacedElement::new(alloc, name, text, rank, among)?;
+    elements.push(element)?;
+    Ok(())
 }
 
 // The longer of two elements that a text may begin with; the second, where they are as long.

@@ -66,8 +66,25 @@ fn rank_met(ids: &mut IdRanks, item: WalkItem<'_>, rank: u32) -> Result<u32, All
     }
 }
 
-/// The elements of a table that are placed, with their ranks.
-pub(crate) fn ranked_elements(
+/// The elements of a table that are placed, with their ranks, and its compiled weights.
+pub(crate) fn elements_and_weights(
+    alloc: Global,
+    table: &Table,
+    ids: &IdRanks,
+) -> Result<(PlacedElements, CompiledWeights), AllocError>
+    requires { AreIdRanksOf ids.now (collation table.now) }
+    ensures elements { IfOk result (λ made. made.0 ≡ map (ranked_in (collation table.now)) (elements_placed (collation table.now))) }
+    ensures levels { IfOk result (λ made. made.1.levels ≡ length (collation table.now).rules) }
+    ensures lists { IfOk result (λ made. made.1.lists ≡ compiled_weights (collation table.now)) }
+    ensures own { IfOk result (λ made. made.1.own ≡ map is_own (undefined_weights (collation table.now))) }
+{
+    let elements = ranked_elements(alloc, table, ids)?;
+    let weights = compiled(alloc, table, ids)?;
+    Ok((elements, weights))
+}
+
+// The elements of a table that are placed, with their ranks.
+fn ranked_elements(
     alloc: Global,
     table: &Table,
     ids: &IdRanks,
@@ -116,12 +133,8 @@ fn put_declared(
     }
 }
 
-/// The compiled weights of a table.
-pub(crate) fn compiled(
-    alloc: Global,
-    table: &Table,
-    ids: &IdRanks,
-) -> Result<CompiledWeights, AllocError>
+// The compiled weights of a table.
+fn compiled(alloc: Global, table: &Table, ids: &IdRanks) -> Result<CompiledWeights, AllocError>
     requires { AreIdRanksOf ids.now (collation table.now) }
     ensures levels { IfOk result (λ compiled. compiled.levels ≡ length (collation table.now).rules) }
     ensures lists { IfOk result (λ compiled. compiled.lists ≡ compiled_weights (collation table.now)) }

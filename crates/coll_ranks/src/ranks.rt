@@ -12,7 +12,7 @@ use crate::compiled_weights::CompiledWeights;
 use crate::id_ranks::IdRanks;
 use crate::parts::{FirstPart, Part, PartWeight};
 use crate::placed_elements::PlacedElements;
-use crate::ranking::{compiled, ranked_elements, ranked_ids};
+use crate::ranking::{elements_and_weights, ranked_ids};
 use coll_lex::TextBuf;
 use coll_syntax::Id;
 use coll_table::Table;
@@ -20,7 +20,7 @@ use std::alloc::{AllocError, Global};
 use std::marker::Model;
 
 /// The ranks of a table's identifiers, and its weights as ranks.
-#[derive(Debug, Drop)]
+#[derive(Drop)]
 pub struct Ranks {
     ids: IdRanks,
     elements: PlacedElements,
@@ -45,8 +45,7 @@ impl Ranks {
         ensures { IfOk result (λ ranks. AreRanksOf ranks (collation table.now)) }
     {
         let ids = ranked_ids(alloc, table)?;
-        let elements = ranked_elements(alloc, table, &ids)?;
-        let weights = compiled(alloc, table, &ids)?;
+        let (elements, weights) = elements_and_weights(alloc, table, &ids)?;
         Ok(Ranks {
             ids,
             elements,

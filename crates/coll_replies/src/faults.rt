@@ -12,11 +12,11 @@ use coll_lex::{LexFault, ReadStop, WriteStop};
 use coll_syntax::SyntaxFault;
 use coll_table::{LoadCause, LoadFault, Refusal};
 use coll_units::{DeltaCause, DeltaFault, UnitFault};
+use std::fmt;
 use thiserror::Error;
 
 /// Why a line, a block or a statement of a session was refused, or why a run ended.
 #[derive(Clone, Copy, Debug, PartialEq, Eq, Error)]
-#[error("{} {}", self.number(), self.name())]
 pub enum Fault {
     /// No further line could be read.
     Read(ReadStop),
@@ -83,6 +83,12 @@ impl Fault {
             Fault::UnknownCommand => "UnknownCommand",
             Fault::NoBlock => "NoBlock",
         }
+    }
+}
+
+impl fmt::Display for Fault {
+    fn fmt<W: fmt::Write>(&self, f: &mut fmt::Formatter<W>) -> fmt::Result {
+        write!(f, "{} {}", self.number(), self.name())
     }
 }
 

@@ -1,7 +1,9 @@
 //! What a session and a batch write: replies, and the line of the fault that ended a run.
 //!
-//! A way through the crate, each file with its definitions in `specs/`:
+//! Replies are answered from a `RankedSession`, which keeps with a history the ranks of its table, for keys and comparisons. A
+//! way through the crate, each file with its definitions in `specs/`:
 //!
+//! - `ranked_sessions`: a history, with ranks (`Ranked`);
 //! - `faults`: all faults of a session and a batch, and the one that ends a run (`Faults`);
 //! - `replies`: the reply to each unit (`Replies`, and of a table's listing `Listing`), with `past` for `:history` and `texts` for
 //!   `:key` and `:compare`; a batch writes its counts, keys and orders by the same functions;
@@ -9,9 +11,11 @@
 #![tactic(auto)]
 
 mod faults;
+mod ranked_sessions;
 mod replies;
 mod reports;
 
 pub use faults::{Fault, RunFault};
+pub use ranked_sessions::RankedSession;
 pub use replies::{answer, refuse, write_checked, write_key_ended, write_order};
 pub use reports::{exit_status, write_fault};

@@ -19,7 +19,8 @@ mod past;
 mod texts;
 
 use crate::faults::Fault;
-use coll_history::{BenchFault, RankedSession};
+use crate::ranked_sessions::RankedSession;
+use coll_history::BenchFault;
 use coll_lex::{Sink, WriteStop, write_bytes, write_symbol};
 use coll_syntax::Id;
 use coll_table::{Entry, Table, WalkItem, write_id};

@@ -8,11 +8,11 @@ ghost use Rattle.coll_syntax.specs.SyntaxFaults.{syntax_fault_number, syntax_fau
 ghost use Rattle.coll_syntax.specs.declared.syntax_faults.SyntaxFault.TheVariants.{OutOfMemory};
 
 use std::alloc::{AllocError, AllocFailed};
+use std::fmt;
 use thiserror::Error;
 
 /// Why a line could not be read as one of a table or a delta.
 #[derive(Clone, Copy, Debug, PartialEq, Eq, Error)]
-#[error("{} {}", self.number(), self.name())]
 pub enum SyntaxFault {
     /// The first token begins no line of this kind.
     UnknownStatement,
@@ -75,6 +75,12 @@ impl SyntaxFault {
             SyntaxFault::BadOperand => "BadOperand",
             SyntaxFault::OutOfMemory => "OutOfMemory",
         }
+    }
+}
+
+impl fmt::Display for SyntaxFault {
+    fn fmt<W: fmt::Write>(&self, f: &mut fmt::Formatter<W>) -> fmt::Result {
+        write!(f, "{} {}", self.number(), self.name())
     }
 }
 

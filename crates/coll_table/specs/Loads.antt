@@ -8,6 +8,7 @@ use Rattle.coll_devices.specs.declared.stops.ReadStop.{ReadStop}
 use Rattle.coll_devices.specs.declared.stops.ReadStop.TheVariants as stop
 use Rattle.coll_nodes.specs.TableLayout.{TableValue, collation}
 use Rattle.coll_draft.specs.Drafts.{at_line}
+use Rattle.coll_draft.specs.Loading.{LoaderState, loaded}
 use Rattle.coll_draft.specs.Reading.{Outcome, Decided, Undecided, outcome_of, reads}
 use Rattle.coll_syntax.specs.declared.syntax_faults.SyntaxFault.TheVariants as syntax
 use Rattle.coll_draft.specs.declared.load_faults.LoadFault.{LoadFault}
@@ -47,6 +48,10 @@ FaultSays cause line text left = reads text ≡ Err (record { line = line; cause
 abbrev pub Loads : Option (List ℕ) → Option (List ℕ) → Result TableValue LoadFault → Type 0
 Loads old new (Ok table) = (text : List ℕ) → old ≡ Some text → reads text ≡ Ok (collation table)
 Loads old new (Err fault) = (text : List ℕ) → old ≡ Some text → FaultSays fault.cause fault.line text new
+
+-- what a loader stores answers what the text that the device had is
+abbrev pub AnswersText : Option (List ℕ) → LoaderState → Type 0
+AnswersText old s = (text : List ℕ) → old ≡ Some text → reads text ≡ loaded s
 
 -- the count of errors, one higher where a read error is the cause
 abbrev pub counted_by : LoadCause → ℕ → ℕ

@@ -5,10 +5,11 @@
 //! first, and what it means to the second; here lines are passed on, and faults get the number of their line. A fault is stored
 //! where it is met, in `line` alone.
 
-ghost use Rattle.std.specs.Prelude.{◌≡◌, ◌≢◌, false, None, Ok, Err, Some, IsTrue, IfOk, IfErr, OnOk, OnErr};
+ghost use Rattle.std.specs.Prelude.{◌≡◌, ◌≢◌, true, false, None, Ok, Err, Some, IsTrue, IfOk, IfErr, IfSome, IfNone, OnOk, OnErr};
 ghost use Rattle.coll_lex.specs.LogicalLines.{number_of, fed, outside, takes_memory};
 ghost use Rattle.coll_lex.specs.Names.{AreTokens};
 ghost use Rattle.coll_syntax.specs.TableLines.{table_line};
+ghost use Rattle.coll_draft.specs.Drafts.{table_of};
 ghost use Rattle.coll_draft.specs.Loading.{LinesAreRead};
 ghost use Rattle.coll_table.specs.SoundLoaders.{IsLineCause, MayTake};
 ghost use Rattle.coll_draft.specs.declared.load_faults.LoadFault.{LoadFault};
@@ -119,14 +120,31 @@ impl Loader {
         ensures cause { IfErr result (λ fault. IsLineCause fault.cause) }
         ensures well_formed { IfOk result (λ table. IsWellFormed (collation table)) }
     {
-        if let Some(fault) = self.fault {
+        if let Some(fault) = self.end_fault() {
+            drop(self);
             return Err(fault);
         }
-        if self.ended {
-            let (rules, body) = self.draft.into_parts();
-            return Ok(Table { rules, body });
+        let Loader { lexer, draft, .. } = self;
+        drop(lexer);
+        let (rules, body) = draft.into_parts();
+        Ok(Table { rules, body })
+    }
+
+    /// The fault that is stored, or that of a text that ends here; none where the category has ended.
+    #[tactic(auto, unfolding(coll_draft::specs::Loading::loaded))]
+    fn end_fault(&self) -> Option<LoadFault>
+        ensures fault { IfSome result (λ fault. loaded self.now ≡ Err fault) }
+        ensures none { IfNone result (loaded self.now ≡ Ok (table_of self.now.draft)) }
+        ensures ended { IfNone result (self.now.ended ≡ true) }
+        ensures cause { IfSome result (λ fault. IsLineCause fault.cause) }
+    {
+        if let Some(fault) = self.fault {
+            return Some(fault);
         }
-        Err(self.early_end())
+        if self.ended {
+            return None;
+        }
+        Some(self.early_end())
     }
 
     /// The fault of a text that ends here, before its category does.

@@ -4,8 +4,10 @@
 //! category as logical lines, each judged from the lines accepted before it, and the first line at fault decides. The lines
 //! come from a reader of physical lines, and a `Loader` takes them. A new cause of a refused load is a case of `reads` first.
 
-ghost use Rattle.std.specs.Prelude.{◌≡◌, IfOk};
-ghost use Rattle.coll_table.specs.Loads.{Loads, CountsFault, stop_fault};
+ghost use Rattle.std.specs.Prelude.{◌≡◌, Err, IfOk, IfErr, OnOk};
+ghost use Rattle.coll_devices.specs.LineReading.{no_line};
+ghost use Rattle.coll_table.specs.Loads.{Loads, AnswersText, CountsFault, stop_fault};
+ghost use Rattle.coll_draft.specs.Loading.{first_loader};
 ghost use Rattle.coll_draft.specs.Reading.{TextsAreWellFormed};
 ghost use Rattle.coll_nodes.specs.TableLayout.{collation};
 ghost use Rattle.coll_nodes.specs.WellFormed.{IsWellFormed};
@@ -26,15 +28,46 @@ pub fn load<R: Source>(alloc: Global, input: &mut R) -> Result<Table, LoadFault>
     ensures errors { CountsFault (R.failed input.old) (R.failed input.new) result }
 {
     let mut loader = Loader::new(alloc)?;
+    match read_text(alloc, input, &mut loader) {
+        Ok(()) => loader.finish(),
+        Err(fault) => {
+            drop(loader);
+            Err(fault)
+        }
+    }
+}
+
+/// Hands the lines of a text to a new loader, up to the end of the category.
+fn read_text<R: Source>(alloc: Global, input: &mut R, loader: &mut Loader) -> Result<(), LoadFault>
+    requires { loader.old ≡ first_loader }
+    ensures read { OnOk result (AnswersText (R.left input.old) loader.new) }
+    ensures fault { IfErr result (λ fault. Loads (R.left input.old) (R.left input.new) (Err fault)) }
+    ensures errors { CountsFault (R.failed input.old) (R.failed input.new) result }
+{
     let mut reader = LineReader::new(alloc)?;
+    read_lines(input, &mut reader, loader)
+}
+
+/// Hands the lines that a new reader gives to a new loader, up to the end of the category.
+fn read_lines<R: Source>(
+    input: &mut R,
+    reader: &mut LineReader,
+    loader: &mut Loader,
+) -> Result<(), LoadFault>
+    requires reader { reader.old ≡ no_line }
+    requires loader { loader.old ≡ first_loader }
+    ensures read { OnOk result (AnswersText (R.left input.old) loader.new) }
+    ensures fault { IfErr result (λ fault. Loads (R.left input.old) (R.left input.new) (Err fault)) }
+    ensures errors { CountsFault (R.failed input.old) (R.failed input.new) result }
+{
     'lines: loop {
         match reader.advance(input) {
             Ok(true) => loader.line(reader.line())?,
-            Ok(false) => return loader.finish(),
+            Ok(false) => return Ok(()),
             Err(stop) => return Err(stop_fault(loader.next_number(), stop)),
         }
         if loader.finished() {
-            return loader.finish();
+            return Ok(());
         }
     }
 }

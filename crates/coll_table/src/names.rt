@@ -12,7 +12,7 @@ use std::alloc::{AllocError, Global};
 use std::marker::Model;
 
 /// Names, each once.
-#[derive(Debug, Drop)]
+#[derive(Drop)]
 pub struct Names {
     names: IndexSet<String>,
     alloc: Global,

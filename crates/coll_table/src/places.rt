@@ -13,7 +13,7 @@ use std::alloc::{AllocError, Global};
 use std::marker::Model;
 
 /// Identifiers, each once.
-#[derive(Debug, Drop)]
+#[derive(Drop)]
 pub struct Places {
     names: Names,
     chars: IndexSet<char>,

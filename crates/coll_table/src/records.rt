@@ -10,7 +10,7 @@ use coll_order::{NodeId, Place};
 use coll_syntax::Weight;
 
 /// What a statement did with one node of a table.
-#[derive(Debug, Drop)]
+#[derive(Drop)]
 pub struct Item {
     /// The node: an entry, a section or a declaration.
     pub node: NodeId,
@@ -23,7 +23,7 @@ pub struct Item {
 }
 
 /// What undoes a statement, or does it again.
-#[derive(Debug, Drop)]
+#[derive(Drop)]
 pub struct Record {
     /// Whether the statement is undone.
     pub undone: bool,

@@ -8,11 +8,11 @@ ghost use Rattle.coll_table.specs.Refusals.{refusal_number, refusal_name};
 ghost use Rattle.coll_table.specs.declared.refusals.Refusal.TheVariants.{OutOfMemory};
 
 use std::alloc::{AllocError, AllocFailed};
+use std::fmt;
 use thiserror::Error;
 
 /// Why a statement was refused. The table is then as it was.
 #[derive(Clone, Copy, Debug, PartialEq, Eq, Error)]
-#[error("{} {}", self.number(), self.name())]
 pub enum Refusal {
     /// A name is declared already.
     DeclaredTwice,
@@ -87,6 +87,12 @@ impl Refusal {
             Refusal::NoWeights => "NoWeights",
             Refusal::OutOfMemory => "OutOfMemory",
         }
+    }
+}
+
+impl fmt::Display for Refusal {
+    fn fmt<W: fmt::Write>(&self, f: &mut fmt::Formatter<W>) -> fmt::Result {
+        write!(f, "{} {}", self.number(), self.name())
     }
 }
 

@@ -12,7 +12,7 @@ use std::alloc::{AllocError, Global};
 use std::marker::Model;
 
 /// A table of a collation order.
-#[derive(Debug, Drop)]
+#[derive(Drop)]
 pub struct Table {
     pub(super) rules: Rules,
     pub(super) body: Body,
@@ -149,18 +149,4 @@ impl Table {
     {
         self.body.is_symbol(id)
     }
-}
-
-// Says that something is of a type.
-#[cfg(test)]
-fn is_a<T>(_: &T) {}
-
-// A table stores its rules and its body, and no other table.
-#[test]
-fn a_table_stores_its_rules_and_its_body(rt: HostRuntime) {
-    let lines = b"LC_COLLATE\norder_start\norder_end\nEND LC_COLLATE\n".as_slice();
-    let table = crate::load(rt.alloc(), &mut coll_lex::Counted::new(lines)).expect(&rt, "a table");
-    let Table { rules, body } = &table;
-    is_a::<Rules>(rules);
-    is_a::<Body>(body);
 }

@@ -7,7 +7,7 @@
 //! Expected values come from POSIX.1-2017 (7.3.2), from ISO/IEC 14651 and from docs/, and never from what a program wrote.
 //! What only takes a text and gives one is a run of the program, in tests/runs, unless it is a worked example.
 //! What no public call shows is proved, and has no test. The crates below have no tests of their own, since a crate with
-//! tests is proved twice, but for those that name the private fields of a session, a table and a body.
+//! tests is proved twice.
 #![tactic(auto)]
 
 #[cfg(test)]

@@ -6,6 +6,7 @@
 ghost use Rattle.std.specs.Prelude.{◌≡◌};
 
 use crate::unit_faults::UnitFault;
+use std::fmt;
 use thiserror::Error;
 
 /// Why a delta file could not be read, and where.
@@ -38,7 +39,6 @@ impl DeltaFault {
 
 /// Why a delta file could not be read.
 #[derive(Clone, Copy, Debug, PartialEq, Eq, Error)]
-#[error("{} {}", self.number(), self.name())]
 pub enum DeltaCause {
     /// A line or a block is refused.
     Unit(UnitFault),
@@ -82,5 +82,11 @@ impl DeltaCause {
             DeltaCause::NoCategory => false,
             DeltaCause::NoEnd => false,
         }
+    }
+}
+
+impl fmt::Display for DeltaCause {
+    fn fmt<W: fmt::Write>(&self, f: &mut fmt::Formatter<W>) -> fmt::Result {
+        write!(f, "{} {}", self.number(), self.name())
     }
 }

@@ -42,7 +42,7 @@ pub struct StatementAt {
 ///
 /// What is answered to the lines of a file, handed in one after another, and then to its end, is what the file says
 /// (`delta_lines_are_read`).
-#[derive(Debug, Drop)]
+#[derive(Drop)]
 pub struct DeltaReader {
     listener: Listener,
     // Whether the category has begun.
@@ -137,10 +137,20 @@ impl DeltaReader {
 
     /// Ends the file: the fault that is stored, or that of a file that ends here, if its category hasn't ended. It takes no
     /// memory.
-    #[tactic(auto, unfolding(crate::specs::DeltaReading::delta_end))]
     pub fn finish(self) -> Result<(), DeltaFault>
         ensures ok { OnOk result (delta_end self ≡ None) }
         ensures err { IfErr result (λ fault. delta_end self ≡ Some fault) }
+    {
+        let answer = self.at_end();
+        drop(self);
+        answer
+    }
+
+    // What is answered where the file ends here.
+    #[tactic(auto, unfolding(crate::specs::DeltaReading::delta_end))]
+    fn at_end(&self) -> Result<(), DeltaFault>
+        ensures ok { OnOk result (delta_end self.now ≡ None) }
+        ensures err { IfErr result (λ fault. delta_end self.now ≡ Some fault) }
     {
         if let Some(fault) = self.fault {
             return Err(fault);
@@ -152,11 +162,11 @@ impl DeltaReader {
     }
 
     // The fault of a file that ends here, before its category does.
-    fn early_end(mut self) -> DeltaFault
-        ensures { result ≡ early_end self self.lexer.line }
+    fn early_end(&self) -> DeltaFault
+        ensures { result ≡ early_end self.now self.now.lexer.line }
     {
         let next = self.listener.next_number();
-        if let Some(line) = self.listener.finish() {
+        if let Some(line) = self.listener.pending() {
             let fault = UnitFault::Lex(LexFault::DanglingEscape);
             return file_fault(FaultAt { line, fault });
         }
@@ -241,9 +251,12 @@ impl DeltaReader {
             None => self.take_accepted(hearing),
             Some(at) => {
                 if at.fault.is_want_of_memory() {
+                    drop(hearing);
                     return Err(file_fault(at));
                 }
-                self.take_fault(&hearing.line.heard, at)
+                let answer = self.take_fault(&hearing.line.heard, at);
+                drop(hearing);
+                answer
             }
         }
     }
@@ -292,6 +305,7 @@ impl DeltaReader {
         let ends = ends_category(&hearing.line.heard);
         let (next, unit) = take_line(self.alloc, self.block.take(), hearing);
         if leaves_want(order, &next, &unit) {
+            drop((next, unit));
             return Err(file_fault(FaultAt {
                 line: number,
                 fault: UnitFault::Lex(LexFault::OutOfMemory),

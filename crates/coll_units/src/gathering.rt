@@ -13,7 +13,7 @@ use std::alloc::{AllocError, Global};
 use std::marker::Model;
 
 /// What a block has gathered: its target and its order lines so far.
-#[derive(Debug, Drop)]
+#[derive(Drop)]
 pub struct Gathering {
     target: Id,
     lines: Vec<OrderLine>,

@@ -26,7 +26,7 @@ use std::alloc::{AllocError, Global};
 use std::marker::Model;
 
 /// A logical line that was heard, and what its first physical line begins with.
-#[derive(Debug, Drop)]
+#[derive(Drop)]
 pub struct Hearing {
     pub(crate) line: HeardLine,
     pub(crate) opening: Opening,
@@ -45,7 +45,7 @@ impl Hearing {
 }
 
 /// A lexer that hears the lines of a session or of a delta file, and knows what the logical line that is open begins with.
-#[derive(Debug, Drop)]
+#[derive(Drop)]
 pub struct Listener {
     lexer: Lexer,
     /// What the logical line that is open begins with, where one is.
@@ -136,6 +136,13 @@ impl Listener {
         let continued = self.lexer.pending();
         let _ = self.lexer.finish();
         continued
+    }
+
+    /// The number of the line that is left open to be continued, if one is.
+    pub(crate) fn pending(&self) -> Option<u32>
+        ensures { result ≡ pending self.now }
+    {
+        self.lexer.pending()
     }
 
     // What the logical line begins with that this physical line belongs to.

@@ -21,7 +21,7 @@ use coll_syntax::{Id, OrderLine, Statement, SyntaxFault};
 use std::alloc::{AllocError, Global};
 
 /// What the lines of a block amount to so far.
-#[derive(Debug, Drop)]
+#[derive(Drop)]
 pub enum SoFar {
     /// Nothing is wrong with it.
     Gathers(Gathering),
@@ -63,7 +63,7 @@ impl SoFar {
 }
 
 /// A block that is open.
-#[derive(Debug, Drop)]
+#[derive(Drop)]
 pub struct OpenBlock {
     /// The number of the line that opened it.
     line: u32,
@@ -302,7 +302,10 @@ fn inside(alloc: Global, block: OpenBlock, number: u32, heard: Heard) -> AfterLi
     ensures proper { IfSome result.1 (λ unit. IsProperRequest unit.request) }
 {
     match heard {
-        Heard::Stops(_) => (None, None),
+        Heard::Stops(_) => {
+            drop(block);
+            (None, None)
+        }
         Heard::Refused(opening, fault) => {
             let at = FaultAt {
                 line: number,
@@ -310,7 +313,10 @@ fn inside(alloc: Global, block: OpenBlock, number: u32, heard: Heard) -> AfterLi
             };
             refused_inside(block, opening, at)
         }
-        Heard::Asks(_) => (Some(block), Some(refused(number, UnitFault::BlockOpen))),
+        Heard::Asks(command) => {
+            drop(command);
+            (Some(block), Some(refused(number, UnitFault::BlockOpen)))
+        }
         Heard::Misasks(_) => (Some(block), Some(refused(number, UnitFault::BlockOpen))),
         Heard::Opens(target) => {
             let next = OpenBlock::begin(alloc, number, target);
@@ -318,7 +324,8 @@ fn inside(alloc: Global, block: OpenBlock, number: u32, heard: Heard) -> AfterLi
         }
         Heard::Ends => (None, Some(block.unit())),
         Heard::Orders(_) => unreachable!(),
-        Heard::Apart(_) => {
+        Heard::Apart(line) => {
+            drop(line);
             let at = FaultAt {
                 line: number,
                 fault: UnitFault::BlockOpen,

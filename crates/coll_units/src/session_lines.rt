@@ -42,7 +42,7 @@ pub enum Opening {
 }
 
 /// An accepted line of a delta that no block takes.
-#[derive(Debug, Drop)]
+#[derive(Drop)]
 pub enum ApartLine {
     /// A statement of one line, which is no order line: a declaration, or the move of a section.
     States(Statement),
@@ -53,7 +53,7 @@ pub enum ApartLine {
 }
 
 /// What a logical line is.
-#[derive(Debug, Drop)]
+#[derive(Drop)]
 pub enum Heard {
     /// A line too long, a line too many, or one that is to be continued where the text ends: no line follows.
     Stops(LexFault),
@@ -74,7 +74,7 @@ pub enum Heard {
 }
 
 /// A logical line, with its number.
-#[derive(Debug, Drop)]
+#[derive(Drop)]
 pub struct HeardLine {
     /// The number of its first physical line, from 1.
     pub number: u32,

@@ -33,7 +33,10 @@ impl Listener {
             return Ok(None);
         };
         match hearing.stop() {
-            Some(fault) => Err(fault),
+            Some(fault) => {
+                drop(hearing);
+                Err(fault)
+            }
             None => {
                 let (next, unit) = take_line(alloc, block.take(), hearing);
                 *block = next;

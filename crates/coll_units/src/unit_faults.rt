@@ -8,11 +8,11 @@ ghost use Rattle.coll_units.specs.UnitFaults.{unit_fault_number, unit_fault_name
 
 use coll_lex::LexFault;
 use coll_syntax::SyntaxFault;
+use std::fmt;
 use thiserror::Error;
 
 /// Why a line, a block or a command is refused before any table is looked at.
 #[derive(Clone, Copy, Debug, PartialEq, Eq, Error)]
-#[error("{} {}", self.number(), self.name())]
 pub enum UnitFault {
     /// The lexer refused a line.
     Lex(LexFault),
@@ -66,5 +66,11 @@ impl UnitFault {
             UnitFault::Syntax(SyntaxFault::OutOfMemory) => true,
             _ => false,
         }
+    }
+}
+
+impl fmt::Display for UnitFault {
+    fn fmt<W: fmt::Write>(&self, f: &mut fmt::Formatter<W>) -> fmt::Result {
+        write!(f, "{} {}", self.number(), self.name())
     }
 }

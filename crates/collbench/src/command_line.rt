@@ -34,7 +34,7 @@ const EXAMPLES: &str = "Examples:
   collbench session base.txt < lines.txt       a reply to each line";
 
 /// A subcommand.
-#[derive(Clone, Copy, Debug, PartialEq, Eq)]
+#[derive(Clone, Copy)]
 pub enum Subcommand {
     /// Counts what a table has.
     Check,
@@ -51,7 +51,7 @@ pub enum Subcommand {
 }
 
 /// What is done with a table.
-#[derive(Debug, Drop)]
+#[derive(Drop)]
 pub enum Task {
     /// It is read, rewritten by delta files, and answered from once.
     Batch(Batch),
@@ -60,7 +60,7 @@ pub enum Task {
 }
 
 /// What the words of a command line ask for.
-#[derive(Debug, Drop)]
+#[derive(Drop)]
 pub struct Request<'a> {
     /// What is done with the table.
     pub task: Task,
@@ -69,7 +69,7 @@ pub struct Request<'a> {
 }
 
 /// Why the words of a command line ask for nothing.
-#[derive(Debug, Drop)]
+#[derive(Drop)]
 pub enum Unasked {
     /// Help was asked for, or the words aren't those of a subcommand. The text is `clap`'s.
     Told(clap::Error),
@@ -96,9 +96,35 @@ impl From<clap::Error> for Unasked {
 pub fn read_words<'a>(alloc: Global, words: &'a [String]) -> Result<Request<'a>, Unasked>
     ensures { IfOk result (λ request. 0 < vec_len request.files) }
 {
-    let mut command = command(alloc)?;
-    let matches = command.try_get_matches_from_mut(words)?;
-    match request_of(alloc, &matches)? {
+    match command(alloc) {
+        Ok(mut command) => read_by(alloc, &mut command, words),
+        Err(refused) => Err(Unasked::from(refused)),
+    }
+}
+
+// Reads words by what may stand on a command line.
+fn read_by<'a>(
+    alloc: Global,
+    command: &mut Command<'a>,
+    words: &'a [String],
+) -> Result<Request<'a>, Unasked>
+    ensures { IfOk result (λ request. 0 < vec_len request.files) }
+{
+    match command.try_get_matches_from_mut(words) {
+        Ok(matches) => asked_for(alloc, command, &matches),
+        Err(error) => Err(Unasked::from(error)),
+    }
+}
+
+// What the words that were found ask for.
+fn asked_for<'a>(
+    alloc: Global,
+    command: &mut Command<'a>,
+    matches: &ArgMatches<'a>,
+) -> Result<Request<'a>, Unasked>
+    ensures { IfOk result (λ request. 0 < vec_len request.files) }
+{
+    match request_of(alloc, matches)? {
         Some(request) => Ok(request),
         None => Err(Unasked::Told(command.error(
             ErrorKind::MissingSubcommand,
@@ -107,29 +133,51 @@ pub fn read_words<'a>(alloc: Global, words: &'a [String]) -> Result<Request<'a>,
     }
 }
 
-// What may stand on a command line.
+// What may stand on a command line. Each call hands the command on, so that nothing else is held where memory is refused.
 fn command<'a>(alloc: Global) -> Result<Command<'a>, AllocError> {
     let check = "Counts the entries, declarations, sections and levels of a table";
     let print = "Prints a table, in a form that can be read again";
     let compile = "Prints the rank of each entry of a table, and its weights as ranks";
-    let key = "Prints the sort key of each text, one a line";
-    let compare = "Compares two texts: less, equal or greater";
-    let session = "Reads the lines of a session from standard input, and replies to each";
-    Command::new(alloc, "collbench")
+    let command = Command::new(alloc, "collbench")
         .about("A workbench for collation tables in LC_COLLATE source form")
         .after_help(EXAMPLES)
         .subcommand_required(true)
-        .arg_required_else_help(true)
-        .subcommand(over_deltas(alloc, Subcommand::Check, check)?)?
-        .subcommand(over_deltas(alloc, Subcommand::Print, print)?)?
-        .subcommand(over_deltas(alloc, Subcommand::Compile, compile)?)?
-        .subcommand(over_table(alloc, Subcommand::Key, key)?.arg(texts(alloc))?)?
-        .subcommand(
-            over_table(alloc, Subcommand::Compare, compare)?
-                .arg(text(alloc, FIRST))?
-                .arg(text(alloc, SECOND))?,
-        )?
-        .subcommand(over_table(alloc, Subcommand::Session, session)?)
+        .arg_required_else_help(true);
+    let command = with_deltas(alloc, command, Subcommand::Check, check)?;
+    let command = with_deltas(alloc, command, Subcommand::Print, print)?;
+    let command = with_deltas(alloc, command, Subcommand::Compile, compile)?;
+    with_texts(alloc, command)
+}
+
+// The command with the subcommands that take texts, and with that of a session.
+fn with_texts<'a>(alloc: Global, command: Command<'a>) -> Result<Command<'a>, AllocError> {
+    let key = "Prints the sort key of each text, one a line";
+    let compare = "Compares two texts: less, equal or greater";
+    let session = "Reads the lines of a session from standard input, and replies to each";
+    let command = with(command, over_texts(alloc, key))?;
+    let command = with(command, over_two_texts(alloc, compare))?;
+    with(command, over_table(alloc, Subcommand::Session, session))
+}
+
+// The command with a subcommand that takes a table and delta files, perhaps none, and what help says of it.
+fn with_deltas<'a>(
+    alloc: Global,
+    command: Command<'a>,
+    subcommand: Subcommand,
+    about: &'a str,
+) -> Result<Command<'a>, AllocError> {
+    with(command, over_deltas(alloc, subcommand, about))
+}
+
+// The command with a subcommand, if that was made.
+fn with<'a>(
+    command: Command<'a>,
+    made: Result<Command<'a>, AllocError>,
+) -> Result<Command<'a>, AllocError> {
+    match made {
+        Ok(subcommand) => command.subcommand(subcommand),
+        Err(refused) => Err(refused),
+    }
 }
 
 // A subcommand that takes a table, and what help says of it.
@@ -138,23 +186,43 @@ fn over_table<'a>(
     subcommand: Subcommand,
     about: &'a str,
 ) -> Result<Command<'a>, AllocError> {
-    let table = Arg::new(alloc, TABLE)
-        .required(true)
-        .help("The file of the table");
     let name: &'a str = subcommand.name();
-    Command::new(alloc, name).about(about).arg(table)
+    Command::new(alloc, name).about(about).arg(table(alloc))
 }
 
-// A subcommand that takes a table and delta files, perhaps none, and what help says of it.
+// A subcommand that takes a table and delta files.
 fn over_deltas<'a>(
     alloc: Global,
     subcommand: Subcommand,
     about: &'a str,
 ) -> Result<Command<'a>, AllocError> {
-    let deltas = Arg::new(alloc, DELTA).num_args(0..).help(
+    over_table(alloc, subcommand, about)?.arg(deltas(alloc))
+}
+
+// The subcommand that takes a table and texts.
+fn over_texts<'a>(alloc: Global, about: &'a str) -> Result<Command<'a>, AllocError> {
+    over_table(alloc, Subcommand::Key, about)?.arg(texts(alloc))
+}
+
+// The subcommand that takes a table and two texts.
+fn over_two_texts<'a>(alloc: Global, about: &'a str) -> Result<Command<'a>, AllocError> {
+    over_table(alloc, Subcommand::Compare, about)?
+        .arg(text(alloc, FIRST))?
+        .arg(text(alloc, SECOND))
+}
+
+// A table.
+fn table<'a>(alloc: Global) -> Arg<'a> {
+    Arg::new(alloc, TABLE)
+        .required(true)
+        .help("The file of the table")
+}
+
+// Delta files, perhaps none.
+fn deltas<'a>(alloc: Global) -> Arg<'a> {
+    Arg::new(alloc, DELTA).num_args(0..).help(
         "Files of statements that change the table, in their order",
-    );
-    over_table(alloc, subcommand, about)?.arg(deltas)
+    )
 }
 
 // One or more texts.
@@ -185,13 +253,38 @@ fn request_of<'a>(
     let (Some(subcommand), Some(table)) = (Subcommand::named(name), found.get_str(TABLE)) else {
         return Ok(None);
     };
-    let Some(task) = task_of(alloc, subcommand, texts_of(alloc, found)?.as_slice())? else {
-        return Ok(None);
-    };
+    match task_of(alloc, subcommand, texts_of(alloc, found)?.as_slice())? {
+        Some(task) => request_on(task, files_of(alloc, table, found)),
+        None => Ok(None),
+    }
+}
+
+// What is done with a table, and with which files, if there was memory for their names.
+fn request_on<'a>(
+    task: Task,
+    named: Result<Vec<&'a str>, AllocError>,
+) -> Result<Option<Request<'a>>, AllocError>
+    requires { IfOk named (λ files. 0 < vec_len files) }
+    ensures { IfOk result (λ asked. IfSome asked (λ request. 0 < vec_len request.files)) }
+{
+    match named {
+        Ok(files) => Ok(Some(Request { task, files })),
+        Err(refused) => Err(refused),
+    }
+}
+
+// The names of the files: the table's, and then those of the delta files.
+fn files_of<'a>(
+    alloc: Global,
+    table: &'a str,
+    found: &ArgMatches<'a>,
+) -> Result<Vec<&'a str>, AllocError>
+    ensures { IfOk result (λ files. 0 < vec_len files) }
+{
     let mut files = Vec::new(alloc);
     files.push(table)?;
     files.extend_from_slice(found.get_strs(DELTA).unwrap_or(&[]))?;
-    Ok(Some(Request { task, files }))
+    Ok(files)
 }
 
 // The texts that were given to a subcommand.

@@ -13,7 +13,7 @@ use coll_bench::{Batch, Fault, RunFault, exit_status, run_batch, run_session, wr
 use coll_lex::{Counted, LexFault, Sink, WriteStop};
 use coll_table::{Table, load};
 use command_line::{Request, Task, Unasked, read_words};
-use files::{at_no_line, open_all};
+use files::{Input, at_no_line, open_all};
 use std::alloc::{AllocError, Global};
 use std::env;
 use std::io::{BufWriter, ErrorKind, Stdout};
@@ -24,6 +24,9 @@ const WRONG_WORDS: u8 = 2;
 
 /// The name of standard input.
 const STANDARD_INPUT: &str = "-";
+
+/// What replies and the output of batches are written to.
+type Output = Counted<BufWriter<Stdout>>;
 
 fn main(rt: HostRuntime) -> ExitCode {
     let words = match env::args(&rt) {
@@ -46,15 +49,22 @@ fn obey(rt: &HostRuntime, request: Request<'_>) -> ExitCode
     requires { 0 < vec_len request.files }
 {
     let Request { task, files } = request;
-    let files = files.as_slice();
-    let Ok(names) = copied_names(rt.alloc(), files) else {
-        return tell_no_memory(rt);
-    };
+    match copied_names(rt.alloc(), files.as_slice()) {
+        Ok(names) => do_task(rt, task, files.as_slice(), names.as_slice()),
+        Err(_) => tell_no_memory(rt),
+    }
+}
+
+// Does a task on these files, and answers the exit status.
+fn do_task(rt: &HostRuntime, task: Task, files: &[&str], names: &[String]) -> ExitCode
+    requires some { 0 < length files.now }
+    requires names { length names.now ≡ length files.now }
+{
     match task {
-        Task::Batch(batch) => status(rt, run_on_files(rt, batch, files), names.as_slice()),
-        Task::Session => match read_table(rt, files) {
-            Ok(table) => serve(rt, table),
-            Err(fault) => tell_fault(rt, &fault, names.as_slice()),
+        Task::Batch(batch) => status(rt, run_on_files(rt, batch, files), names),
+        Task::Session => match String::from_str(rt.alloc(), STANDARD_INPUT) {
+            Ok(name) => serve(rt, files, names, &[name]),
+            Err(_) => tell_no_memory(rt),
         },
     }
 }
@@ -75,13 +85,52 @@ fn run_on_files(rt: &HostRuntime, batch: Batch, files: &[&str]) -> Result<(), Ru
     requires { 0 < length files.now }
     ensures { IfErr result (λ fault. fault.input < length files.now) }
 {
-    let mut inputs = open_all(rt, files)?;
-    let mut output = standard_output(rt)?;
-    let (table, deltas) = inputs.as_mut_slice().split_at_mut(1);
-    run_batch(rt.alloc(), batch, &mut table[0], deltas, &mut output)?;
+    match open_all(rt, files) {
+        Ok(mut inputs) => run_on_inputs(rt, batch, inputs.as_mut_slice()),
+        Err(fault) => Err(fault),
+    }
+}
+
+// Runs a batch on a table and delta files, to standard output.
+fn run_on_inputs(rt: &HostRuntime, batch: Batch, inputs: &mut [Input]) -> Result<(), RunFault>
+    requires { 0 < length inputs.old }
+    ensures { IfErr result (λ fault. fault.input < length inputs.old) }
+{
+    match standard_output(rt) {
+        Ok(mut output) => write_batch(rt, batch, inputs, &mut output),
+        Err(fault) => Err(fault),
+    }
+}
+
+// Runs a batch on a table and delta files. What it writes has left the buffer in the end.
+fn write_batch(
+    rt: &HostRuntime,
+    batch: Batch,
+    inputs: &mut [Input],
+    output: &mut Output,
+) -> Result<(), RunFault>
+    requires { 0 < length inputs.old }
+    ensures { IfErr result (λ fault. fault.input < length inputs.old) }
+{
+    let (table, deltas) = inputs.split_at_mut(1);
+    if let Err(fault) = run_batch(rt.alloc(), batch, &mut table[0], deltas, output) {
+        return Err(fault);
+    }
     match output.flush() {
         Ok(()) => Ok(()),
         Err(_) => Err(at_no_line(0, Fault::Write(WriteStop::WriteFault))),
+    }
+}
+
+// Serves a session over the table in the first of these files. `inputs` has the name of standard input.
+fn serve(rt: &HostRuntime, files: &[&str], names: &[String], inputs: &[String]) -> ExitCode
+    requires some { 0 < length files.now }
+    requires names { length names.now ≡ length files.now }
+    requires input { 0 < length inputs.now }
+{
+    match read_table(rt, files) {
+        Ok(table) => status(rt, serve_standard_input(rt, table), inputs),
+        Err(fault) => tell_fault(rt, &fault, names),
     }
 }
 
@@ -90,7 +139,17 @@ fn read_table(rt: &HostRuntime, files: &[&str]) -> Result<Table, RunFault>
     requires { 0 < length files.now }
     ensures { IfErr result (λ fault. fault.input < length files.now) }
 {
-    let mut inputs = open_all(rt, files)?;
+    match open_all(rt, files) {
+        Ok(mut inputs) => read_first(rt, inputs.as_mut_slice()),
+        Err(fault) => Err(fault),
+    }
+}
+
+// The table in the first of these inputs.
+fn read_first(rt: &HostRuntime, inputs: &mut [Input]) -> Result<Table, RunFault>
+    requires { 0 < length inputs.old }
+    ensures { IfErr result (λ fault. fault.input ≡ 0) }
+{
     match load(rt.alloc(), &mut inputs[0]) {
         Ok(table) => Ok(table),
         Err(fault) => Err(RunFault {
@@ -101,30 +160,27 @@ fn read_table(rt: &HostRuntime, files: &[&str]) -> Result<Table, RunFault>
     }
 }
 
-// Serves a session over a table, from standard input to standard output.
-fn serve(rt: &HostRuntime, table: Table) -> ExitCode {
-    let Ok(name) = String::from_str(rt.alloc(), STANDARD_INPUT) else {
-        return tell_no_memory(rt);
-    };
-    status(rt, serve_standard_input(rt, table), &[name])
-}
-
 // Serves the lines of standard input.
 fn serve_standard_input(rt: &HostRuntime, table: Table) -> Result<(), RunFault>
     ensures { IfErr result (λ fault. fault.input ≡ 0) }
 {
-    let mut output = standard_output(rt)?;
-    run_session(
-        rt.alloc(),
-        table,
-        &mut Counted::new(rt.stdin()),
-        &mut output,
-    )
+    match standard_output(rt) {
+        Ok(mut output) => serve_lines(rt, table, &mut output),
+        Err(fault) => Err(fault),
+    }
+}
+
+// Serves the lines of standard input, and writes the replies to an output.
+fn serve_lines(rt: &HostRuntime, table: Table, output: &mut Output) -> Result<(), RunFault>
+    ensures { IfErr result (λ fault. fault.input ≡ 0) }
+{
+    let mut lines = Counted::new(rt.stdin());
+    run_session(rt.alloc(), table, &mut lines, output)
 }
 
 // Standard output, with a buffer. A run flushes what it writes, and answers a write that fails; only after one does the
 // buffer hold bytes when it is dropped, and its last try to write them hides no error.
-fn standard_output(rt: &HostRuntime) -> Result<Counted<BufWriter<Stdout>>, RunFault>
+fn standard_output(rt: &HostRuntime) -> Result<Output, RunFault>
     ensures { IfErr result (λ fault. fault.input ≡ 0) }
 {
     match BufWriter::new(rt.alloc(), rt.stdout()) {

@@ -52,8 +52,15 @@ fn read_text<R: Source>(
     ensures reads { CountsDelta (R.failed delta.old) (R.failed delta.new) result }
 {
     match LineReader::new(alloc) {
-        Ok(mut reader) => read_lines(input, table, file, &mut reader, delta),
-        Err(_) => Err(no_memory(input)),
+        Ok(mut reader) => {
+            let answer = read_lines(input, table, file, &mut reader, delta);
+            drop(reader);
+            answer
+        }
+        Err(_) => {
+            drop(file);
+            Err(no_memory(input))
+        }
     }
 }
 
@@ -76,13 +83,19 @@ fn read_lines<R: Source>(
         match reader.advance(delta) {
             Ok(true) => {
                 if let Err(ended) = take_line(input, table, &mut file, reader.line()) {
+                    drop(file);
                     return Err(ended);
                 }
             }
             Ok(false) => return end_file(input, file),
-            Err(stop) => return Err(stop_fault(input, file.next_number(), stop)),
+            Err(stop) => {
+                let number = file.next_number();
+                drop(file);
+                return Err(stop_fault(input, number, stop));
+            }
         }
         if file.finished() {
+            drop(file);
             return Ok(());
         }
     }

@@ -26,7 +26,10 @@ pub(crate) fn read_inputs<R: Source>(
     match load(alloc, table) {
         Ok(mut first) => match read_deltas(alloc, &mut first, deltas) {
             Ok(()) => Ok(first),
-            Err(ended) => Err(ended),
+            Err(ended) => {
+                drop(first);
+                Err(ended)
+            }
         },
         Err(fault) => Err(table_fault(fault)),
     }

@@ -64,7 +64,11 @@ fn write_listing<W: Sink>(alloc: Global, table: &Table, out: &mut W) -> Result<(
     ensures errors { CountsOutput (W.failed out.old) (W.failed out.new) result }
 {
     match Ranks::new(alloc, table) {
-        Ok(ranks) => written(write_compiled(table, &ranks, out)),
+        Ok(ranks) => {
+            let wrote = write_compiled(table, &ranks, out);
+            drop(ranks);
+            written(wrote)
+        }
         Err(_) => Err(no_memory()),
     }
 }
@@ -81,7 +85,11 @@ fn write_keys<W: Sink>(
     ensures errors { CountsOutput (W.failed out.old) (W.failed out.new) result }
 {
     match Ranks::new(alloc, table) {
-        Ok(ranks) => write_each_key(alloc, texts, table, &ranks, out),
+        Ok(ranks) => {
+            let wrote = write_each_key(alloc, texts, table, &ranks, out);
+            drop(ranks);
+            wrote
+        }
         Err(_) => Err(no_memory()),
     }
 }
@@ -121,7 +129,11 @@ fn write_text_key<W: Sink>(
     ensures errors { CountsOutput (W.failed out.old) (W.failed out.new) result }
 {
     match key(alloc, table, ranks, text.get()) {
-        Ok(key) => written(write_key_ended(out, table.rules(), &key)),
+        Ok(key) => {
+            let wrote = write_key_ended(out, table.rules(), &key);
+            drop(key);
+            written(wrote)
+        }
         Err(fault) => Err(Fault::Key(fault)),
     }
 }
@@ -139,7 +151,11 @@ fn write_comparison<W: Sink>(
     ensures errors { CountsOutput (W.failed out.old) (W.failed out.new) result }
 {
     match Ranks::new(alloc, table) {
-        Ok(ranks) => write_order_by(alloc, first, second, table, &ranks, out),
+        Ok(ranks) => {
+            let wrote = write_order_by(alloc, first, second, table, &ranks, out);
+            drop(ranks);
+            wrote
+        }
         Err(_) => Err(no_memory()),
     }
 }

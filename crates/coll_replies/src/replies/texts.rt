@@ -9,7 +9,7 @@ ghost use Rattle.coll_units.specs.declared.units.Request.TheVariants.{Asks};
 
 use super::{write_ended, write_refused};
 use crate::faults::Fault;
-use coll_history::RankedSession;
+use crate::ranked_sessions::RankedSession;
 use coll_key::write_key;
 use coll_lex::{Sink, TextBuf, WriteStop, write_bytes};
 use coll_syntax::Rule;
@@ -28,7 +28,11 @@ pub(crate) fn answer_key<W: Sink>(
     ensures errors { CountsErr (W.failed out.old) (W.failed out.new) result }
 {
     match session.key(alloc, text.get()) {
-        Ok(key) => write_key_ended(out, session.session().table().rules(), &key),
+        Ok(key) => {
+            let wrote = write_key_ended(out, session.session().table().rules(), &key);
+            drop(key);
+            wrote
+        }
         Err(fault) => write_refused(out, Fault::Key(fault)),
     }
 }

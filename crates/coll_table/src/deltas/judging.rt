@@ -25,7 +25,7 @@ use coll_nodes::{MOST_DECLARATIONS, MOST_ENTRIES};
 use coll_syntax::{Id, OrderLine, Statement, Weight};
 
 /// What the lines of a block say together.
-#[derive(Debug, Drop)]
+#[derive(Drop)]
 struct Judged {
     /// The identifiers of the target and of the lines.
     ids: Places,
@@ -159,9 +159,12 @@ impl Table {
         let judged = self.judge_lines(target, lines)?;
         self.check_table();
         if judged.added > MOST_ENTRIES - self.len() {
+            drop(judged);
             return Err(Refusal::Full);
         }
-        or_refused(self.all_given_refusal(&judged.ids, lines))
+        let refusal = self.all_given_refusal(&judged.ids, lines);
+        drop(judged);
+        or_refused(refusal)
     }
 
     /// Judges the lines of a block one after another, the identifiers in their weights aside.
@@ -172,15 +175,38 @@ impl Table {
         ensures err { IfErr result (λ refusal. refusal ≢ OutOfMemory → lines_refusal (collation self.now) (target.now ∷ []) lines.now ≡ Some refusal) }
     {
         let mut ids = Places::new(self.alloc());
+        match self.judge_each(&mut ids, target, lines) {
+            Ok(added) => Ok(Judged { ids, added }),
+            Err(refusal) => {
+                drop(ids);
+                Err(refusal)
+            }
+        }
+    }
+
+    /// The same, with the identifiers of the target and of the lines put in where there are none yet; the answer is the number of
+    /// lines whose identifiers aren't placed yet.
+    fn judge_each(
+        &self,
+        ids: &mut Places,
+        target: &Id,
+        lines: &[OrderLine],
+    ) -> Result<usize, Refusal>
+        requires { ids.old ≡ [] }
+        ensures ok { OnOk result (lines_refusal (collation self.now) (target.now ∷ []) lines.now ≡ None) }
+        ensures ids { OnOk result (HaveSame ids.new (target.now ∷ line_ids lines.now)) }
+        ensures added { IfOk result (λ added. added ≡ entries_added (collation self.now) lines.now) }
+        ensures err { IfErr result (λ refusal. refusal ≢ OutOfMemory → lines_refusal (collation self.now) (target.now ∷ []) lines.now ≡ Some refusal) }
+    {
         ids.insert(target)?;
         let mut added = 0;
         for line in lines {
-            self.judge_line(&mut ids, line)?;
+            self.judge_line(ids, line)?;
             if !self.is_placed(&line.id) {
                 added += 1;
             }
         }
-        Ok(Judged { ids, added })
+        Ok(added)
     }
 
     /// Judges a line of a block by the identifiers of the target and of the lines before it, and puts in its own.

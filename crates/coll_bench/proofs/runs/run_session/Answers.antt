@@ -4,7 +4,7 @@ use Rattle.coll_bench.proofs.RunExits.{never_begun}
 use Rattle.coll_bench.proofs.runs.run_session.Goals as goal
 
 pub returns-in-Ok-clause-run : goal.returns-in-Ok-clause-run
-returns-in-Ok-clause-run g c = c.serve_text.ensures.run (collation c.args.table) c.in-Ok.ensures
+returns-in-Ok-clause-run g c = c.serve_text-ran.ensures.run (collation c.args.table) c.in-Ok.ensures
 
 pub returns-in-Err-clause-run : goal.returns-in-Err-clause-run
 returns-in-Err-clause-run g c text before left_is taken_is =

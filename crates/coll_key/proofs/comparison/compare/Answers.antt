@@ -3,7 +3,7 @@ use Rattle.coll_nodes.specs.TableLayout.{collation}
 use Rattle.coll_key.specs.KeyLimits.{is_too_long}
 use Rattle.coll_ranks.specs.Ranks.{parts_of, part_numbers}
 use Rattle.coll_key.proofs.LevelLemmas.{few_parts}
-use Rattle.coll_key.proofs.OrderLemmas.{order_by_parts, order_decided, order_undecided}
+use Rattle.coll_key.proofs.OrderLemmas.{order_by_parts, order_decided, order_goes_on, order_undecided}
 use Rattle.coll_key.proofs.comparison.compare.Goals as goal
 
 pub level_order-requires-clause-few : goal.level_order-requires-clause-few
@@ -15,6 +15,11 @@ pub level_order-requires-clause-few_others : goal.level_order-requires-clause-fe
 level_order-requires-clause-few_others c =
     let short : is_too_long (chars c.args.other.now) ≡ false = cc in
     few_parts c.args.ranks.now (chars c.args.other.now) short
+
+pub loop-level-preserved : goal.loop-level-preserved
+loop-level-preserved c =
+    let ranks = c.args.ranks.now in
+    order_goes_on (part_numbers ranks) (parts_of ranks (chars c.args.text.now)) (parts_of ranks (chars c.args.other.now)) c.loop-level.level c.rules-rule-items.result.now _ _ c.in_ok-order.order _ c.rules-rule-items.ensures c.loop-level-test.true c.if-is_ne.ensures c.in_ok-order.ensures.ok c.loop-level.invariant
 
 pub returns-then-is_ne-clause-ok : goal.returns-then-is_ne-clause-ok
 returns-then-is_ne-clause-ok c =

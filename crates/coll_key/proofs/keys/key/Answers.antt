@@ -1,14 +1,19 @@
 use Rattle.std.proofs.Common.{◌∙◌, chars, ap}
 use Rattle.coll_nodes.specs.TableLayout.{collation}
+use Rattle.coll_ranks.specs.Ranks.{part_numbers}
 use Rattle.coll_key.specs.WrittenKey.{has_key_form}
 use Rattle.coll_key.proofs.KeyForm.{key_form}
 use Rattle.coll_key.proofs.LevelLemmas.{few_parts}
-use Rattle.coll_key.proofs.OrderLemmas.{key_is_made}
+use Rattle.coll_key.proofs.OrderLemmas.{key_goes_on, key_is_made}
 use Rattle.coll_key.proofs.keys.key.Goals as goal
 
 pub push_level-requires-clause-few : goal.push_level-requires-clause-few
 push_level-requires-clause-few c =
     rw (c.deref.ensures.value, c.in_ok-parts.ensures.ok) (few_parts c.args.ranks.now (chars c.args.text.now) c.in_ok-parts.ensures.short)
+
+pub loop-level-preserved : goal.loop-level-preserved
+loop-level-preserved c =
+    key_goes_on (part_numbers c.args.ranks.now) c.loop-level.level c.rules-rule-items.result.now _ _ c.in_ok-parts.parts.items _ _ _ _ _ c.rules-rule-items.ensures c.loop-level-test.true c.deref.ensures.value c.in_ok-push_level.ensures c.in_ok-push.ensures.items c.loop-level.invariant
 
 pub returns-clause-ok : goal.returns-clause-ok
 returns-clause-ok c =

@@ -1,4 +1,5 @@
-use Rattle.std.proofs.Common.{◌≤◌, chars, length, sym, ap, arith, rules}
+use Rattle.std.proofs.Common.{◌≤◌, ◌∙◌, chars, length, nat_lt, sym, ap, arith}
+use Rattle.std.specs.Str.Iter.{chars_rest}
 use Rattle.std.proofs.lemmas.Bool.{le-ltb}
 use Rattle.std.proofs.lemmas.Str.{length-le-encodes, encodes-chars, chars_from_encodes}
 use Rattle.coll_key.proofs.limits.is_too_long.Goals as goal
@@ -11,4 +12,7 @@ returns-then-text-le-MOST_TEXT_CHARACTERS c =
     sym (le-ltb 65_536 (length (chars c.args.text.now)) short)
 
 pub returns : goal.returns
-returns c = search (rules, chars_from_encodes)
+returns c =
+    let run = c.count.ensures.runs in
+    let bytes = (c.chars.ensures.runs run.0 run.0.seen).1 run.2 ∙ ap chars_rest run.1 ∙ c.chars.ensures.rest in
+    ap (nat_lt 65_536) (run.3 ∙ run.0.long ∙ ap length (chars_from_encodes run.0.items c.args.text.now c.utf8.text bytes))

@@ -34,7 +34,7 @@ pub returns-in-Err-clause-file : goal.returns-in-Err-clause-file
 returns-in-Err-clause-file g c =
     let left = g.R.Source.left in
     let failed = g.R.Source.failed in
-    rw (c.stop_fault.ensures, c.next_number.ensures) (stopped c.args.input (collation c.args.table.now) (left c.args.delta.now) c.lines.reader (left c.lines.delta) (collation c.lines.table) c.lines.file c.lines.invariant.way c.lines.invariant.going
+    rw (c.stop_fault.ensures, c.next_number-number.ensures) (stopped c.args.input (collation c.args.table.now) (left c.args.delta.now) c.lines.reader (left c.lines.delta) (collation c.lines.table) c.lines.file c.lines.invariant.way c.lines.invariant.going
     c.advance.new.self (left c.advance.new.input) (failed c.lines.delta) (failed c.advance.new.input) c.in-Err.stop c.lines.invariant.goes_on c.in-Err.ensures)
 
 pub returns-in-Ok-false-clause-file : goal.returns-in-Ok-false-clause-file

@@ -7,16 +7,16 @@ use Rattle.coll_nodes.specs.TableLayout.{TableLayout}
 use Rattle.coll_draft.proofs.BuilderSteps.{begun_builder, begun_parts, nothing_parts, nothing_unnamed}
 use Rattle.coll_draft.proofs.building.Builder.new.Goals as goal
 
-sections_end : (c : goal.After-ring-1) → Head c.sections-sections.result ≡ end_in c.in_ok-body.body.layout 1
+sections_end : (c : goal.In-Ok) → Head c.sections-sections.result ≡ end_in c.in_ok-body.body.layout 1
 sections_end c = rw (c.in_ok-body.ensures.layout, c.sections-sections.ensures)
 
 pub invariant_of-result : goal.invariant_of-result
-invariant_of-result c = begun_builder c.in_ok-body.body.layout c.begin_unnamed.new.self.layout c.in_ok-section.section None c.in_ok-section.ring (Head c.sections-sections.result)
-    c.check_layout.ensures.laid.once c.check_layout.ensures.shaped c.in_ok-section.ensures.ok c.in_ok-section.ensures.ring (sections_end c)
+invariant_of-result c = begun_builder c.in_ok-body.body.layout c.begin_unnamed.new.self.layout c.in-Ok.section None c.in-Ok.ring (Head c.sections-sections.result)
+    c.check_layout.ensures.laid.once c.check_layout.ensures.shaped c.in-Ok.ensures.ok c.in-Ok.ensures.ring (sections_end c)
     (rw (c.in_ok-body.ensures.layout) nothing_unnamed)
 
-pub returns : goal.returns
-returns c = begun_parts c.in_ok-body.body.layout c.begin_unnamed.new.self.layout c.in_ok-section.section None c.in_ok-section.ring (Head c.sections-sections.result)
-    c.check_layout.ensures.laid.once c.check_layout.ensures.shaped c.in_ok-section.ensures.ok c.in_ok-section.ensures.ring (sections_end c)
+pub returns-in-Ok : goal.returns-in-Ok
+returns-in-Ok c = begun_parts c.in_ok-body.body.layout c.begin_unnamed.new.self.layout c.in-Ok.section None c.in-Ok.ring (Head c.sections-sections.result)
+    c.check_layout.ensures.laid.once c.check_layout.ensures.shaped c.in-Ok.ensures.ok c.in-Ok.ensures.ring (sections_end c)
     ∙ (ap (λ (layout : TableLayout). record (parts_at layout) { sections = (parts_at layout).sections ++ record { name = None; entries = [] } ∷ [] }) c.in_ok-body.ensures.layout
     ∙ ap (λ (parts : Parts). record parts { sections = parts.sections ++ record { name = None; entries = [] } ∷ [] }) nothing_parts)

@@ -19,11 +19,11 @@ returns-then-len-ge-MOST_REMAINING-clause-refused c = λ _.
     subst (λ (v : SessionValue). judged v.history c.args.statement ≡ Err HistoryFull) c.self.view_is
     (judged_full _ _ (omega (arith, length-remaining (uncounted s.table) s.remaining.items s.undone.items, c.if-len-ge-MOST_REMAINING.true, c.len.ensures, s.remaining.ok.0)))
 
-pub returns-in-Err-clause-refused : goal.returns-in-Err-clause-refused
-returns-in-Err-clause-refused c = λ other.
+pub returns-in-Err-apply-clause-refused : goal.returns-in-Err-apply-clause-refused
+returns-in-Err-apply-clause-refused c = λ other.
     let s = c.self.inside in
-    let refused : delta (collation s.table) c.args.statement ≡ Err c.in-Err.refusal = c.in-Err.ensures.err (λ e. other (ap Table e)) in
-    subst (λ (v : SessionValue). judged v.history c.args.statement ≡ Err (Table c.in-Err.refusal)) c.self.view_is
+    let refused : delta (collation s.table) c.args.statement ≡ Err c.in-Err-apply.refusal = c.in-Err-apply.ensures.err (λ e. other (ap Table e)) in
+    subst (λ (v : SessionValue). judged v.history c.args.statement ≡ Err (Table c.in-Err-apply.refusal)) c.self.view_is
     (judged_refused _ _ _ (omega (arith, length-remaining (uncounted s.table) s.remaining.items s.undone.items, c.if-len-ge-MOST_REMAINING.false, c.len.ensures, s.remaining.ok.0))
     (ap (λ (t : Collation). delta t c.args.statement) (replayed (uncounted s.table) s.remaining.items c.self.invariant.leads ∙ collation_uncounted s.table) ∙ refused))
 
@@ -47,8 +47,8 @@ invariant_of-self-2 c =
       leads = subst (Leads (uncounted c.give_up.new.table)) (sym (c.push_reserved.ensures.items ∙ ap (λ (ks : List Kept). ks ++ k ∷ []) c.make_room.ensures.remaining)) then.leads;
       leads_on = LeadsOn_none (uncounted c.give_up.new.table) _ c.give_up.ensures.undone;
       few = omega (arith, c.push_reserved.ensures.len, c.make_room.ensures.len, c.if-len-ge-MOST_REMAINING.false, c.len.ensures, c.give_up.ensures.len);
-      undo_room = omega (arith, c.push_reserved.ensures.len, c.make_room.ensures.len, c.in_ok-make_room.ensures.room, c.give_up.ensures.len, c.give_up.ensures.room);
-      redo_room = omega (arith, c.push_reserved.ensures.len, c.push_reserved.ensures.capacity, c.make_room.ensures.len, c.in_ok-make_room.ensures.place, c.give_up.ensures.len);
+      undo_room = omega (arith, c.push_reserved.ensures.len, c.make_room.ensures.len, c.in_default.ensures.room, c.give_up.ensures.len, c.give_up.ensures.room);
+      redo_room = omega (arith, c.push_reserved.ensures.len, c.push_reserved.ensures.capacity, c.make_room.ensures.len, c.in_default.ensures.place, c.give_up.ensures.len);
     }
 
 pub returns-clause-accepted : goal.returns-clause-accepted

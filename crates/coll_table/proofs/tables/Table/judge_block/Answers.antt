@@ -16,22 +16,22 @@ returns-then-judged-len-clause-err c =
     λ _. entries_refused table c.args.target.now c.args.lines.now (sym c.is_placed.ensures ∙ c.if-not-is_placed.false) c.check_table.ensures.well_formed c.in_ok-judged.ensures.ok judged.added c.in_ok-judged.ensures.added many
 
 -- the weights decide, where there is room
-decided : (c : goal.After-drop-judged-9) → block_delta (collation c.args.self.now) c.args.target.now c.args.lines.now ≡ unless_refused c.all_given_refusal.result (all_moved (collation c.args.self.now) c.args.target.now c.args.lines.now)
+decided : (c : goal.After-or_refused) → block_delta (collation c.args.self.now) c.args.target.now c.args.lines.now ≡ unless_refused c.all_given_refusal-refusal.result (all_moved (collation c.args.self.now) c.args.target.now c.args.lines.now)
 decided c =
     let table = collation c.args.self.now in
     let judged = c.in_ok-judged.judged in
     let length_is = c.len.ensures in
     let room : judged.added ≤ most_entries - length (entries_of table) = let m = c.if-judged-len.false in omega (arith, length_is, m) in
     weights_decide table c.args.target.now c.args.lines.now (sym c.is_placed.ensures ∙ c.if-not-is_placed.false) c.check_table.ensures.well_formed c.in_ok-judged.ensures.ok judged.added c.in_ok-judged.ensures.added judged.ids c.in_ok-judged.ensures.ids room
-    ∙ ap (λ r. unless_refused r (all_moved table c.args.target.now c.args.lines.now)) (sym c.all_given_refusal.ensures)
+    ∙ ap (λ r. unless_refused r (all_moved table c.args.target.now c.args.lines.now)) (sym c.all_given_refusal-refusal.ensures)
 
 pub returns-clause-ok : goal.returns-clause-ok
 returns-clause-ok c =
     let table = collation c.args.self.now in
-    judged_ok c.or_refused.result (block_delta table c.args.target.now c.args.lines.now) c.all_given_refusal.result (all_moved table c.args.target.now c.args.lines.now) (decided c) c.or_refused.ensures.ok
+    judged_ok c.or_refused.result (block_delta table c.args.target.now c.args.lines.now) c.all_given_refusal-refusal.result (all_moved table c.args.target.now c.args.lines.now) (decided c) c.or_refused.ensures.ok
 
 pub returns-clause-err : goal.returns-clause-err
 returns-clause-err c =
     let table = collation c.args.self.now in
     judged_memory c.or_refused.result (block_delta table c.args.target.now c.args.lines.now)
-    (judged_err c.or_refused.result (block_delta table c.args.target.now c.args.lines.now) c.all_given_refusal.result (all_moved table c.args.target.now c.args.lines.now) (decided c) c.or_refused.ensures.err)
+    (judged_err c.or_refused.result (block_delta table c.args.target.now c.args.lines.now) c.all_given_refusal-refusal.result (all_moved table c.args.target.now c.args.lines.now) (decided c) c.or_refused.ensures.err)

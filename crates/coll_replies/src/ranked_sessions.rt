@@ -1,0 +1,163 @@
+//! A session with the ranks of its table.
+//!
+//! Ranks are made where a key or an order is first asked for, kept over commands and refusals, and given up with each change of
+//! the table: an accepted statement, an undo, a redo. Whoever adds a call that changes the table gives them up there. Contracts
+//! see the history alone.
+
+ghost use Rattle.std.specs.Prelude.{◌≡◌, ◌≢◌, ◌||◌, true, false, chars, length, IsSome, IfOk, IfErr, OnOk, OnErr};
+ghost use Rattle.coll_syntax.specs.Proper.{IsProper};
+ghost use Rattle.coll_nodes.specs.TableLayout.{collation};
+ghost use Rattle.coll_key.specs.KeyLimits.{is_too_long};
+ghost use Rattle.coll_key.specs.SortKey.{key_of};
+ghost use Rattle.coll_key.specs.TextOrder.{order_of};
+ghost use Rattle.coll_key.specs.WrittenKey.{has_key_form};
+ghost use Rattle.coll_key.specs.declared.key_faults.KeyFault.TheVariants.{OutOfMemory};
+ghost use Rattle.coll_history.specs.Histories.{begun, judged, taken_back, put_again, table_now, RefusesStatement};
+ghost use Rattle.coll_replies.specs.Ranked.{AreRanksIfAny};
+
+use coll_history::{BenchFault, Session};
+use coll_key::{KeyFault, Ranks, compare, key};
+use coll_syntax::Statement;
+use coll_table::Table;
+use std::alloc::{AllocError, Global};
+use std::cmp::Ordering;
+use std::marker::Model;
+
+/// A session, and the ranks of its table if they were made.
+#[derive(Drop)]
+pub struct RankedSession {
+    session: Session,
+    ranks: Option<Ranks>,
+}
+
+impl Model for RankedSession {
+    ghost use Rattle.coll_history.specs.Histories.{History, table_now};
+    ghost use Rattle.coll_replies.specs.Ranked.{AreRanksIfAny};
+
+    ghost Value = { History };
+
+    ghost view = { λ s. s.session.history };
+
+    ghost invariant = { λ s. AreRanksIfAny s.ranks (table_now s.session.history) };
+}
+
+impl RankedSession {
+    /// A session on a table, in which nothing has happened yet. It takes no memory.
+    pub fn new(alloc: Global, table: Table) -> RankedSession
+        ensures { result ≡ begun (collation table) }
+    {
+        RankedSession {
+            session: Session::new(alloc, table),
+            ranks: None,
+        }
+    }
+
+    /// Judges a statement, and answers how many statements then remain.
+    ///
+    /// It is refused with `HistoryFull` where 65,535 remain, and else as the table refuses it. A refusal, want of memory
+    /// included, changes nothing.
+    pub fn statement(&mut self, statement: Statement) -> Result<u32, BenchFault>
+        requires proper { IsProper statement }
+        ensures accepted { IfOk result (λ _. judged self.old statement ≡ Ok self.new) }
+        ensures count { IfOk result (λ n. n ≡ length self.new.remaining) }
+        ensures refused { IfErr result (λ fault. RefusesStatement self.old statement fault) }
+        ensures unchanged { OnErr result (self.new ≡ self.old) }
+    {
+        let count = self.session.statement(statement)?;
+        keep(&mut self.ranks, None);
+        Ok(count)
+    }
+
+    /// Takes the last remaining statement back, and answers how many then remain. It takes no memory.
+    ///
+    /// It is refused with `NothingToUndo` exactly where no statement remains; nothing has then changed.
+    pub fn undo(&mut self) -> Result<u32, BenchFault>
+        ensures undone { IfOk result (λ _. taken_back self.old ≡ Ok self.new) }
+        ensures count { IfOk result (λ n. n ≡ length self.new.remaining) }
+        ensures refused { IfErr result (λ fault. taken_back self.old ≡ Err fault) }
+        ensures unchanged { OnErr result (self.new ≡ self.old) }
+    {
+        let count = self.session.undo()?;
+        keep(&mut self.ranks, None);
+        Ok(count)
+    }
+
+    /// Puts the statement that was taken back last again, and answers how many then remain. It takes no memory.
+    ///
+    /// It is refused with `NothingToRedo` exactly where nothing was taken back; nothing has then changed.
+    pub fn redo(&mut self) -> Result<u32, BenchFault>
+        ensures redone { IfOk result (λ _. put_again self.old ≡ Ok self.new) }
+        ensures count { IfOk result (λ n. n ≡ length self.new.remaining) }
+        ensures refused { IfErr result (λ fault. put_again self.old ≡ Err fault) }
+        ensures unchanged { OnErr result (self.new ≡ self.old) }
+    {
+        let count = self.session.redo()?;
+        keep(&mut self.ranks, None);
+        Ok(count)
+    }
+
+    /// The session.
+    pub fn session(&self) -> &Session
+        ensures { result.now.history ≡ self.now }
+    {
+        &self.session
+    }
+
+    /// The sort key of a text in the table now.
+    ///
+    /// It is refused with `TextTooLong` only where the text has more than 65,536 characters, and with `OutOfMemory` where memory
+    /// is refused to the ranks or to the key. The history stays.
+    pub fn key(&mut self, alloc: Global, text: &str) -> Result<Vec<u64>, KeyFault>
+        ensures unchanged { self.new ≡ self.old }
+        ensures ok { IfOk result (λ key. key.items ≡ key_of (table_now self.old) (chars text.now)) }
+        ensures form { IfOk result (λ key. has_key_form (table_now self.old).rules key.items ≡ true) }
+        ensures short { IfOk result (λ _. is_too_long (chars text.now) ≡ false) }
+        ensures err { IfErr result (λ fault. fault ≢ OutOfMemory → is_too_long (chars text.now) ≡ true) }
+    {
+        make_ranks(alloc, self.session.table(), &mut self.ranks)?;
+        let Some(ranks) = &self.ranks else {
+            unreachable!();
+        };
+        let key = key(alloc, self.session.table(), ranks, text)?;
+        Ok(key)
+    }
+
+    /// The order of two texts in the table now.
+    ///
+    /// It is refused with `TextTooLong` only where one of them has more than 65,536 characters, and with `OutOfMemory` where memory
+    /// is refused to the ranks or to the comparison. The history stays.
+    pub fn compare(&mut self, alloc: Global, text: &str, other: &str) -> Result<Ordering, KeyFault>
+        ensures unchanged { self.new ≡ self.old }
+        ensures ok { IfOk result (λ order. order ≡ order_of (table_now self.old) (chars text.now) (chars other.now)) }
+        ensures short { IfOk result (λ _. (is_too_long (chars text.now) || is_too_long (chars other.now)) ≡ false) }
+        ensures err { IfErr result (λ fault. fault ≢ OutOfMemory → (is_too_long (chars text.now) || is_too_long (chars other.now)) ≡ true) }
+    {
+        make_ranks(alloc, self.session.table(), &mut self.ranks)?;
+        let Some(ranks) = &self.ranks else {
+            unreachable!();
+        };
+        let order = compare(alloc, self.session.table(), ranks, text, other)?;
+        Ok(order)
+    }
+}
+
+// Keeps ranks, or none, in place of what was kept. It alone drops what was.
+fn keep(kept: &mut Option<Ranks>, ranks: Option<Ranks>)
+    ensures { kept.new ≡ ranks }
+{
+    *kept = ranks;
+}
+
+// Makes the ranks of a table, unless they are there.
+fn make_ranks(alloc: Global, table: &Table, ranks: &mut Option<Ranks>) -> Result<(), AllocError>
+    requires { AreRanksIfAny ranks.old (collation table.now) }
+    ensures kept { AreRanksIfAny ranks.new (collation table.now) }
+    ensures ok { OnOk result (IsSome ranks.new) }
+{
+    if ranks.is_some() {
+        return Ok(());
+    }
+    let made = Ranks::new(alloc, table)?;
+    keep(ranks, Some(made));
+    Ok(())
+}
