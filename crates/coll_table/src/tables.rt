@@ -12,10 +12,18 @@ use std::alloc::{AllocError, Global};
 use std::marker::Model;
 
 /// A table of a collation order.
-#[derive(Drop)]
 pub struct Table {
     pub(super) rules: Rules,
     pub(super) body: Body,
+}
+
+// Written out, so that each place that drops a table is one call, and has no step for each part of a body.
+impl Drop for Table {
+    fn drop(self) {
+        let Table { rules, body } = self;
+        drop(rules);
+        drop(body);
+    }
 }
 
 impl Model for Table {
