@@ -3,19 +3,16 @@
 //! The text is `compiled_listing` of `specs/CompiledListing.antt`. Each function writes one part of it, and a line is one part
 //! behind another (`specs/ListingParts.antt`). The ranks of weights are read from the compiled ones. None of this takes memory.
 
-ghost use Rattle.std.specs.Prelude.{◌≡◌, ◌<◌, ◌≤◌, ◌+◌, ◌++◌, ◌∷◌, [], All, chars, codes, decimal, encode_utf8_all, length, IfOk};
+ghost use Rattle.std.specs.Prelude.{◌≡◌, ◌<◌, ◌≤◌, ◌+◌, ◌++◌, All, chars, codes, decimal, length, IfOk};
 ghost use Rattle.std.specs.List.{flat_map};
 ghost use Rattle.coll_devices.specs.Devices.{CountsErr, Sends};
-ghost use Rattle.coll_devices.specs.PhysicalLines.{line_feed};
-ghost use Rattle.coll_print.specs.CanonicalText.{spelled_rule};
-ghost use Rattle.coll_print.specs.PrintedParts.{char_bytes};
 ghost use Rattle.coll_nodes.specs.Table.{is_placed};
 ghost use Rattle.coll_nodes.specs.TableLayout.{collation};
 ghost use Rattle.coll_nodes.specs.WalkItems.{met_by};
 ghost use Rattle.coll_nodes.specs.Walks.{entry_met, entries_met};
 ghost use Rattle.coll_syntax.specs.declared.identifiers.Id.TheVariants.{Named, Undefined};
 ghost use Rattle.coll_key.specs.CompiledListing.{compiled_listing, listing_head, listed_rule, listed_undefined};
-ghost use Rattle.coll_key.specs.ListingParts.{spaced, spaced_number, weight_bytes, level_bytes, levels_ended, is_star, spelled_with, ranked_id, ranked_line, line_if_weighted, met_line, ranked_lines, HasFewWeights, count_bytes, counts_bytes, entries_part};
+ghost use Rattle.coll_key.specs.ListingParts.{spaced_number, weight_bytes, level_bytes, levels_ended, is_star, spelled_with, ranked_line, line_if_weighted, met_line, ranked_lines, HasFewWeights, entries_part};
 ghost use Rattle.coll_ranks.specs.Ranks.{AreRanksOf};
 
 use coll_lex::{Sink, WriteStop, write_bytes, write_char};

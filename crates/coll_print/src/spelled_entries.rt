@@ -3,12 +3,10 @@
 //! Each function writes one part of a line, and a line is one part behind another (`specs/PrintedParts.antt`). What is spelled how
 //! is `specs/CanonicalText.antt`. None of this takes memory.
 
-ghost use Rattle.std.specs.Prelude.{◌≡◌, [], ◌∷◌, ◌++◌, encode_utf8_all};
+ghost use Rattle.std.specs.Prelude.{◌≡◌, [], encode_utf8_all};
 ghost use Rattle.std.specs.List.{flat_map, list_all};
 ghost use Rattle.coll_devices.specs.Devices.{CountsErr, Sends};
-ghost use Rattle.coll_devices.specs.PhysicalLines.{line_feed};
-ghost use Rattle.coll_lex.specs.Characters.{quotation_mark};
-ghost use Rattle.coll_print.specs.CanonicalText.{spelled_id, spelled_string, spelled_own, spelled_names, spelled_weight, spelled_joined, is_own, weights_behind, entry_line, line_bytes};
+ghost use Rattle.coll_print.specs.CanonicalText.{spelled_string, spelled_own, spelled_names, spelled_weight, spelled_joined, is_own, weights_behind, entry_line, line_bytes};
 ghost use Rattle.coll_print.specs.PrintedParts.{id_bytes, behind_bytes};
 
 use coll_lex::{Sink, WriteStop, write_bytes, write_char, write_symbol};

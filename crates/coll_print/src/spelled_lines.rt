@@ -5,12 +5,10 @@
 
 ghost use Rattle.std.specs.Prelude.{[], ◌∷◌, ◌++◌, chars, encode_utf8_all, codes};
 ghost use Rattle.std.specs.List.{flat_map};
-ghost use Rattle.coll_lex.specs.Characters.{quotation_mark};
 ghost use Rattle.coll_devices.specs.Devices.{CountsErr, Sends};
 ghost use Rattle.coll_devices.specs.PhysicalLines.{line_feed};
-ghost use Rattle.coll_lex.specs.Spelling.{spelled_symbol};
 ghost use Rattle.coll_print.specs.CanonicalText.{spelled_rule, spelled_joined, rules_line, line_bytes};
-ghost use Rattle.coll_print.specs.PrintedParts.{char_bytes, behind_bytes, declaration_bytes, met_bytes, symbol_bytes, text_bytes, element_bytes};
+ghost use Rattle.coll_print.specs.PrintedParts.{char_bytes, behind_bytes, declaration_bytes, met_bytes, symbol_bytes, element_bytes};
 ghost use Rattle.coll_nodes.specs.WalkItems.{met_by, declared_by};
 
 use crate::spelled_entries::write_entry;
