@@ -62,6 +62,8 @@ pub enum Script {
     Each(Step),
     /// Some bytes each time, but for this call, which does another step.
     ButFor(usize, Step),
+    /// Some bytes each time, and from this call on another step.
+    From(usize, Step),
     /// Four steps, the digits of the number to the base 4, from the last; then nothing. Each sequence of four steps has a number,
     /// and shorter ones are those that end in `Nothing`.
     Of(u8),
@@ -73,7 +75,8 @@ impl Script {
         match self {
             Script::Each(step) => step,
             Script::ButFor(at, step) if call == at => step,
-            Script::ButFor(..) => Step::SomeBytes,
+            Script::From(at, step) if call >= at => step,
+            Script::ButFor(..) | Script::From(..) => Step::SomeBytes,
             Script::Of(number) => Step::of(digit(number, call)),
         }
     }

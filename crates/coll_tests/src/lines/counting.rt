@@ -7,8 +7,7 @@ use coll_lex::{Counted, LineReader, Sink, Source};
 use std::alloc::Global;
 use std::process::Abort;
 
-fn assert_reads(rt: &impl Abort, script: Script) {
-    let mut input = Counted::new(ShortReader::scripted(b"a text of some bytes", script));
+fn assert_reads(rt: &impl Abort, input: &mut Counted<ShortReader>, script: Script) {
     for call in 1..=4_usize {
         let read = input.read(&mut [0; 8]).ok();
         assert_same(rt, "a read", read, script.step(call).most());
@@ -40,7 +39,8 @@ fn assert_calls(rt: &impl Abort, out: &Counted<ShortWriter>) {
 }
 
 fn assert_counted(rt: &impl Abort, alloc: Global, script: Script) {
-    assert_reads(rt, script);
+    let input = ShortReader::scripted(b"a text of some bytes", script);
+    assert_reads(rt, &mut Counted::new(input), script);
     let mut out = Counted::new(ShortWriter::scripted(Vec::new(alloc), script));
     assert_writes(rt, &mut out, script);
     drop(out);

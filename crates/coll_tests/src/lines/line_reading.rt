@@ -3,29 +3,109 @@
 use crate::assertions::assert_same;
 use crate::devices::{Script, ShortReader, Step};
 use crate::long_texts::repeated;
-use coll_lex::{Counted, LineReader, MOST_LINE_BYTES, ReadStop, Source};
+use coll_lex::{Counted, LineReader, ReadStop, Source};
 use std::alloc::Global;
 use std::process::Abort;
 
-type Input<'a> = Counted<ShortReader<'a>>;
+// Devices: one that gives as many bytes as are asked for, and one that gives three bytes at a time.
+const WHOLE: Script = Script::Each(Step::AllBytes);
 
-// Asserts that a reader gives these lines.
-fn assert_lines(rt: &impl Abort, reader: &mut LineReader, input: &mut Input, lines: &[&[u8]]) {
-    for line in lines {
-        assert_same(rt, "a line", reader.next(input), Ok(Some(*line)));
-    }
+const SMALL: Script = Script::Each(Step::SomeBytes);
+
+// A part so many times, and a rest.
+type Text = (&'static [u8], usize, &'static [u8]);
+
+// A part so many times, without its line feed.
+type Physical = (&'static [u8], usize);
+
+// A text; the device that gives it; the lines; how many times these are given; and what stops the reader then, if it isn't the end.
+type Row = (Text, Script, &'static [Physical], usize, Option<ReadStop>);
+
+// Lines of 2, 1, 0 and 9 bytes, and a last one of 4 that no line feed ends.
+const TEXT: Text = (b"", 0, b"ab\nc\n\nlong line\nlast");
+
+const ONE: &[Physical] = &[(b"ab", 1)];
+
+const THREE: &[Physical] = &[(b"ab", 1), (b"c", 1), (b"", 1)];
+
+const FOUR: &[Physical] = &[(b"ab", 1), (b"c", 1), (b"", 1), (b"long line", 1)];
+
+const LINES: &[Physical] = &[
+    (b"ab", 1),
+    (b"c", 1),
+    (b"", 1),
+    (b"long line", 1),
+    (b"last", 1),
+];
+
+const MANY: Text = (b"a line of some bytes\nand another\n", 10_000, b"");
+
+const FAILS: Step = Step::Error;
+
+const FAULT: Option<ReadStop> = Some(ReadStop::ReadFault);
+
+const TOO_LONG: Option<ReadStop> = Some(ReadStop::LineTooLong);
+
+const ROWS: &[Row] = &[
+    // Lines are given without their line feeds.
+    (TEXT, WHOLE, LINES, 1, None),
+    // A text without bytes has no line.
+    ((b"", 0, b""), WHOLE, &[], 1, None),
+    // A carriage return stays.
+    (
+        (b"", 0, b"a\r\n\r"),
+        WHOLE,
+        &[(b"a\r", 1), (b"\r", 1)],
+        1,
+        None,
+    ),
+    // The first read that fails, here of reads of three bytes each, is the last one.
+    (TEXT, Script::From(1, FAILS), &[], 1, FAULT),
+    (TEXT, Script::From(2, FAILS), ONE, 1, FAULT),
+    (TEXT, Script::From(3, FAILS), THREE, 1, FAULT),
+    (TEXT, Script::From(4, FAILS), THREE, 1, FAULT),
+    (TEXT, Script::From(5, FAILS), THREE, 1, FAULT),
+    (TEXT, Script::From(6, FAILS), THREE, 1, FAULT),
+    (TEXT, Script::From(7, FAILS), FOUR, 1, FAULT),
+    (TEXT, Script::From(8, FAILS), FOUR, 1, FAULT),
+    // A line of the most bytes is given, whether a line feed ends it or the text.
+    ((b"a", 65_536, b"\n"), WHOLE, &[(b"a", 65_536)], 1, None),
+    ((b"a", 65_536, b""), WHOLE, &[(b"a", 65_536)], 1, None),
+    // A line of one byte more stops the reader.
+    ((b"a", 65_536, b"a\nb\n"), WHOLE, &[], 1, TOO_LONG),
+    // Lines go on past the end of the buffer.
+    (
+        MANY,
+        SMALL,
+        &[(b"a line of some bytes", 1), (b"and another", 1)],
+        10_000,
+        None,
+    ),
+];
+
+// Asserts that a reader gives a line.
+fn assert_line(
+    rt: &impl Abort,
+    alloc: Global,
+    reader: &mut LineReader,
+    input: &mut Counted<ShortReader>,
+    line: &Physical,
+) {
+    let (part, times) = line;
+    let line = repeated(rt, alloc, b"", part, *times, b"");
+    assert_same(rt, "a line", reader.next(input), Ok(Some(line.as_slice())));
+    drop(line);
 }
 
-// Asserts that a reader gives the same lines so many times.
-fn assert_rounds(
+fn assert_lines(
     rt: &impl Abort,
+    alloc: Global,
     reader: &mut LineReader,
-    input: &mut Input,
-    lines: &[&[u8]],
-    rounds: usize,
+    input: &mut Counted<ShortReader>,
+    lines: &[Physical],
 ) {
-    for _ in 0..rounds {
-        assert_lines(rt, reader, input, lines);
+    for line in lines {
+        assert_line(rt, alloc, reader, input, line);
     }
     assert_same(rt, "the errors before", input.errors(), 0);
 }
@@ -34,103 +114,34 @@ fn assert_rounds(
 fn assert_ends(
     rt: &impl Abort,
     reader: &mut LineReader,
-    input: &mut Input,
+    input: &mut Counted<ShortReader>,
     stop: Option<ReadStop>,
 ) {
     assert_same(rt, "the stop", reader.next(input).err(), stop);
     let reads = input.device().reads;
     assert_same(rt, "the stop once more", reader.advance(input).err(), stop);
-    assert_same(rt, "the line", reader.line(), b"".as_slice());
     assert_same(rt, "the reads", input.device().reads, reads);
+    assert_same(rt, "the line", reader.line(), b"".as_slice());
     let failed = stop == Some(ReadStop::ReadFault);
     assert_same(rt, "the errors", input.errors(), u64::from(failed));
 }
 
-// Asserts the lines of a text, which it has so many times, and what stops the reader then, if it isn't the end. Answers the
-// number of reads.
-fn reads_of(
-    rt: &impl Abort,
-    alloc: Global,
-    mut input: Input,
-    lines: &[&[u8]],
-    rounds: usize,
-    stop: Option<ReadStop>,
-) -> usize {
+fn assert_row(rt: &impl Abort, alloc: Global, row: &Row) {
+    let ((part, times, rest), device, lines, rounds, stop) = row;
+    let text = repeated(rt, alloc, b"", part, *times, rest);
+    let mut input = Counted::new(ShortReader::scripted(&text, *device));
     let mut reader = LineReader::new(alloc).expect(rt, "a reader");
-    assert_rounds(rt, &mut reader, &mut input, lines, rounds);
-    assert_ends(rt, &mut reader, &mut input, stop);
+    for _ in 0..*rounds {
+        assert_lines(rt, alloc, &mut reader, &mut input, lines);
+    }
+    assert_ends(rt, &mut reader, &mut input, *stop);
     drop(reader);
-    input.device().reads
-}
-
-// Lines of 2, 1, 0 and 9 bytes, and a last one of 4 that no line feed ends.
-const TEXT: &[u8] = b"ab\nc\n\nlong line\nlast";
-
-const LINES: &[&[u8]] = &[b"ab", b"c", b"", b"long line", b"last"];
-
-// Texts that are given whole, and their lines. A carriage return stays.
-const TEXTS: &[(&[u8], &[&[u8]])] = &[(TEXT, LINES), (b"", &[]), (b"a\r\n\r", &[b"a\r", b"\r"])];
-
-// A text that is given in as many bytes as are asked for.
-fn whole(text: &[u8]) -> Input<'_> {
-    Counted::new(ShortReader::scripted(text, Script::Each(Step::AllBytes)))
-}
-
-#[test]
-fn lines_are_given_without_their_line_feeds(rt: HostRuntime) {
-    for (text, lines) in TEXTS {
-        let _reads = reads_of(&rt, rt.alloc(), whole(text), lines, 1, None);
-    }
-}
-
-// Which read, of three bytes each, fails, and the lines that are given before it.
-const LINES_BEFORE: &[(usize, &[&[u8]])] = &[
-    (1, &[]),
-    (2, &[b"ab"]),
-    (3, &[b"ab", b"c", b""]),
-    (4, &[b"ab", b"c", b""]),
-    (5, &[b"ab", b"c", b""]),
-    (6, &[b"ab", b"c", b""]),
-    (7, &[b"ab", b"c", b"", b"long line"]),
-    (8, &[b"ab", b"c", b"", b"long line"]),
-];
-
-// The read that fails is the last one.
-#[test]
-fn a_read_that_fails_stops_the_reader_for_good(rt: HostRuntime) {
-    for (fails_at, lines) in LINES_BEFORE {
-        let input = Counted::new(ShortReader::new(TEXT, *fails_at));
-        let stop = Some(ReadStop::ReadFault);
-        let reads = reads_of(&rt, rt.alloc(), input, lines, 1, stop);
-        assert_same(&rt, "the reads", reads, *fails_at);
-    }
-}
-
-// One line that a line feed ends, and one at the end.
-#[test]
-fn a_line_of_the_most_bytes_is_given(rt: HostRuntime) {
-    let line = repeated(&rt, rt.alloc(), b"", b"a", MOST_LINE_BYTES, b"");
-    let text = repeated(&rt, rt.alloc(), &line, b"\n", 1, &line);
-    let _reads = reads_of(&rt, rt.alloc(), whole(&text), &[&line], 2, None);
-    drop((line, text));
-}
-
-#[test]
-fn a_line_of_one_byte_more_stops_the_reader(rt: HostRuntime) {
-    let text = repeated(&rt, rt.alloc(), b"", b"a", MOST_LINE_BYTES, b"a\nb\n");
-    let stop = Some(ReadStop::LineTooLong);
-    let _reads = reads_of(&rt, rt.alloc(), whole(&text), &[], 1, stop);
     drop(text);
 }
 
-// Two lines, which a text has over and over.
-const LINES_OF_MANY: &[&[u8]] = &[b"a line of some bytes", b"and another"];
-
 #[test]
-fn lines_go_on_past_the_end_of_the_buffer(rt: HostRuntime) {
-    let lines = b"a line of some bytes\nand another\n";
-    let text = repeated(&rt, rt.alloc(), b"", lines, 10_000, b"");
-    let input = Counted::new(ShortReader::new(&text, 0));
-    let _reads = reads_of(&rt, rt.alloc(), input, LINES_OF_MANY, 10_000, None);
-    drop(text);
+fn each_text_has_its_lines(rt: HostRuntime) {
+    for row in ROWS {
+        assert_row(&rt, rt.alloc(), row);
+    }
 }
