@@ -13,7 +13,7 @@ mod table_lines;
 
 use crate::assertions::{assert_same, assert_that, past, past_char, past_name};
 use coll_lex::{Lexer, Line, TextBuf};
-use coll_syntax::{Id, OrderLine, Weight};
+use coll_syntax::{Id, OrderLine, Rule, Weight};
 pub use shown::{show_id, show_rules, show_weight};
 use std::alloc::Global;
 use std::process::Abort;
@@ -67,8 +67,8 @@ fn past_element<'a>(rt: &impl Abort, wanted: &'a str, name: &TextBuf, text: &Tex
     past(rt, past(rt, rest, " "), text.get())
 }
 
-// .. behind an identifier: a character as it is, a name between its brackets, or `UNDEFINED`.
-fn past_id<'a>(rt: &impl Abort, wanted: &'a str, id: &Id) -> &'a str {
+/// What is left of a wanted text behind an identifier: a character as it is, a name between its brackets, or `UNDEFINED`.
+pub fn past_id<'a>(rt: &impl Abort, wanted: &'a str, id: &Id) -> &'a str {
     match id {
         Id::Char(c) => past_char(rt, wanted, *c),
         Id::Named(name) => past_name(rt, wanted, name.get()),
@@ -85,8 +85,8 @@ fn past_ids<'a>(rt: &impl Abort, wanted: &'a str, ids: &[Id]) -> &'a str {
     past(rt, rest, ")")
 }
 
-// .. behind a weight: `I` for `IGNORE`, `-` for the entry's own.
-fn past_weight<'a>(rt: &impl Abort, wanted: &'a str, weight: &Weight) -> &'a str {
+/// What is left of a wanted text behind a weight: `I` for `IGNORE`, `-` for the entry's own.
+pub fn past_weight<'a>(rt: &impl Abort, wanted: &'a str, weight: &Weight) -> &'a str {
     match weight {
         Weight::Ignore => past(rt, wanted, "I"),
         Weight::Own => past(rt, wanted, "-"),
@@ -126,5 +126,24 @@ fn past_order<'a>(rt: &impl Abort, wanted: &'a str, line: &OrderLine) -> &'a str
     match &line.weights {
         Some(weights) => past_copies(rt, rest, weights.get()),
         None => rest,
+    }
+}
+
+/// What is left of a wanted text behind rules, each after a blank.
+pub fn past_rules<'a>(rt: &impl Abort, wanted: &'a str, rules: &[Rule]) -> &'a str {
+    let mut rest = wanted;
+    for rule in rules {
+        rest = past(rt, rest, rule_text(*rule));
+    }
+    rest
+}
+
+// A rule behind a blank.
+fn rule_text(rule: Rule) -> &'static str {
+    match (rule.backward, rule.position) {
+        (false, false) => " forward",
+        (false, true) => " forward,position",
+        (true, false) => " backward",
+        (true, true) => " backward,position",
     }
 }

@@ -2,10 +2,10 @@
 
 ghost use Rattle.coll_lex.specs.Names.{AreTokens};
 
-use super::{Place, assert_rows, past_element, past_named, past_order};
+use super::{Place, assert_rows, past_element, past_named, past_order, past_rules};
 use crate::assertions::{past, past_name};
 use coll_lex::{Line, TextBuf};
-use coll_syntax::{Rule, Rules, TableLine, parse_table_line};
+use coll_syntax::{Rules, TableLine, parse_table_line};
 use std::alloc::Global;
 use std::process::Abort;
 
@@ -49,24 +49,6 @@ fn past_start<'a>(
     match rules {
         Some(rules) => past_rules(rt, rest, rules.get()),
         None => rest,
-    }
-}
-
-fn past_rules<'a>(rt: &impl Abort, wanted: &'a str, rules: &[Rule]) -> &'a str {
-    let mut rest = wanted;
-    for rule in rules {
-        rest = past(rt, rest, shown(*rule));
-    }
-    rest
-}
-
-// A rule behind a blank.
-fn shown(rule: Rule) -> &'static str {
-    match (rule.backward, rule.position) {
-        (false, false) => " forward",
-        (false, true) => " forward,position",
-        (true, false) => " backward",
-        (true, true) => " backward,position",
     }
 }
 
