@@ -151,37 +151,27 @@ fn assert_shown<F: Display>(rt: &impl Abort, alloc: Global, faults: &[(F, &str)]
     for (fault, text) in faults {
         let shown = format!(in alloc; "{fault}").expect(rt, text);
         assert_same(rt, *text, shown.as_str(), *text);
+        drop(shown);
     }
 }
 
-#[test]
-fn a_fault_of_a_device_is_shown_by_number_and_name(rt: HostRuntime) {
-    assert_shown(&rt, rt.alloc(), READ_STOPS);
-    assert_shown(&rt, rt.alloc(), WRITE_STOPS);
-}
-
-#[test]
-fn a_fault_of_a_line_is_shown_by_number_and_name(rt: HostRuntime) {
-    assert_shown(&rt, rt.alloc(), LEX_FAULTS);
-    assert_shown(&rt, rt.alloc(), SYNTAX_FAULTS);
-}
-
-#[test]
-fn a_fault_of_a_table_is_shown_by_number_and_name(rt: HostRuntime) {
-    assert_shown(&rt, rt.alloc(), LOAD_CAUSES);
-    assert_shown(&rt, rt.alloc(), REFUSALS);
-    assert_shown(&rt, rt.alloc(), KEY_FAULTS);
-}
-
-#[test]
-fn a_fault_of_a_session_is_shown_by_number_and_name(rt: HostRuntime) {
-    assert_shown(&rt, rt.alloc(), UNIT_FAULTS);
-    assert_shown(&rt, rt.alloc(), DELTA_CAUSES);
-    assert_shown(&rt, rt.alloc(), BENCH_FAULTS);
-    assert_shown(&rt, rt.alloc(), FAULTS);
-}
-
 const LOADS: &[(LoadFault, &str)] = &[(LOAD_FAULT, "line 12: 35 PlacedTwice")];
+
+#[test]
+fn a_fault_is_shown_by_its_number_and_name(rt: HostRuntime) {
+    let alloc = rt.alloc();
+    assert_shown(&rt, alloc, READ_STOPS);
+    assert_shown(&rt, alloc, WRITE_STOPS);
+    assert_shown(&rt, alloc, LEX_FAULTS);
+    assert_shown(&rt, alloc, SYNTAX_FAULTS);
+    assert_shown(&rt, alloc, LOAD_CAUSES);
+    assert_shown(&rt, alloc, REFUSALS);
+    assert_shown(&rt, alloc, KEY_FAULTS);
+    assert_shown(&rt, alloc, UNIT_FAULTS);
+    assert_shown(&rt, alloc, DELTA_CAUSES);
+    assert_shown(&rt, alloc, BENCH_FAULTS);
+    assert_shown(&rt, alloc, FAULTS);
+}
 
 #[test]
 fn the_fault_of_a_load_or_a_run_is_shown_with_its_line(rt: HostRuntime) {

@@ -1,19 +1,21 @@
 //! The grammar of lines: what each line says, or its fault, as the language has it.
 //!
-//! A line is written here as a text, lexed, read, and shown again in short: its keyword and operands, with weights between
-//! parentheses, `-` for an entry's own, and `I` for `IGNORE`. A fault is shown by its number. A new kind of line is a row of
-//! the tables in `table_lines` and `delta_lines`.
+//! A table of lines is one constant text. A row has a line, `=>`, and what the line says in short: its keyword and operands, with
+//! weights between parentheses, `-` for an entry's own, and `I` for `IGNORE`; or else the name of its fault. A row that begins with
+//! `--` says what the rows behind it show. A new kind of line is a row of the tables in `table_lines` and `delta_lines`.
 
 ghost use Rattle.coll_lex.specs.Names.{AreTokens};
 
 mod copies;
 mod delta_lines;
+mod shown;
 mod table_lines;
 
-use crate::assertions::assert_same;
+use crate::assertions::{assert_same, assert_that, past, past_char, past_name};
 use coll_lex::{Lexer, Line, TextBuf};
-use coll_syntax::{Id, OrderLine, Rule, SyntaxFault, Weight};
-use std::alloc::{AllocError, Global};
+use coll_syntax::{Id, OrderLine, Rule, Weight};
+pub use shown::{show_id, show_rules, show_weight};
+use std::alloc::Global;
 use std::process::Abort;
 
 /// The one logical line of a text.
@@ -22,6 +24,7 @@ pub fn line_of(rt: &impl Abort, alloc: Global, text: &str) -> Line
 {
     let mut lexer = Lexer::new(alloc).expect(rt, "a lexer");
     let line = lexer.feed(text.as_bytes()).expect(rt, text);
+    drop(lexer);
     line.expect(rt, text)
 }
 
@@ -32,117 +35,115 @@ pub enum Place {
     Delta,
 }
 
-// Shows what a line says in this place.
-fn show(out: &mut String, alloc: Global, place: Place, line: &Line) -> Result<(), AllocError>
-    requires { AreTokens line.now.tokens }
-{
-    match place {
-        Place::Table => table_lines::show(out, alloc, line),
-        Place::Delta => delta_lines::show(out, alloc, line),
+/// Asserts what each line says in this place.
+pub fn assert_rows(rt: &impl Abort, alloc: Global, place: Place, rows: &str) {
+    for row in rows.split('\n') {
+        match row.split_once(" => ") {
+            Some((text, wanted)) => assert_said(rt, alloc, place, text, wanted),
+            None => assert_that(rt, row, row.starts_with("--")),
+        }
     }
 }
 
-// What a text says as a line in this place, in short.
-fn said(rt: &impl Abort, alloc: Global, place: Place, text: &str) -> String {
+// Asserts what a line says in this place.
+fn assert_said(rt: &impl Abort, alloc: Global, place: Place, text: &str, wanted: &str) {
     let line = line_of(rt, alloc, text);
-    let mut out = String::new(alloc);
-    show(&mut out, alloc, place, &line).expect(rt, text);
-    out
+    let rest = match place {
+        Place::Table => table_lines::past_line(rt, alloc, wanted, &line),
+        Place::Delta => delta_lines::past_line(rt, alloc, wanted, &line),
+    };
+    assert_same(rt, text, rest, "");
+    drop(line);
 }
 
-/// Asserts what each of these texts says as a line in this place.
-pub fn assert_said(rt: &impl Abort, alloc: Global, place: Place, rows: &[(&str, &str)]) {
-    for (text, want) in rows {
-        let given = said(rt, alloc, place, text);
-        assert_same(rt, *text, given.as_str(), *want);
-    }
+// What is left of a wanted text behind a keyword and a name.
+fn past_named<'a>(rt: &impl Abort, wanted: &'a str, keyword: &str, name: &TextBuf) -> &'a str {
+    past_name(rt, past(rt, wanted, keyword), name.get())
 }
 
-// The number of a fault.
-fn show_fault(out: &mut String, fault: SyntaxFault) -> Result<(), AllocError> {
-    write!(out, "{}", fault.number())
+// .. behind a collating element, with its characters.
+fn past_element<'a>(rt: &impl Abort, wanted: &'a str, name: &TextBuf, text: &TextBuf) -> &'a str {
+    let rest = past_named(rt, wanted, "element ", name);
+    past(rt, past(rt, rest, " "), text.get())
 }
 
-// A name between its brackets, after a blank.
-fn show_name(out: &mut String, name: &str) -> Result<(), AllocError> {
-    out.push_str(" <")?;
-    out.push_str(name)?;
-    out.push('>')?;
-    Ok(())
-}
-
-// A keyword and a name.
-fn show_named(out: &mut String, keyword: &str, name: &TextBuf) -> Result<(), AllocError> {
-    out.push_str(keyword)?;
-    show_name(out, name.get())
-}
-
-// A collating element, with its characters.
-fn show_element(out: &mut String, name: &TextBuf, text: &TextBuf) -> Result<(), AllocError> {
-    show_named(out, "element", name)?;
-    out.push(' ')?;
-    out.push_str(text.get())
-}
-
-/// An identifier: a character as it is, a name between its brackets, or `UNDEFINED`.
-pub fn show_id(out: &mut String, id: &Id) -> Result<(), AllocError> {
+/// What is left of a wanted text behind an identifier: a character as it is, a name between its brackets, or `UNDEFINED`.
+pub fn past_id<'a>(rt: &impl Abort, wanted: &'a str, id: &Id) -> &'a str {
     match id {
-        Id::Char(c) => out.push(*c)?,
-        Id::Named(name) => {
-            out.push('<')?;
-            out.push_str(name.get())?;
-            out.push('>')?;
-        }
-        Id::Undefined => out.push_str("UNDEFINED")?,
+        Id::Char(c) => past_char(rt, wanted, *c),
+        Id::Named(name) => past_name(rt, wanted, name.get()),
+        Id::Undefined => past(rt, wanted, "UNDEFINED"),
     }
-    Ok(())
 }
 
-/// A weight: `I` for `IGNORE`, `-` for the entry's own, a list between parentheses.
-pub fn show_weight(out: &mut String, weight: &Weight) -> Result<(), AllocError> {
+// .. behind a list of identifiers, between parentheses.
+fn past_ids<'a>(rt: &impl Abort, wanted: &'a str, ids: &[Id]) -> &'a str {
+    let mut rest = past(rt, wanted, "(");
+    for id in ids {
+        rest = past_id(rt, rest, id);
+    }
+    past(rt, rest, ")")
+}
+
+/// What is left of a wanted text behind a weight: `I` for `IGNORE`, `-` for the entry's own.
+pub fn past_weight<'a>(rt: &impl Abort, wanted: &'a str, weight: &Weight) -> &'a str {
     match weight {
-        Weight::Ignore => out.push('I')?,
-        Weight::Own => out.push('-')?,
-        Weight::Names(ids) => {
-            out.push('(')?;
-            for id in ids.get() {
-                show_id(out, id)?;
-            }
-            out.push(')')?;
-        }
+        Weight::Ignore => past(rt, wanted, "I"),
+        Weight::Own => past(rt, wanted, "-"),
+        Weight::Names(ids) => past_ids(rt, wanted, ids.get()),
     }
-    Ok(())
 }
 
-fn show_order(out: &mut String, line: &OrderLine) -> Result<(), AllocError> {
-    out.push_str("order ")?;
-    show_id(out, &line.id)?;
-    if let Some(weights) = &line.weights {
-        out.push_str(" with")?;
-        for weight in weights.get() {
-            out.push(' ')?;
-            show_weight(out, weight)?;
-        }
-    }
-    Ok(())
+// .. behind the copy of a weight, after a blank.
+fn past_copy<'a>(rt: &impl Abort, wanted: &'a str, weight: &Weight) -> &'a str {
+    let copy = weight.clone().expect(rt, wanted);
+    let rest = past_weight(rt, past(rt, wanted, " "), &copy);
+    drop(copy);
+    rest
 }
 
-fn show_rule(out: &mut String, rule: Rule) -> Result<(), AllocError> {
-    out.push_str(if rule.backward {
-        " backward"
-    } else {
-        " forward"
-    })?;
-    if rule.position {
-        out.push_str(",position")?;
+// .. behind the copies of weights.
+fn past_copies<'a>(rt: &impl Abort, wanted: &'a str, weights: &[Weight]) -> &'a str {
+    let mut rest = past(rt, wanted, " with");
+    for weight in weights {
+        rest = past_copy(rt, rest, weight);
     }
-    Ok(())
+    rest
 }
 
-/// The rules, each after a blank.
-pub fn show_rules(out: &mut String, rules: &[Rule]) -> Result<(), AllocError> {
+// .. behind the copy of an identifier.
+fn past_same<'a>(rt: &impl Abort, wanted: &'a str, id: &Id) -> &'a str {
+    let copy = id.clone().expect(rt, wanted);
+    assert_that(rt, wanted, copy.is_same(id));
+    let rest = past_id(rt, wanted, &copy);
+    drop(copy);
+    rest
+}
+
+// .. behind an order line.
+fn past_order<'a>(rt: &impl Abort, wanted: &'a str, line: &OrderLine) -> &'a str {
+    let rest = past_same(rt, past(rt, wanted, "order "), &line.id);
+    match &line.weights {
+        Some(weights) => past_copies(rt, rest, weights.get()),
+        None => rest,
+    }
+}
+
+/// What is left of a wanted text behind rules, each after a blank.
+pub fn past_rules<'a>(rt: &impl Abort, wanted: &'a str, rules: &[Rule]) -> &'a str {
+    let mut rest = wanted;
     for rule in rules {
-        show_rule(out, *rule)?;
+        rest = past(rt, rest, rule_text(*rule));
     }
-    Ok(())
+    rest
+}
+
+// A rule behind a blank.
+fn rule_text(rule: Rule) -> &'static str {
+    match (rule.backward, rule.position) {
+        (false, false) => " forward",
+        (false, true) => " forward,position",
+        (true, false) => " backward",
+        (true, true) => " backward,position",
+    }
 }

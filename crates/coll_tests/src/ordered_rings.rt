@@ -1,222 +1,214 @@
 //! Rings of nodes: worked examples.
 //!
-//! A test has its rings and nodes by numbers, and its calls as a table. Each call is made as a caller from outside
-//! would: what it asks for is asserted first. A ring is shown as the list of its nodes' tags.
+//! There are two rings and two loose nodes at first. A table has calls, and what is to be seen between them. Each call is made
+//! as a caller from outside would: what it asks for is asserted first. A ring is shown as the list of its nodes' tags.
+
+ghost use Rattle.std.specs.Prelude.{IsTrue, ◌↔◌};
+ghost use Rattle.coll_order.specs.Layout.{IsPlace};
 
 use crate::assertions::{assert_same, assert_that};
 use coll_order::{NodeId, Place, RingId, Rings};
-use std::alloc::{AllocError, Global};
 use std::process::Abort;
 
-// A place, by the number of a ring or a node.
-#[derive(Clone, Copy)]
+// One of two rings or nodes.
+enum Which {
+    First,
+    Second,
+}
+
+use Which::{First, Second};
+
 enum At {
-    Head(usize),
-    After(usize),
+    Head(Which),
+    After(Which),
 }
 
-// A call on nodes by their numbers. `Unlink` has the place that is to be answered.
-#[derive(Clone, Copy)]
+use At::{After, Head};
+
 enum Call {
-    Link(usize, At),
-    Unlink(usize, At),
-    Drop(usize),
+    Link(Which, At),
+    // With the place that is to be answered.
+    Unlink(Which, At),
+    Drop(Which),
+    // A ring has nodes with these tags, in this order, and ends there.
+    Shows(Which, &'static [usize], At),
+    // So many steps were taken.
+    Steps(u64),
 }
 
-// A store, with the names that it gave out.
-#[derive(Drop)]
-struct Stage {
-    rings: Rings,
-    ring_names: Vec<RingId>,
-    node_names: Vec<NodeId>,
+use Call::{Drop, Link, Shows, Steps, Unlink};
+
+// The names that a store gave out.
+#[derive(Clone, Copy)]
+struct Names {
+    first_ring: RingId,
+    second_ring: RingId,
+    first_node: NodeId,
+    second_node: NodeId,
 }
 
-impl Stage {
-    fn new(alloc: Global) -> Stage {
-        Stage {
-            rings: Rings::new(alloc),
-            ring_names: Vec::new(alloc),
-            node_names: Vec::new(alloc),
+impl Names {
+    fn ring(&self, which: &Which) -> RingId {
+        match which {
+            First => self.first_ring,
+            Second => self.second_ring,
         }
     }
 
-    fn add_rings(&mut self, count: usize) -> Result<(), AllocError> {
-        for _ in 0..count {
-            let ring = self.rings.new_ring()?;
-            self.ring_names.push(ring)?;
+    fn node(&self, which: &Which) -> NodeId {
+        match which {
+            First => self.first_node,
+            Second => self.second_node,
         }
-        Ok(())
     }
 
-    fn add_nodes(&mut self, tags: &[usize]) -> Result<(), AllocError> {
-        for tag in tags {
-            let node = self.rings.new_node(*tag)?;
-            self.node_names.push(node)?;
-        }
-        Ok(())
-    }
-
-    // Another store with the same rings and nodes, by the same numbers.
-    fn try_copy(&self, alloc: Global) -> Result<Stage, AllocError> {
-        Ok(Stage {
-            rings: self.rings.try_copy(alloc)?,
-            ring_names: Vec::from_slice(alloc, &self.ring_names)?,
-            node_names: Vec::from_slice(alloc, &self.node_names)?,
-        })
-    }
-
-    fn ring(&self, rt: &impl Abort, ring: usize) -> RingId {
-        assert!(rt; ring < self.ring_names.len());
-        let name = self.ring_names[ring];
-        assert!(rt; self.rings.is_ring(name));
-        name
-    }
-
-    fn node(&self, rt: &impl Abort, node: usize) -> NodeId {
-        assert!(rt; node < self.node_names.len());
-        self.node_names[node]
-    }
-
-    fn place(&self, rt: &impl Abort, at: At) -> Place {
+    fn place(&self, at: &At) -> Place {
         match at {
-            At::Head(ring) => Place::Head(self.ring(rt, ring)),
-            At::After(node) => Place::After(self.node(rt, node)),
-        }
-    }
-
-    fn first(&self, rt: &impl Abort, ring: usize) -> Option<NodeId> {
-        let name = self.ring(rt, ring);
-        assert!(rt; self.rings.is_ring(name));
-        self.rings.first(name)
-    }
-
-    // The tag of a linked node, and the node after it.
-    fn tag_and_next(&self, rt: &impl Abort, node: NodeId) -> (usize, Option<NodeId>) {
-        assert!(rt; self.rings.is_linked(node));
-        self.rings.check_layout();
-        (self.rings.tag(node), self.rings.next(node))
-    }
-
-    // Asserts that a ring has nodes with these tags, in this order.
-    fn assert_ring(&self, rt: &impl Abort, ring: usize, tags: &[usize]) {
-        let mut here = self.first(rt, ring);
-        for wanted in tags {
-            let Some(node) = here else {
-                panic!(rt; "ring {ring} ends before {wanted}");
-            };
-            let (tag, next) = self.tag_and_next(rt, node);
-            assert_same(rt, ring, tag, *wanted);
-            here = next;
-        }
-        assert_same(rt, "after the last", here, None);
-    }
-
-    // Asserts where a ring ends.
-    fn assert_end(&self, rt: &impl Abort, ring: usize, end: At) {
-        let name = self.ring(rt, ring);
-        assert!(rt; self.rings.is_ring(name));
-        assert_same(rt, ring, self.rings.end(name), self.place(rt, end));
-    }
-
-    fn link(&mut self, rt: &impl Abort, node: NodeId, place: Place) {
-        assert!(rt; self.rings.is_loose(node));
-        match place {
-            Place::Head(ring) => {
-                assert!(rt; self.rings.is_ring(ring));
-                self.rings.link(node, Place::Head(ring));
-            }
-            Place::After(other) => {
-                assert!(rt; self.rings.is_linked(other));
-                self.rings.link(node, Place::After(other));
-            }
-        }
-    }
-
-    fn unlink(&mut self, rt: &impl Abort, node: NodeId) -> Place {
-        assert!(rt; self.rings.is_linked(node));
-        self.rings.unlink(node)
-    }
-
-    fn drop_node(&mut self, rt: &impl Abort, node: NodeId) {
-        assert!(rt; self.rings.is_loose(node));
-        self.rings.drop_node(node);
-        assert!(rt; !self.rings.is_loose(node));
-    }
-
-    fn perform(&mut self, rt: &impl Abort, call: Call) {
-        match call {
-            Call::Link(node, at) => self.link(rt, self.node(rt, node), self.place(rt, at)),
-            Call::Unlink(node, at) => {
-                let place = self.unlink(rt, self.node(rt, node));
-                assert_same(rt, node, place, self.place(rt, at));
-            }
-            Call::Drop(node) => self.drop_node(rt, self.node(rt, node)),
-        }
-    }
-
-    fn perform_all(&mut self, rt: &impl Abort, calls: &[Call]) {
-        for call in calls {
-            self.perform(rt, *call);
+            Head(ring) => Place::Head(self.ring(ring)),
+            After(node) => Place::After(self.node(node)),
         }
     }
 }
 
-// A store of so many rings, and of loose nodes with these tags.
-fn stage_with(rt: &impl Abort, alloc: Global, rings: usize, tags: &[usize]) -> Stage {
-    let mut stage = Stage::new(alloc);
-    stage.add_rings(rings).expect(rt, "rings");
-    stage.add_nodes(tags).expect(rt, "nodes");
-    stage
+// Makes two rings, and loose nodes with the tags 7 and 8.
+fn make(rt: &impl Abort, rings: &mut Rings) -> Names {
+    Names {
+        first_ring: rings.new_ring().expect(rt, "a ring"),
+        second_ring: rings.new_ring().expect(rt, "a ring"),
+        first_node: rings.new_node(7).expect(rt, "a node"),
+        second_node: rings.new_node(8).expect(rt, "a node"),
+    }
 }
 
-// Two nodes are linked, the second one behind the first.
-const LINKED: &[Call] = &[Call::Link(0, At::Head(0)), Call::Link(1, At::After(0))];
-
-const MOVED_BEHIND: &[Call] = &[Call::Unlink(0, At::Head(0)), Call::Link(0, At::After(1))];
-
-#[test]
-fn a_node_goes_from_the_head_behind_the_other(rt: HostRuntime) {
-    let mut stage = stage_with(&rt, rt.alloc(), 1, &[1, 2]);
-    stage.perform_all(&rt, LINKED);
-    stage.assert_ring(&rt, 0, &[1, 2]);
-    stage.perform_all(&rt, MOVED_BEHIND);
-    stage.assert_ring(&rt, 0, &[2, 1]);
-    stage.assert_end(&rt, 0, At::After(0));
-    assert_same(&rt, "the steps", stage.rings.steps(), 4);
+fn is_place(rings: &Rings, place: Place) -> bool
+    ensures { IsTrue result ↔ IsPlace rings.now.layout place }
+{
+    match place {
+        Place::Head(ring) => rings.is_ring(ring),
+        Place::After(node) => rings.is_linked(node),
+    }
 }
 
-const LEFT_ALONE: &[Call] = &[
-    Call::Link(0, At::Head(0)),
-    Call::Link(1, At::Head(1)),
-    Call::Unlink(0, At::Head(0)),
+fn link(rt: &impl Abort, rings: &mut Rings, node: NodeId, place: Place) {
+    assert_that(rt, "a loose node", rings.is_loose(node));
+    assert_that(rt, "a place", is_place(rings, place));
+    rings.link(node, place);
+}
+
+fn unlink(rt: &impl Abort, rings: &mut Rings, node: NodeId) -> Place {
+    assert_that(rt, "a linked node", rings.is_linked(node));
+    rings.unlink(node)
+}
+
+fn drop_node(rt: &impl Abort, rings: &mut Rings, node: NodeId) {
+    assert_that(rt, "a loose node", rings.is_loose(node));
+    rings.drop_node(node);
+    assert_that(rt, "no node any more", !rings.is_loose(node));
+}
+
+// Asserts that a node has a tag, and answers the node after it.
+fn after_tag(rt: &impl Abort, rings: &Rings, node: NodeId, tag: usize) -> Option<NodeId> {
+    assert_that(rt, "a linked node", rings.is_linked(node));
+    rings.check_layout();
+    assert_same(rt, "a tag", rings.tag(node), tag);
+    rings.next(node)
+}
+
+fn assert_ring(rt: &impl Abort, rings: &Rings, ring: RingId, tags: &[usize], end: Place) {
+    assert_that(rt, "a ring", rings.is_ring(ring));
+    assert_same(rt, "its end", rings.end(ring), end);
+    let mut here = rings.first(ring);
+    for tag in tags {
+        here = after_tag(rt, rings, here.expect(rt, "a node"), *tag);
+    }
+    assert_same(rt, "after the last", here, None);
+}
+
+fn perform(rt: &impl Abort, rings: &mut Rings, names: &Names, call: &Call) {
+    match call {
+        Link(node, at) => link(rt, rings, names.node(node), names.place(at)),
+        Unlink(node, at) => {
+            let place = unlink(rt, rings, names.node(node));
+            assert_same(rt, "the place", place, names.place(at));
+        }
+        Drop(node) => drop_node(rt, rings, names.node(node)),
+        Shows(ring, tags, end) => {
+            assert_ring(rt, rings, names.ring(ring), tags, names.place(end));
+        }
+        Steps(count) => assert_same(rt, "the steps", rings.steps(), *count),
+    }
+}
+
+fn perform_all(rt: &impl Abort, rings: &mut Rings, names: &Names, calls: &[Call]) {
+    for call in calls {
+        perform(rt, rings, names, call);
+    }
+}
+
+// A node goes from the head behind the other.
+const BEHIND_THE_OTHER: &[Call] = &[
+    Link(First, Head(First)),
+    Link(Second, After(First)),
+    Shows(First, &[7, 8], After(Second)),
+    Unlink(First, Head(First)),
+    Link(First, After(Second)),
+    Shows(First, &[8, 7], After(First)),
+    Steps(4),
 ];
 
-const VISITED_AND_DROPPED: &[Call] = &[Call::Unlink(0, At::After(1)), Call::Drop(0)];
+// A node goes into another ring, and is dropped.
+const INTO_ANOTHER_RING: &[Call] = &[
+    Link(First, Head(First)),
+    Link(Second, Head(Second)),
+    Unlink(First, Head(First)),
+    Shows(First, &[], Head(First)),
+    Link(First, After(Second)),
+    Shows(Second, &[8, 7], After(First)),
+    Unlink(First, After(Second)),
+    Drop(First),
+    Shows(Second, &[8], After(Second)),
+    Steps(5),
+];
 
-#[test]
-fn a_node_goes_into_another_ring_and_is_dropped(rt: HostRuntime) {
-    let mut stage = stage_with(&rt, rt.alloc(), 2, &[7, 8]);
-    stage.perform_all(&rt, LEFT_ALONE);
-    stage.assert_ring(&rt, 0, &[]);
-    stage.assert_end(&rt, 0, At::Head(0));
-    stage.perform(&rt, Call::Link(0, At::After(1)));
-    stage.assert_ring(&rt, 1, &[8, 7]);
-    stage.perform_all(&rt, VISITED_AND_DROPPED);
-    stage.assert_ring(&rt, 1, &[8]);
-    assert_same(&rt, "the steps", stage.rings.steps(), 5);
+fn assert_calls(rt: &impl Abort, rings: &mut Rings, calls: &[Call]) {
+    let names = make(rt, rings);
+    perform_all(rt, rings, &names, calls);
 }
 
-const LAST_DROPPED: &[Call] = &[Call::Unlink(1, At::After(0)), Call::Drop(1)];
+#[test]
+fn a_node_goes_behind_another_and_into_another_ring(rt: HostRuntime) {
+    for calls in [BEHIND_THE_OTHER, INTO_ANOTHER_RING] {
+        let mut rings = Rings::new(rt.alloc());
+        assert_calls(&rt, &mut rings, calls);
+        drop(rings);
+    }
+}
+
+const LINKED: &[Call] = &[Link(First, Head(First)), Link(Second, After(First))];
+
+const LAST_DROPPED: &[Call] = &[
+    Unlink(Second, After(First)),
+    Drop(Second),
+    Shows(First, &[7], After(First)),
+];
+
+const STILL_LINKED: &[Call] = &[Shows(First, &[7, 8], After(Second))];
+
+// Changes both, and asserts that neither changes the other.
+fn assert_apart(rt: &impl Abort, source: &mut Rings, copy: &mut Rings, names: &Names) {
+    let other = copy.new_ring().expect(rt, "a ring");
+    perform_all(rt, source, names, LAST_DROPPED);
+    perform_all(rt, copy, names, STILL_LINKED);
+    assert_that(rt, "no ring of the source", !source.is_ring(other));
+}
 
 #[test]
 fn a_copy_and_its_source_change_apart(rt: HostRuntime) {
-    let mut stage = stage_with(&rt, rt.alloc(), 1, &[1, 2]);
-    stage.perform_all(&rt, LINKED);
-    let mut copy = stage.try_copy(rt.alloc()).expect(&rt, "a copy");
-    copy.add_rings(1).expect(&rt, "a ring");
-    stage.perform_all(&rt, LAST_DROPPED);
-    stage.assert_ring(&rt, 0, &[1]);
-    copy.assert_ring(&rt, 0, &[1, 2]);
-    let other = copy.ring(&rt, 1);
-    assert_that(&rt, "no ring here", !stage.rings.is_ring(other));
+    let mut source = Rings::new(rt.alloc());
+    let names = make(&rt, &mut source);
+    perform_all(&rt, &mut source, &names, LINKED);
+    let mut copy = source.try_copy(rt.alloc()).expect(&rt, "a copy");
+    assert_apart(&rt, &mut source, &mut copy, &names);
+    drop(source);
+    drop(copy);
 }

@@ -1,144 +1,94 @@
 //! A counted device calls its device once a call, and tells that answer; and a line reader that has met the end, or
 //! has stopped, calls it no more.
 
-use crate::assertions::{assert_same, assert_that};
-use crate::devices::{Script, ScriptedReader, ScriptedWriter, Step};
-use coll_lex::{Counted, LineReader, ReadStop, Sink, Source};
+use crate::assertions::assert_same;
+use crate::devices::{Script, ShortReader, ShortWriter};
+use coll_lex::{Counted, LineReader, Sink, Source};
+use std::alloc::Global;
 use std::process::Abort;
 
-// Asserts that a call answers as its script says, in one call of the device.
-fn assert_one_call(
-    rt: &impl Abort,
-    answer: Option<usize>,
-    step: Step,
-    calls_before: usize,
-    calls: usize,
-) {
-    assert_same(rt, "the answer of a call", answer, step.most());
-    assert_same(
-        rt,
-        "the calls of a device",
-        calls,
-        calls_before.saturating_add(1),
-    );
+fn assert_reads(rt: &impl Abort, input: &mut Counted<ShortReader>, script: Script) {
+    for call in 1..=4_usize {
+        let read = input.read(&mut [0; 8]).ok();
+        assert_same(rt, "a read", read, script.step(call).most());
+    }
+    assert_same(rt, "the reads", input.device().reads, 4);
+    assert_same(rt, "their errors", input.errors(), input.device().errors);
 }
 
-fn assert_reads(rt: &impl Abort, script: Script) {
-    let mut input = Counted::new(ScriptedReader::new(script, b"a text of some bytes"));
-    for call in 0..4_usize {
-        let answer = input.read(&mut [0; 8]).ok();
-        assert_one_call(rt, answer, script.step(call), call, input.device().calls);
-        assert_same(
-            rt,
-            "the errors of reads",
-            input.errors(),
-            input.device().errors,
-        );
+fn assert_writes(rt: &impl Abort, out: &mut Counted<ShortWriter>, script: Script) {
+    for call in 1..=4_usize {
+        let written = out.write(b"bytes").ok();
+        assert_same(rt, "a write", written, script.step(call).most());
     }
+    assert_calls(rt, out);
 }
 
-fn assert_writes(rt: &impl Abort, script: Script) {
-    let mut out = Counted::new(ScriptedWriter::new(script));
-    for call in 0..4_usize {
-        let answer = out.write(b"bytes").ok();
-        assert_one_call(rt, answer, script.step(call), call, out.device().calls);
-        assert_same(
-            rt,
-            "the errors of writes",
-            out.errors(),
-            out.device().errors,
-        );
+fn assert_flushes(rt: &impl Abort, out: &mut Counted<ShortWriter>, script: Script) {
+    for call in 1..=4_usize {
+        let flushed = out.flush().ok();
+        assert_same(rt, "a flush", flushed, script.step(call).flushed());
     }
+    assert_calls(rt, out);
 }
 
-fn assert_flushes(rt: &impl Abort, script: Script) {
-    let mut out = Counted::new(ScriptedWriter::new(script));
-    for call in 0..4_usize {
-        let fails = out.flush().is_err();
-        assert_same(
-            rt,
-            "whether a flush fails",
-            fails,
-            script.step(call) == Step::Error,
-        );
-        assert_same(
-            rt,
-            "the flushes",
-            out.device().calls,
-            call.saturating_add(1),
-        );
-        assert_same(
-            rt,
-            "the errors of flushes",
-            out.errors(),
-            out.device().errors,
-        );
-    }
+// Asserts that four calls were four of the device, and that its errors were counted.
+fn assert_calls(rt: &impl Abort, out: &Counted<ShortWriter>) {
+    assert_same(rt, "the calls", out.device().calls, 4);
+    assert_same(rt, "their errors", out.errors(), out.device().errors);
+}
+
+fn assert_counted(rt: &impl Abort, alloc: Global, script: Script) {
+    let input = ShortReader::scripted(b"a text of some bytes", script);
+    assert_reads(rt, &mut Counted::new(input), script);
+    let mut out = Counted::new(ShortWriter::scripted(Vec::new(alloc), script));
+    assert_writes(rt, &mut out, script);
+    drop(out);
+    let mut out = Counted::new(ShortWriter::scripted(Vec::new(alloc), script));
+    assert_flushes(rt, &mut out, script);
+    drop(out);
 }
 
 #[test]
 fn a_call_of_a_counted_device_is_one_call_of_the_device(rt: HostRuntime) {
     for number in 0..=255 {
-        assert_reads(&rt, Script::of(number));
-        assert_writes(&rt, Script::of(number));
-        assert_flushes(&rt, Script::of(number));
+        assert_counted(&rt, rt.alloc(), Script::Of(number));
     }
 }
 
 // Lines of 1, 0 and 2 bytes, and bytes of a line that has no line feed yet.
-const TEXT: &[u8; 10] = b"a\n\nbc\nrest";
+const TEXT: &[u8] = b"a\n\nbc\nrest";
 
-// How many line feeds stand before these last bytes of the text.
-fn ended_lines(rest: &[u8]) -> usize {
-    let read = TEXT.len().saturating_sub(rest.len());
-    TEXT.iter()
-        .take(read)
-        .filter(|byte| **byte == b'\n')
-        .count()
-}
-
-// Goes on until no line is given, and answers how many were, and what then stopped the reader.
-fn read_all<R: Source>(
-    rt: &impl Abort,
-    reader: &mut LineReader,
-    input: &mut R,
-) -> (usize, Result<bool, ReadStop>) {
-    for given in 0..8 {
-        let answer = reader.advance(input);
-        if answer != Ok(true) {
-            return (given, answer);
-        }
+// How many line feeds stand before so many last bytes of the text.
+fn ended_lines(left: usize) -> usize {
+    match left {
+        0..=4 => 3,
+        5..=7 => 2,
+        8 => 1,
+        _ => 0,
     }
-    panic!(rt; "more lines than the text has");
 }
 
-fn assert_still(
-    rt: &impl Abort,
-    reader: &mut LineReader,
-    input: &mut Counted<ScriptedReader>,
-    last: Result<bool, ReadStop>,
-) {
-    let calls = input.device().calls;
-    for _ in 0..3 {
-        assert_same(rt, "the answer once more", reader.advance(input), last);
-        assert_that(rt, "the line is empty", reader.line().is_empty());
-    }
-    assert_same(
-        rt,
-        "the reads after the last one",
-        input.device().calls,
-        calls,
-    );
-}
-
-// Asserts that under the script of a number a reader gives each line that is read whole, and then stays where it stands.
+// Asserts that under the script of a number a reader gives each line that is read whole, and then stays where it stands. The text
+// has at most four lines, so the last of eight answers is no line.
 fn assert_stays(rt: &impl Abort, reader: &mut LineReader, number: u8) {
-    let mut input = Counted::new(ScriptedReader::new(Script::of(number), TEXT));
-    let (given, last) = read_all(rt, reader, &mut input);
-    if last == Err(ReadStop::ReadFault) {
-        assert_same(rt, number, given, ended_lines(input.device().text));
+    let mut input = Counted::new(ShortReader::scripted(TEXT, Script::Of(number)));
+    let mut given = 0_usize;
+    let mut last = Ok(true);
+    for _ in 0..8 {
+        let reads = input.device().reads;
+        let answer = reader.advance(&mut input);
+        if last == Ok(true) {
+            given = given.saturating_add(usize::from(answer == Ok(true)));
+        } else {
+            assert_same(rt, "the answer once more", answer, last);
+            assert_same(rt, "the reads", input.device().reads, reads);
+        }
+        last = answer;
     }
-    assert_still(rt, reader, &mut input, last);
+    if last.is_err() {
+        assert_same(rt, number, given, ended_lines(input.device().text.len()));
+    }
 }
 
 #[test]
@@ -146,5 +96,6 @@ fn nothing_is_read_after_the_end_or_a_stop(rt: HostRuntime) {
     for number in 0..=255 {
         let mut reader = LineReader::new(rt.alloc()).expect(&rt, "a reader");
         assert_stays(&rt, &mut reader, number);
+        drop(reader);
     }
 }

@@ -1,82 +1,86 @@
-//! Tables of physical lines and the answers to them, in the order of POSIX.1-2017, 7.3: continuation, characters
-//! made literal, directives, symbols, strings, and the line that begins the category. A new rule of lines is a new row.
+//! Physical lines and the answers to them, in the order of POSIX.1-2017, 7.3: continuation, characters made literal,
+//! directives, symbols, strings, and the line that begins the category. A new rule of lines is a new row.
+//!
+//! A table of lines is one constant text, of which each paragraph is a text that is lexed by itself. A row has a physical line, `=>`, and
+//! the answer: a dash where there is no logical line yet, the number of the line and its tokens, or the name of the fault. A word is
+//! shown as it is, a symbol in brackets, a character between apostrophes, and a string in quotation marks. The last row has the
+//! answer to the end. A row that begins with `--` says what the others show.
 
-use crate::assertions::assert_same;
+use crate::assertions::{assert_same, past, past_char, past_name};
 use crate::long_texts::repeated;
-use coll_lex::{LexFault, Lexer, Line, Piece, TextBuf, Token};
-use std::alloc::{AllocError, Global};
+use coll_lex::{Chars, LexFault, Lexer, Line, Piece, Token};
+use std::alloc::Global;
+use std::mem;
 use std::process::Abort;
 
-// A token as the tables show it: a word as it is, a symbol in brackets, a character between apostrophes, and a
-// string in quotation marks.
-fn write_token(out: &mut String, token: &Token) -> Result<(), AllocError> {
-    match token {
-        Token::Word(word) => out.push_str(word.get())?,
-        Token::Symbol(name) => write_bracketed(out, name)?,
-        Token::Char(c) => write!(out, "'{c}'")?,
-        Token::Text(pieces) => write_pieces(out, pieces.get())?,
-        Token::Semicolon => out.push(';')?,
-        Token::Comma => out.push(',')?,
-    }
-    Ok(())
-}
-
-fn write_bracketed(out: &mut String, name: &TextBuf) -> Result<(), AllocError> {
-    out.push('<')?;
-    out.push_str(name.get())?;
-    out.push('>')?;
-    Ok(())
-}
-
-fn write_pieces(out: &mut String, pieces: &[Piece]) -> Result<(), AllocError> {
-    out.push('"')?;
-    for piece in pieces {
-        write_piece(out, piece)?;
-    }
-    out.push('"')?;
-    Ok(())
-}
-
-fn write_piece(out: &mut String, piece: &Piece) -> Result<(), AllocError> {
+// What is left of a wanted text behind a piece of a string.
+fn past_piece<'a>(rt: &impl Abort, wanted: &'a str, piece: &Piece) -> &'a str {
     match piece {
-        Piece::Char(c) => out.push(*c)?,
-        Piece::Name(name) => write_bracketed(out, name)?,
+        Piece::Char(c) => past_char(rt, wanted, *c),
+        Piece::Name(name) => past_name(rt, wanted, name.get()),
     }
-    Ok(())
 }
 
-fn write_line(out: &mut String, line: &Line) -> Result<(), AllocError> {
-    let number = line.number;
-    write!(out, "{number}:")?;
+// .. behind a string.
+fn past_string<'a>(rt: &impl Abort, wanted: &'a str, pieces: &[Piece]) -> &'a str {
+    let mut rest = past(rt, wanted, "\"");
+    for piece in pieces {
+        rest = past_piece(rt, rest, piece);
+    }
+    past(rt, rest, "\"")
+}
+
+// .. behind a token.
+fn past_token<'a>(rt: &impl Abort, wanted: &'a str, token: &Token) -> &'a str {
+    match token {
+        Token::Word(word) => past(rt, wanted, word.get()),
+        Token::Symbol(name) => past_name(rt, wanted, name.get()),
+        Token::Char(c) => past(rt, past_char(rt, past(rt, wanted, "'"), *c), "'"),
+        Token::Text(pieces) => past_string(rt, wanted, pieces.get()),
+        Token::Semicolon => past(rt, wanted, ";"),
+        Token::Comma => past(rt, wanted, ","),
+    }
+}
+
+// Asserts that a line is the one that is wanted. Its number has one digit.
+fn assert_line(rt: &impl Abort, line: &Line, wanted: &str) {
+    let number = char::from_digit(line.number, 10).expect(rt, wanted);
+    let mut rest = past(rt, past_char(rt, wanted, number), ":");
     for token in line.tokens.get() {
-        out.push(' ')?;
-        write_token(out, token)?;
+        rest = past_token(rt, past(rt, rest, " "), token);
     }
-    Ok(())
+    assert_same(rt, wanted, rest, "");
 }
 
-fn write_answer(
-    out: &mut String,
-    answer: Result<Option<Line>, LexFault>,
-) -> Result<(), AllocError> {
-    match answer {
-        Ok(Some(line)) => write_line(out, &line)?,
-        Ok(None) => out.push('-')?,
-        Err(fault) => out.push_str(fault.name())?,
+fn assert_answer(rt: &impl Abort, given: &Result<Option<Line>, LexFault>, wanted: &str) {
+    match given {
+        Ok(Some(line)) => assert_line(rt, line, wanted),
+        Ok(None) => assert_same(rt, "no line", "-", wanted),
+        Err(fault) => assert_same(rt, "a fault", fault.name(), wanted),
     }
-    Ok(())
 }
 
-// Writes the answers to these lines and to the end of the text, with a bar between them. A line that gives no
-// logical line is a dash.
-fn write_answers(out: &mut String, lexer: &mut Lexer, lines: &[&str]) -> Result<(), AllocError> {
-    for line in lines {
-        write_answer(out, lexer.feed(line.as_bytes()))?;
-        out.push_str(" | ")?;
-    }
-    match lexer.finish() {
-        Ok(()) => out.push_str("end"),
-        Err(fault) => out.push_str(fault.name()),
+fn assert_fed(rt: &impl Abort, lexer: &mut Lexer, line: &str, wanted: &str) {
+    let given = lexer.feed(line.as_bytes());
+    assert_answer(rt, &given, wanted);
+    drop(given);
+}
+
+// The end of a text leaves no line open. Another text begins then.
+fn assert_end(rt: &impl Abort, alloc: Global, lexer: &mut Lexer, wanted: &str) {
+    let given = match lexer.finish() {
+        Ok(()) => "end",
+        Err(fault) => fault.name(),
+    };
+    assert_same(rt, wanted, (given, lexer.pending()), (wanted, None));
+    drop(mem::replace(lexer, new_lexer(rt, alloc)));
+}
+
+fn assert_row(rt: &impl Abort, alloc: Global, lexer: &mut Lexer, row: &str) {
+    match row.split_once(" => ") {
+        Some((line, wanted)) => assert_fed(rt, lexer, line, wanted),
+        None if row.is_empty() || row.starts_with("--") => (),
+        None => assert_end(rt, alloc, lexer, row),
     }
 }
 
@@ -84,337 +88,360 @@ fn new_lexer(rt: &impl Abort, alloc: Global) -> Lexer {
     Lexer::new(alloc).expect(rt, "a lexer")
 }
 
-fn answers(rt: &impl Abort, alloc: Global, lines: &[&str]) -> String {
-    let mut lexer = new_lexer(rt, alloc);
-    let mut out = String::new(alloc);
-    write_answers(&mut out, &mut lexer, lines).expect(rt, "the answers");
-    out
-}
-
-// The physical lines of a text, and the answers to them.
-type Answered = (&'static [&'static str], &'static str);
-
-// Asserts that each of these texts has its answers.
-fn assert_answers(rt: &impl Abort, alloc: Global, rows: &[Answered]) {
-    for (lines, wanted) in rows {
-        let given = answers(rt, alloc, lines);
-        assert_same(rt, "the answers", given.as_str(), *wanted);
+fn assert_rows(rt: &impl Abort, alloc: Global, lexer: &mut Lexer, rows: &str) {
+    for row in rows.split('\n') {
+        assert_row(rt, alloc, lexer, row);
     }
 }
 
-const CONTINUED: &[Answered] = &[
-    (
-        &["a\\", "b \"x\\", "y\" <p\\>q> # c"],
-        "- | - | 1: ab \"xy\" <p>q> | end",
-    ),
-    (&["<a\\", "b>;\\", ",c"], "- | - | 1: <ab> ; , c | end"),
-    (&["\"<a\\", "b>\""], "- | 1: \"<ab>\" | end"),
-    (&["\\", "\\", "a"], "- | - | 1: a | end"),
-];
+const LINES: &str = r#"-- Words, strings and symbols go on in the next line.
+a\ => -
+b "x\ => -
+y" <p\>q> # c => 1: ab "xy" <p>q>
+end
+
+<a\ => -
+b>;\ => -
+,c => 1: <ab> ; , c
+end
+
+"<a\ => -
+b>" => 1: "<ab>"
+end
+
+\ => -
+\ => -
+a => 1: a
+end
+
+-- A comment is not continued.
+# x \ => -
+b => 2: b
+end
+
+a # x \ => 1: a
+b => 2: b
+end
+
+a\# x \ => -
+b => 1: a# x b
+end
+
+# "a <b => -
+\# c => 2: # c
+end
+
+-- The text ends where a line is continued.
+a \ => -
+DanglingEscape
+
+"a \ => -
+DanglingEscape
+
+a \ => -
+ => 1: a
+end
+
+-- Directives choose the two characters.
+escape_char / => -
+comment_char % => -
+a/;b%c => 3: a;b
+end
+
+comment_char % \ => -
+a%b => 2: a
+end
+
+comment_char # => -
+escape_char \ => -
+a\#b#c => 3: a#b
+end
+
+-- A directive may be at fault, and then chooses nothing.
+comment_char \ => BadCharDirective
+a#b => 2: a
+end
+
+comment_char => BadCharDirective
+a#b => 2: a
+end
+
+comment_char %x => BadCharDirective
+a#b => 2: a
+end
+
+escape_char # => BadCharDirective
+a#b => 2: a
+end
+
+escape_char a => BadCharDirective
+a#b => 2: a
+end
+
+comment_char %\ => BadCharDirective
+a#b => 2: a
+end
+
+comment_char " => BadCharDirective
+a#b => 2: a
+end
+
+-- What looks like a directive may be text.
+a \ => -
+comment_char % => 1: a comment_char %
+b%c => 3: b%c
+end
+
+comment\_char % => 1: comment_char %
+b%c => 2: b%c
+end
+
+comment_char; => 1: comment_char ;
+comment_char<X> => 2: comment_char <X>
+comment_char# => 3: comment_char
+end
+
+-- Carriage returns and escapes at the end.
+a\\ => 1: a\
+b => 2: b
+end
+
+-- Symbols are decided after unescaping.
+<U0061><U00000061><U61><u0061> => 1: 'a' 'a' <U61> <u0061>
+end
+
+<U110000> => BadCodePoint
+<UD800> => BadCodePoint
+<UFFFFFFFF> => BadCodePoint
+end
+
+-- A name has at most 64 characters: here one of 64, which have two bytes each, and one of 65.
+<éééééééééééééééééééééééééééééééééééééééééééééééééééééééééééééééé> => 1: <éééééééééééééééééééééééééééééééééééééééééééééééééééééééééééééééé>
+end
+
+<ééééééééééééééééééééééééééééééééééééééééééééééééééééééééééééééééé> => BadName
+end
+
+-- Strings hold characters and names.
+"\n" => 1: "n"
+"a\d065" => CharacterConstant
+"a => OpenString
+"<a => OpenSymbol
+end
+
+"<S><U0061> #;,\"" => 1: "<S>a #;,""
+"" => 2: ""
+a"b"c => 3: a "b" c
+end
+
+"<> => EmptySymbol
+"<U110000>" => BadCodePoint
+end
+
+-- Words end before separators.
+IG\NORE => 1: IGNORE
+or\der_end => CharacterConstant
+\0 => CharacterConstant
+\8\; => 4: 8;
+end
+
+-- After a fault the next line begins a new one.
+a\d \ => CharacterConstant
+b => 2: b
+end
+
+a \ => -
+b\d \ => CharacterConstant
+c => 3: c
+end
+
+-- Spellings of names and characters are read back under the characters that they are written for.
+comment_char % => -
+escape_char / => -
+<BASE> => 3: <BASE>
+<a/>b> => 4: <a>b>
+<///>> => 5: </>>
+<a"%<é> => 6: <a"%<é>
+<U61> => 7: <U61>
+end
+
+comment_char % => -
+escape_char / => -
+<U0061> => 3: 'a'
+<U0025> => 4: '%'
+<U002F> => 5: '/'
+<U00E9> => 6: 'é'
+<U0010ABCD> => 7: '􊯍'
+end"#;
+
+// Lines with characters that are written as escapes here, or a blank at the end of the row.
+const LINES_WITH_ESCAPES: &str = "-- Directives choose the two characters.
+  comment_char\t%  what follows => -
+a%b => 2: a
+end
+
+-- What looks like a directive may be text.
+comment_char\r\r => 1: comment_char\r
+end
+
+-- Carriage returns and escapes at the end.
+a\\\r => -
+b\r => 1: ab
+end
+
+a\\\r\r => 1: a\r
+b\rc => 2: b\rc
+end
+
+a\\  => 1: a\x20
+\\  => 2: \x20
+end
+
+-- Symbols are decided after unescaping.
+<\\U0041><U000000061><U00e9><U00E9><UD7FF><U10FFFF> => 1: 'A' <U000000061> 'é' 'é' '\u{d7ff}' '\u{10ffff}'
+end
+
+<> => EmptySymbol
+<a b> => BadName
+<a\tb> => BadName
+<\u{7f}> => BadName
+<\u{1}> => BadName
+<a => OpenSymbol
+end
+
+<\u{80}\u{a0}> => 1: <\u{80}\u{a0}>
+<\\d\\x\\0> => 2: <dx0>
+<a\"b<#;,> => 3: <a\"b<#;,>
+end
+
+-- Words end before separators.
+a;b,c<d>e\"f\"g#h => 1: a ; b , c <d> e \"f\" g
+> a>b => 2: > a>b
+ \t  => -
+end
+
+-- Spellings of characters are read back.
+<U0000> => 1: '\0'
+<UFFFF> => 2: '\u{ffff}'
+<U00010000> => 3: '\u{10000}'
+<U0010ABCD> => 4: '\u{10abcd}'
+<U0010FFFF> => 5: '\u{10ffff}'
+end";
 
 #[test]
-fn words_strings_and_symbols_go_on_in_the_next_line(rt: HostRuntime) {
-    assert_answers(&rt, rt.alloc(), CONTINUED);
-}
-
-const COMMENTS: &[Answered] = &[
-    (&["# x \\", "b"], "- | 2: b | end"),
-    (&["a # x \\", "b"], "1: a | 2: b | end"),
-    (&["a\\# x \\", "b"], "- | 1: a# x b | end"),
-    (&["# \"a <b", "\\# c"], "- | 2: # c | end"),
-];
-
-#[test]
-fn a_comment_is_not_continued(rt: HostRuntime) {
-    assert_answers(&rt, rt.alloc(), COMMENTS);
-}
-
-const ENDS: &[Answered] = &[
-    (&["a \\"], "- | DanglingEscape"),
-    (&["\"a \\"], "- | DanglingEscape"),
-    (&["a \\", ""], "- | 1: a | end"),
-];
-
-#[test]
-fn the_text_ends_where_a_line_is_continued(rt: HostRuntime) {
-    assert_answers(&rt, rt.alloc(), ENDS);
-}
-
-const DIRECTIVES: &[Answered] = &[
-    (
-        &["escape_char /", "comment_char %", "a/;b%c"],
-        "- | - | 3: a;b | end",
-    ),
-    (
-        &["  comment_char\t%  what follows", "a%b"],
-        "- | 2: a | end",
-    ),
-    (&["comment_char % \\", "a%b"], "- | 2: a | end"),
-    (
-        &["comment_char #", "escape_char \\", "a\\#b#c"],
-        "- | - | 3: a#b | end",
-    ),
-];
-
-#[test]
-fn directives_choose_the_two_characters(rt: HostRuntime) {
-    assert_answers(&rt, rt.alloc(), DIRECTIVES);
-}
-
-const DIRECTIVES_AT_FAULT: &[Answered] = &[
-    (&["comment_char \\", "a#b"], "BadCharDirective | 2: a | end"),
-    (&["comment_char", "a#b"], "BadCharDirective | 2: a | end"),
-    (&["comment_char %x", "a#b"], "BadCharDirective | 2: a | end"),
-    (&["escape_char #", "a#b"], "BadCharDirective | 2: a | end"),
-    (&["escape_char a", "a#b"], "BadCharDirective | 2: a | end"),
-    (
-        &["comment_char %\\", "a#b"],
-        "BadCharDirective | 2: a | end",
-    ),
-    (&["comment_char \"", "a#b"], "BadCharDirective | 2: a | end"),
-];
-
-#[test]
-fn a_directive_may_be_at_fault(rt: HostRuntime) {
-    assert_answers(&rt, rt.alloc(), DIRECTIVES_AT_FAULT);
-}
-
-const LIKE_DIRECTIVES: &[Answered] = &[
-    (
-        &["a \\", "comment_char %", "b%c"],
-        "- | 1: a comment_char % | 3: b%c | end",
-    ),
-    (
-        &["comment\\_char %", "b%c"],
-        "1: comment_char % | 2: b%c | end",
-    ),
-    (
-        &["comment_char;", "comment_char<X>", "comment_char#"],
-        "1: comment_char ; | 2: comment_char <X> | 3: comment_char | end",
-    ),
-    (&["comment_char\r\r"], "1: comment_char\r | end"),
-];
-
-#[test]
-fn what_looks_like_a_directive_may_be_text(rt: HostRuntime) {
-    assert_answers(&rt, rt.alloc(), LIKE_DIRECTIVES);
-}
-
-const LINE_ENDS: &[Answered] = &[
-    (&["a\\\r", "b\r"], "- | 1: ab | end"),
-    (&["a\\\r\r", "b\rc"], "1: a\r | 2: b\rc | end"),
-    (&["a\\\\", "b"], "1: a\\ | 2: b | end"),
-    (&["a\\ ", "\\ "], "1: a  | 2:   | end"),
-];
-
-#[test]
-fn carriage_returns_and_escapes_at_the_end(rt: HostRuntime) {
-    assert_answers(&rt, rt.alloc(), LINE_ENDS);
-}
-
-const SYMBOLS: &[Answered] = &[
-    (
-        &["<U0061><U00000061><U61><u0061>"],
-        "1: 'a' 'a' <U61> <u0061> | end",
-    ),
-    (
-        &["<\\U0041><U000000061><U00e9><U00E9><UD7FF><U10FFFF>"],
-        "1: 'A' <U000000061> 'é' 'é' '\u{d7ff}' '\u{10ffff}' | end",
-    ),
-    (
-        &["<U110000>", "<UD800>", "<UFFFFFFFF>"],
-        "BadCodePoint | BadCodePoint | BadCodePoint | end",
-    ),
-    (
-        &["<>", "<a b>", "<a\tb>", "<\u{7f}>", "<\u{1}>", "<a"],
-        "EmptySymbol | BadName | BadName | BadName | BadName | OpenSymbol | end",
-    ),
-    (
-        &["<\u{80}\u{a0}>", "<\\d\\x\\0>", "<a\"b<#;,>"],
-        "1: <\u{80}\u{a0}> | 2: <dx0> | 3: <a\"b<#;,> | end",
-    ),
-];
-
-#[test]
-fn symbols_are_decided_after_unescaping(rt: HostRuntime) {
-    assert_answers(&rt, rt.alloc(), SYMBOLS);
-}
-
-// A name of 64 characters, which have two bytes each, and one of 65.
-const LONGEST_NAMES: &[Answered] = &[
-    (
-        &["<éééééééééééééééééééééééééééééééééééééééééééééééééééééééééééééééé>"],
-        "1: <éééééééééééééééééééééééééééééééééééééééééééééééééééééééééééééééé> | end",
-    ),
-    (
-        &["<ééééééééééééééééééééééééééééééééééééééééééééééééééééééééééééééééé>"],
-        "BadName | end",
-    ),
-];
-
-#[test]
-fn a_name_has_at_most_sixty_four_characters(rt: HostRuntime) {
-    assert_answers(&rt, rt.alloc(), LONGEST_NAMES);
-}
-
-const STRINGS: &[Answered] = &[
-    (
-        &["\"\\n\"", "\"a\\d065\"", "\"a", "\"<a"],
-        "1: \"n\" | CharacterConstant | OpenString | OpenSymbol | end",
-    ),
-    (
-        &["\"<S><U0061> #;,\\\"\"", "\"\"", "a\"b\"c"],
-        "1: \"<S>a #;,\"\" | 2: \"\" | 3: a \"b\" c | end",
-    ),
-    (
-        &["\"<>", "\"<U110000>\""],
-        "EmptySymbol | BadCodePoint | end",
-    ),
-];
-
-#[test]
-fn strings_hold_characters_and_names(rt: HostRuntime) {
-    assert_answers(&rt, rt.alloc(), STRINGS);
-}
-
-const WORDS: &[Answered] = &[
-    (
-        &["a;b,c<d>e\"f\"g#h", "> a>b", " \t "],
-        "1: a ; b , c <d> e \"f\" g | 2: > a>b | - | end",
-    ),
-    (
-        &["IG\\NORE", "or\\der_end", "\\0", "\\8\\;"],
-        "1: IGNORE | CharacterConstant | CharacterConstant | 4: 8; | end",
-    ),
-];
-
-#[test]
-fn words_end_before_separators(rt: HostRuntime) {
-    assert_answers(&rt, rt.alloc(), WORDS);
-}
-
-const AFTER_FAULTS: &[Answered] = &[
-    (&["a\\d \\", "b"], "CharacterConstant | 2: b | end"),
-    (
-        &["a \\", "b\\d \\", "c"],
-        "- | CharacterConstant | 3: c | end",
-    ),
-];
-
-#[test]
-fn after_a_fault_the_next_line_begins_a_new_one(rt: HostRuntime) {
-    assert_answers(&rt, rt.alloc(), AFTER_FAULTS);
-}
-
-// Asserts that a line is refused with this fault, or else taken, and that the open line then begins here.
-fn assert_feeds(
-    rt: &impl Abort,
-    lexer: &mut Lexer,
-    line: &[u8],
-    fault: Option<LexFault>,
-    pending: Option<u32>,
-) {
-    assert_same(rt, "the fault", lexer.feed(line).err(), fault);
-    assert_same(rt, "the open line", lexer.pending(), pending);
-}
-
-const LINES_TO_AN_OPEN_ONE: &[(&[u8], Option<u32>)] = &[
-    (b"# nothing", None),
-    (b"a \\", Some(2)),
-    (b"b \\", Some(2)),
-];
-
-#[test]
-fn the_open_line_has_the_number_of_its_first_line(rt: HostRuntime) {
+fn each_line_has_its_answer(rt: HostRuntime) {
     let mut lexer = new_lexer(&rt, rt.alloc());
-    assert_same(&rt, "at first", lexer.pending(), None);
-    for (line, pending) in LINES_TO_AN_OPEN_ONE {
-        assert_feeds(&rt, &mut lexer, line, None, *pending);
+    assert_rows(&rt, rt.alloc(), &mut lexer, LINES);
+    assert_rows(&rt, rt.alloc(), &mut lexer, LINES_WITH_ESCAPES);
+    drop(lexer);
+}
+
+// What a line is handed to.
+enum To {
+    // The category.
+    Feed,
+    // What stands before it. The answer is whether the line begins it.
+    Outside,
+}
+
+use To::{Feed, Outside};
+
+// The front of a line, the number of blanks behind it, whether it gives a logical line or begins the category, or its fault, and the
+// number of the first line of the one that is open then.
+type Call = (
+    To,
+    &'static [u8],
+    usize,
+    Result<bool, LexFault>,
+    Option<u32>,
+);
+
+const CALLS: &[Call] = &[
+    // The open line has the number of its first line.
+    (Feed, b"# nothing", 0, Ok(false), None),
+    (Feed, b"a \\", 0, Ok(false), Some(2)),
+    (Feed, b"b \\", 0, Ok(false), Some(2)),
+    (Feed, b"c", 0, Ok(true), None),
+    // Each line is tested as text: a continued line, and then lines that end it, as they aren't UTF-8, whatever else they are.
+    (Feed, b"a \\", 0, Ok(false), Some(5)),
+    (Feed, b"# \xff", 0, Err(LexFault::NotUtf8), None),
+    (
+        Feed,
+        b"comment_char % \xff",
+        0,
+        Err(LexFault::NotUtf8),
+        None,
+    ),
+    (Feed, b"a\\d \xff", 0, Err(LexFault::NotUtf8), None),
+    // The comment character is the one at first.
+    (Feed, b"#", 0, Ok(false), None),
+    (Feed, b"%", 0, Ok(true), None),
+    // A line has at most 65,536 bytes.
+    (Feed, b"", 65_536, Ok(false), None),
+    (Feed, b"", 65_537, Err(LexFault::LineTooLong), None),
+    (Outside, b"", 65_536, Ok(false), None),
+    (Outside, b"", 65_537, Err(LexFault::LineTooLong), None),
+    // The lengths of joined lines are added: two bytes that continue the line, 65,534, two more, and 65,535.
+    (Feed, b"\\\r", 0, Ok(false), Some(15)),
+    (Feed, b"", 65_534, Ok(false), None),
+    (Feed, b"\\\r", 0, Ok(false), Some(17)),
+    (Feed, b"", 65_535, Err(LexFault::LineTooLong), None),
+    // The category begins by its bytes. A directive among the lines before counts from the next line on.
+    (Outside, b"LC_COLLATE;", 0, Ok(false), None),
+    (Outside, b"LC_COLLATE \\", 0, Ok(false), None),
+    (Outside, b"LC_COLLATE%x", 0, Ok(false), None),
+    (Outside, b"LC_COLLATES", 0, Ok(false), None),
+    (Outside, b"LC\\_COLLATE", 0, Ok(false), None),
+    (Outside, b"\xff\"<\\", 0, Ok(false), None),
+    (Outside, b" \tLC_COLLATE\r", 0, Ok(true), None),
+    (Outside, b"LC_COLLATE  # \xff", 0, Ok(true), None),
+    (Outside, b"comment_char % \xff", 0, Ok(false), None),
+    (Outside, b"LC_COLLATE%x", 0, Ok(true), None),
+    (
+        Outside,
+        b"escape_char \xff",
+        0,
+        Err(LexFault::BadCharDirective),
+        None,
+    ),
+    (Outside, b"escape_char /", 0, Ok(false), None),
+];
+
+// Whether a line gives a logical line.
+fn feed(lexer: &mut Lexer, line: &[u8]) -> Result<bool, LexFault> {
+    let given = lexer.feed(line);
+    let is_given = matches!(&given, Ok(Some(_)));
+    match given.err() {
+        Some(fault) => Err(fault),
+        None => Ok(is_given),
     }
-    assert_same(
-        &rt,
-        "the end",
-        lexer.finish(),
-        Err(LexFault::DanglingEscape),
-    );
-    assert_same(&rt, "after the end", lexer.pending(), None);
 }
 
-// A continued line, and then lines that end it, as they aren't UTF-8, whatever else they are.
-const LINES_AND_NO_TEXTS: &[(&[u8], Option<LexFault>, Option<u32>)] = &[
-    (b"a \\", None, Some(1)),
-    (b"# \xff", Some(LexFault::NotUtf8), None),
-    (b"comment_char % \xff", Some(LexFault::NotUtf8), None),
-    (b"a\\d \xff", Some(LexFault::NotUtf8), None),
-];
+fn assert_call(rt: &impl Abort, alloc: Global, lexer: &mut Lexer, call: &Call) {
+    let (to, front, blanks, wanted, pending) = call;
+    let line = repeated(rt, alloc, front, b" ", *blanks, b"");
+    let given = match to {
+        Feed => feed(lexer, &line),
+        Outside => lexer.outside(&line),
+    };
+    assert_same(rt, "the answer", given, *wanted);
+    assert_same(rt, "the open line", lexer.pending(), *pending);
+    drop(line);
+}
 
-#[test]
-fn each_line_is_tested_as_text(rt: HostRuntime) {
-    let mut lexer = new_lexer(&rt, rt.alloc());
-    for (line, fault, pending) in LINES_AND_NO_TEXTS {
-        assert_feeds(&rt, &mut lexer, line, *fault, *pending);
+fn assert_calls(rt: &impl Abort, alloc: Global, lexer: &mut Lexer) {
+    assert_same(rt, "at first", lexer.pending(), None);
+    for call in CALLS {
+        assert_call(rt, alloc, lexer, call);
     }
-    assert_same(&rt, "the comment character", lexer.chars().comment, '#');
+    let Chars { comment, escape } = lexer.chars();
+    assert_same(rt, "the comment character", comment, '%');
+    assert_same(rt, "the escape character", escape, '/');
 }
 
-// Lengths of lines of blanks, and the fault of each; the line outside the category has the same one.
-const LENGTHS: &[(usize, Option<LexFault>)] = &[
-    (65_536, None),
-    (65_537, Some(LexFault::LineTooLong)),
-];
-
 #[test]
-fn a_line_has_at_most_65_536_bytes(rt: HostRuntime) {
+fn each_call_has_its_answer(rt: HostRuntime) {
     let mut lexer = new_lexer(&rt, rt.alloc());
-    for (length, fault) in LENGTHS {
-        let line = repeated(&rt, rt.alloc(), b"", b" ", *length, b"");
-        assert_feeds(&rt, &mut lexer, &line, *fault, None);
-        assert_same(&rt, "outside", lexer.outside(&line).err(), *fault);
-    }
-}
-
-// Two bytes that continue the line, 65,534, two more, and 65,535.
-#[test]
-fn the_lengths_of_joined_lines_are_added(rt: HostRuntime) {
-    let most = repeated(&rt, rt.alloc(), b"", b" ", 65_534, b"");
-    let more = repeated(&rt, rt.alloc(), b"", b" ", 65_535, b"");
-    let mut lexer = new_lexer(&rt, rt.alloc());
-    let too_long = Some(LexFault::LineTooLong);
-    assert_feeds(&rt, &mut lexer, b"\\\r", None, Some(1));
-    assert_feeds(&rt, &mut lexer, &most, None, None);
-    assert_feeds(&rt, &mut lexer, b"\\\r", None, Some(3));
-    assert_feeds(&rt, &mut lexer, &more, too_long, None);
-}
-
-// Lines outside the category, and whether each begins it. A directive among them counts from the next line on.
-const OUTSIDE: &[(&[u8], Result<bool, LexFault>)] = &[
-    (b"LC_COLLATE;", Ok(false)),
-    (b"LC_COLLATE \\", Ok(false)),
-    (b"LC_COLLATE%x", Ok(false)),
-    (b"LC_COLLATES", Ok(false)),
-    (b"LC\\_COLLATE", Ok(false)),
-    (b"\xff\"<\\", Ok(false)),
-    (b" \tLC_COLLATE\r", Ok(true)),
-    (b"LC_COLLATE  # \xff", Ok(true)),
-    (b"comment_char % \xff", Ok(false)),
-    (b"LC_COLLATE%x", Ok(true)),
-    (b"escape_char \xff", Err(LexFault::BadCharDirective)),
-    (b"escape_char /", Ok(false)),
-];
-
-#[test]
-fn the_category_begins_by_its_bytes(rt: HostRuntime) {
-    let mut lexer = new_lexer(&rt, rt.alloc());
-    for (line, begins) in OUTSIDE {
-        assert_same(&rt, "outside", lexer.outside(line), *begins);
-    }
-    assert_same(&rt, "the comment character", lexer.chars().comment, '%');
-    assert_same(&rt, "the escape character", lexer.chars().escape, '/');
-}
-
-#[test]
-fn a_text_is_copied(rt: HostRuntime) {
-    let text = TextBuf::new("é".to_string(rt.alloc()).expect(&rt, "a text"));
-    let copy = text.try_copy().expect(&rt, "a copy");
-    assert_same(&rt, "the copy", copy.get(), "é");
+    assert_calls(&rt, rt.alloc(), &mut lexer);
+    drop(lexer);
 }

@@ -1,140 +1,147 @@
 //! Lines as a device gives them: cut at line feeds, up to the longest, the end and errors.
 
-use crate::assertions::{assert_same, assert_that};
-use crate::devices::ShortReader;
+use crate::assertions::assert_same;
+use crate::devices::{Script, ShortReader, Step};
 use crate::long_texts::repeated;
-use coll_lex::{Counted, LineReader, MOST_LINE_BYTES, ReadStop, Source};
+use coll_lex::{Counted, LineReader, ReadStop, Source};
 use std::alloc::Global;
 use std::process::Abort;
 
+// Devices: one that gives as many bytes as are asked for, and one that gives three bytes at a time.
+const WHOLE: Script = Script::Each(Step::AllBytes);
+
+const SMALL: Script = Script::Each(Step::SomeBytes);
+
+// A part so many times, and a rest.
+type Text = (&'static [u8], usize, &'static [u8]);
+
+// A part so many times, without its line feed.
+type Physical = (&'static [u8], usize);
+
+// A text; the device that gives it; the lines; how many times these are given; and what stops the reader then, if it isn't the end.
+type Row = (Text, Script, &'static [Physical], usize, Option<ReadStop>);
+
 // Lines of 2, 1, 0 and 9 bytes, and a last one of 4 that no line feed ends.
-const TEXT: &[u8; 20] = b"ab\nc\n\nlong line\nlast";
+const TEXT: Text = (b"", 0, b"ab\nc\n\nlong line\nlast");
 
-const LINES: &[&[u8]] = &[b"ab", b"c", b"", b"long line", b"last"];
+const ONE: &[Physical] = &[(b"ab", 1)];
 
-fn new_reader(rt: &impl Abort, alloc: Global) -> LineReader {
-    LineReader::new(alloc).expect(rt, "a reader")
-}
+const THREE: &[Physical] = &[(b"ab", 1), (b"c", 1), (b"", 1)];
 
-// Asserts that a reader gives this line, or stands at the end.
-fn assert_next<R: Source>(
-    rt: &impl Abort,
-    reader: &mut LineReader,
-    input: &mut R,
-    line: Option<&[u8]>,
-) {
-    assert_same(rt, "the next line", reader.next(input), Ok(line));
-}
+const FOUR: &[Physical] = &[(b"ab", 1), (b"c", 1), (b"", 1), (b"long line", 1)];
 
-#[test]
-fn lines_are_given_without_their_line_feeds(rt: HostRuntime) {
-    let mut reader = new_reader(&rt, rt.alloc());
-    let mut input = Counted::new(TEXT.as_slice());
-    for line in LINES {
-        assert_next(&rt, &mut reader, &mut input, Some(*line));
-    }
-    assert_next(&rt, &mut reader, &mut input, None);
-    assert_next(&rt, &mut reader, &mut input, None);
-    assert_same(&rt, "the errors", input.errors(), 0);
-}
-
-#[test]
-fn a_text_without_bytes_has_no_line(rt: HostRuntime) {
-    let mut reader = new_reader(&rt, rt.alloc());
-    let mut input = Counted::new(b"".as_slice());
-    assert_next(&rt, &mut reader, &mut input, None);
-    assert_that(&rt, "the line is empty", reader.line().is_empty());
-}
-
-#[test]
-fn a_carriage_return_stays(rt: HostRuntime) {
-    let mut reader = new_reader(&rt, rt.alloc());
-    let mut input = Counted::new(b"a\r\n\r".as_slice());
-    assert_next(&rt, &mut reader, &mut input, Some(b"a\r"));
-    assert_next(&rt, &mut reader, &mut input, Some(b"\r"));
-}
-
-// Which read, of three bytes each, fails, and how many lines are given before it.
-const LINES_BEFORE: &[(usize, usize)] = &[
-    (1, 0),
-    (2, 1),
-    (3, 3),
-    (4, 3),
-    (5, 3),
-    (6, 3),
-    (7, 4),
-    (8, 4),
+const LINES: &[Physical] = &[
+    (b"ab", 1),
+    (b"c", 1),
+    (b"", 1),
+    (b"long line", 1),
+    (b"last", 1),
 ];
 
-// Asserts that a reader gives so many lines, and then stops at the n-th read, which is the last.
-fn assert_stops(rt: &impl Abort, reader: &mut LineReader, fails_at: usize, lines: usize) {
-    let mut input = Counted::new(ShortReader::new(TEXT, fails_at));
-    for _ in 0..lines {
-        assert_same(rt, "a line before", reader.advance(&mut input), Ok(true));
+const MANY: Text = (b"a line of some bytes\nand another\n", 10_000, b"");
+
+const FAILS: Step = Step::Error;
+
+const FAULT: Option<ReadStop> = Some(ReadStop::ReadFault);
+
+const TOO_LONG: Option<ReadStop> = Some(ReadStop::LineTooLong);
+
+const ROWS: &[Row] = &[
+    // Lines are given without their line feeds.
+    (TEXT, WHOLE, LINES, 1, None),
+    // A text without bytes has no line.
+    ((b"", 0, b""), WHOLE, &[], 1, None),
+    // A carriage return stays.
+    (
+        (b"", 0, b"a\r\n\r"),
+        WHOLE,
+        &[(b"a\r", 1), (b"\r", 1)],
+        1,
+        None,
+    ),
+    // The first read that fails, here of reads of three bytes each, is the last one.
+    (TEXT, Script::From(1, FAILS), &[], 1, FAULT),
+    (TEXT, Script::From(2, FAILS), ONE, 1, FAULT),
+    (TEXT, Script::From(3, FAILS), THREE, 1, FAULT),
+    (TEXT, Script::From(4, FAILS), THREE, 1, FAULT),
+    (TEXT, Script::From(5, FAILS), THREE, 1, FAULT),
+    (TEXT, Script::From(6, FAILS), THREE, 1, FAULT),
+    (TEXT, Script::From(7, FAILS), FOUR, 1, FAULT),
+    (TEXT, Script::From(8, FAILS), FOUR, 1, FAULT),
+    // A line of the most bytes is given, whether a line feed ends it or the text.
+    ((b"a", 65_536, b"\n"), WHOLE, &[(b"a", 65_536)], 1, None),
+    ((b"a", 65_536, b""), WHOLE, &[(b"a", 65_536)], 1, None),
+    // A line of one byte more stops the reader.
+    ((b"a", 65_536, b"a\nb\n"), WHOLE, &[], 1, TOO_LONG),
+    // Lines go on past the end of the buffer.
+    (
+        MANY,
+        SMALL,
+        &[(b"a line of some bytes", 1), (b"and another", 1)],
+        10_000,
+        None,
+    ),
+];
+
+// Asserts that a reader gives a line.
+fn assert_line(
+    rt: &impl Abort,
+    alloc: Global,
+    reader: &mut LineReader,
+    input: &mut Counted<ShortReader>,
+    line: &Physical,
+) {
+    let (part, times) = line;
+    let line = repeated(rt, alloc, b"", part, *times, b"");
+    assert_same(rt, "a line", reader.next(input), Ok(Some(line.as_slice())));
+    drop(line);
+}
+
+fn assert_lines(
+    rt: &impl Abort,
+    alloc: Global,
+    reader: &mut LineReader,
+    input: &mut Counted<ShortReader>,
+    lines: &[Physical],
+) {
+    for line in lines {
+        assert_line(rt, alloc, reader, input, line);
     }
     assert_same(rt, "the errors before", input.errors(), 0);
-    for _ in 0..2 {
-        assert_same(
-            rt,
-            "the stop",
-            reader.advance(&mut input),
-            Err(ReadStop::ReadFault),
-        );
+}
+
+// Asserts that a reader stands at the end, or has stopped, and stays there and reads no more. The stop is the only error.
+fn assert_ends(
+    rt: &impl Abort,
+    reader: &mut LineReader,
+    input: &mut Counted<ShortReader>,
+    stop: Option<ReadStop>,
+) {
+    assert_same(rt, "the stop", reader.next(input).err(), stop);
+    let reads = input.device().reads;
+    assert_same(rt, "the stop once more", reader.advance(input).err(), stop);
+    assert_same(rt, "the reads", input.device().reads, reads);
+    assert_same(rt, "the line", reader.line(), b"".as_slice());
+    let failed = stop == Some(ReadStop::ReadFault);
+    assert_same(rt, "the errors", input.errors(), u64::from(failed));
+}
+
+fn assert_row(rt: &impl Abort, alloc: Global, row: &Row) {
+    let ((part, times, rest), device, lines, rounds, stop) = row;
+    let text = repeated(rt, alloc, b"", part, *times, rest);
+    let mut input = Counted::new(ShortReader::scripted(&text, *device));
+    let mut reader = LineReader::new(alloc).expect(rt, "a reader");
+    for _ in 0..*rounds {
+        assert_lines(rt, alloc, &mut reader, &mut input, lines);
     }
-    assert_same(rt, "the reads", input.device().reads, fails_at);
-    assert_same(rt, "the errors", input.errors(), 1);
+    assert_ends(rt, &mut reader, &mut input, *stop);
+    drop(reader);
+    drop(text);
 }
 
 #[test]
-fn a_read_that_fails_stops_the_reader_for_good(rt: HostRuntime) {
-    for (fails_at, lines) in LINES_BEFORE {
-        let mut reader = new_reader(&rt, rt.alloc());
-        assert_stops(&rt, &mut reader, *fails_at, *lines);
+fn each_text_has_its_lines(rt: HostRuntime) {
+    for row in ROWS {
+        assert_row(&rt, rt.alloc(), row);
     }
-}
-
-// Asserts that a reader gives a line of the most bytes, all alike.
-fn assert_longest<R: Source>(rt: &impl Abort, reader: &mut LineReader, input: &mut R) {
-    assert_same(rt, "a line", reader.advance(input), Ok(true));
-    assert_same(rt, "its bytes", reader.line().len(), MOST_LINE_BYTES);
-    let alike = reader.line().iter().all(|byte| *byte == b'a');
-    assert_that(rt, "its bytes are alike", alike);
-}
-
-// One that a line feed ends, and one at the end.
-#[test]
-fn a_line_of_the_most_bytes_is_given(rt: HostRuntime) {
-    let line = repeated(&rt, rt.alloc(), b"", b"a", MOST_LINE_BYTES, b"\n");
-    let text = repeated(&rt, rt.alloc(), &line, b"a", MOST_LINE_BYTES, b"");
-    let mut reader = new_reader(&rt, rt.alloc());
-    let mut input = Counted::new(text.as_slice());
-    assert_longest(&rt, &mut reader, &mut input);
-    assert_longest(&rt, &mut reader, &mut input);
-    assert_next(&rt, &mut reader, &mut input, None);
-}
-
-#[test]
-fn a_line_of_one_byte_more_stops_the_reader(rt: HostRuntime) {
-    let text = repeated(&rt, rt.alloc(), b"", b"a", MOST_LINE_BYTES, b"a\nb\n");
-    let mut reader = new_reader(&rt, rt.alloc());
-    let mut input = Counted::new(text.as_slice());
-    for _ in 0..2 {
-        let answer = reader.next(&mut input);
-        assert_same(&rt, "the stop", answer, Err(ReadStop::LineTooLong));
-    }
-    assert_that(&rt, "the line is empty", reader.line().is_empty());
-    assert_same(&rt, "the errors", input.errors(), 0);
-}
-
-#[test]
-fn lines_go_on_past_the_end_of_the_buffer(rt: HostRuntime) {
-    let lines = b"a line of some bytes\nand another\n";
-    let text = repeated(&rt, rt.alloc(), b"", lines, 10_000, b"");
-    let mut reader = new_reader(&rt, rt.alloc());
-    let mut input = Counted::new(ShortReader::new(&text, 0));
-    for _ in 0..10_000 {
-        assert_next(&rt, &mut reader, &mut input, Some(b"a line of some bytes"));
-        assert_next(&rt, &mut reader, &mut input, Some(b"and another"));
-    }
-    assert_next(&rt, &mut reader, &mut input, None);
 }

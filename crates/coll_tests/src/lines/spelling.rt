@@ -1,165 +1,192 @@
-//! Spellings as they are written, read back, and cut off where a device fails.
+//! Spellings as they are written, and cut off where a device fails. That they are read back is a paragraph of the tables of
+//! `lexing`.
 
 use crate::assertions::{assert_same, assert_that};
-use crate::devices::{Failure, ShortWriter, WholeWriter};
-use coll_lex::{
-    Counted, Lexer, Line, Sink, Token, WriteStop, write_bytes, write_char, write_symbol,
-};
-use std::alloc::{AllocError, Global};
+use crate::devices::{Script, ShortWriter, Step};
+use coll_lex::{Counted, Sink, WriteStop, write_bytes, write_char, write_symbol};
+use std::alloc::Global;
 use std::process::Abort;
 
-const NAMES: &[(&str, &str)] = &[
-    ("BASE", "<BASE>"),
-    ("a>b", "<a/>b>"),
-    ("/>", "<///>>"),
-    ("a\"%<é", "<a\"%<é>"),
-    ("U61", "<U61>"),
+// What is written.
+enum What {
+    Name(&'static str),
+    Char(char),
+    Bytes(&'static [u8]),
+    // Nothing, but the device is flushed.
+    Flush,
+}
+
+use What::{Bytes, Char, Flush, Name};
+
+// Devices: one that takes everything at once, and one that takes three bytes at a time.
+const WHOLE: Script = Script::Each(Step::AllBytes);
+
+const SMALL: Script = Script::Each(Step::SomeBytes);
+
+// A name of 256 bytes, and a text of 257, with their spellings.
+const MOST: &str = "\
+     >>>>>>>>>>>>>>>>>>>>>>>>>>>>>>>>>>>>>>>>>>>>>>>>>>>>>>>>>>>>>>>>\
+     >>>>>>>>>>>>>>>>>>>>>>>>>>>>>>>>>>>>>>>>>>>>>>>>>>>>>>>>>>>>>>>>\
+     >>>>>>>>>>>>>>>>>>>>>>>>>>>>>>>>>>>>>>>>>>>>>>>>>>>>>>>>>>>>>>>>\
+     >>>>>>>>>>>>>>>>>>>>>>>>>>>>>>>>>>>>>>>>>>>>>>>>>>>>>>>>>>>>>>>>";
+
+const MOST_SPELLED: &str = "<\
+     />/>/>/>/>/>/>/>/>/>/>/>/>/>/>/>/>/>/>/>/>/>/>/>/>/>/>/>/>/>/>/>\
+     />/>/>/>/>/>/>/>/>/>/>/>/>/>/>/>/>/>/>/>/>/>/>/>/>/>/>/>/>/>/>/>\
+     />/>/>/>/>/>/>/>/>/>/>/>/>/>/>/>/>/>/>/>/>/>/>/>/>/>/>/>/>/>/>/>\
+     />/>/>/>/>/>/>/>/>/>/>/>/>/>/>/>/>/>/>/>/>/>/>/>/>/>/>/>/>/>/>/>\
+     />/>/>/>/>/>/>/>/>/>/>/>/>/>/>/>/>/>/>/>/>/>/>/>/>/>/>/>/>/>/>/>\
+     />/>/>/>/>/>/>/>/>/>/>/>/>/>/>/>/>/>/>/>/>/>/>/>/>/>/>/>/>/>/>/>\
+     />/>/>/>/>/>/>/>/>/>/>/>/>/>/>/>/>/>/>/>/>/>/>/>/>/>/>/>/>/>/>/>\
+     />/>/>/>/>/>/>/>/>/>/>/>/>/>/>/>/>/>/>/>/>/>/>/>/>/>/>/>/>/>/>/>>";
+
+const LONGER: &str = "\
+     aaaaaaaaaaaaaaaaaaaaaaaaaaaaaaaaaaaaaaaaaaaaaaaaaaaaaaaaaaaaaaaa\
+     aaaaaaaaaaaaaaaaaaaaaaaaaaaaaaaaaaaaaaaaaaaaaaaaaaaaaaaaaaaaaaaa\
+     aaaaaaaaaaaaaaaaaaaaaaaaaaaaaaaaaaaaaaaaaaaaaaaaaaaaaaaaaaaaaaaa\
+     aaaaaaaaaaaaaaaaaaaaaaaaaaaaaaaaaaaaaaaaaaaaaaaaaaaaaaaaaaaaaaaa\
+     a";
+
+const LONGER_SPELLED: &str = "<\
+     aaaaaaaaaaaaaaaaaaaaaaaaaaaaaaaaaaaaaaaaaaaaaaaaaaaaaaaaaaaaaaaa\
+     aaaaaaaaaaaaaaaaaaaaaaaaaaaaaaaaaaaaaaaaaaaaaaaaaaaaaaaaaaaaaaaa\
+     aaaaaaaaaaaaaaaaaaaaaaaaaaaaaaaaaaaaaaaaaaaaaaaaaaaaaaaaaaaaaaaa\
+     aaaaaaaaaaaaaaaaaaaaaaaaaaaaaaaaaaaaaaaaaaaaaaaaaaaaaaaaaaaaaaaa\
+     a>";
+
+// What is written to a device that does what its script says, the bytes that it takes, and in how many calls at most. Where the device fails,
+// so does the last thing that is written.
+const ROWS: &[(Script, &[What], &str, usize)] = &[
+    // A name is spelled with its escapes, in one write.
+    (WHOLE, &[Name("")], "<>", 1),
+    (WHOLE, &[Name("BASE")], "<BASE>", 1),
+    (WHOLE, &[Name("a>b")], "<a/>b>", 1),
+    (WHOLE, &[Name("/>")], "<///>>", 1),
+    (WHOLE, &[Name("a\"%<é")], "<a\"%<é>", 1),
+    (WHOLE, &[Name("U61")], "<U61>", 1),
+    // A character is spelled by its code point, in one write.
+    (WHOLE, &[Char('\0')], "<U0000>", 1),
+    (WHOLE, &[Char('a')], "<U0061>", 1),
+    (WHOLE, &[Char('%')], "<U0025>", 1),
+    (WHOLE, &[Char('/')], "<U002F>", 1),
+    (WHOLE, &[Char('\u{e9}')], "<U00E9>", 1),
+    (WHOLE, &[Char('\u{ffff}')], "<UFFFF>", 1),
+    (WHOLE, &[Char('\u{10000}')], "<U00010000>", 1),
+    (WHOLE, &[Char('\u{10abcd}')], "<U0010ABCD>", 1),
+    (WHOLE, &[Char('\u{10ffff}')], "<U0010FFFF>", 1),
+    // 64 characters of four bytes are the most that a name has; here each byte is one that is escaped.
+    (WHOLE, &[Name(MOST)], MOST_SPELLED, 1),
+    // Small writes take everything.
+    (
+        SMALL,
+        &[
+            Name("one/two>"),
+            Char('a'),
+            Bytes(b""),
+            Bytes(b" and more\n"),
+        ],
+        "<one//two/>><U0061> and more\n",
+        11,
+    ),
+    // A write that fails stops the writing.
+    (Script::ButFor(1, Step::Error), &[Name("one/two>")], "", 1),
+    (
+        Script::ButFor(2, Step::Error),
+        &[Name("one/two>")],
+        "<on",
+        2,
+    ),
+    (
+        Script::ButFor(3, Step::Error),
+        &[Name("one/two>")],
+        "<one//",
+        3,
+    ),
+    (
+        Script::ButFor(4, Step::Error),
+        &[Name("one/two>")],
+        "<one//two",
+        4,
+    ),
+    (Script::ButFor(1, Step::Nothing), &[Name("one/two>")], "", 1),
+    (
+        Script::ButFor(2, Step::Nothing),
+        &[Name("one/two>")],
+        "<on",
+        2,
+    ),
+    (
+        Script::ButFor(3, Step::Nothing),
+        &[Name("one/two>")],
+        "<one//",
+        3,
+    ),
+    (
+        Script::ButFor(4, Step::Nothing),
+        &[Name("one/two>")],
+        "<one//two",
+        4,
+    ),
+    // A text longer than any name is spelled, in more than one write.
+    (SMALL, &[Name(LONGER)], LONGER_SPELLED, 259),
+    // A flush that fails is counted, and one before it is none.
+    (WHOLE, &[Flush], "", 1),
+    (Script::ButFor(2, Step::Error), &[Flush, Flush], "", 2),
 ];
 
-const CHARACTERS: &[(char, &str)] = &[
-    ('\0', "<U0000>"),
-    ('a', "<U0061>"),
-    ('%', "<U0025>"),
-    ('/', "<U002F>"),
-    ('\u{e9}', "<U00E9>"),
-    ('\u{ffff}', "<UFFFF>"),
-    ('\u{10000}', "<U00010000>"),
-    ('\u{10abcd}', "<U0010ABCD>"),
-    ('\u{10ffff}', "<U0010FFFF>"),
-];
+fn write(out: &mut Counted<ShortWriter>, what: &What) -> Option<WriteStop> {
+    match what {
+        Name(name) => write_symbol(out, name).err(),
+        Char(c) => write_char(out, *c).err(),
+        Bytes(bytes) => write_bytes(out, bytes).err(),
+        Flush => stop_of(out.flush().ok()),
+    }
+}
 
-#[test]
-fn names_are_spelled_with_their_escapes(rt: HostRuntime) {
-    for (name, spelled) in NAMES {
-        let mut out = Counted::new(Vec::new(rt.alloc()));
-        assert_same(&rt, *name, write_symbol(&mut out, name), Ok(()));
-        assert_same(&rt, *name, out.device().as_slice(), spelled.as_bytes());
+fn stop_of(flushed: Option<()>) -> Option<WriteStop> {
+    match flushed {
+        Some(()) => None,
+        None => Some(WriteStop::WriteFault),
+    }
+}
+
+fn write_all(out: &mut Counted<ShortWriter>, all: &[What]) -> Option<WriteStop> {
+    let mut last = None;
+    for what in all {
+        last = write(out, what);
+    }
+    last
+}
+
+// Asserts what a device takes, in how many calls at most, and that the last write alone fails where it is to.
+fn assert_written(
+    rt: &impl Abort,
+    alloc: Global,
+    script: Script,
+    all: &[What],
+    taken: &str,
+    calls: usize,
+) {
+    let mut out = Counted::new(ShortWriter::scripted(Vec::new(alloc), script));
+    let stop = write_all(&mut out, all);
+    assert_same(rt, taken, out.device().taken.as_slice(), taken.as_bytes());
+    assert_that(rt, taken, out.device().calls <= calls);
+    assert_same(rt, taken, out.errors(), u64::from(stop.is_some()));
+    assert_same(rt, taken, stop, fails(script));
+    drop(out);
+}
+
+// The stop of what is written last.
+fn fails(script: Script) -> Option<WriteStop> {
+    match script {
+        Script::ButFor(..) => Some(WriteStop::WriteFault),
+        _ => None,
     }
 }
 
 #[test]
-fn characters_are_spelled_by_their_code_points(rt: HostRuntime) {
-    for (c, spelled) in CHARACTERS {
-        let mut out = Counted::new(Vec::new(rt.alloc()));
-        assert_same(&rt, *spelled, write_char(&mut out, *c), Ok(()));
-        assert_same(&rt, *spelled, out.device().as_slice(), spelled.as_bytes());
+fn each_spelling_is_taken(rt: HostRuntime) {
+    for (script, all, taken, calls) in ROWS {
+        assert_written(&rt, rt.alloc(), *script, all, taken, *calls);
     }
-}
-
-// The line that a spelling is, under the comment character `%` and the escape character `/`.
-fn read_back(rt: &impl Abort, alloc: Global, spelled: &str) -> Line {
-    let mut lexer = Lexer::new(alloc).expect(rt, "a lexer");
-    for line in ["comment_char %", "escape_char /"] {
-        assert_that(rt, line, lexer.feed(line.as_bytes()).is_ok());
-    }
-    let line = lexer.feed(spelled.as_bytes()).expect(rt, spelled);
-    line.expect(rt, spelled)
-}
-
-#[test]
-fn names_are_read_back(rt: HostRuntime) {
-    for (name, spelled) in NAMES {
-        let line = read_back(&rt, rt.alloc(), spelled);
-        match line.tokens.get() {
-            [Token::Symbol(symbol)] => assert_same(&rt, *spelled, symbol.get(), *name),
-            _ => assert_that(&rt, *spelled, false),
-        }
-    }
-}
-
-#[test]
-fn characters_are_read_back(rt: HostRuntime) {
-    for (c, spelled) in CHARACTERS {
-        let line = read_back(&rt, rt.alloc(), spelled);
-        match line.tokens.get() {
-            [Token::Char(character)] => assert_same(&rt, *spelled, *character, *c),
-            _ => assert_that(&rt, *spelled, false),
-        }
-    }
-}
-
-// Asserts that a name whose n-th write fails is cut off there.
-fn assert_cut_off(rt: &impl Abort, alloc: Global, fails_at: usize, failure: Failure) {
-    let writer = ShortWriter::new(Vec::new(alloc), fails_at, failure);
-    let mut out = Counted::new(writer);
-    let result = write_symbol(&mut out, "one/two>");
-    assert_same(rt, fails_at, result, Err(WriteStop::WriteFault));
-    assert_same(rt, "the errors", out.errors(), 1);
-    let taken = out.device().taken.as_slice();
-    assert_that(rt, fails_at, b"<one//two/>>".starts_with(taken));
-}
-
-#[test]
-fn a_write_that_fails_stops_the_writing(rt: HostRuntime) {
-    for fails_at in 1..5 {
-        assert_cut_off(&rt, rt.alloc(), fails_at, Failure::Error);
-        assert_cut_off(&rt, rt.alloc(), fails_at, Failure::TakesNothing);
-    }
-}
-
-fn assert_one_write(rt: &impl Abort, name: &str) {
-    let mut out = Counted::new(WholeWriter::new());
-    assert_same(rt, name, write_symbol(&mut out, name), Ok(()));
-    assert_same(rt, name, out.device().writes, 1);
-}
-
-#[test]
-fn a_spelling_is_one_write(rt: HostRuntime) {
-    for (name, _) in NAMES {
-        assert_one_write(&rt, name);
-    }
-    assert_one_write(&rt, "");
-    for (c, spelled) in CHARACTERS {
-        let mut out = Counted::new(WholeWriter::new());
-        assert_same(&rt, *spelled, write_char(&mut out, *c), Ok(()));
-        assert_same(&rt, *spelled, out.device().writes, 1);
-    }
-}
-
-// A text of so many characters.
-fn long_name(alloc: Global, c: char, count: usize) -> Result<String, AllocError> {
-    let mut name = String::new(alloc);
-    for _ in 0..count {
-        name.push(c)?;
-    }
-    Ok(name)
-}
-
-// 64 characters of four bytes are the most that a name has; here each byte is one that is escaped.
-#[test]
-fn a_name_of_the_most_bytes_is_one_write(rt: HostRuntime) {
-    let most = long_name(rt.alloc(), '>', 256).expect(&rt, "a name");
-    assert_one_write(&rt, most.as_str());
-}
-
-#[test]
-fn a_text_longer_than_any_name_is_spelled(rt: HostRuntime) {
-    let long = long_name(rt.alloc(), 'a', 257).expect(&rt, "a text");
-    let mut out = Counted::new(Vec::new(rt.alloc()));
-    let written = write_symbol(&mut out, long.as_str());
-    assert_same(&rt, "the answer", written, Ok(()));
-    assert_same(&rt, "the bytes", out.device().len(), 259);
-}
-
-#[test]
-fn small_writes_take_everything(rt: HostRuntime) {
-    let mut out = Counted::new(ShortWriter::new(Vec::new(rt.alloc()), 0, Failure::Error));
-    assert_same(&rt, "a name", write_symbol(&mut out, "one/two>"), Ok(()));
-    assert_same(&rt, "a character", write_char(&mut out, 'a'), Ok(()));
-    assert_same(&rt, "no bytes", write_bytes(&mut out, b""), Ok(()));
-    let written = write_bytes(&mut out, b" and more\n");
-    assert_same(&rt, "bytes", written, Ok(()));
-    let want = b"<one//two/>><U0061> and more\n".as_slice();
-    assert_same(&rt, "all", out.device().taken.as_slice(), want);
-    assert_same(&rt, "the errors", out.errors(), 0);
-}
-
-#[test]
-fn a_flush_that_fails_is_counted(rt: HostRuntime) {
-    let writer = ShortWriter::new(Vec::new(rt.alloc()), 2, Failure::Error);
-    let mut out = Counted::new(writer);
-    assert_that(&rt, "the first flush", out.flush().is_ok());
-    assert_same(&rt, "the errors then", out.errors(), 0);
-    assert_that(&rt, "the second fails", out.flush().is_err());
-    assert_same(&rt, "the errors", out.errors(), 1);
 }
