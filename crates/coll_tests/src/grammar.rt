@@ -8,13 +8,11 @@ ghost use Rattle.coll_lex.specs.Names.{AreTokens};
 
 mod copies;
 mod delta_lines;
-mod shown;
 mod table_lines;
 
 use crate::assertions::{assert_same, assert_that, past, past_char, past_name};
 use coll_lex::{Lexer, Line, TextBuf};
 use coll_syntax::{Id, OrderLine, Rule, Weight};
-pub use shown::{show_id, show_rules, show_weight};
 use std::alloc::Global;
 use std::process::Abort;
 

@@ -6,10 +6,9 @@ use crate::statements::Lines;
 use crate::tables::examples::{
     BASE_TABLE, SPELLED_OTHERWISE, TWO_SECTIONS, assert_printed, id, loaded, loaded_lines, text_of,
 };
-use crate::tables::shown::{show, show_entry};
-use coll_syntax::Id;
+use crate::tables::shown::{past_entry, past_table};
 use coll_table::Table;
-use std::alloc::{AllocError, Global};
+use std::alloc::Global;
 use std::process::Abort;
 
 // The lines of a table, what it is in short, and the lines that it is printed as.
@@ -107,16 +106,14 @@ const SPELLINGS_PRINTED: Lines = &[
 ];
 
 // Asserts that a table is so, shown in short.
-fn assert_shown(rt: &impl Abort, alloc: Global, table: &Table, want: &str) {
-    let mut given = String::new(alloc);
-    show(&mut given, table).expect(rt, want);
-    assert_same(rt, "the table", given.as_str(), want);
+fn assert_shown(rt: &impl Abort, table: &Table, want: &str) {
+    assert_same(rt, "the table", past_table(rt, want, table), "");
 }
 
 fn assert_read(rt: &impl Abort, alloc: Global, row: &Read) {
     let text = text_of(alloc, row.lines).expect(rt, "a text");
     let table = loaded(alloc, &text).expect(rt, row.shown);
-    assert_shown(rt, alloc, &table, row.shown);
+    assert_shown(rt, &table, row.shown);
     let printed = text_of(alloc, row.printed).expect(rt, "a text");
     assert_printed(rt, alloc, &table, &printed);
     drop(table);
@@ -130,15 +127,15 @@ fn a_table_is_read_and_printed(rt: HostRuntime) {
 }
 
 // Asserts that a copy is the table of two sections, and has taken so many steps.
-fn assert_copy(rt: &impl Abort, alloc: Global, copy: &mut Table, steps: u64) {
+fn assert_copy(rt: &impl Abort, copy: &mut Table, steps: u64) {
     assert_same(rt, "the steps", copy.steps(), steps);
-    assert_shown(rt, alloc, copy, TWO_SECTIONS_SHOWN);
+    assert_shown(rt, copy, TWO_SECTIONS_SHOWN);
 }
 
 fn assert_copied(rt: &impl Abort, alloc: Global, table: &mut Table) {
     let steps = table.steps();
     let mut copy = table.try_copy(alloc).expect(rt, "a copy");
-    assert_copy(rt, alloc, &mut copy, steps);
+    assert_copy(rt, &mut copy, steps);
     drop(copy);
 }
 
@@ -158,19 +155,14 @@ const ENTRIES: &[(&str, &str)] = &[
     ("L", ""),
 ];
 
-// Shows the entry of an identifier, if it has one.
-fn show_found(out: &mut String, table: &Table, id: &Id) -> Result<(), AllocError> {
-    match table.entry(id) {
-        Some(entry) => show_entry(out, entry),
-        None => Ok(()),
-    }
-}
-
 fn assert_entry(rt: &impl Abort, alloc: Global, table: &Table, text: &str, want: &str) {
     let id = id(alloc, text).expect(rt, text);
-    let mut given = String::new(alloc);
-    show_found(&mut given, table, &id).expect(rt, text);
-    assert_same(rt, text, given.as_str(), want);
+    let rest = match table.entry(&id) {
+        Some(entry) => past_entry(rt, want, entry),
+        None => want,
+    };
+    assert_same(rt, text, rest, "");
+    drop(id);
 }
 
 fn assert_entries(rt: &impl Abort, alloc: Global, table: &mut Table) {

@@ -3,54 +3,63 @@
 //! One line has the rules, one each declaration, one each named section, and one each entry with its weights, as the
 //! grammar's tests show them.
 
-use crate::grammar::{show_id, show_rules, show_weight};
+use crate::assertions::{past, past_name};
+use crate::grammar::{past_id, past_rules, past_weight};
 use coll_table::{DeclaredItem, Entry, Table, WalkItem};
-use std::alloc::AllocError;
+use std::process::Abort;
 
-/// Shows what a table is, read by `rules`, `declared` and `walk`.
-pub fn show(out: &mut String, table: &Table) -> Result<(), AllocError> {
-    out.push_str("rules")?;
-    show_rules(out, table.rules())?;
-    out.push('\n')?;
-    show_declarations(out, table)?;
-    show_walk(out, table)
+/// What is left of a wanted text behind what a table is, read by `rules`, `declared` and `walk`.
+pub fn past_table<'a>(rt: &impl Abort, wanted: &'a str, table: &Table) -> &'a str {
+    let rest = past_rules(rt, past(rt, wanted, "rules"), table.rules());
+    let rest = past_declarations(rt, past(rt, rest, "\n"), table);
+    past_walk(rt, rest, table)
 }
 
-fn show_declarations(out: &mut String, table: &Table) -> Result<(), AllocError> {
+fn past_declarations<'a>(rt: &impl Abort, wanted: &'a str, table: &Table) -> &'a str {
+    let mut rest = wanted;
     for item in table.declared() {
-        show_declared(out, &item)?;
+        rest = past_declared(rt, rest, &item);
     }
-    Ok(())
+    rest
 }
 
-fn show_walk(out: &mut String, table: &Table) -> Result<(), AllocError> {
+fn past_declared<'a>(rt: &impl Abort, wanted: &'a str, item: &DeclaredItem<'_>) -> &'a str {
+    let rest = match item {
+        DeclaredItem::Symbol(name) => past_name(rt, past(rt, wanted, "symbol "), name),
+        DeclaredItem::Element(name, text) => past_element(rt, wanted, name, text),
+    };
+    past(rt, rest, "\n")
+}
+
+fn past_element<'a>(rt: &impl Abort, wanted: &'a str, name: &str, text: &str) -> &'a str {
+    let rest = past_name(rt, past(rt, wanted, "element "), name);
+    past(rt, past(rt, rest, " "), text)
+}
+
+fn past_walk<'a>(rt: &impl Abort, wanted: &'a str, table: &Table) -> &'a str {
+    let mut rest = wanted;
     for item in table.walk() {
-        show_met(out, &item)?;
+        rest = past_met(rt, rest, &item);
     }
-    Ok(())
+    rest
 }
 
-fn show_declared(out: &mut String, item: &DeclaredItem<'_>) -> Result<(), AllocError> {
+fn past_met<'a>(rt: &impl Abort, wanted: &'a str, item: &WalkItem<'_>) -> &'a str {
     match item {
-        DeclaredItem::Symbol(name) => write!(out, "symbol <{name}>\n"),
-        DeclaredItem::Element(name, text) => write!(out, "element <{name}> {text}\n"),
+        WalkItem::Section(name) => past_section(rt, wanted, name),
+        WalkItem::Entry(entry) => past_entry(rt, wanted, entry),
     }
 }
 
-fn show_met(out: &mut String, item: &WalkItem<'_>) -> Result<(), AllocError> {
-    match item {
-        WalkItem::Section(name) => write!(out, "section <{name}>\n"),
-        WalkItem::Entry(entry) => show_entry(out, entry),
-    }
+fn past_section<'a>(rt: &impl Abort, wanted: &'a str, name: &str) -> &'a str {
+    past(rt, past_name(rt, past(rt, wanted, "section "), name), "\n")
 }
 
-/// An entry and its weights.
-pub fn show_entry(out: &mut String, entry: &Entry) -> Result<(), AllocError> {
-    show_id(out, entry.id())?;
+/// What is left of a wanted text behind an entry and its weights.
+pub fn past_entry<'a>(rt: &impl Abort, wanted: &'a str, entry: &Entry) -> &'a str {
+    let mut rest = past_id(rt, wanted, entry.id());
     for weight in entry.weights() {
-        out.push(' ')?;
-        show_weight(out, weight)?;
+        rest = past_weight(rt, past(rt, rest, " "), weight);
     }
-    out.push('\n')?;
-    Ok(())
+    past(rt, rest, "\n")
 }
