@@ -5,7 +5,6 @@ ghost use Rattle.coll_ranks.specs.Ranks.{AreRanksOf};
 ghost use Rattle.coll_nodes.specs.TableLayout.{collation};
 
 use crate::assertions::assert_same;
-use crate::statements::Lines;
 use crate::tables::examples::{BASE_TABLE, BOTH_FORWARD, FRENCH_TABLE, id, loaded_lines};
 use coll_key::{Ranks, compare, key};
 use coll_syntax::Id;
@@ -87,20 +86,3 @@ fn a_key_has_the_ranks_of_its_weights(rt: HostRuntime) {
     assert_ranked(&rt, rt.alloc(), &table);
     drop(table);
 }
-
-/// The base table, compiled.
-pub const BASE_LISTING: Lines = &[
-    "compiled 1 4 9",
-    "rule forward",
-    "rule backward",
-    "rule forward",
-    "rule forward,position",
-    "4 <U0061> 4 | 1 | 2 | |",
-    "5 <U0041> 4 | 1 | 3 | |",
-    "6 <U0062> 6 | 1 | 2 | |",
-    "7 <U0063> 7 | 1 | 2 | |",
-    "8 <U0064> 8 | 1 | 2 | |",
-    "9 <U002D> | | | 9 |",
-    "10 UNDEFINED * | * | * | * |",
-    "end",
-];

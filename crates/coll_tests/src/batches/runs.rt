@@ -3,12 +3,28 @@
 use super::asked::{Asked, assert_told};
 use super::{C_BEHIND_A, NONE_FAILS, run, status};
 use crate::assertions::{assert_same, assert_text};
-use crate::keys::BASE_LISTING;
 use crate::statements::Lines;
 use crate::tables::examples::{BASE_TABLE, text_of};
 use coll_lex::Counted;
 use std::alloc::Global;
 use std::process::Abort;
+
+// The base table, compiled.
+const BASE_LISTING: Lines = &[
+    "compiled 1 4 9",
+    "rule forward",
+    "rule backward",
+    "rule forward",
+    "rule forward,position",
+    "4 <U0061> 4 | 1 | 2 | |",
+    "5 <U0041> 4 | 1 | 3 | |",
+    "6 <U0062> 6 | 1 | 2 | |",
+    "7 <U0063> 7 | 1 | 2 | |",
+    "8 <U0064> 8 | 1 | 2 | |",
+    "9 <U002D> | | | 9 |",
+    "10 UNDEFINED * | * | * | * |",
+    "end",
+];
 
 // What a batch is asked for, its delta files, and what is written.
 const DONE: &[(Asked, &[&str], Lines)] = &[
