@@ -30,6 +30,8 @@ MEMORY = os.path.join(os.environ.get("XDG_CACHE_HOME") or os.path.expanduser("~/
 # An error in a text that the prover could not read, as it writes one: such an edit shows nothing of a contract.
 ERROR = re.compile(r"^(?:\./)?(\S+?):\d+:\d+: error: (`[^`]*`: )?(.*)", re.M)
 UNREAD = re.compile(r"is not in scope|has no field|is no name|operand is missing|expected the end|cannot continue")
+# An error of a proof file that names what the edit took away: where there is no other, the edit says little of the contract.
+BY_NAME = re.compile(r"has no field|is not in scope|has no `|was not admitted|can be named from here")
 
 
 def sums(crates):
@@ -70,7 +72,7 @@ def module_of(crate, path):
 
 
 def refuses(folder, changed, only):
-    """Checks the crate in a folder, or some of its modules. Returns whether something is not proved; what was not judged is a BadEdit."""
+    """Checks the crate in a folder, or some of its modules. Returns how something is not proved, or None; what was not judged is a BadEdit."""
     words = ["rt", "check", "--jobs", "1", *[word for module in only for word in ("--only", module)]]
     # In a session of its own, so that an interrupt lets it come to its end.
     how = {"stdin": subprocess.DEVNULL, "stdout": subprocess.PIPE, "stderr": subprocess.STDOUT, "start_new_session": True}
@@ -79,14 +81,16 @@ def refuses(folder, changed, only):
         if (file in changed or file.startswith(("src/", "specs/"))) and (not name or UNREAD.search(re.sub(r"`[^`]*`", "", text))):
             raise BadEdit(f"the prover cannot read it, so no contract was tried: {file}: {text[:200]}")
     if ran.returncode == 0:
-        return False
+        return None
     if ran.returncode == 1 and re.search(r"^only=\d+ proved=\d+$" if only else r"^logic=not-proved", ran.stdout, re.M):
-        return True
+        told = [not file.startswith("proofs/") or not BY_NAME.search(text) for file, _, text in ERROR.findall(ran.stdout)]
+        is_by_name = told and not any(told) and not re.search(r"^note: \S+:\d+:\d+: it is not proved", ran.stdout, re.M)
+        return "refused, but only since a proof names what it takes away: change a value" if is_by_name else "refused"
     raise BadEdit(f"it did not come to a verdict: {ran.stdout[-400:]}")
 
 
 def is_refused(edit, crate, room):
-    """Tries an edit in a scratch copy, which then is as it was. Returns whether the prover refuses it."""
+    """Tries an edit in a scratch copy, which then is as it was. Returns how the prover refuses it, or None where it is still proved."""
     folder = f"{room}/crates/{crate}"
     texts = applied(edit, folder)
     before = {}
@@ -128,15 +132,15 @@ class Run:
                 return
             begun = time.monotonic()
             try:
-                why = None if is_refused(edit, crate, room) else "it is still proved"
+                refused, why = is_refused(edit, crate, room), "it is still proved"
             except BadEdit as bad:
-                why = str(bad)
-            self.tell(f"{crate}/{os.path.basename(edit)}", memory, why, time.monotonic() - begun)
+                refused, why = None, str(bad)
+            self.tell(f"{crate}/{os.path.basename(edit)}", memory, refused, why, time.monotonic() - begun)
 
-    def tell(self, name, memory, why, seconds):
+    def tell(self, name, memory, refused, why, seconds):
         """Says what came of an edit, and remembers it where it was refused."""
         with self.writing:
-            if why is None:
+            if refused:
                 self.refused += 1
                 os.makedirs(MEMORY, exist_ok=True)
                 with open(memory, "w", encoding="utf-8") as file:
@@ -144,7 +148,7 @@ class Run:
             else:
                 self.failed += 1
             tried = self.refused + self.failed
-            print(f"{tried} of {self.count}: {name}: {'refused' if why is None else 'NOT REFUSED: ' + why} ({seconds:.0f} s)", flush=True)
+            print(f"{tried} of {self.count}: {name}: {refused or 'NOT REFUSED: ' + why} ({seconds:.0f} s)", flush=True)
 
     def all(self, lanes):
         """Tries what is left in some scratch copies side by side, until the end or an interrupt."""
