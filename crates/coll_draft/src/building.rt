@@ -10,7 +10,7 @@ ghost use Rattle.std.specs.Prelude.{◌≡◌, ◌∷◌, ◌++◌, [], ◌<◌,
 ghost use Rattle.coll_syntax.specs.Identifier.{has_name};
 
 use coll_lex::TextBuf;
-use coll_nodes::{Body, Declaration, Entry, Walk};
+use coll_nodes::{Body, Declaration, Entry, HashKeys, Walk};
 use coll_order::Place;
 use coll_syntax::Id;
 use std::alloc::{AllocError, Global};
@@ -48,10 +48,10 @@ impl Builder {
     ghost use Rattle.coll_nodes.specs.declared.declarations.Declaration.TheVariants.{Symbol, Element};
 
     /// Nothing declared, and an empty first section.
-    pub(crate) fn new(alloc: Global) -> Result<Builder, AllocError>
+    pub(crate) fn new(alloc: Global, keys: HashKeys) -> Result<Builder, AllocError>
         ensures { IfOk result (λ builder. builder ≡ no_parts) }
     {
-        let mut body = Body::new(alloc)?;
+        let mut body = Body::new(alloc, keys)?;
         body.check_layout();
         let sections = body.sections();
         match body.begin_unnamed(Place::Head(sections)) {

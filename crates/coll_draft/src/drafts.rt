@@ -25,7 +25,8 @@ use crate::line_weights::{given_len, kept_weights};
 use crate::{LoadCause, LoadFault};
 use coll_lex::{ListBuf, TextBuf};
 use coll_nodes::{
-    Body, Declaration, Entry, MOST_DECLARATIONS, MOST_ENTRIES, MOST_SECTIONS, Walk, WalkItem,
+    Body, Declaration, Entry, HashKeys, MOST_DECLARATIONS, MOST_ENTRIES, MOST_SECTIONS, Walk,
+    WalkItem,
 };
 use coll_syntax::{Id, OrderLine, Rule, Rules, TableLine, Weight};
 use std::alloc::{AllocError, Global};
@@ -63,11 +64,11 @@ impl Draft {
     ghost use Rattle.coll_nodes.specs.Walks.{entries_met};
     ghost use Rattle.coll_draft.specs.Loading.{draft_after, draft_with, with_declaration, with_section, with_section_if, with_entry};
 
-    /// A draft before the first line.
-    pub fn new(alloc: Global) -> Result<Draft, AllocError>
+    /// A draft before the first line. What a text names is looked up under these keys.
+    pub fn new(alloc: Global, keys: HashKeys) -> Result<Draft, AllocError>
         ensures { IfOk result (λ draft. draft ≡ draft_of []) }
     {
-        let builder = Builder::new(alloc)?;
+        let builder = Builder::new(alloc, keys)?;
         Ok(Draft {
             order_open: false,
             rules: None,

@@ -2,6 +2,7 @@ pub mod Bodies
 pub mod BodyInvariant
 pub mod Counting
 pub mod Entries
+pub mod HashKeys
 pub mod KeyedNodes
 pub mod Limits
 pub mod Linking

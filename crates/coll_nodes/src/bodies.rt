@@ -16,7 +16,7 @@ use crate::contents::Content;
 use crate::counts::Counts;
 use crate::node_keys::NodeKeys;
 use crate::nodes::Nodes;
-use crate::{Declaration, Entry};
+use crate::{Declaration, Entry, HashKeys};
 use coll_lex::TextBuf;
 use coll_order::{NodeId, Place, RingId};
 use coll_syntax::Id;
@@ -80,8 +80,8 @@ impl Body {
     ghost use Rattle.coll_nodes.specs.TableLayout.{declared_at, sections_at, declarations_ring, sections_ring};
     ghost use Rattle.coll_nodes.specs.declared.contents.Content.TheVariants as content;
 
-    /// Nothing declared, and no section.
-    pub fn new(alloc: Global) -> Result<Body, AllocError>
+    /// Nothing declared, and no section. What a text names is looked up under these keys.
+    pub fn new(alloc: Global, keys: HashKeys) -> Result<Body, AllocError>
         ensures layout { IfOk result (λ body. body.layout ≡ record { rings = [] ∷ [] ∷ []; nodes = [] }) }
         ensures steps { IfOk result (λ body. body.steps ≡ 0) }
     {
@@ -92,7 +92,7 @@ impl Body {
             nodes,
             declarations,
             sections,
-            keys: NodeKeys::new(alloc),
+            keys: NodeKeys::new(alloc, keys),
             counts: Counts::new(),
         })
     }
@@ -120,6 +120,11 @@ impl Body {
     /// Where it takes memory.
     pub fn alloc(&self) -> Global {
         self.keys.names.alloc()
+    }
+
+    /// The keys that names, strings and characters are looked up under.
+    pub fn hash_keys(&self) -> HashKeys {
+        self.keys.names.hash_keys()
     }
 
     /// The nodes.

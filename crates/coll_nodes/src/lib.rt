@@ -7,7 +7,7 @@
 //! - `declarations`, `entries` and `limits`: what a table is made of (`Table`, `Entries`, `WellFormed`, `Limits`, `Placement`);
 //! - `contents` and `nodes`: rings of nodes, and what each node is (`TableLayout`, `Bodies`, `Moving`);
 //! - `node_names`, `node_ids` and `node_keys`: which node has a name, and which an identifier (`NodeLookUps`, `NodeMaps`,
-//!   `KeyedNodes`);
+//!   `KeyedNodes`), under keys, `hash_keys`;
 //! - `bodies`, and `bodies/linking`: the whole, with its look-ups and `counts`, and what is put in, moved and taken out
 //!   (`SoundBodies`, `SoundLayouts`, `BodyInvariant`, `Counting`, `Linking`);
 //! - `walks` and `met_nodes`: a body, read in order (`Walks`, `WalkStates`, `WalkItems`);
@@ -19,6 +19,7 @@ mod contents;
 mod counts;
 mod declarations;
 mod entries;
+mod hash_keys;
 mod limits;
 mod met_nodes;
 mod node_ids;
@@ -31,5 +32,6 @@ pub use bodies::Body;
 pub use contents::Content;
 pub use declarations::Declaration;
 pub use entries::Entry;
+pub use hash_keys::HashKeys;
 pub use limits::{MOST_DECLARATIONS, MOST_ENTRIES, MOST_SECTIONS, limits_are_stated};
 pub use walks::{Declared, DeclaredItem, Walk, WalkItem};

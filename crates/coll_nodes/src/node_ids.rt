@@ -6,6 +6,7 @@
 ghost use Rattle.std.specs.Prelude.{◌≡◌, true, None, Some, IfOk, OnOk, OnErr};
 
 use super::node_names::NodeNames;
+use crate::HashKeys;
 use coll_order::NodeId;
 use coll_syntax::Id;
 use indexmap::IndexMap;
@@ -16,7 +17,7 @@ use std::marker::Model;
 #[derive(Drop)]
 pub(crate) struct NodeIds {
     names: NodeNames,
-    characters: IndexMap<char, Option<NodeId>>,
+    characters: IndexMap<char, Option<NodeId>, HashKeys>,
     undefined: Option<NodeId>,
 }
 
@@ -33,12 +34,12 @@ impl NodeIds {
     ghost use Rattle.coll_nodes.specs.NodeLookUps.{no_nodes, node_with, is_id_key, SetsId, AddsIdKey, LeadAlike, KeepIdKeys};
 
     /// No identifiers. It takes no memory.
-    pub(crate) fn new(alloc: Global) -> NodeIds
+    pub(crate) fn new(alloc: Global, keys: HashKeys) -> NodeIds
         ensures { result ≡ no_nodes }
     {
         NodeIds {
-            names: NodeNames::new(alloc),
-            characters: IndexMap::new(alloc),
+            names: NodeNames::new(alloc, keys),
+            characters: IndexMap::with_hasher(alloc, keys),
             undefined: None,
         }
     }

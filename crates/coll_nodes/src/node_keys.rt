@@ -7,10 +7,10 @@
 ghost use Rattle.std.specs.Prelude.{◌≡◌, IfOk, OnOk, OnErr};
 ghost use Rattle.coll_nodes.specs.KeyedNodes.{no_keys, HasKeysOf, HasKeyOfSection, KeepsKeys, LeadsAlike, SetsKeys, SetsSection};
 
-use crate::Declaration;
 use crate::contents::Content;
 use crate::node_ids::NodeIds;
 use crate::node_names::NodeNames;
+use crate::{Declaration, HashKeys};
 use coll_lex::TextBuf;
 use coll_order::NodeId;
 use std::alloc::{AllocError, Global};
@@ -30,14 +30,14 @@ pub(crate) struct NodeKeys {
 
 impl NodeKeys {
     /// No keys. It takes no memory.
-    pub(crate) fn new(alloc: Global) -> NodeKeys
+    pub(crate) fn new(alloc: Global, keys: HashKeys) -> NodeKeys
         ensures { result ≡ no_keys }
     {
         NodeKeys {
-            names: NodeNames::new(alloc),
-            texts: NodeNames::new(alloc),
-            sections: NodeNames::new(alloc),
-            placed: NodeIds::new(alloc),
+            names: NodeNames::new(alloc, keys),
+            texts: NodeNames::new(alloc, keys),
+            sections: NodeNames::new(alloc, keys),
+            placed: NodeIds::new(alloc, keys),
         }
     }
 

@@ -5,6 +5,7 @@
 
 ghost use Rattle.std.specs.Prelude.{◌≡◌, [], true, None, Some, IfOk, OnOk, OnErr};
 
+use crate::HashKeys;
 use coll_lex::TextBuf;
 use coll_order::NodeId;
 use indexmap::IndexMap;
@@ -14,7 +15,7 @@ use std::marker::Model;
 /// Nodes by name.
 #[derive(Drop)]
 pub(crate) struct NodeNames {
-    names: IndexMap<String, Option<NodeId>>,
+    names: IndexMap<String, Option<NodeId>, HashKeys>,
     alloc: Global,
 }
 
@@ -34,13 +35,18 @@ impl NodeNames {
     ghost use Rattle.coll_nodes.specs.NodeLookUps.{node_named, is_name_key, SetsName, AddsNameKey, LeadNamesAlike, KeepNameKeys};
 
     /// No names. It takes no memory.
-    pub(crate) fn new(alloc: Global) -> NodeNames
+    pub(crate) fn new(alloc: Global, keys: HashKeys) -> NodeNames
         ensures { result ≡ [] }
     {
         NodeNames {
-            names: IndexMap::new(alloc),
+            names: IndexMap::with_hasher(alloc, keys),
             alloc,
         }
+    }
+
+    /// The keys that names are looked up under.
+    pub(crate) fn hash_keys(&self) -> HashKeys {
+        *self.names.hasher()
     }
 
     /// Where it takes memory.

@@ -12,6 +12,7 @@ use crate::code_points::CodePoints;
 use crate::name_numbers::NameNumbers;
 use crate::parts::Part;
 use coll_syntax::Id;
+use coll_table::HashKeys;
 use std::alloc::{AllocError, Global};
 use std::marker::Model;
 
@@ -36,10 +37,14 @@ impl IdRanks {
     ghost use Rattle.coll_ranks.specs.Ranks.{no_ranks, rank_with, character_part};
 
     /// No identifiers, with room for so many names.
-    pub(crate) fn with_room(alloc: Global, names: usize) -> Result<IdRanks, AllocError>
+    pub(crate) fn with_room(
+        alloc: Global,
+        keys: HashKeys,
+        names: usize,
+    ) -> Result<IdRanks, AllocError>
         ensures { IfOk result (λ made. made ≡ no_ranks) }
     {
-        let names = NameNumbers::with_room(alloc, names)?;
+        let names = NameNumbers::with_room(alloc, keys, names)?;
         Ok(IdRanks {
             names,
             characters: CodePoints::new(alloc),

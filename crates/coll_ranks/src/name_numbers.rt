@@ -3,6 +3,7 @@
 ghost use Rattle.std.specs.Prelude.{◌≡◌, [], ℕ, List, Some, cond, chars, IfOk, OnOk};
 ghost use Rattle.coll_syntax.specs.Identifier.{same_name};
 
+use coll_table::HashKeys;
 use indexmap::IndexMap;
 use std::alloc::{AllocError, Global};
 use std::marker::Model;
@@ -10,7 +11,7 @@ use std::marker::Model;
 /// Numbers by name.
 #[derive(Drop)]
 pub(crate) struct NameNumbers {
-    numbers: IndexMap<String, u32>,
+    numbers: IndexMap<String, u32, HashKeys>,
     alloc: Global,
 }
 
@@ -30,20 +31,24 @@ impl NameNumbers {
     ghost use Rattle.coll_ranks.specs.Ranks.{number_named};
 
     /// No names. It takes no memory.
-    pub(crate) fn new(alloc: Global) -> NameNumbers
+    pub(crate) fn new(alloc: Global, keys: HashKeys) -> NameNumbers
         ensures { result ≡ [] }
     {
         NameNumbers {
-            numbers: IndexMap::new(alloc),
+            numbers: IndexMap::with_hasher(alloc, keys),
             alloc,
         }
     }
 
     /// No names, with room for so many.
-    pub(crate) fn with_room(alloc: Global, names: usize) -> Result<NameNumbers, AllocError>
+    pub(crate) fn with_room(
+        alloc: Global,
+        keys: HashKeys,
+        names: usize,
+    ) -> Result<NameNumbers, AllocError>
         ensures { IfOk result (λ made. made ≡ []) }
     {
-        let numbers = IndexMap::with_capacity(alloc, names)?;
+        let numbers = IndexMap::with_capacity_and_hasher(alloc, names, keys)?;
         Ok(NameNumbers { numbers, alloc })
     }
 

@@ -11,6 +11,7 @@ ghost use Rattle.coll_ranks.specs.Ranks.{RankedElement};
 use crate::code_points::CodePoints;
 use crate::name_numbers::NameNumbers;
 use coll_lex::TextBuf;
+use coll_table::HashKeys;
 use std::alloc::{AllocError, Global};
 use std::marker::Model;
 
@@ -66,13 +67,13 @@ impl PlacedElements {
     ghost use Rattle.coll_ranks.specs.ElementChains.{ranked_element};
 
     /// No elements. It takes no memory.
-    pub(crate) fn new(alloc: Global) -> PlacedElements
+    pub(crate) fn new(alloc: Global, keys: HashKeys) -> PlacedElements
         ensures { result ≡ [] }
     {
         PlacedElements {
             elements: Vec::new(alloc),
             chains: CodePoints::new(alloc),
-            places: NameNumbers::new(alloc),
+            places: NameNumbers::new(alloc, keys),
             alloc,
         }
     }

@@ -31,7 +31,7 @@ pub(crate) fn ranked_ids(alloc: Global, table: &Table) -> Result<IdRanks, AllocE
     ensures { IfOk result (λ ids. AreIdRanksOf ids (collation table.now)) }
 {
     table.check_table();
-    let mut ids = IdRanks::with_room(alloc, table.declared_len())?;
+    let mut ids = IdRanks::with_room(alloc, table.hash_keys(), table.declared_len())?;
     let entries = rank_walk(&mut ids, table.walk())?;
     ids.set_last(entries);
     Ok(ids)
@@ -93,7 +93,11 @@ fn ranked_elements(
     ensures { IfOk result (λ elements. elements ≡ map (ranked_in (collation table.now)) (elements_placed (collation table.now))) }
 {
     table.check_table();
-    put_all(PlacedElements::new(alloc), ids, table.declared())
+    put_all(
+        PlacedElements::new(alloc, table.hash_keys()),
+        ids,
+        table.declared(),
+    )
 }
 
 // Puts the elements of declarations that have a rank behind others.

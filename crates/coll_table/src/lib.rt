@@ -27,12 +27,12 @@ mod turning;
 
 pub use coll_draft::{LoadCause, LoadFault};
 pub use coll_nodes::{
-    Declaration, Declared, DeclaredItem, Entry, MOST_DECLARATIONS, MOST_ENTRIES, MOST_SECTIONS,
-    Walk, WalkItem, limits_are_stated,
+    Declaration, Declared, DeclaredItem, Entry, HashKeys, MOST_DECLARATIONS, MOST_ENTRIES,
+    MOST_SECTIONS, Walk, WalkItem, limits_are_stated,
 };
 pub use coll_print::{printed_tables_are_read_back, write_id};
 pub use loaders::{Loader, lines_are_read};
-pub use loading::{load, texts_are_well_formed};
+pub use loading::{load, load_keyed, texts_are_well_formed};
 pub use record_laws::{
     records_fit_narrower, records_fit_where_named, records_fit_wider, records_turn_back,
     undone_records_put_in, wider_tables_read_alike,

@@ -20,6 +20,7 @@ ghost use Rattle.coll_draft.specs.declared.load_faults.LoadCause.TheVariants.{Ou
 use crate::Table;
 use coll_draft::{Draft, LoadCause, LoadFault};
 use coll_lex::{LexFault, Lexer, Line};
+use coll_nodes::HashKeys;
 use coll_syntax::parse_table_line;
 use std::alloc::{AllocError, Global};
 use std::marker::Model;
@@ -55,12 +56,19 @@ impl Model for Loader {
 impl Loader {
     ghost use Rattle.coll_draft.specs.Loading.{LoaderState, first_loader, loaded_line, loaded, by_where, by_outside, by_fed, by_read, early_end};
 
-    /// A loader before the first line.
+    /// A loader before the first line, for a text that one trusts: its names are looked up under keys that anyone knows.
     pub fn new(alloc: Global) -> Result<Loader, AllocError>
         ensures { IfOk result (λ loader. loader ≡ first_loader) }
     {
+        Loader::keyed(alloc, HashKeys::zeros())
+    }
+
+    /// A loader before the first line. What the text names is looked up under these keys, by the table and its ranks too.
+    pub fn keyed(alloc: Global, keys: HashKeys) -> Result<Loader, AllocError>
+        ensures { IfOk result (λ loader. loader ≡ first_loader) }
+    {
         let lexer = Lexer::new(alloc)?;
-        let draft = Draft::new(alloc)?;
+        let draft = Draft::new(alloc, keys)?;
         Ok(Loader {
             lexer,
             begun: false,

@@ -15,19 +15,34 @@ ghost use Rattle.coll_nodes.specs.WellFormed.{IsWellFormed};
 use crate::{Loader, Table};
 use coll_draft::{LoadCause, LoadFault};
 use coll_lex::{LexFault, LineReader, ReadStop, Source};
+use coll_nodes::HashKeys;
 use std::alloc::Global;
 
-/// Reads a table text to the end of its category, and makes the table.
-///
-/// The text is POSIX.1-2017, 7.3.2, as far as this product reads it. The first line at fault decides the answer, and
-/// nothing after `END LC_COLLATE` is looked at. A fault gives no table. `ReadFault`, with line 0, is answered where a
-/// read of the device answered an error, unless the lines read whole before it decide already.
+/// Reads a table text that one trusts, as `load_keyed` does: what it names is looked up under keys that anyone knows.
 pub fn load<R: Source>(alloc: Global, input: &mut R) -> Result<Table, LoadFault>
     ensures loaded { Loads (R.left input.old) (R.left input.new) result }
     ensures well_formed { IfOk result (λ table. IsWellFormed (collation table)) }
     ensures errors { CountsFault (R.failed input.old) (R.failed input.new) result }
 {
-    let mut loader = Loader::new(alloc)?;
+    load_keyed(alloc, HashKeys::zeros(), input)
+}
+
+/// Reads a table text to the end of its category, and makes the table.
+///
+/// The text is POSIX.1-2017, 7.3.2, as far as this product reads it. The first line at fault decides the answer, and
+/// nothing after `END LC_COLLATE` is looked at. A fault gives no table. `ReadFault`, with line 0, is answered where a
+/// read of the device answered an error, unless the lines read whole before it decide already. What the text names is looked
+/// up under these keys: where the text can't know them, it can't slow the look-ups down.
+pub fn load_keyed<R: Source>(
+    alloc: Global,
+    keys: HashKeys,
+    input: &mut R,
+) -> Result<Table, LoadFault>
+    ensures loaded { Loads (R.left input.old) (R.left input.new) result }
+    ensures well_formed { IfOk result (λ table. IsWellFormed (collation table)) }
+    ensures errors { CountsFault (R.failed input.old) (R.failed input.new) result }
+{
+    let mut loader = Loader::keyed(alloc, keys)?;
     match read_text(alloc, input, &mut loader) {
         Ok(()) => loader.finish(),
         Err(fault) => {

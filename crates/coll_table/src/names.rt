@@ -7,6 +7,7 @@ ghost use Rattle.std.specs.Prelude.{◌≡◌, [], OnOk, OnErr, chars};
 ghost use Rattle.coll_syntax.specs.Identifier.{has_name};
 
 use coll_lex::TextBuf;
+use coll_nodes::HashKeys;
 use indexmap::IndexSet;
 use std::alloc::{AllocError, Global};
 use std::marker::Model;
@@ -14,7 +15,7 @@ use std::marker::Model;
 /// Names, each once.
 #[derive(Drop)]
 pub struct Names {
-    names: IndexSet<String>,
+    names: IndexSet<String, HashKeys>,
     alloc: Global,
 }
 
@@ -33,11 +34,11 @@ impl Names {
     ghost use Rattle.coll_nodes.specs.LookUps.{with_name};
 
     /// No names. It takes no memory.
-    pub fn new(alloc: Global) -> Names
+    pub fn new(alloc: Global, keys: HashKeys) -> Names
         ensures { result ≡ [] }
     {
         Names {
-            names: IndexSet::new(alloc),
+            names: IndexSet::with_hasher(alloc, keys),
             alloc,
         }
     }

@@ -7,6 +7,7 @@ ghost use Rattle.std.specs.Prelude.{◌≡◌, [], OnOk, OnErr};
 ghost use Rattle.coll_syntax.specs.Identifier.{has_id};
 
 use super::names::Names;
+use coll_nodes::HashKeys;
 use coll_syntax::Id;
 use indexmap::IndexSet;
 use std::alloc::{AllocError, Global};
@@ -16,7 +17,7 @@ use std::marker::Model;
 #[derive(Drop)]
 pub struct Places {
     names: Names,
-    chars: IndexSet<char>,
+    chars: IndexSet<char, HashKeys>,
     undefined: bool,
 }
 
@@ -34,12 +35,12 @@ impl Places {
     ghost use Rattle.coll_nodes.specs.LookUps.{AddsId};
 
     /// No identifiers. It takes no memory.
-    pub fn new(alloc: Global) -> Places
+    pub fn new(alloc: Global, keys: HashKeys) -> Places
         ensures { result ≡ [] }
     {
         Places {
-            names: Names::new(alloc),
-            chars: IndexSet::new(alloc),
+            names: Names::new(alloc, keys),
+            chars: IndexSet::with_hasher(alloc, keys),
             undefined: false,
         }
     }

@@ -6,7 +6,7 @@
 
 ghost use Rattle.std.specs.Prelude.{◌≡◌, length, option_copied, IfOk};
 
-use coll_nodes::{Body, Declared, Entry, Walk};
+use coll_nodes::{Body, Declared, Entry, HashKeys, Walk};
 use coll_syntax::{Id, Rule, Rules};
 use std::alloc::{AllocError, Global};
 use std::marker::Model;
@@ -117,6 +117,11 @@ impl Table {
             rules: rules.copied(),
             body: body.try_copy(alloc)?,
         })
+    }
+
+    /// The keys that names, strings and characters are looked up under.
+    pub fn hash_keys(&self) -> HashKeys {
+        self.body.hash_keys()
     }
 
     /// What holds of every table: its layout is sound, and it is well formed.

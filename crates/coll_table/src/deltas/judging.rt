@@ -116,7 +116,7 @@ impl Table {
         if let Some(refusal) = self.reweight_refusal(line) {
             return Err(refusal);
         }
-        or_refused(self.given_refusal(&Places::new(self.alloc()), line))
+        or_refused(self.given_refusal(&Places::new(self.alloc(), self.hash_keys()), line))
     }
 
     /// Why an order line outside a block is refused, if it is, the identifiers in its weights aside.
@@ -174,7 +174,7 @@ impl Table {
         ensures added { IfOk result (λ judged. judged.added ≡ entries_added (collation self.now) lines.now) }
         ensures err { IfErr result (λ refusal. refusal ≢ OutOfMemory → lines_refusal (collation self.now) (target.now ∷ []) lines.now ≡ Some refusal) }
     {
-        let mut ids = Places::new(self.alloc());
+        let mut ids = Places::new(self.alloc(), self.hash_keys());
         match self.judge_each(&mut ids, target, lines) {
             Ok(added) => Ok(Judged { ids, added }),
             Err(refusal) => {

@@ -1,6 +1,6 @@
 -- What a loader answers behind the lines of the text is what is answered to the text.
 use Rattle.coll_table.proofs.TextLoading.{loads, counts_none}
-use Rattle.coll_table.proofs.loading.load.Goals as goal
+use Rattle.coll_table.proofs.loading.load_keyed.Goals as goal
 
 pub returns-in-Ok-clause-loaded : goal.returns-in-Ok-clause-loaded
 returns-in-Ok-clause-loaded g c =
