@@ -102,7 +102,8 @@ fn run_on_inputs(rt: &HostRuntime, batch: Batch, inputs: &mut [Input]) -> Result
     }
 }
 
-// Runs a batch on a table and delta files. What it writes has left the buffer in the end.
+// Runs a batch on a table and delta files. What it wrote has left the buffer in the end, whatever ended it: where that fails, it
+// is the fault, since what is in the buffer was written before any other fault was met.
 fn write_batch(
     rt: &HostRuntime,
     batch: Batch,
@@ -113,11 +114,9 @@ fn write_batch(
     ensures { IfErr result (λ fault. fault.input < length inputs.old) }
 {
     let (table, deltas) = inputs.split_at_mut(1);
-    if let Err(fault) = run_batch(rt.alloc(), batch, &mut table[0], deltas, output) {
-        return Err(fault);
-    }
+    let ran = run_batch(rt.alloc(), batch, &mut table[0], deltas, output);
     match output.flush() {
-        Ok(()) => Ok(()),
+        Ok(()) => ran,
         Err(_) => Err(at_no_line(0, Fault::Write(WriteStop::WriteFault))),
     }
 }
@@ -178,8 +177,9 @@ fn serve_lines(rt: &HostRuntime, table: Table, output: &mut Output) -> Result<()
     run_session(rt.alloc(), table, &mut lines, output)
 }
 
-// Standard output, with a buffer. A run flushes what it writes, and answers a write that fails; only after one does the
-// buffer hold bytes when it is dropped, and its last try to write them hides no error.
+// Standard output, with a buffer. What a run wrote is flushed before its fault is told, each reply of a session by itself, and where
+// that fails, this is the fault. Only after such a fault may the buffer hold bytes when it is dropped: they are the next ones of the
+// output, and may still be taken then.
 fn standard_output(rt: &HostRuntime) -> Result<Output, RunFault>
     ensures { IfErr result (λ fault. fault.input ≡ 0) }
 {

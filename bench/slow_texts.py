@@ -1,0 +1,175 @@
+#!/usr/bin/env python3
+"""Looks for texts that make the program slow: for each subcommand and each kind of session line the text of some megabytes that was
+found to make it slowest, at some size and at twice that size.
+
+Run by hand, after `make`, which builds the program; no gate runs it:
+
+    bench/slow_texts.py [PROGRAM [WORD..]]
+
+What is printed is processor time. Of a session it goes beyond that of the same session without its last lines. Names that share a
+hash and elements that share their beginnings have scripts of their own, hostile_names.py and hostile_elements.py. Words choose the
+rows whose names have one of them.
+
+Target: twice the size takes at most 2.6 times as long, which is what sorting would take, or less than 0.1 s in all.
+"""
+
+import os
+import resource
+import subprocess
+import sys
+import tempfile
+
+ROOT = os.path.dirname(os.path.dirname(os.path.abspath(__file__)))
+PROGRAM = os.path.join(ROOT, "crates", "collbench", "out", "collbench")
+TIMES, SECONDS = 2.6, 0.1
+RUNS = 3
+MOST_ENTRIES, MOST_LINES, MOST_BYTES, MOST_BLOCK, MOST_REMAINING = 262_144, 4_194_304, 65_536, 4_096, 65_535
+
+
+def table(lines, before="", rules="forward"):
+    """A table text of these order lines, with further lines before them."""
+    return f"LC_COLLATE\n{before}order_start {rules}\n{lines}order_end\nEND LC_COLLATE\n"
+
+
+def character(number):
+    return f"<U{0x10000 + number:08X}>"
+
+
+def symbols(count):
+    """A table of symbols, each declared and placed."""
+    names = [f"<S{number}>" for number in range(count)]
+    declared = "".join(f"collating-symbol {name}\n" for name in names)
+    return table("".join(f"{name}\n" for name in names), declared)
+
+
+def elements(count):
+    """A table of elements whose strings have all 16 characters, of which they share many."""
+    declared = "".join(f'collating-element <e{number}> from "aaaaaaaaaaa{number:05x}"\n' for number in range(count))
+    return table("".join(f"<e{number}>\n" for number in range(count)), declared)
+
+
+def heavy(count, rules="forward,position;backward,position;forward,position;backward,position"):
+    """A table of characters with the longest weights at four levels: a and further ones."""
+    weight = '"' + "<U0061>" * 32 + '"'
+    weights = ";".join([weight] * 4)
+    return table(f"a {weights}\n" + "".join(f"{character(number)} {weights}\n" for number in range(count)), rules=rules)
+
+
+def characters(count):
+    return table("".join(f"{character(number)}\n" for number in range(count)))
+
+
+def block(count, target="a"):
+    """A block of this many lines, each with weights."""
+    lines = "".join(f"{character(number)} {character(number)};a;IGNORE;a\n" for number in range(count))
+    return f"reorder-after {target}\n{lines}reorder-end\n"
+
+
+FLAT = table("a\nb\nc\nd\n", rules="forward;forward;forward;forward")
+
+# Of each row: its name, the size, and what gives for a size the words behind the program, the files, and the lines of the session,
+# in two parts.
+LOADS = {
+    "check: empty lines": (MOST_LINES, lambda n: "\n" * (n - 2) + "LC_COLLATE\n"),
+    "check: lines that are continued": (MOST_LINES, lambda n: "LC_COLLATE\n" + ("\\\n" * 65_000 + "\n") * (n // 65_001)),
+    "check: directives": (600_000, lambda n: "comment_char %\n" * n),
+    "check: comments": (MOST_LINES, lambda n: "LC_COLLATE\n" + "#\n" * (n - 2)),
+    "check: script": (800_000, lambda n: "LC_COLLATE\n" + "script <a>\n" * n),
+    "check: symbols": (MOST_ENTRIES, symbols),
+    "check: characters": (MOST_ENTRIES, characters),
+    "check: elements of 16 characters": (120_000, elements),
+    "check: the longest weights": (8_000, heavy),
+    "check: sections": (1_022, lambda n: table("".join(f"section <{number}>\n" + f"{character(number)}\n" for number in range(n)))),
+    "check: order_start": (300_000, lambda n: "LC_COLLATE\n" + "order_start forward\n" * n),
+    "print: characters": (MOST_ENTRIES, characters),
+    "print: the longest weights": (8_000, heavy),
+    "compile: symbols": (MOST_ENTRIES, symbols),
+    "compile: characters": (MOST_ENTRIES, characters),
+    "compile: elements of 16 characters": (120_000, elements),
+    "compile: the longest weights": (8_000, heavy),
+}
+# A name, the size, the table, and for a size the lines before and the lines that are measured.
+LINES = {
+    ":key of the longest weights": (65_000, heavy(1), lambda n: ("", f':key "{"a" * n}"\n')),
+    ":key of characters without an entry": (65_000, FLAT, lambda n: ("", f':key "{"x" * n}"\n')),
+    ":compare of the longest weights": (32_000, heavy(1), lambda n: ("", f':compare "{"a" * n}" "{"a" * (n - 1)}b"\n')),
+    ":compare of equal texts": (32_000, heavy(1), lambda n: ("", f':compare "{"a" * n}" "{"a" * n}"\n')),
+    ":key with too many operands": (65_000, FLAT, lambda n: ("", f':key {"a " * (n // 2)}\n')),
+    "an order line of empty weights": (65_000, FLAT, lambda n: ("", f"a {';' * n}\n")),
+    "an order line of symbols": (65_000, FLAT, lambda n: ("", f"a {'<b>' * (n // 3)}\n")),
+    "an order line of strings": (65_000, FLAT, lambda n: ("", f"a {chr(34) + 'b' * n + chr(34)}\n")),
+    "a continued line": (65_000, FLAT, lambda n: ("", "a\\\n" * (n // 2) + "\n")),
+    "a block": (MOST_BLOCK, FLAT, lambda n: ("", block(n))),
+    ":undo of a block": (MOST_BLOCK, FLAT, lambda n: (block(n), ":undo\n")),
+    "a block that moves": (MOST_BLOCK, FLAT, lambda n: (block(n), block(n, "b"))),
+    "lines of a spoiled block": (600_000, FLAT, lambda n: ("", "reorder-after a\n" + "x x x\n" * n)),
+    ":history": (MOST_REMAINING, FLAT, lambda n: ("reorder-after a\nreorder-end\n" * n, ":history\n")),
+    "a statement that empties what was undone": (MOST_REMAINING, FLAT, lambda n: ("reorder-after a\nreorder-end\n" * n + ":undo\n" * n, "<c> <d>\na a\n")),
+    ":list": (MOST_ENTRIES, None, lambda n: ("", ":list\n")),
+    ":print": (MOST_ENTRIES, None, lambda n: ("", ":print\n")),
+    ":key after a change": (MOST_ENTRIES, None, lambda n: ("", f':key "{character(0)}"\n'.replace(character(0), chr(0x10000)))),
+}
+
+
+def time(program, words, lines=b""):
+    """The least processor time of some runs, in seconds."""
+    least = float("inf")
+    for _ in range(RUNS):
+        before = resource.getrusage(resource.RUSAGE_CHILDREN)
+        subprocess.run([program, *words], input=lines, stdout=subprocess.DEVNULL, stderr=subprocess.DEVNULL, check=False)
+        after = resource.getrusage(resource.RUSAGE_CHILDREN)
+        least = min(least, after.ru_utime + after.ru_stime - before.ru_utime - before.ru_stime)
+    return least
+
+
+def show(name, size, half, whole, length):
+    """Prints a row, and returns whether it is as wanted."""
+    met = whole <= max(SECONDS, TIMES * half)
+    print(f"{name}: {whole:.3f} s at {size:,}, {length / 1e6:.1f} MB, and {half:.3f} s at half of it{'' if met else ', TOO SLOW'}", flush=True)
+    return met
+
+
+def loads(program, folder, chosen):
+    for name, (size, text) in LOADS.items():
+        if chosen(name):
+            times = []
+            for count in (size // 2, size):
+                with open(f"{folder}/table", "w", encoding="utf-8") as file:
+                    file.write(text(count))
+                times.append(time(program, [name.partition(":")[0], f"{folder}/table"]))
+            yield show(name, size, *times, os.path.getsize(f"{folder}/table"))
+
+
+def sessions(program, folder, chosen):
+    for name, (size, text, lines) in LINES.items():
+        if chosen(name):
+            times = []
+            for count in (size // 2, size):
+                with open(f"{folder}/table", "w", encoding="utf-8") as file:
+                    file.write(text or characters(count))
+                before, measured = (part.encode() for part in lines(count))
+                words = ["session", f"{folder}/table"]
+                times.append(time(program, words, before + measured) - time(program, words, before))
+            yield show(f"session: {name}", size, *times, len(measured))
+
+
+def words(program, folder, chosen):
+    name, size = "key: many words", 100_000
+    if chosen(name):
+        with open(f"{folder}/table", "w", encoding="utf-8") as file:
+            file.write(FLAT)
+        half, whole = (time(program, ["key", f"{folder}/table", *["a"] * count]) for count in (size // 2, size))
+        yield show(name, size, half, whole, 2 * size)
+
+
+def main(program, folder, some):
+    def chosen(name):
+        return not some or any(word in name for word in some)
+
+    met = [*loads(program, folder, chosen), *sessions(program, folder, chosen), *words(program, folder, chosen)]
+    print(f"{sum(met)} of {len(met)} rows are as wanted")
+
+
+if __name__ == "__main__":
+    with tempfile.TemporaryDirectory() as scratch:
+        main(os.path.abspath(sys.argv[1]) if len(sys.argv) > 1 else PROGRAM, scratch, sys.argv[2:])
