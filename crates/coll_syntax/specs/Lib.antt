@@ -8,4 +8,5 @@ pub mod Proper
 pub mod Rules
 pub mod SyntaxFaults
 pub mod TableLines
+pub mod TakenMemory
 pub mod Weights

@@ -3,9 +3,11 @@
 //! The grammar is `delta_line` of `specs/DeltaLines.antt`, by the keyword that the first token spells and the operands
 //! after it.
 
-ghost use Rattle.std.specs.Prelude.{◌≡◌, ◌∷◌, ◌≢◌, Ok, Err, IfOk, IfErr};
+ghost use Rattle.std.specs.Prelude.{◌≡◌, ◌∷◌, ◌≢◌, Ok, Err, IsTrue, IfOk, IfErr};
 ghost use Rattle.coll_syntax.specs.declared.syntax_faults.SyntaxFault.TheVariants.{OutOfMemory};
 ghost use Rattle.coll_lex.specs.Names.{AreTokens};
+ghost use Rattle.coll_syntax.specs.Keywords.{keyword_of as spelled_keyword};
+ghost use Rattle.coll_syntax.specs.TakenMemory.{delta_line_takes_memory, delta_row_takes_memory, delta_keyword_takes_memory};
 ghost use Rattle.coll_syntax.specs.DeltaLines.{delta_line, delta_row, keyword_row as spelled_row};
 ghost use Rattle.coll_syntax.specs.Proper.{IsProperDeltaLine};
 
@@ -23,12 +25,14 @@ use std::alloc::Global;
 ///
 /// A token that doesn't fit is the fault of the first such token from the left: 20 for the first token, 21 for one that
 /// is wanted and missing, 29 for one of the wrong kind, 22 for one that is left over, and those of strings and
-/// weights. The names in the answer are copies, in new memory; 70 where that is refused.
-#[tactic(auto, unfolding(crate::specs::DeltaLines::delta_line))]
+/// weights. The names in the answer are copies, in new memory; 70 where that is refused. A line of which nothing is kept takes
+/// none.
+#[tactic(auto, unfolding(crate::specs::DeltaLines::delta_line, crate::specs::TakenMemory::delta_line_takes_memory))]
 pub fn parse_delta_line(alloc: Global, line: &Line) -> Result<DeltaLine, SyntaxFault>
     requires { AreTokens line.now.tokens }
     ensures ok { IfOk result (λ read. delta_line line.now.tokens ≡ Ok read) }
     ensures err { IfErr result (λ fault. fault ≢ OutOfMemory → delta_line line.now.tokens ≡ Err fault) }
+    ensures memory { IfErr result (λ fault. fault ≡ OutOfMemory → IsTrue (delta_line_takes_memory line.now.tokens)) }
     ensures proper { IfOk result IsProperDeltaLine }
 {
     let Some((first, rest)) = line.tokens.get().split_first() else {
@@ -41,6 +45,7 @@ pub fn parse_delta_line(alloc: Global, line: &Line) -> Result<DeltaLine, SyntaxF
 fn row(alloc: Global, first: &Token, rest: &[Token]) -> Result<DeltaLine, SyntaxFault>
     ensures ok { IfOk result (λ read. delta_row first.now rest.now ≡ Ok read) }
     ensures err { IfErr result (λ fault. fault ≢ OutOfMemory → delta_row first.now rest.now ≡ Err fault) }
+    ensures memory { IfErr result (λ fault. fault ≡ OutOfMemory → IsTrue (delta_row_takes_memory (spelled_keyword first.now) first.now rest.now)) }
 {
     let Some(keyword) = keyword_of(first) else {
         let line = order_line(alloc, first, rest)?;
@@ -57,6 +62,7 @@ fn keyword_row(
 ) -> Result<DeltaLine, SyntaxFault>
     ensures ok { IfOk result (λ read. spelled_row keyword operands.now ≡ Ok read) }
     ensures err { IfErr result (λ fault. fault ≢ OutOfMemory → spelled_row keyword operands.now ≡ Err fault) }
+    ensures memory { IfErr result (λ fault. fault ≡ OutOfMemory → IsTrue (delta_keyword_takes_memory keyword operands.now)) }
 {
     match keyword {
         Keyword::CollatingSymbol => {

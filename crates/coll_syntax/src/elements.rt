@@ -3,10 +3,11 @@
 //! Each call is the definition of its name in `specs/Elements.antt`. The string is read whole before its length is
 //! looked at, since a name in it comes first among its faults.
 
-ghost use Rattle.std.specs.Prelude.{◌≡◌, ◌≢◌, [], ◌∷◌, ◌++◌, ◌&&◌, nat_le, Ok, Err, IfOk, IfErr, OnOk, chars, string_bytes};
+ghost use Rattle.std.specs.Prelude.{◌≡◌, ◌≢◌, [], ◌∷◌, ◌++◌, ◌&&◌, nat_le, Ok, Err, IsTrue, IfOk, IfErr, OnOk, chars, string_bytes};
 ghost use Rattle.coll_syntax.specs.Operands.{only, wanted};
 ghost use Rattle.coll_syntax.specs.Elements.{element as spelled_element, from_text as spelled_from, text_in, element_text as spelled_text, characters_of};
 ghost use Rattle.coll_syntax.specs.Proper.{is_element_text as may_be_text};
+ghost use Rattle.coll_syntax.specs.TakenMemory.{begins_with_symbol};
 ghost use Rattle.coll_syntax.specs.declared.syntax_faults.SyntaxFault.TheVariants.{OutOfMemory};
 
 use crate::SyntaxFault;
@@ -29,6 +30,7 @@ const _: () = prove!(MOST_ELEMENT_CHARS == 16);
 pub(crate) fn element(alloc: Global, operands: &[Token]) -> Result<(TextBuf, TextBuf), SyntaxFault>
     ensures ok { IfOk result (λ read. spelled_element operands.now ≡ Ok (read.0, read.1)) }
     ensures err { IfErr result (λ fault. fault ≢ OutOfMemory → spelled_element operands.now ≡ Err fault) }
+    ensures memory { IfErr result (λ fault. fault ≡ OutOfMemory → IsTrue (begins_with_symbol operands.now)) }
 {
     let Some((operand, rest)) = operands.split_first() else {
         return Err(SyntaxFault::MissingOperand);

@@ -3,10 +3,11 @@
 //! Each call is the definition of its name in `specs/Identifier.antt` or `specs/Operands.antt`. What is found is lent
 //! where it can be; a call that is handed an allocator takes memory.
 
-ghost use Rattle.std.specs.Prelude.{◌≡◌, ◌≢◌, Ok, Err, IsTrue, IfOk, IfErr, chars, nat_lt};
+ghost use Rattle.std.specs.Prelude.{◌≡◌, ◌≢◌, Ok, Err, IsTrue, IfOk, IfErr, OnErr, chars, nat_lt};
 ghost use Rattle.std.specs.List.{list_all};
 ghost use Rattle.coll_syntax.specs.Identifier.{id_of as spelled_id, char_or_name as spelled_char_or_name, only_char};
 ghost use Rattle.coll_syntax.specs.Operands.{ended, only, name_in, word_in, id_in, string_in, two_names as spelled_two, is_semicolon as separates};
+ghost use Rattle.coll_syntax.specs.TakenMemory.{is_read, is_symbol, begins_with_symbol};
 ghost use Rattle.coll_syntax.specs.declared.syntax_faults.SyntaxFault.TheVariants.{OutOfMemory};
 
 use crate::keywords::is_word;
@@ -34,7 +35,8 @@ pub fn ended<T: Drop>(read: T, rest: &[Token]) -> Result<T, SyntaxFault>
 
 /// The identifier that a token spells, if it spells one. A name in it is a copy, in new memory.
 pub fn id_of(alloc: Global, token: &Token) -> Result<Option<Id>, AllocError>
-    ensures { IfOk result (λ id. id ≡ spelled_id token.now) }
+    ensures ok { IfOk result (λ id. id ≡ spelled_id token.now) }
+    ensures memory { OnErr result (IsTrue (is_symbol token.now)) }
 {
     if is_word(token, "UNDEFINED") {
         return Ok(Some(Id::Undefined));
@@ -45,7 +47,8 @@ pub fn id_of(alloc: Global, token: &Token) -> Result<Option<Id>, AllocError>
 
 /// The character or the name that a token spells, if it spells one. A name in it is a copy, in new memory.
 pub(crate) fn char_or_name(alloc: Global, token: &Token) -> Result<Option<Id>, AllocError>
-    ensures { IfOk result (λ id. id ≡ spelled_char_or_name token.now) }
+    ensures ok { IfOk result (λ id. id ≡ spelled_char_or_name token.now) }
+    ensures memory { OnErr result (IsTrue (is_symbol token.now)) }
 {
     match token {
         Token::Char(c) => Ok(Some(Id::Char(*c))),
@@ -87,6 +90,7 @@ pub(crate) fn is_semicolon(token: &Token) -> bool
 pub(crate) fn only_name(operands: &[Token]) -> Result<&TextBuf, SyntaxFault>
     ensures ok { IfOk result (λ name. only name_in operands.now ≡ Ok name.now) }
     ensures err { IfErr result (λ fault. only name_in operands.now ≡ Err fault) }
+    ensures spared { IfErr result (λ fault. fault ≢ OutOfMemory) }
 {
     let Some((operand, rest)) = operands.split_first() else {
         return Err(SyntaxFault::MissingOperand);
@@ -101,6 +105,7 @@ pub(crate) fn only_name(operands: &[Token]) -> Result<&TextBuf, SyntaxFault>
 pub(crate) fn only_copied_name(alloc: Global, operands: &[Token]) -> Result<TextBuf, SyntaxFault>
     ensures ok { IfOk result (λ name. only name_in operands.now ≡ Ok name) }
     ensures err { IfErr result (λ fault. fault ≢ OutOfMemory → only name_in operands.now ≡ Err fault) }
+    ensures memory { IfErr result (λ fault. fault ≡ OutOfMemory → IsTrue (is_read (only name_in operands.now))) }
 {
     let name = only_name(operands)?;
     let name = copied_name(alloc, name)?;
@@ -114,6 +119,7 @@ pub(crate) fn two_names(
 ) -> Result<(TextBuf, TextBuf), SyntaxFault>
     ensures ok { IfOk result (λ names. spelled_two operands.now ≡ Ok (names.0, names.1)) }
     ensures err { IfErr result (λ fault. fault ≢ OutOfMemory → spelled_two operands.now ≡ Err fault) }
+    ensures memory { IfErr result (λ fault. fault ≡ OutOfMemory → IsTrue (is_read (spelled_two operands.now))) }
 {
     let Some((operand, rest)) = operands.split_first() else {
         return Err(SyntaxFault::MissingOperand);
@@ -130,6 +136,7 @@ pub(crate) fn two_names(
 pub(crate) fn only_id(alloc: Global, operands: &[Token]) -> Result<Id, SyntaxFault>
     ensures ok { IfOk result (λ id. only id_in operands.now ≡ Ok id) }
     ensures err { IfErr result (λ fault. fault ≢ OutOfMemory → only id_in operands.now ≡ Err fault) }
+    ensures memory { IfErr result (λ fault. fault ≡ OutOfMemory → IsTrue (begins_with_symbol operands.now)) }
 {
     let Some((operand, rest)) = operands.split_first() else {
         return Err(SyntaxFault::MissingOperand);
@@ -143,7 +150,8 @@ pub(crate) fn only_id(alloc: Global, operands: &[Token]) -> Result<Id, SyntaxFau
 /// The one operand of a line, the word that is spelled so.
 pub(crate) fn only_word(operands: &[Token], spelling: &str) -> Result<(), SyntaxFault>
     requires { IsTrue (list_all (λ c. nat_lt c 128) spelling.now) }
-    ensures { result ≡ only (word_in spelling.now) operands.now }
+    ensures word { result ≡ only (word_in spelling.now) operands.now }
+    ensures spared { IfErr result (λ fault. fault ≢ OutOfMemory) }
 {
     let Some((operand, rest)) = operands.split_first() else {
         return Err(SyntaxFault::MissingOperand);
@@ -158,6 +166,7 @@ pub(crate) fn only_word(operands: &[Token], spelling: &str) -> Result<(), Syntax
 pub(crate) fn only_string(operands: &[Token]) -> Result<&[Piece], SyntaxFault>
     ensures ok { IfOk result (λ pieces. only string_in operands.now ≡ Ok pieces.now) }
     ensures err { IfErr result (λ fault. only string_in operands.now ≡ Err fault) }
+    ensures spared { IfErr result (λ fault. fault ≢ OutOfMemory) }
 {
     let Some((operand, rest)) = operands.split_first() else {
         return Err(SyntaxFault::MissingOperand);

@@ -2,8 +2,9 @@
 //!
 //! An order line is the definition `order_line` of `specs/OrderLines.antt`.
 
-ghost use Rattle.std.specs.Prelude.{◌≡◌, ◌≢◌, Ok, Err, IfOk, IfErr};
+ghost use Rattle.std.specs.Prelude.{◌≡◌, ◌≢◌, Ok, Err, IsTrue, IfOk, IfErr};
 ghost use Rattle.coll_syntax.specs.OrderLines.{order_line as spelled_line};
+ghost use Rattle.coll_syntax.specs.TakenMemory.{order_takes_memory};
 ghost use Rattle.coll_syntax.specs.declared.syntax_faults.SyntaxFault.TheVariants.{OutOfMemory};
 
 use crate::operands::id_of;
@@ -20,6 +21,7 @@ pub(crate) fn order_line(
 ) -> Result<OrderLine, SyntaxFault>
     ensures ok { IfOk result (λ line. spelled_line first.now rest.now ≡ Ok line) }
     ensures err { IfErr result (λ fault. fault ≢ OutOfMemory → spelled_line first.now rest.now ≡ Err fault) }
+    ensures memory { IfErr result (λ fault. fault ≡ OutOfMemory → IsTrue (order_takes_memory first.now rest.now)) }
 {
     let Some(id) = id_of(alloc, first)? else {
         return Err(SyntaxFault::UnknownStatement);

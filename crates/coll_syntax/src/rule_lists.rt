@@ -2,8 +2,9 @@
 //!
 //! Each call is the definition of its name in `specs/Rules.antt`. None of them takes memory.
 
-ghost use Rattle.std.specs.Prelude.{◌≡◌, Ok, Err, IfOk, IfErr};
+ghost use Rattle.std.specs.Prelude.{◌≡◌, ◌≢◌, Ok, Err, IfOk, IfErr};
 ghost use Rattle.coll_syntax.specs.Rules.{rules as spelled_rules, operand_rule as spelled_operand, one_directive as rule_of_one, two_directives as rule_of_two, directive_of as spelled_directive};
+ghost use Rattle.coll_syntax.specs.declared.syntax_faults.SyntaxFault.TheVariants.{OutOfMemory};
 
 use crate::keywords::is_word;
 use crate::operands::is_semicolon;
@@ -23,6 +24,7 @@ pub(crate) enum Directive {
 pub(crate) fn rules(tokens: &[Token]) -> Result<Rules, SyntaxFault>
     ensures ok { IfOk result (λ read. spelled_rules tokens.now ≡ Ok read) }
     ensures err { IfErr result (λ fault. spelled_rules tokens.now ≡ Err fault) }
+    ensures spared { IfErr result (λ fault. fault ≢ OutOfMemory) }
 {
     let mut slots = [Rule {
         backward: false,

@@ -3,10 +3,12 @@
 //! The grammar is `table_line` of `specs/TableLines.antt`, by the keyword that the first token spells and the operands
 //! after it.
 
-ghost use Rattle.std.specs.Prelude.{◌≡◌, ◌∷◌, ◌≢◌, Ok, Err, IfOk, IfErr};
+ghost use Rattle.std.specs.Prelude.{◌≡◌, ◌∷◌, ◌≢◌, Ok, Err, IsTrue, IfOk, IfErr};
 ghost use Rattle.coll_syntax.specs.declared.syntax_faults.SyntaxFault.TheVariants.{OutOfMemory};
 ghost use Rattle.coll_syntax.specs.TableLines.{table_line, table_row, keyword_row as spelled_row, order_start as spelled_start, section_rules as spelled_section_rules};
 ghost use Rattle.coll_lex.specs.Names.{AreTokens};
+ghost use Rattle.coll_syntax.specs.Keywords.{keyword_of as spelled_keyword};
+ghost use Rattle.coll_syntax.specs.TakenMemory.{table_line_takes_memory, table_row_takes_memory, table_keyword_takes_memory, begins_with_symbol};
 ghost use Rattle.coll_syntax.specs.Proper.{IsProperTableLine};
 
 use crate::elements::element;
@@ -22,12 +24,14 @@ use std::alloc::Global;
 ///
 /// A token that doesn't fit is the fault of the first such token from the left: 20 for the first token, 21 for one that
 /// is wanted and missing, 29 for one of the wrong kind, 22 for one that is left over, and those of rules, strings and
-/// weights. The names in the answer are copies, in new memory; 70 where that is refused.
-#[tactic(auto, unfolding(crate::specs::TableLines::table_line))]
+/// weights. The names in the answer are copies, in new memory; 70 where that is refused. A line of which nothing is kept takes
+/// none.
+#[tactic(auto, unfolding(crate::specs::TableLines::table_line, crate::specs::TakenMemory::table_line_takes_memory))]
 pub fn parse_table_line(alloc: Global, line: &Line) -> Result<TableLine, SyntaxFault>
     requires { AreTokens line.now.tokens }
     ensures ok { IfOk result (λ read. table_line line.now.tokens ≡ Ok read) }
     ensures err { IfErr result (λ fault. fault ≢ OutOfMemory → table_line line.now.tokens ≡ Err fault) }
+    ensures memory { IfErr result (λ fault. fault ≡ OutOfMemory → IsTrue (table_line_takes_memory line.now.tokens)) }
     ensures proper { IfOk result IsProperTableLine }
 {
     let Some((first, rest)) = line.tokens.get().split_first() else {
@@ -40,6 +44,7 @@ pub fn parse_table_line(alloc: Global, line: &Line) -> Result<TableLine, SyntaxF
 fn row(alloc: Global, first: &Token, rest: &[Token]) -> Result<TableLine, SyntaxFault>
     ensures ok { IfOk result (λ read. table_row first.now rest.now ≡ Ok read) }
     ensures err { IfErr result (λ fault. fault ≢ OutOfMemory → table_row first.now rest.now ≡ Err fault) }
+    ensures memory { IfErr result (λ fault. fault ≡ OutOfMemory → IsTrue (table_row_takes_memory (spelled_keyword first.now) first.now rest.now)) }
 {
     let Some(keyword) = keyword_of(first) else {
         let line = order_line(alloc, first, rest)?;
@@ -56,6 +61,7 @@ fn keyword_row(
 ) -> Result<TableLine, SyntaxFault>
     ensures ok { IfOk result (λ read. spelled_row keyword operands.now ≡ Ok read) }
     ensures err { IfErr result (λ fault. fault ≢ OutOfMemory → spelled_row keyword operands.now ≡ Err fault) }
+    ensures memory { IfErr result (λ fault. fault ≡ OutOfMemory → IsTrue (table_keyword_takes_memory keyword operands.now)) }
 {
     match keyword {
         Keyword::CollatingSymbol => {
@@ -88,6 +94,7 @@ fn keyword_row(
 fn order_start(alloc: Global, operands: &[Token]) -> Result<TableLine, SyntaxFault>
     ensures ok { IfOk result (λ read. spelled_start operands.now ≡ Ok read) }
     ensures err { IfErr result (λ fault. fault ≢ OutOfMemory → spelled_start operands.now ≡ Err fault) }
+    ensures memory { IfErr result (λ fault. fault ≡ OutOfMemory → IsTrue (begins_with_symbol operands.now)) }
 {
     let Some((operand, rest)) = operands.split_first() else {
         return Ok(TableLine::OrderStart {
@@ -119,6 +126,7 @@ fn order_start(alloc: Global, operands: &[Token]) -> Result<TableLine, SyntaxFau
 fn section_rules(operands: &[Token]) -> Result<Option<Rules>, SyntaxFault>
     ensures ok { IfOk result (λ read. spelled_section_rules operands.now ≡ Ok read) }
     ensures err { IfErr result (λ fault. spelled_section_rules operands.now ≡ Err fault) }
+    ensures spared { IfErr result (λ fault. fault ≢ OutOfMemory) }
 {
     let Some((operand, rest)) = operands.split_first() else {
         return Ok(None);
