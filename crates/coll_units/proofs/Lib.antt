@@ -7,5 +7,6 @@ pub mod DeltaLinesRead
 pub mod DeltaSteps
 pub mod DeltaTaking
 pub mod HearingLemmas
+pub mod LineStops
 pub mod PhysicalTaking
 pub mod TakingLemmas

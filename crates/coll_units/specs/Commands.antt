@@ -1,5 +1,5 @@
 -- The commands of a session, by the word that begins the line and by its arguments (the project's own).
-use Rattle.std.specs.Prelude.{ℕ, Bool, false, ◌==◌, if◌then◌else◌, List, [], ◌∷◌, Result, Ok, Err, codes}
+use Rattle.std.specs.Prelude.{ℕ, Bool, true, false, ◌&&◌, ◌||◌, ◌==◌, if◌then◌else◌, List, [], ◌∷◌, Result, Ok, Err, codes}
 use Rattle.coll_lex.specs.declared.tokens.Token.{Token}
 use Rattle.coll_lex.specs.declared.tokens.Token.TheVariants as token
 use Rattle.coll_syntax.specs.Elements.{characters_of}
@@ -62,3 +62,21 @@ command_of word arguments =
     else (if is_word word (codes ":history") then argued (ended command.History arguments)
     else (if is_word word (codes ":check") then argued (ended command.Check arguments)
     else Err fault.UnknownCommand)))))))
+
+-- a string, whose characters are copied
+abbrev pub is_string : Token → Bool
+is_string (token.Text pieces) = true
+is_string (token.Word word) = false
+is_string (token.Symbol name) = false
+is_string (token.Char c) = false
+is_string token.Semicolon = false
+is_string token.Comma = false
+
+-- arguments of which the first is a string
+abbrev pub begins_with_string : List Token → Bool
+begins_with_string [] = false
+begins_with_string (first ∷ rest) = is_string first
+
+-- whether memory may be taken for a command: for the texts of `:key` and of `:compare`, and for no other
+unfoldable pub command_takes_memory : Token → List Token → Bool
+command_takes_memory word arguments = (is_word word (codes ":key") || is_word word (codes ":compare")) && begins_with_string arguments

@@ -2,12 +2,12 @@
 //!
 //! A command is `command_of` of `specs/Commands.antt`, by its word and its arguments. A word that isn't known comes before wrong
 //! arguments, and of these one that is missing comes first, then one of the wrong kind, then one that is left over. The
-//! texts of a command are copies, in new memory.
+//! texts of a command are copies, in new memory; a command without texts takes none.
 
-ghost use Rattle.std.specs.Prelude.{◌≡◌, ◌≢◌, Ok, Err, IfOk, IfErr, chars};
+ghost use Rattle.std.specs.Prelude.{◌≡◌, ◌≢◌, Ok, Err, IsTrue, IfOk, IfErr, chars};
 ghost use Rattle.coll_syntax.specs.Operands.{ended as spelled_end, only};
 ghost use Rattle.coll_syntax.specs.declared.syntax_faults.SyntaxFault.TheVariants as syntax;
-ghost use Rattle.coll_units.specs.Commands.{is_command as spells_command, is_command_word as spells_command_word, command_of as spelled_command, argued, key_of, compare_of, text_in, two_texts as spelled_two};
+ghost use Rattle.coll_units.specs.Commands.{is_command as spells_command, is_command_word as spells_command_word, command_of as spelled_command, argued, key_of, compare_of, text_in, two_texts as spelled_two, command_takes_memory, begins_with_string, is_string};
 ghost use Rattle.coll_units.specs.declared.unit_faults.UnitFault.TheVariants as fault;
 
 use crate::session_lines::Command;
@@ -41,7 +41,7 @@ fn is_command_word(text: &str) -> bool
 }
 
 /// The command of a line, by its word and its arguments, or why it is none.
-#[tactic(auto, unfolding(crate::specs::Commands::command_of))]
+#[tactic(auto, unfolding(crate::specs::Commands::command_of, crate::specs::Commands::command_takes_memory))]
 pub(crate) fn command_of(
     alloc: Global,
     word: &Token,
@@ -49,6 +49,7 @@ pub(crate) fn command_of(
 ) -> Result<Command, UnitFault>
     ensures ok { IfOk result (λ command. spelled_command word.now arguments.now ≡ Ok command) }
     ensures err { IfErr result (λ refused. refused ≢ fault.Syntax syntax.OutOfMemory → spelled_command word.now arguments.now ≡ Err refused) }
+    ensures memory { IfErr result (λ refused. refused ≡ fault.Syntax syntax.OutOfMemory → IsTrue (command_takes_memory word.now arguments.now)) }
 {
     if is_word(word, ":undo") {
         return alone(Command::Undo, arguments);
@@ -91,6 +92,7 @@ fn alone(command: Command, arguments: &[Token]) -> Result<Command, UnitFault>
 fn key(alloc: Global, arguments: &[Token]) -> Result<Command, UnitFault>
     ensures ok { IfOk result (λ command. argued (key_of arguments.now) ≡ Ok command) }
     ensures err { IfErr result (λ refused. refused ≢ fault.Syntax syntax.OutOfMemory → argued (key_of arguments.now) ≡ Err refused) }
+    ensures memory { IfErr result (λ refused. refused ≡ fault.Syntax syntax.OutOfMemory → IsTrue (begins_with_string arguments.now)) }
 {
     match only_text(alloc, arguments) {
         Ok(text) => Ok(Command::Key(text)),
@@ -102,6 +104,7 @@ fn key(alloc: Global, arguments: &[Token]) -> Result<Command, UnitFault>
 fn compare(alloc: Global, arguments: &[Token]) -> Result<Command, UnitFault>
     ensures ok { IfOk result (λ command. argued (compare_of arguments.now) ≡ Ok command) }
     ensures err { IfErr result (λ refused. refused ≢ fault.Syntax syntax.OutOfMemory → argued (compare_of arguments.now) ≡ Err refused) }
+    ensures memory { IfErr result (λ refused. refused ≡ fault.Syntax syntax.OutOfMemory → IsTrue (begins_with_string arguments.now)) }
 {
     match two_texts(alloc, arguments) {
         Ok((first, second)) => Ok(Command::Compare(first, second)),
@@ -113,6 +116,7 @@ fn compare(alloc: Global, arguments: &[Token]) -> Result<Command, UnitFault>
 fn only_text(alloc: Global, arguments: &[Token]) -> Result<TextBuf, SyntaxFault>
     ensures ok { IfOk result (λ text. only text_in arguments.now ≡ Ok text) }
     ensures err { IfErr result (λ refused. refused ≢ syntax.OutOfMemory → only text_in arguments.now ≡ Err refused) }
+    ensures memory { IfErr result (λ refused. refused ≡ syntax.OutOfMemory → IsTrue (begins_with_string arguments.now)) }
 {
     let Some((argument, rest)) = arguments.split_first() else {
         return Err(SyntaxFault::MissingOperand);
@@ -125,6 +129,7 @@ fn only_text(alloc: Global, arguments: &[Token]) -> Result<TextBuf, SyntaxFault>
 fn two_texts(alloc: Global, arguments: &[Token]) -> Result<(TextBuf, TextBuf), SyntaxFault>
     ensures ok { IfOk result (λ texts. spelled_two arguments.now ≡ Ok (texts.0, texts.1)) }
     ensures err { IfErr result (λ refused. refused ≢ syntax.OutOfMemory → spelled_two arguments.now ≡ Err refused) }
+    ensures memory { IfErr result (λ refused. refused ≡ syntax.OutOfMemory → IsTrue (begins_with_string arguments.now)) }
 {
     let Some((first, later)) = arguments.split_first() else {
         return Err(SyntaxFault::MissingOperand);
@@ -141,6 +146,7 @@ fn two_texts(alloc: Global, arguments: &[Token]) -> Result<(TextBuf, TextBuf), S
 fn text_of(alloc: Global, argument: &Token) -> Result<TextBuf, SyntaxFault>
     ensures ok { IfOk result (λ text. text_in argument.now ≡ Ok text) }
     ensures err { IfErr result (λ refused. refused ≢ syntax.OutOfMemory → text_in argument.now ≡ Err refused) }
+    ensures memory { IfErr result (λ refused. refused ≡ syntax.OutOfMemory → IsTrue (is_string argument.now)) }
 {
     let Token::Text(pieces) = argument else {
         return Err(SyntaxFault::BadOperand);

@@ -90,7 +90,7 @@ impl DeltaReader {
     /// The first fault is stored, want of memory as any other, and each later call answers it again. A line that completes a
     /// statement and is at fault itself, as a refused line that begins with `reorder-after` in an open block, answers the
     /// statement; its fault is then the answer to the next call. Behind the end of the category nothing is looked at. Memory
-    /// is taken in the category alone.
+    /// is taken in the category alone. A fault has the number of the logical line that was handed in.
     #[tactic(auto, unfolding(crate::specs::DeltaReading::delta_line))]
     pub fn line(&mut self, line: &[u8]) -> Result<Option<StatementAt>, DeltaFault>
         ensures ok { IfOk result (λ given. delta_line self.old line.now ≡ Ok (option_to_list given, self.new)) }
@@ -99,6 +99,7 @@ impl DeltaReader {
         ensures behind { self.old.fault ≡ None → self.old.ended ≡ true → result ≡ Ok None }
         ensures idle { self.old.fault ≡ None → self.old.ended ≡ true → self.new ≡ self.old }
         ensures memory { IfErr result (λ fault. wants_memory fault.cause ≡ true → self.old.fault ≡ None → MayTakeDelta self.old line.now) }
+        ensures line { IfErr result (λ fault. self.old.fault ≡ None → fault.line ≡ number_of self.old.lexer) }
         ensures stays { IfErr result (λ fault. self.new.fault ≡ Some fault) }
         ensures ended { OnErr result (self.new.ended ≡ self.old.ended) }
         ensures proper { IfOk result (λ given. IfSome given (λ at. IsProper at.statement)) }
@@ -187,6 +188,7 @@ impl DeltaReader {
         ensures memory { IfErr result (λ fault. wants_memory fault.cause ≡ true → MayTakeDelta self.old line.now) }
         ensures behind { self.old.ended ≡ true → result ≡ Ok None }
         ensures idle { self.old.ended ≡ true → self.new ≡ self.old }
+        ensures line { IfErr result (λ fault. fault.line ≡ number_of self.old.lexer) }
         ensures ended { OnErr result (self.new.ended ≡ self.old.ended) }
         ensures proper { IfOk result (λ given. IfSome given (λ at. IsProper at.statement)) }
     {
@@ -204,6 +206,7 @@ impl DeltaReader {
         ensures ok { IfOk result (λ given. by_outside self.old (outside self.old.lexer line.now) ≡ Ok (option_to_list given, self.new)) }
         ensures err { IfErr result (λ fault. by_outside self.old (outside self.old.lexer line.now) ≡ Err fault) }
         ensures memory { IfErr result (λ fault. wants_memory fault.cause ≡ false) }
+        ensures line { IfErr result (λ fault. fault.line ≡ number_of self.old.lexer) }
         ensures ended { OnErr result (self.new.ended ≡ self.old.ended) }
         ensures proper { IfOk result (λ given. IfSome given (λ at. IsProper at.statement)) }
     {
@@ -226,6 +229,7 @@ impl DeltaReader {
         ensures ok { IfOk result (λ given. by_physical self.old line.now ≡ Ok (option_to_list given, self.new)) }
         ensures err { IfErr result (λ fault. wants_memory fault.cause ≡ false → by_physical self.old line.now ≡ Err fault) }
         ensures memory { IfErr result (λ fault. wants_memory fault.cause ≡ true → IsTrue (takes_memory self.old.lexer line.now)) }
+        ensures line { IfErr result (λ fault. fault.line ≡ number_of self.old.lexer) }
         ensures ended { OnErr result (self.new.ended ≡ self.old.ended) }
         ensures proper { IfOk result (λ given. IfSome given (λ at. IsProper at.statement)) }
     {
@@ -244,6 +248,7 @@ impl DeltaReader {
         ensures err { IfErr result (λ fault. wants_memory fault.cause ≡ false → by_heard self.old (Some hearing.line) ≡ Err fault) }
         ensures refused { IfErr result (λ fault. wants_memory fault.cause ≡ false → is_want (kept_fault_under self.old.block hearing.line) ≡ false) }
         ensures memory { IfErr result (λ fault. wants_memory fault.cause ≡ true → IsWanting self.old.block hearing.line) }
+        ensures line { IfErr result (λ fault. fault.line ≡ hearing.line.number) }
         ensures ended { OnErr result (self.new.ended ≡ self.old.ended) }
         ensures proper { IfOk result (λ given. IfSome given (λ at. IsProper at.statement)) }
     {
@@ -263,7 +268,8 @@ impl DeltaReader {
 
     // The fault of a line, by the block that is open before it.
     fn fault_of(&self, line: &HeardLine) -> Option<FaultAt>
-        ensures { result ≡ kept_fault_under self.now.block line.now }
+        ensures fault { result ≡ kept_fault_under self.now.block line.now }
+        ensures line { IfSome result (λ at. at.line ≡ line.now.number) }
     {
         match &self.block {
             None => fault_outside(line.number, &line.heard),
@@ -297,6 +303,7 @@ impl DeltaReader {
         ensures ok { IfOk result (λ given. judged self.old hearing.line None ≡ Ok (option_to_list given, self.new)) }
         ensures memory { IfErr result (λ fault. wants_memory fault.cause ≡ true) }
         ensures order { OnErr result (is_order_line hearing.line.heard ≡ true) }
+        ensures line { IfErr result (λ fault. fault.line ≡ hearing.line.number) }
         ensures ended { OnErr result (self.new.ended ≡ self.old.ended) }
         ensures proper { IfOk result (λ given. IfSome given (λ at. IsProper at.statement)) }
     {
@@ -329,7 +336,8 @@ fn file_fault(at: FaultAt) -> DeltaFault
 
 // The fault of a line where no block is open.
 fn fault_outside(line: u32, heard: &Heard) -> Option<FaultAt>
-    ensures { result ≡ fault_of_outside line heard.now }
+    ensures fault { result ≡ fault_of_outside line heard.now }
+    ensures line { IfSome result (λ at. at.line ≡ line) }
 {
     let fault = match heard {
         Heard::Stops(fault) => UnitFault::Lex(*fault),
@@ -342,7 +350,8 @@ fn fault_outside(line: u32, heard: &Heard) -> Option<FaultAt>
 
 // The fault of a line in an open block: one that no block takes, or any other that spoils the block.
 fn fault_inside(block: &OpenBlock, line: u32, heard: &Heard) -> Option<FaultAt>
-    ensures { result ≡ kept_fault_inside block.now line heard.now }
+    ensures fault { result ≡ kept_fault_inside block.now line heard.now }
+    ensures line { IfSome result (λ at. at.line ≡ line) }
 {
     let fault = match heard {
         Heard::Stops(fault) => UnitFault::Lex(*fault),

@@ -85,6 +85,7 @@ impl Listener {
     pub(crate) fn hear(&mut self, alloc: Global, commands: bool, line: &[u8]) -> Option<Hearing>
         ensures heard { (starved : Bool) × Hears commands starved self.old self.new line.now (option_map (λ (hearing : Hearing). hearing.line) result) }
         ensures opening { IfSome result (λ hearing. hearing.opening ≡ opening_of (first_line self.old line.now)) }
+        ensures number { IfSome result (λ hearing. hearing.line.number ≡ number_of self.old) }
         ensures proper { IfSome result (λ hearing. IsProperHeard hearing.line.heard) }
     {
         let opening = self.opening_at(line);
@@ -129,9 +130,10 @@ impl Listener {
         self.lexer.next_number()
     }
 
-    /// Ends the text, and answers the number of the line that is continued there, if one is.
+    /// Ends the text, and answers the number of the line that is continued there, if one is, which is dropped.
     pub fn finish(&mut self) -> Option<u32>
-        ensures { result ≡ pending self.old }
+        ensures continued { result ≡ pending self.old }
+        ensures after { self.new ≡ record self.old { line = None } }
     {
         let continued = self.lexer.pending();
         let _ = self.lexer.finish();

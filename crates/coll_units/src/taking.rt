@@ -4,7 +4,8 @@
 //! for, what the grammar gives is proper, and a block that is open keeps a proper statement. So this is a clause of
 //! `Listener::take`, which asks its callers for nothing.
 
-ghost use Rattle.std.specs.Prelude.{Bool, IfOk, IfSome};
+ghost use Rattle.std.specs.Prelude.{◌≡◌, Bool, true, IfOk, IfErr, IfSome};
+ghost use Rattle.coll_lex.specs.Faults.{ends_text};
 ghost use Rattle.coll_units.specs.ProperLines.{IsProperRequest};
 ghost use Rattle.coll_units.specs.Taking.{TakesPhysical};
 
@@ -16,7 +17,8 @@ use std::alloc::Global;
 
 impl Listener {
     /// Takes one more physical line of a session, without its line feed, with the block that is open, and answers the unit
-    /// that it completes, if it completes one; or the fault at which the session ends, and then the block that is open stays.
+    /// that it completes, if it completes one; or the fault at which the session ends, and then the block that is open stays: a
+    /// line too long, or one too many.
     ///
     /// Memory is taken for the line's tokens, for a line that is continued, for what a line says, and for the room of a block.
     /// Where it is refused, the line is a refused one.
@@ -28,6 +30,7 @@ impl Listener {
     ) -> Result<Option<SessionUnit>, LexFault>
         ensures taken { (starved : Bool) × TakesPhysical starved self.old self.new line.now block.old block.new result }
         ensures proper { IfOk result (λ unit. IfSome unit (λ completed. IsProperRequest completed.request)) }
+        ensures ends { IfErr result (λ fault. ends_text fault ≡ true) }
     {
         let Some(hearing) = self.hear(alloc, true, line) else {
             return Ok(None);
