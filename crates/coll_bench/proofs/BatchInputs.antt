@@ -6,7 +6,7 @@ use Rattle.coll_nodes.specs.Table.{Collation}
 use Rattle.coll_replies.specs.Faults.{fault_number}
 use Rattle.coll_bench.specs.BatchOutcome.{unless_faulty, after_delta, after_deltas}
 use Rattle.coll_bench.specs.BatchReading.{DeltaFails, CountsDelta, DeltasFail, CountsDeltas}
-use Rattle.coll_bench.specs.BatchRuns.{Ending, ReadFailed, WriteFailed, Starved, Refused, raised_at, DeltaStopsWithin, DeltasStopWithin}
+use Rattle.coll_bench.specs.BatchRuns.{Ending, ReadFailed, WriteFailed, Starved, Refused, raised_at, DeltaStopsWithin, DeltasStopWithin, DeltaStarves, DeltasStarve}
 use Rattle.coll_replies.specs.declared.faults.RunFault.{RunFault}
 use Rattle.coll_replies.proofs.Members.{got-map, set-same, split_got, take_got, length-take_got}
 
@@ -59,7 +59,10 @@ module _ (first table : Collation) (texts : List (List ℕ)) (i : ℕ) (text : L
       let next : i + 1 ≡ suc i = omega arith in
       (h.0, subst (λ n. DeltasStopWithin n first texts lefts) before (table, text, left, taken, at, here, subst (λ n. DeltaStopsWithin n table text left) next h.1))
   fails_all WriteFailed left lefts ended here input h = h
-  fails_all Starved left lefts ended here input h = tt
+  fails_all Starved left lefts ended here input h =
+      let before : i ≡ pred ended.input = omega (arith, input) in
+      let next : i + 1 ≡ suc i = omega arith in
+      subst (λ n. DeltasStarve n first texts ended.line) before (table, text, taken, at, subst (λ n. DeltaStarves n table text ended.line) next h)
   fails_all Refused left lefts ended here input h = one_faulty ended h
 
 -- The counts of the files.

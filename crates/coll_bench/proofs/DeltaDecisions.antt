@@ -66,6 +66,8 @@ module _ (input : ℕ) where
     pub stands : StandsAfter next after
     pub counts : after.ended ≡ false → CountsOne s.lexer after.lexer
     pub decides : (ends : Bool) (lines : List (List ℕ)) → decision input table (outcome_from ends block s (line ∷ lines)) ≡ decision input changed (outcome_from ends next after lines)
+    pub given : List StatementAt
+    pub says : (ends : Bool) (lines : List (List ℕ)) → outcome_from ends block s (line ∷ lines) ≡ after_statements given (outcome_from ends next after lines)
 
   -- a line leads on, or it decides, whatever comes behind it
   abbrev pub LineDecides : Option BlockLines → Collation → DeltaState → List ℕ → Taken → Type 0
@@ -88,6 +90,8 @@ module _ (input : ℕ) where
           stands = on.stands;
           counts = on.counts;
           decides = λ ends lines. said given (Ok changed) (outcome_from ends block s (line ∷ lines)) (outcome_from ends on.next after lines) e (on.says ends lines);
+          given = given;
+          says = on.says;
         })
         (λ (at : IsFaultBehind block s line given after). let both : None ≡ Some at.fault = sym g ∙ at.stored in absurd (cc)) h
     by_table given after (Ok changed) (Some f) e g h =
@@ -179,3 +183,11 @@ module _ (input : ℕ) where
     -- where it has ended, they give the table
     pub given_here : (ends : Bool) (lines : List (List ℕ)) → s.ended ≡ true → decision input table (outcome_from ends block s lines) ≡ Decided (Ok table)
     given_here ends lines e = ap (decision input table) (from_ended ends block s lines e) ∙ decided_end table Ended
+
+  -- the statements that a line gives stand behind those given before it
+  pub line_states : (block : Option BlockLines) (s : DeltaState) (line : List ℕ) (given : List StatementAt) (after : DeltaState) → StandsAfter block s → delta_line s line ≡ Ok (given, after)
+      → (later : DeltaOutcome) × (outcome_from false block s (line ∷ []) ≡ after_statements given later)
+  line_states block s line given after stands e =
+      ⊎_elim (λ (on : LeadsOn block s line given after). (outcome_from false on.next after [], on.says false []))
+      (λ (at : IsFaultBehind block s line given after). (ends_so (AtFault at.fault), at.says false []))
+      (subst (Judged block s line) e (judged_line block s line stands))

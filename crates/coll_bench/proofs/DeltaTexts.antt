@@ -1,28 +1,56 @@
 -- A delta file that is read line by line: what is known of it after some lines, and what each end of the reading says of it.
-use Rattle.std.proofs.Common.{◌≡◌, ℕ, Bool, true, false, List, [], ◌∷◌, ◌++◌, length, Option, Some, None, Result, Ok, Err, ◌⊎◌, sym, ap, subst, ◌∙◌, refl, arith, append_assoc, append-nil, length-append}
-use Rattle.std.specs.Prelude.{option_map, IfErr, OnOk}
+use Rattle.std.proofs.Common.{◌≡◌, ℕ, Bool, true, false, List, [], ◌∷◌, ◌++◌, length, Option, Some, None, Result, Ok, Err, ◌⊎◌, ⊎_elim, inl, inr, sym, ap, subst, ◌∙◌, refl, arith, append_assoc, append-nil, length-append}
+use Rattle.std.specs.Prelude.{◌+◌, if◌then◌else◌, option_map, IfErr, OnOk}
 use Rattle.std.proofs.lemmas.Bool.{false≢true}
 use Rattle.std.proofs.lemmas.Grind.{flat_map-append}
 use Rattle.std.specs.Io.KnownBytes.{prepend_known}
 use Rattle.coll_devices.specs.LineReading.{ReaderState, no_line, Advances, GivesLine, GivesEnd, EndsAgain, StopsNow, StopsAgain}
-use Rattle.coll_lex.specs.LogicalLines.{number_of}
+use Rattle.coll_lex.specs.LogicalLines.{OpenLine, number_of}
 use Rattle.coll_devices.specs.PhysicalLines.{line_feed, lines_of}
 use Rattle.coll_devices.specs.declared.stops.ReadStop.{ReadStop}
 use Rattle.coll_devices.specs.declared.stops.ReadStop.TheVariants as stop
 use Rattle.coll_table.specs.Loads.{with_feeds}
 use Rattle.coll_nodes.specs.Table.{Collation}
 use Rattle.coll_table.proofs.TextSteps.{IsUnread, gives_first, was_last, stops_long, stops_short}
-use Rattle.coll_units.specs.DeltaFiles.{delta_outcome}
-use Rattle.coll_units.specs.DeltaReading.{DeltaState, first_delta, early_end, delta_end}
+use Rattle.coll_units.specs.DeltaFiles.{DeltaOutcome, at_line, after_statements, delta_outcome}
+use Rattle.coll_units.specs.DeltaReading.{DeltaState, Step, first_delta, delta_line, early_end, delta_end}
 use Rattle.coll_units.specs.Units.{BlockLines}
+use Rattle.coll_units.specs.declared.delta_faults.DeltaCause.TheVariants.{NoCategory, NoEnd}
 use Rattle.coll_units.specs.declared.delta_faults.DeltaFault.{DeltaFault}
+use Rattle.coll_units.specs.declared.delta_files.StatementAt.{StatementAt}
 use Rattle.coll_units.proofs.DeltaSteps.{outcome_from, StandsAfter, CountsOne, stands_first}
-use Rattle.coll_bench.specs.BatchOutcome.{Decision, Decided, delta_fault_in, decision, answer_at_end, after_delta}
-use Rattle.coll_bench.specs.BatchReading.{DeltaFails, ReadsDelta, FailsAs, stopped_in, line_taken}
-use Rattle.coll_bench.specs.BatchRuns.{Ending, ReadFailed, WriteFailed, Starved, Refused, ending_of, DecidesNothing}
+use Rattle.coll_bench.specs.BatchOutcome.{Decision, Decided, delta_fault_in, unless_faulty, rewritten, decision, answer_at_end, after_delta}
+use Rattle.coll_bench.specs.BatchReading.{Taken, DeltaFails, ReadsDelta, FailsAs, IsNumberOf, IsFaultNumber, unless_stored, by_step, stopped_in, line_taken}
+use Rattle.coll_bench.specs.BatchRuns.{Ending, ReadFailed, WriteFailed, Starved, Refused, ending_of, DecidesNothing, IsLineWithin, IsLineOfStatement, DeltaStarvesWithin}
 use Rattle.coll_replies.specs.declared.faults.RunFault.{RunFault}
-use Rattle.coll_bench.proofs.BatchFaults.{delta_fails}
-use Rattle.coll_bench.proofs.DeltaDecisions.{Leads, LineDecides, line_decides, long_line, ends_here, reader_ends, undecided_here, given_here}
+use Rattle.coll_bench.proofs.DeltaDecisions.{Leads, LineDecides, line_decides, long_line, ends_here, reader_ends, undecided_here, given_here, line_states}
+use Rattle.coll_bench.proofs.DeltaNumbers.{IsOpenWithin, next_within, none_open, opens_after}
+
+-- where a line leads
+abbrev state_of : DeltaState → Taken → DeltaState
+state_of s (Ok taken) = taken.1
+state_of s (Err f) = s
+
+-- statements, further ones, and then what later lines say
+statements_append : (given more : List StatementAt) (later : DeltaOutcome) → after_statements given (after_statements more later) ≡ after_statements (given ++ more) later
+statements_append given more later = ap (λ (all : List StatementAt). record { statements = all; ending = later.ending }) (sym (append_assoc given more later.statements))
+
+-- a line that was taken is one that the file's reader took
+line_step : (input : ℕ) (table : Collation) (s : DeltaState) (line : List ℕ) (changed : Collation) (after : DeltaState) → line_taken input table s line ≡ Ok (changed, after) → (given : List StatementAt) × (delta_line s line ≡ Ok (given, after))
+unfolding line_taken
+line_step input table s line changed after e = by_answer (delta_line s line) refl e
+  where
+    by_stored : (given : List StatementAt) (reached : DeltaState) (t : Collation) (stored : Option DeltaFault) → unless_stored input stored (t, reached) ≡ Ok (changed, after) → reached ≡ after
+    by_stored given reached t None e = ap (state_of reached) e
+    by_stored given reached t (Some f) e = absurd cc
+
+    by_table : (given : List StatementAt) (reached : DeltaState) (r : Result Collation RunFault) → unless_faulty r (λ t. unless_stored input reached.fault (t, reached)) ≡ Ok (changed, after) → reached ≡ after
+    by_table given reached (Ok t) e = by_stored given reached t reached.fault e
+    by_table given reached (Err f) e = absurd cc
+
+    by_answer : (r : Step) → delta_line s line ≡ r → by_step input table r ≡ Ok (changed, after) → (given : List StatementAt) × (delta_line s line ≡ Ok (given, after))
+    by_answer (Ok (given, reached)) is e = (given, is ∙ ap (λ (t : DeltaState). Ok (given, t)) (by_table given reached (rewritten input table given) e))
+    by_answer (Err f) is e = absurd cc
 
 -- lines and one more, and those behind it, with their line feeds
 fed_more : (text : List ℕ) (whole : List (List ℕ)) (rest line later : List ℕ) → text ≡ with_feeds whole ++ rest → rest ≡ with_feeds (line ∷ []) ++ later → text ≡ with_feeds (whole ++ line ∷ []) ++ later
@@ -42,11 +70,14 @@ module _ (input : ℕ) (first : Collation) where
     pub fed : reader.ended ≡ false → text ≡ with_feeds whole ++ rest
     pub count : s.ended ≡ false → s.lexer.count ≡ length whole
     pub decides : (ends : Bool) (more : List (List ℕ)) → decision input first (delta_outcome ends (whole ++ more)) ≡ decision input table (outcome_from ends block s more)
+    pub given : List StatementAt
+    pub says : (ends : Bool) (more : List (List ℕ)) → delta_outcome ends (whole ++ more) ≡ after_statements given (outcome_from ends block s more)
 
   -- whatever text the device had, it was read so far
   pub record OnWay (start : Option (List ℕ)) (reader : ReaderState) (left : Option (List ℕ)) (table : Collation) (s : DeltaState) : Type 0 where
     pub block : Option BlockLines
     pub stands : StandsAfter block s
+    pub opens : IsOpenWithin s.lexer
     pub read : (text : List ℕ) → start ≡ Some text → ReadSoFar text reader left block table s
 
   -- before the first line
@@ -54,6 +85,7 @@ module _ (input : ℕ) (first : Collation) where
   sets_out start = record {
     block = None;
     stands = stands_first;
+    opens = none_open first_delta.lexer refl;
     read = λ text e. record {
       whole = [];
       rest = text;
@@ -62,6 +94,8 @@ module _ (input : ℕ) (first : Collation) where
       fed = λ n. refl;
       count = λ n. refl;
       decides = λ ends more. refl;
+      given = [];
+      says = λ ends more. refl;
     };
   }
 
@@ -93,6 +127,9 @@ module _ (input : ℕ) (first : Collation) where
     module _ (going : s.ended ≡ false) (new : ReaderState) (left_after : Option (List ℕ)) (failed failed_after : ℕ) where
       -- a line more that was taken
       module _ (changed : Collation) (after : DeltaState) (taken : line_taken input table s new.line ≡ Ok (changed, after)) where
+        opens_on : IsOpenWithin after.lexer
+        opens_on = let step = line_step input table s new.line changed after taken in opens_after s new.line way.stands.faultless step.0 after going way.stands.few step.1 way.opens
+
         leads : Leads input way.block table changed s new.line after
         leads = subst (LineDecides input way.block table s new.line) taken (line_decides input way.block table s new.line way.stands)
 
@@ -100,6 +137,7 @@ module _ (input : ℕ) (first : Collation) where
         goes_on gives = record {
           block = leads.next;
           stands = leads.stands;
+          opens = opens_on;
           read = λ text e.
               let at = way.read text e in
               let first_line = gives_first reader new left left_after failed failed_after at.rest at.unread gives in
@@ -112,6 +150,10 @@ module _ (input : ℕ) (first : Collation) where
                 count = λ n. let one = leads.counts n in omega (arith, one.1, at.count going, length-append at.whole (new.line ∷ []));
                 decides = λ ends more.
                     ap (λ ls. decision input first (delta_outcome ends ls)) (append_assoc at.whole (new.line ∷ []) more) ∙ (at.decides ends (new.line ∷ more) ∙ leads.decides ends more);
+                given = at.given ++ leads.given;
+                says = λ ends more.
+                    ap (λ ls. delta_outcome ends ls) (append_assoc at.whole (new.line ∷ []) more) ∙ (at.says ends (new.line ∷ more)
+                    ∙ (ap (after_statements at.given) (leads.says ends more) ∙ statements_append at.given leads.given (outcome_from ends leads.next after more)));
               };
         }
 
@@ -119,18 +161,45 @@ module _ (input : ℕ) (first : Collation) where
         pub counts : after.ended ≡ false → CountsOne s.lexer after.lexer
         counts on = leads.counts on
 
+      -- the lines so far decide nothing
+      undecided : (text : List ℕ) (e : start ≡ Some text) → DecidesNothing (decision input first (delta_outcome false (way.read text e).whole))
+      undecided text e =
+          let at = way.read text e in
+          subst DecidesNothing (sym (ap (λ ls. decision input first (delta_outcome false ls)) (sym (append-nil at.whole)) ∙ at.decides false [])) (undecided_here input way.block table s way.stands going)
+
+      -- a line more to which memory was refused
+      starved : (number : ℕ) → GivesLine reader new left left_after failed failed_after → IsFaultNumber s new.line number → (text : List ℕ) → start ≡ Some text → DeltaStarvesWithin input first text number
+      starved number gives is text e =
+          let first_line = gives_first reader new left left_after failed failed_after at.rest at.unread gives in
+          (at.whole, new.line, lines_of first_line.rest, at.lines ∙ ap (λ lines. at.whole ++ lines) first_line.first, undecided text e, ⊎_elim of_line of_statement is)
+        where
+          at : ReadSoFar text reader left way.block table s
+          at = way.read text e
+
+          of_line : number ≡ number_of s.lexer → IsLineWithin number (length at.whole + 1) ⊎ IsLineOfStatement (at.whole ++ new.line ∷ []) number
+          of_line same = let within = next_within s.lexer way.opens in inl (omega (arith, same, within.0), omega (arith, same, within.1, at.count going))
+
+          by_given : (given : List StatementAt) (after : DeltaState) → delta_line s new.line ≡ Ok (given, after) → IsNumberOf given number → IsLineOfStatement (at.whole ++ new.line ∷ []) number
+          by_given [] after step here = absurd here
+          by_given (it ∷ more) after step here =
+              let stated = line_states input way.block s new.line (it ∷ more) after way.stands step in
+              (at.given, it, more ++ stated.0.statements, ap (λ (said : DeltaOutcome). said.statements) (at.says false (new.line ∷ []) ∙ ap (after_statements at.given) stated.1), here)
+
+          of_statement : (given : List StatementAt) × (after : DeltaState) × (delta_line s new.line ≡ Ok (given, after)) × IsNumberOf given number → IsLineWithin number (length at.whole + 1) ⊎ IsLineOfStatement (at.whole ++ new.line ∷ []) number
+          of_statement h = inr (by_given h.0 h.1 h.2 h.3)
+
       -- a line more that was refused
-      refused_by : (kind : Ending) (ended : RunFault) → GivesLine reader new left left_after failed failed_after → FailsAs kind (line_taken input table s new.line) ended → (text : List ℕ) → start ≡ Some text → DeltaFails kind input first text left_after ended
-      refused_by ReadFailed ended gives h text e = absurd h
-      refused_by WriteFailed ended gives h text e = h
-      refused_by Starved ended gives h text e = tt
-      refused_by Refused ended gives h text e =
+      refused_by : (kind : Ending) (ended : RunFault) → GivesLine reader new left left_after failed failed_after → FailsAs kind (line_taken input table s new.line) ended → IsFaultNumber s new.line ended.line → (text : List ℕ) → start ≡ Some text → DeltaFails kind input first text left_after ended
+      refused_by ReadFailed ended gives h number text e = absurd h
+      refused_by WriteFailed ended gives h number text e = h
+      refused_by Starved ended gives h number text e = inr (starved ended.line gives number text e)
+      refused_by Refused ended gives h number text e =
           let at = way.read text e in
           let first_line = gives_first reader new left left_after failed failed_after at.rest at.unread gives in
           decided_so text e new.line (lines_of first_line.rest) ended first_line.first h
 
-      pub refused : (ended : RunFault) → GivesLine reader new left left_after failed failed_after → FailsAs (ending_of ended) (line_taken input table s new.line) ended → ReadsDelta input first table start left_after (Err ended)
-      refused ended gives h = refused_by (ending_of ended) ended gives h
+      pub refused : (ended : RunFault) → GivesLine reader new left left_after failed failed_after → FailsAs (ending_of ended) (line_taken input table s new.line) ended → (s.fault ≡ None → IsFaultNumber s new.line ended.line) → ReadsDelta input first table start left_after (Err ended)
+      refused ended gives h number = refused_by (ending_of ended) ended gives h (number way.stands.faultless)
 
       -- a line more that is longer than a line may be
       stopped_long : reader.stop ≡ None → StopsNow reader new left left_after failed failed_after stop.LineTooLong ⊎ StopsAgain reader new left left_after failed failed_after stop.LineTooLong → (text : List ℕ) → start ≡ Some text
@@ -155,7 +224,7 @@ module _ (input : ℕ) (first : Collation) where
               at.fed cut.went_on ∙ ap (λ rest. with_feeds at.whole ++ rest) cut.all,
               at.lines ∙ ap (λ rest. at.whole ++ lines_of rest) cut.all,
               cut.whole,
-              subst DecidesNothing (sym (ap (λ ls. decision input first (delta_outcome false ls)) (sym (append-nil at.whole)) ∙ at.decides false [])) (undecided_here input way.block table s way.stands going),
+              undecided text e,
             ),
           )
 
@@ -181,13 +250,16 @@ module _ (input : ℕ) (first : Collation) where
           let both : Some (delta_fault_in input f) ≡ Some ended = sym (ap (option_map (delta_fault_in input)) (reader_ends input way.block table s way.stands going)) ∙ h in
           let same : delta_fault_in input f ≡ ended = cc in
           λ text e. subst (λ (ended : RunFault). DeltaFails (ending_of ended) input first text left_after ended) same
-          (fails_at (ending_of (delta_fault_in input f)) f text left_after (delta_fails input f (after_delta input first text) (λ _. all_read ends text e)))
+          (subst (λ (kind : Ending). DeltaFails kind input first text left_after (delta_fault_in input f)) (sym (early_kind s.lexer.line)) (all_read ends text e))
         where
-          fails_at : (kind : Ending) (f : DeltaFault) (text : List ℕ) (left_after : Option (List ℕ)) → FailsAs kind (after_delta input first text) (delta_fault_in input f) → DeltaFails kind input first text left_after (delta_fault_in input f)
-          fails_at ReadFailed f text left_after h = absurd h
-          fails_at WriteFailed f text left_after h = h
-          fails_at Starved f text left_after h = h
-          fails_at Refused f text left_after h = h
+          by_begun : (begun : Bool) → ending_of (delta_fault_in input (at_line s.lexer.count (if begun then NoEnd else NoCategory))) ≡ Refused
+          by_begun true = refl
+          by_begun false = refl
+
+          -- a file that ends too early is no want of memory
+          early_kind : (left : Option OpenLine) → ending_of (delta_fault_in input (early_end s left)) ≡ Refused
+          early_kind (Some o) = refl
+          early_kind None = by_begun s.begun
 
       -- and it can't end well
       ends_ill : delta_end s ≡ None → ⊥

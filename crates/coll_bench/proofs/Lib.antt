@@ -1,8 +1,8 @@
 pub mod BatchFaults
 pub mod BatchInputs
 pub mod DeltaDecisions
+pub mod DeltaNumbers
 pub mod DeltaTexts
-pub mod LineStops
 pub mod LineTaking
 pub mod RunCases
 pub mod RunEnds

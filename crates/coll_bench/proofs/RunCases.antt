@@ -15,7 +15,7 @@ use Rattle.coll_draft.specs.declared.load_faults.LoadCause.{LoadCause}
 use Rattle.coll_draft.specs.declared.load_faults.LoadCause.TheVariants as load
 use Rattle.coll_bench.specs.BatchOutcome.{table_fault, table_or_fault, unless_faulty, after_deltas, after_inputs, texts_of, is_any_too_long, batch_output, text_too_long, output_or_fault, batch_outcome, fault_in}
 use Rattle.coll_bench.specs.BatchReading.{ReadsDeltas, DeltasFail, InputsFail, ReadsInputs}
-use Rattle.coll_bench.specs.BatchRuns.{Ending, ReadFailed, WriteFailed, Starved, Refused, ending_of, DeltasStopWithin, InputsStopWithin, WritesFront, BatchRanTo, BatchRuns, CountsInputs, raised_at}
+use Rattle.coll_bench.specs.BatchRuns.{Ending, ReadFailed, WriteFailed, Starved, Refused, ending_of, DeltasStopWithin, InputsStopWithin, DeltasStarve, InputsStarve, WritesFront, BatchRanTo, BatchRuns, CountsInputs, raised_at}
 use Rattle.coll_bench.specs.BatchWriting.{Outputs, IsOfOutput, starved_key}
 use Rattle.coll_replies.specs.Reports.{write_refused}
 use Rattle.coll_bench.specs.Serving.{ReadsNone}
@@ -86,7 +86,7 @@ module _ (table_text : List ℕ) (delta_texts : List (List ℕ)) (left_after : O
   by_cause load.Full line h = at_fault load.Full line h
   by_cause load.NoEnd line h = at_fault load.NoEnd line h
   by_cause load.ReadFault line h = h
-  by_cause load.OutOfMemory line h = tt
+  by_cause load.OutOfMemory line h = h
 
 -- what a load says of the inputs where it answers a fault
 pub load_fails : (left left_after : Option (List ℕ)) (lefts lefts_after : List (Option (List ℕ))) (f : LoadFault) → Loads left left_after (Err f) → ReadsInputs left left_after lefts lefts_after (Err (table_fault f))
@@ -103,7 +103,11 @@ module _ (table_text : List ℕ) (delta_texts : List (List ℕ)) (table : Collat
       at_input zero behind h = absurd (omega (arith, behind))
       at_input (suc before) behind h = (table, sound, h)
   fails_behind WriteFailed left lefts ended behind h = h
-  fails_behind Starved left lefts ended behind h = tt
+  fails_behind Starved left lefts ended behind h = at_input ended.input behind h
+    where
+      at_input : (input : ℕ) → 0 < input → DeltasStarve (pred input) table delta_texts ended.line → InputsStarve input ended.line table_text delta_texts left
+      at_input zero behind h = absurd (omega (arith, behind))
+      at_input (suc before) behind h = (table, sound, h)
   fails_behind Refused left lefts ended behind h = sound_table table_text delta_texts table sound ∙ h
 
 pub deltas_fail : (left left_after : Option (List ℕ)) (lefts lefts_after : List (Option (List ℕ))) (table new : Collation) (ended : RunFault) → ((text : List ℕ) → left ≡ Some text → reads text ≡ Ok table) → 0 < ended.input
@@ -137,7 +141,7 @@ module _ (b : Batch) (left left_after : Option (List ℕ)) (lefts lefts_after : 
       by_kind : (kind : Ending) → InputsFail kind table_text delta_texts left_after lefts_after ended → BatchRanTo kind b table_text delta_texts left_after lefts_after [] ended
       by_kind ReadFailed h = (refl, h.0, h.1)
       by_kind WriteFailed h = absurd h
-      by_kind Starved h = inl refl
+      by_kind Starved h = inr (refl, h)
       by_kind Refused h = (refl, faulty_inputs table_text delta_texts ended h)
 
   module _ (table : TableValue) (read : ReadsInputs left left_after lefts lefts_after (Ok table)) where
@@ -164,7 +168,7 @@ module _ (b : Batch) (left left_after : Option (List ℕ)) (lefts lefts_after : 
         by_fault written f own h =
             ⊎_elim
             (λ (e : f ≡ write_refused). subst (λ (f : Fault). BatchRanTo (ending_of (fault_in 0 0 f)) b table_text delta_texts left_after lefts_after written (fault_in 0 0 f)) (sym e) ((refl, refl), h))
-            (λ (e : f ≡ starved_key). subst (λ (f : Fault). BatchRanTo (ending_of (fault_in 0 0 f)) b table_text delta_texts left_after lefts_after written (fault_in 0 0 f)) (sym e) (inr ((refl, refl), h)))
+            (λ (e : f ≡ starved_key). subst (λ (f : Fault). BatchRanTo (ending_of (fault_in 0 0 f)) b table_text delta_texts left_after lefts_after written (fault_in 0 0 f)) (sym e) (inl ((refl, refl), h)))
             own
 
 -- an answer to the output counts no read

@@ -22,7 +22,7 @@ use Rattle.coll_bench.specs.Underway.{written_from}
 use Rattle.coll_units.specs.declared.open_blocks.OpenBlock.{OpenBlock}
 use Rattle.coll_units.specs.declared.session_lines.Opening.{Opening}
 use Rattle.coll_units.specs.declared.units.FaultAt.{FaultAt}
-use Rattle.coll_bench.proofs.LineStops.{tokens_go_on}
+use Rattle.coll_units.proofs.LineStops.{tokens_go_on}
 
 -- a fault after which the session goes on is none of a last line
 not_last : (o : Opening) (f : LexFault) → stop_of (fault_heard o f) ≡ None → ends_text f ≡ false

@@ -6,7 +6,7 @@ use Rattle.std.proofs.KnownBytes.{Appends-nil}
 use Rattle.std.proofs.Math.Arith.{lt_of_le-ne}
 use Rattle.std.proofs.Math.Nat.{min-eq_left}
 use Rattle.coll_devices.specs.Devices.{AppendsFront, Sends, raised}
-use Rattle.coll_lex.specs.Faults.{lex_fault_number}
+use Rattle.coll_lex.specs.Faults.{lex_fault_number, ends_text}
 use Rattle.coll_devices.specs.LineReading.{counted}
 use Rattle.coll_lex.specs.LogicalLines.{LexerState, number_of, first_line, fed, is_among_tokens, needs_memory, takes_memory, served, state_by}
 use Rattle.coll_lex.specs.declared.tokens.Line.{Line}
@@ -19,13 +19,13 @@ use Rattle.coll_lex.proofs.LineFaults.{fed-full}
 use Rattle.coll_replies.specs.Faults.{fault_number, fault_of}
 use Rattle.coll_history.specs.Histories.{History}
 use Rattle.coll_units.specs.SessionLines.{opening_of, tokens_heard, fault_heard}
-use Rattle.coll_bench.proofs.LineStops.{tokens_go_on}
+use Rattle.coll_units.proofs.LineStops.{tokens_go_on}
 use Rattle.coll_units.specs.Hearing.{heard_by, heard_in, heard_at}
 use Rattle.coll_units.specs.Units.{fault_at, stop_of, refusals}
 use Rattle.coll_units.specs.OpenBlocks.{kept_dropped_faults, kept_last_faults}
 use Rattle.coll_replies.specs.Replies.{refused_line, refused_lines, reply, history_after, reply_if, history_after_if}
 use Rattle.coll_units.specs.Taking.{stop_at, units_or_last, line_units, TakesPhysical}
-use Rattle.coll_bench.specs.Serving.{replies_to, history_after_all, Served, EndsWith, EndsAtLine, ReadsNone, CountsStop, read_failed, write_failed, line_replies}
+use Rattle.coll_bench.specs.Serving.{replies_to, history_after_all, Served, EndsSession, EndsWith, EndsAtLine, ReadsNone, CountsStop, read_failed, write_failed, line_replies}
 use Rattle.coll_replies.specs.declared.faults.Fault.TheVariants as faults
 use Rattle.coll_units.specs.declared.unit_faults.UnitFault.TheVariants as unit
 use Rattle.coll_replies.specs.declared.faults.RunFault.{RunFault}
@@ -233,3 +233,18 @@ counts_read failed ended is = ap (λ (b : Bool). if b then raised failed else fa
 
 pub counts_after : (old new : ℕ) (r : ReadStop) (ended : RunFault) → new ≡ counted r old → CountsStop r ended → new ≡ (if fault_number ended.fault == 67 then raised old else old)
 counts_after old new r ended is counts = is ∙ counts old
+
+-- a fault that ends a text may end a session
+pub text_ends : (f : LexFault) → ends_text f ≡ true → EndsSession (faults.Lex f)
+text_ends lex.NotUtf8 e = absurd cc
+text_ends lex.OpenSymbol e = absurd cc
+text_ends lex.EmptySymbol e = absurd cc
+text_ends lex.BadName e = absurd cc
+text_ends lex.BadCodePoint e = absurd cc
+text_ends lex.OpenString e = absurd cc
+text_ends lex.CharacterConstant e = absurd cc
+text_ends lex.DanglingEscape e = absurd cc
+text_ends lex.LineTooLong e = tt
+text_ends lex.BadCharDirective e = absurd cc
+text_ends lex.TooManyLines e = tt
+text_ends lex.OutOfMemory e = absurd cc

@@ -1,5 +1,5 @@
 -- What reading the inputs of a batch answers, input by input, and what an answer says of the batch then.
-use Rattle.std.specs.Prelude.{◌≡◌, ◌==◌, ℕ, pred, false, if◌then◌else◌, List, map, Option, Some, None, Result, Ok, Err}
+use Rattle.std.specs.Prelude.{◌≡◌, ◌⊎◌, ◌==◌, ℕ, pred, false, if◌then◌else◌, List, [], ◌∷◌, map, Option, Some, None, Result, Ok, Err}
 use Rattle.coll_devices.specs.Devices.{raised}
 use Rattle.coll_lex.specs.declared.faults.LexFault.TheVariants as lex
 use Rattle.coll_devices.specs.declared.stops.ReadStop.{ReadStop}
@@ -7,10 +7,12 @@ use Rattle.coll_devices.specs.declared.stops.ReadStop.TheVariants as read
 use Rattle.coll_nodes.specs.Table.{Collation}
 use Rattle.coll_nodes.specs.TableLayout.{TableValue, collation}
 use Rattle.coll_units.specs.DeltaReading.{DeltaState, Step, delta_line}
+use Rattle.coll_lex.specs.LogicalLines.{number_of}
 use Rattle.coll_units.specs.declared.delta_faults.DeltaFault.{DeltaFault}
+use Rattle.coll_units.specs.declared.delta_files.StatementAt.{StatementAt}
 use Rattle.coll_replies.specs.Faults.{fault_number}
 use Rattle.coll_bench.specs.BatchOutcome.{fault_in, delta_fault_in, unless_faulty, rewritten, after_delta, after_deltas, after_inputs}
-use Rattle.coll_bench.specs.BatchRuns.{Ending, ReadFailed, WriteFailed, Starved, Refused, ending_of, DeltaStopsWithin, DeltasStopWithin, InputsStopWithin, BatchRuns, raised_at}
+use Rattle.coll_bench.specs.BatchRuns.{Ending, ReadFailed, WriteFailed, Starved, Refused, ending_of, DeltaStopsWithin, DeltasStopWithin, InputsStopWithin, DeltaStarves, DeltasStarve, InputsStarve, BatchRuns, raised_at}
 use Rattle.coll_bench.specs.declared.batches.Batch.{Batch}
 use Rattle.coll_replies.specs.declared.faults.Fault.TheVariants as fault
 use Rattle.coll_replies.specs.declared.faults.RunFault.{RunFault}
@@ -41,6 +43,16 @@ FailsAs WriteFailed stated ended = ⊥
 FailsAs Starved stated ended = Unit {0}
 FailsAs Refused stated ended = stated ≡ Err ended
 
+-- the number that a fault of a statement has, if there is one
+abbrev pub IsNumberOf : List StatementAt → ℕ → Type 0
+IsNumberOf [] number = ⊥
+IsNumberOf (at ∷ later) number = number ≡ at.line
+
+-- the number that a fault of a line has that was handed in: that of its logical line, or of the statement that it completes
+abbrev pub IsFaultNumber : DeltaState → List ℕ → ℕ → Type 0
+IsFaultNumber s line number =
+    (number ≡ number_of s.lexer) ⊎ ((given : List StatementAt) × (after : DeltaState) × (delta_line s line ≡ Ok (given, after)) × IsNumberOf given number)
+
 -- the fault of an input for which memory was refused before its first line
 abbrev pub starved_in : (input : ℕ) → RunFault
 starved_in input = fault_in input 0 (fault.Lex lex.OutOfMemory)
@@ -54,7 +66,7 @@ stopped_in input number read.ReadFault = fault_in input 0 (fault.Read read.ReadF
 abbrev pub DeltaFails : Ending → (input : ℕ) → Collation → (text : List ℕ) → (left : Option (List ℕ)) → RunFault → Type 0
 DeltaFails ReadFailed input table text left ended = (ended.line ≡ 0) × DeltaStopsWithin input table text left
 DeltaFails WriteFailed input table text left ended = ⊥
-DeltaFails Starved input table text left ended = Unit {0}
+DeltaFails Starved input table text left ended = DeltaStarves input table text ended.line
 DeltaFails Refused input table text left ended = after_delta input table text ≡ Err ended
 
 -- what an answer says of a delta file
@@ -75,7 +87,7 @@ WritesNone ended = (fault_number ended.fault == 68) ≡ false
 abbrev pub DeltasFail : Ending → Collation → (texts : List (List ℕ)) → (lefts : List (Option (List ℕ))) → RunFault → Type 0
 DeltasFail ReadFailed table texts lefts ended = (ended.line ≡ 0) × DeltasStopWithin (pred ended.input) table texts lefts
 DeltasFail WriteFailed table texts lefts ended = ⊥
-DeltasFail Starved table texts lefts ended = Unit {0}
+DeltasFail Starved table texts lefts ended = DeltasStarve (pred ended.input) table texts ended.line
 DeltasFail Refused table texts lefts ended = after_deltas 1 table texts ≡ Err ended
 
 -- what an answer says of the delta files
@@ -92,7 +104,7 @@ CountsDeltas old new (Err ended) = new ≡ (if fault_number ended.fault == 67 th
 abbrev pub InputsFail : Ending → (table_text : List ℕ) → (delta_texts : List (List ℕ)) → (left : Option (List ℕ)) → (lefts : List (Option (List ℕ))) → RunFault → Type 0
 InputsFail ReadFailed table_text delta_texts left lefts ended = (ended.line ≡ 0) × InputsStopWithin ended.input table_text delta_texts left lefts
 InputsFail WriteFailed table_text delta_texts left lefts ended = ⊥
-InputsFail Starved table_text delta_texts left lefts ended = Unit {0}
+InputsFail Starved table_text delta_texts left lefts ended = InputsStarve ended.input ended.line table_text delta_texts left
 InputsFail Refused table_text delta_texts left lefts ended = after_inputs table_text delta_texts ≡ Err ended
 
 -- what an answer says of the inputs

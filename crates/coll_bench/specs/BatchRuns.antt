@@ -1,11 +1,13 @@
 -- A whole run of a batch: what was written and what was answered are stated functions of what its inputs have.
-use Rattle.std.specs.Prelude.{◌≡◌, ◌==◌, ◌⊎◌, ℕ, zero, suc, false, if◌then◌else◌, List, [], ◌∷◌, ◌++◌, map, take, slice_get, Option, Some, Result, Ok, Err}
+use Rattle.std.specs.Prelude.{◌≡◌, ◌≤◌, ◌+◌, ◌==◌, ◌⊎◌, ℕ, zero, suc, false, if◌then◌else◌, List, [], ◌∷◌, ◌++◌, length, map, take, slice_get, Option, Some, Result, Ok, Err}
 use Rattle.coll_devices.specs.Devices.{raised}
 use Rattle.coll_devices.specs.PhysicalLines.{lines_of, IsInLine}
 use Rattle.coll_nodes.specs.Table.{Collation}
-use Rattle.coll_table.specs.Loads.{with_feeds, StopsWithin}
+use Rattle.coll_table.specs.Loads.{with_feeds, StopsWithin, FaultSays}
+use Rattle.coll_draft.specs.declared.load_faults.LoadCause.TheVariants as load
 use Rattle.coll_draft.specs.Reading.{reads}
 use Rattle.coll_units.specs.DeltaFiles.{delta_outcome}
+use Rattle.coll_units.specs.declared.delta_files.StatementAt.{StatementAt}
 use Rattle.coll_replies.specs.Faults.{fault_number}
 use Rattle.coll_bench.specs.BatchOutcome.{Decision, Decided, Undecided, decision, after_deltas, batch_outcome}
 use Rattle.coll_bench.specs.declared.batches.Batch.{Batch}
@@ -51,6 +53,38 @@ InputsStopWithin zero table_text delta_texts left lefts = StopsWithin table_text
 InputsStopWithin (suc before) table_text delta_texts left lefts =
     (first : Collation) × (reads table_text ≡ Ok first) × DeltasStopWithin before first delta_texts lefts
 
+-- the number of one of so many lines, from 1
+abbrev pub IsLineWithin : (number count : ℕ) → Type 0
+IsLineWithin number count = (1 ≤ number) × (number ≤ count)
+
+-- the number of a statement that these lines of a delta file give
+abbrev pub IsLineOfStatement : (lines : List (List ℕ)) → (number : ℕ) → Type 0
+IsLineOfStatement lines number =
+    (before : List StatementAt) × (at : StatementAt) × (later : List StatementAt) × ((delta_outcome false lines).statements ≡ before ++ at ∷ later) × (number ≡ at.line)
+
+-- memory was refused at a line of a delta file: the lines handed in before it decide nothing, and the fault has the number of a line
+-- up to it, or that of a statement that these lines give
+abbrev pub DeltaStarvesWithin : (input : ℕ) → Collation → (text : List ℕ) → (number : ℕ) → Type 0
+DeltaStarvesWithin input table text number =
+    (whole : List (List ℕ)) × (line : List ℕ) × (later : List (List ℕ)) × (lines_of text ≡ whole ++ line ∷ later)
+    × DecidesNothing (decision input table (delta_outcome false whole)) × (IsLineWithin number (length whole + 1) ⊎ IsLineOfStatement (whole ++ line ∷ []) number)
+
+-- memory was refused to a delta file: before its first line, or at one of its lines
+abbrev pub DeltaStarves : (input : ℕ) → Collation → (text : List ℕ) → (number : ℕ) → Type 0
+DeltaStarves input table text number = (number ≡ 0) ⊎ DeltaStarvesWithin input table text number
+
+-- memory was refused to one of the delta files, with so many before it, which give a table
+abbrev pub DeltasStarve : (before : ℕ) → Collation → (texts : List (List ℕ)) → (number : ℕ) → Type 0
+DeltasStarve before first texts number =
+    (table : Collation) × (text : List ℕ) × (after_deltas 1 first (take before texts) ≡ Ok table) × (slice_get texts before ≡ Some text)
+    × DeltaStarves (suc before) table text number
+
+-- memory was refused to an input, at this line of it, and nothing before that is at fault
+abbrev pub InputsStarve : (input number : ℕ) → (table_text : List ℕ) → (delta_texts : List (List ℕ)) → (left : Option (List ℕ)) → Type 0
+InputsStarve zero number table_text delta_texts left = FaultSays load.OutOfMemory number table_text left
+InputsStarve (suc before) number table_text delta_texts left =
+    (first : Collation) × (reads table_text ≡ Ok first) × DeltasStarve before first delta_texts number
+
 -- what was written is a front of the output
 abbrev pub WritesFront : Batch → (table_text : List ℕ) → (delta_texts : List (List ℕ)) → (written : List ℕ) → Type 0
 WritesFront b table_text delta_texts written = (back : List ℕ) × (batch_outcome b table_text delta_texts ≡ Ok (written ++ back))
@@ -60,14 +94,16 @@ abbrev pub IsOfNoLine : RunFault → Type 0
 IsOfNoLine ended = (ended.input ≡ 0) × (ended.line ≡ 0)
 
 -- what a run did that ended with a fault, by its kind: nothing is written where an input is at fault or a read fails; a write that
--- fails leaves a front of the output; and where memory is refused, nothing is written, or a front of the output
+-- fails leaves a front of the output; and where memory is refused, this is no line's, and leaves a front of the output, or it is
+-- that of an input, and nothing is written
 abbrev pub BatchRanTo : Ending → Batch → (table_text : List ℕ) → (delta_texts : List (List ℕ)) → (left : Option (List ℕ)) → (lefts : List (Option (List ℕ))) → (written : List ℕ) → RunFault → Type 0
 BatchRanTo ReadFailed b table_text delta_texts left lefts written ended =
     (written ≡ []) × (ended.line ≡ 0) × InputsStopWithin ended.input table_text delta_texts left lefts
 BatchRanTo WriteFailed b table_text delta_texts left lefts written ended =
     IsOfNoLine ended × WritesFront b table_text delta_texts written
 BatchRanTo Starved b table_text delta_texts left lefts written ended =
-    (written ≡ []) ⊎ (IsOfNoLine ended × WritesFront b table_text delta_texts written)
+    (IsOfNoLine ended × WritesFront b table_text delta_texts written)
+    ⊎ ((written ≡ []) × InputsStarve ended.input ended.line table_text delta_texts left)
 BatchRanTo Refused b table_text delta_texts left lefts written ended =
     (written ≡ []) × (batch_outcome b table_text delta_texts ≡ Err ended)
 

@@ -15,6 +15,7 @@ use Rattle.coll_units.specs.Hearing.{heard_at}
 use Rattle.coll_replies.specs.Faults.{fault_number}
 use Rattle.coll_units.specs.Taking.{line_block, line_units, stop_at}
 use Rattle.coll_replies.specs.Replies.{reply_if, history_after_if}
+use Rattle.coll_replies.specs.declared.faults.Fault.{Fault}
 use Rattle.coll_replies.specs.declared.faults.Fault.TheVariants as faults
 use Rattle.coll_replies.specs.declared.faults.RunFault.{RunFault}
 use Rattle.coll_units.specs.declared.units.SessionUnit.{SessionUnit}
@@ -100,6 +101,16 @@ never_ran = record { input = 0; line = 0; fault = faults.Lex lex.OutOfMemory }
 -- a run of which a read failed
 abbrev pub read_failed : RunFault
 read_failed = record { input = 0; line = 0; fault = faults.Read read.ReadFault }
+
+-- the faults that may end a session: a line too long or one too many, a read or a write that failed, and want of memory before
+-- the first line
+abbrev pub EndsSession : Fault → Type 0
+EndsSession (faults.Lex lex.LineTooLong) = Unit {0}
+EndsSession (faults.Lex lex.TooManyLines) = Unit {0}
+EndsSession (faults.Lex lex.OutOfMemory) = Unit {0}
+EndsSession (faults.Read read.ReadFault) = Unit {0}
+EndsSession (faults.Write write.WriteFault) = Unit {0}
+EndsSession _ = ⊥
 
 -- the fault of a line too long
 abbrev pub too_long : LexFault

@@ -9,7 +9,7 @@ ghost use Rattle.std.specs.Prelude.{◌≡◌, IfErr};
 ghost use Rattle.coll_devices.specs.LineReading.{no_line};
 ghost use Rattle.coll_nodes.specs.Table.{Collation};
 ghost use Rattle.coll_nodes.specs.TableLayout.{collation};
-ghost use Rattle.coll_bench.specs.Serving.{IsBegun, CountsWrites, never_ran};
+ghost use Rattle.coll_bench.specs.Serving.{IsBegun, EndsSession, CountsWrites, never_ran};
 ghost use Rattle.coll_bench.specs.Runs.{Runs, CountsReads};
 
 use crate::serving::Desk;
@@ -23,7 +23,8 @@ use std::alloc::Global;
 /// What is written is the stated function of what is read, and nothing else (`Runs`). The run ends with the input, or
 /// with the fault that ends it: a line too long or one too many, of which the reply is the last; a read that failed,
 /// without a reply; a write that failed; or want of memory before the first line is read. A line, a block or a
-/// statement that is refused has its reply and ends nothing.
+/// statement that is refused has its reply and ends nothing. Whatever the devices tell, no other fault ends a session
+/// (`EndsSession`).
 pub fn run_session<R: Source, W: Sink>(
     alloc: Global,
     table: Table,
@@ -32,6 +33,7 @@ pub fn run_session<R: Source, W: Sink>(
 ) -> Result<(), RunFault>
     ensures run { Runs (collation table) (R.left input.old) (R.left input.new) (W.taken output.old) (W.taken output.new) result }
     ensures input { IfErr result (λ ended. ended.input ≡ 0) }
+    ensures ends { IfErr result (λ ended. EndsSession ended.fault) }
     ensures reads { CountsReads (R.failed input.old) (R.failed input.new) result }
     ensures writes { CountsWrites (W.failed output.old) (W.failed output.new) result }
 {
@@ -54,6 +56,7 @@ fn serve_text<R: Source, W: Sink>(
 ) -> Result<(), RunFault>
     ensures run { (table : Collation) → IsBegun desk.old table → Runs table (R.left input.old) (R.left input.new) (W.taken output.old) (W.taken output.new) result }
     ensures input { IfErr result (λ ended. ended.input ≡ 0) }
+    ensures ends { IfErr result (λ ended. EndsSession ended.fault) }
     ensures reads { CountsReads (R.failed input.old) (R.failed input.new) result }
     ensures writes { CountsWrites (W.failed output.old) (W.failed output.new) result }
 {
@@ -78,6 +81,7 @@ fn serve_lines<R: Source, W: Sink>(
     requires { reader.old ≡ no_line }
     ensures run { (table : Collation) → IsBegun desk.old table → Runs table (R.left input.old) (R.left input.new) (W.taken output.old) (W.taken output.new) result }
     ensures input { IfErr result (λ ended. ended.input ≡ 0) }
+    ensures ends { IfErr result (λ ended. EndsSession ended.fault) }
     ensures reads { CountsReads (R.failed input.old) (R.failed input.new) result }
     ensures writes { CountsWrites (W.failed output.old) (W.failed output.new) result }
 {
@@ -96,7 +100,8 @@ fn serve_lines<R: Source, W: Sink>(
 
 // The fault of a run for which memory was refused before it began.
 fn no_memory() -> RunFault
-    ensures { result ≡ never_ran }
+    ensures fault { result ≡ never_ran }
+    ensures ends { EndsSession result.fault }
 {
     RunFault {
         input: 0,

@@ -4,16 +4,17 @@
 //! open, and the history. A line is heard, taken by the block, and the unit that it completes is answered; each of these
 //! is a function with an exact clause over what the desk keeps.
 
-ghost use Rattle.std.specs.Prelude.{◌≡◌, ◌+◌, ◌<◌, ◌++◌, Bool, IfOk, IfErr, IfSome, OnOk, Option, option_to_list};
+ghost use Rattle.std.specs.Prelude.{◌≡◌, ◌+◌, ◌<◌, ◌++◌, Bool, true, IfOk, IfErr, IfSome, OnOk, Option, option_to_list};
 ghost use Rattle.coll_units.specs.ProperLines.{IsProperRequest};
 ghost use Rattle.coll_devices.specs.Devices.{CountsErr, Sends};
+ghost use Rattle.coll_lex.specs.Faults.{ends_text};
 ghost use Rattle.coll_lex.specs.LogicalLines.{pending, number_of};
 ghost use Rattle.coll_lex.specs.Limits.{most_lines};
 ghost use Rattle.coll_nodes.specs.TableLayout.{collation};
 ghost use Rattle.coll_units.specs.OpenBlocks.{kept_end_faults, kept_dropped_faults, kept_last_faults};
 ghost use Rattle.coll_replies.specs.Replies.{refused_line, refused_lines};
 ghost use Rattle.coll_units.specs.Units.{dangling as dangling_faults};
-ghost use Rattle.coll_bench.specs.Serving.{EndsWith, FinishesWith, IsCutOff, CountsEnd, CountsWrites, CountsStop, ReadsNone, write_failed as failed_write, too_long};
+ghost use Rattle.coll_bench.specs.Serving.{EndsSession, EndsWith, FinishesWith, IsCutOff, CountsEnd, CountsWrites, CountsStop, ReadsNone, write_failed as failed_write, too_long};
 
 use coll_lex::{LexFault, ReadStop, Sink, WriteStop};
 use coll_replies::{Fault, RankedSession, RunFault, answer, refuse};
@@ -60,6 +61,7 @@ impl Desk {
         ensures counts { OnOk result (self.new.listener.count ≡ self.old.listener.count + 1) }
         ensures room { OnOk result (self.old.listener.count < most_lines) }
         ensures input { IfErr result (λ ended. ended.input ≡ 0) }
+        ensures ends { IfErr result (λ ended. EndsSession ended.fault) }
         ensures reads { IfErr result (λ ended. ReadsNone ended) }
         ensures errors { CountsWrites (W.failed output.old) (W.failed output.new) result }
     {
@@ -94,9 +96,12 @@ impl Desk {
     }
 
     // Ends the session at a fault of the lexer, with its last replies.
+    #[tactic(auto, using(crate::proofs::ServingLemmas::text_ends))]
     fn stop<W: Sink>(&self, number: u32, fault: LexFault, output: &mut W) -> RunFault
+        requires { ends_text fault ≡ true }
         ensures ended { EndsWith number fault (W.taken output.old) (W.taken output.new) (refused_lines (kept_last_faults self.now.block number fault)) result }
         ensures input { result.input ≡ 0 }
+        ensures ends { EndsSession result.fault }
         ensures reads { ReadsNone result }
         ensures errors { CountsEnd (W.failed output.old) (W.failed output.new) result }
     {
@@ -114,6 +119,7 @@ impl Desk {
     pub fn finish<W: Sink>(&mut self, output: &mut W) -> Result<(), RunFault>
         ensures ended { FinishesWith (W.taken output.old) (W.taken output.new) (refused_lines (kept_end_faults self.old.block (pending self.old.listener))) result }
         ensures input { IfErr result (λ ended. ended.input ≡ 0) }
+        ensures ends { IfErr result (λ ended. EndsSession ended.fault) }
         ensures reads { IfErr result (λ ended. ReadsNone ended) }
         ensures errors { CountsWrites (W.failed output.old) (W.failed output.new) result }
     {
@@ -129,6 +135,7 @@ impl Desk {
         ensures ended { IsCutOff stop (number_of self.now.listener) (W.taken output.old) (W.taken output.new)
             (refused_lines (kept_last_faults self.now.block (number_of self.now.listener) too_long)) result }
         ensures input { result.input ≡ 0 }
+        ensures ends { EndsSession result.fault }
         ensures reads { CountsStop stop result }
         ensures errors { CountsEnd (W.failed output.old) (W.failed output.new) result }
     {
@@ -148,7 +155,8 @@ impl Desk {
 
 // The fault of a run of which a write failed.
 fn write_failed(stop: WriteStop) -> RunFault
-    ensures { result ≡ failed_write }
+    ensures fault { result ≡ failed_write }
+    ensures ends { EndsSession result.fault }
 {
     RunFault {
         input: 0,

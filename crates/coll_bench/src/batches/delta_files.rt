@@ -10,7 +10,7 @@ ghost use Rattle.coll_syntax.specs.Proper.{IsProper};
 ghost use Rattle.coll_table.specs.Delta.{delta as delta_of};
 ghost use Rattle.coll_nodes.specs.TableLayout.{collation};
 ghost use Rattle.coll_bench.specs.BatchOutcome.{delta_fault_in, judged_at, rewritten};
-ghost use Rattle.coll_bench.specs.BatchReading.{ReadsDelta, CountsDelta, WritesNone, FailsAs, line_taken, starved_in, stopped_in};
+ghost use Rattle.coll_bench.specs.BatchReading.{ReadsDelta, CountsDelta, WritesNone, FailsAs, IsNumberOf, IsFaultNumber, line_taken, starved_in, stopped_in};
 ghost use Rattle.coll_bench.specs.BatchRuns.{ending_of};
 
 use coll_lex::{LexFault, LineReader, ReadStop, Source};
@@ -111,6 +111,7 @@ fn take_line(
 ) -> Result<(), RunFault>
     ensures ok { OnOk result (line_taken input (collation table.old) file.old line.now ≡ Ok (collation table.new, file.new)) }
     ensures err { IfErr result (λ ended. FailsAs (ending_of ended) (line_taken input (collation table.old) file.old line.now) ended) }
+    ensures number { file.old.fault ≡ None → IfErr result (λ ended. IsFaultNumber file.old line.now ended.line) }
     ensures input { IfErr result (λ ended. ended.input ≡ input) }
 {
     match file.line(line) {
@@ -133,6 +134,7 @@ fn rewrite_if(input: usize, table: &mut Table, given: Option<StatementAt>) -> Re
     requires proper { IfSome given (λ at. IsProper at.statement) }
     ensures ok { OnOk result (rewritten input (collation table.old) (option_to_list given) ≡ Ok (collation table.new)) }
     ensures err { IfErr result (λ ended. FailsAs (ending_of ended) (rewritten input (collation table.old) (option_to_list given)) ended) }
+    ensures number { IfErr result (λ ended. IsNumberOf (option_to_list given) ended.line) }
     ensures input { IfErr result (λ ended. ended.input ≡ input) }
 {
     match given {
@@ -146,6 +148,7 @@ fn rewrite(input: usize, table: &mut Table, at: &StatementAt) -> Result<(), RunF
     requires proper { IsProper at.now.statement }
     ensures ok { OnOk result (judged_at input at.now.line (delta_of (collation table.old) at.now.statement) ≡ Ok (collation table.new)) }
     ensures err { IfErr result (λ ended. FailsAs (ending_of ended) (judged_at input at.now.line (delta_of (collation table.old) at.now.statement)) ended) }
+    ensures number { IfErr result (λ ended. ended.line ≡ at.now.line) }
     ensures input { IfErr result (λ ended. ended.input ≡ input) }
 {
     match table.apply(&at.statement) {

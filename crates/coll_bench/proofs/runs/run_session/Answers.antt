@@ -8,4 +8,4 @@ returns-in-Ok-clause-run g c = c.serve_text-ran.ensures.run (collation c.args.ta
 
 pub returns-in-Err-clause-run : goal.returns-in-Err-clause-run
 returns-in-Err-clause-run g c text before left_is taken_is =
-    never_begun (collation c.args.table) text before (g.R.Source.left c.args.input.now) (g.W.Sink.taken c.args.output.now) c.no_memory.result c.no_memory.ensures left_is taken_is
+    never_begun (collation c.args.table) text before (g.R.Source.left c.args.input.now) (g.W.Sink.taken c.args.output.now) c.no_memory.result c.no_memory.ensures.fault left_is taken_is

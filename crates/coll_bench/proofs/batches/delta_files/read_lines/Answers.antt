@@ -1,10 +1,10 @@
 -- Each way out of the reading is what the text says.
-use Rattle.std.proofs.Common.{◌≡◌, List, ℕ, Ok, arith, refl, sym, subst, ◌∙◌, ap}
+use Rattle.std.proofs.Common.{◌≡◌, List, ℕ, None, Ok, arith, refl, sym, subst, ◌∙◌, ap}
 use Rattle.coll_devices.specs.LineReading.{ReaderState, no_line}
 use Rattle.coll_nodes.specs.TableLayout.{collation}
 use Rattle.coll_table.proofs.TextLoading.{gives_line, gives_none}
 use Rattle.coll_units.specs.DeltaReading.{DeltaState}
-use Rattle.coll_bench.specs.BatchReading.{FailsAs, line_taken}
+use Rattle.coll_bench.specs.BatchReading.{FailsAs, IsFaultNumber, line_taken}
 use Rattle.coll_bench.specs.BatchRuns.{ending_of}
 use Rattle.coll_bench.proofs.DeltaTexts.{OnWay, sets_out, goes_on, given_whole, refused, stopped, ends_file, counts}
 use Rattle.coll_bench.proofs.batches.delta_files.read_lines.Goals as goal
@@ -29,6 +29,7 @@ returns-in-Err-take_line-clause-file g c =
     let fails = subst (λ (line : List ℕ). FailsAs (ending_of c.in-Err-take_line.ended) (line_taken c.args.input (collation c.lines.table) c.lines.file line) c.in-Err-take_line.ended) c.line.ensures c.in-Err-take_line.ensures.err in
     refused c.args.input (collation c.args.table.now) (left c.args.delta.now) c.lines.reader (left c.lines.delta) (collation c.lines.table) c.lines.file c.lines.invariant.way c.lines.invariant.going
     c.advance.new.self (left c.advance.new.input) (failed c.lines.delta) (failed c.advance.new.input) c.in-Err-take_line.ended gives fails
+    (subst (λ (line : List ℕ). c.lines.file.fault ≡ None → IsFaultNumber c.lines.file line c.in-Err-take_line.ended.line) c.line.ensures c.in-Err-take_line.ensures.number)
 
 pub returns-in-Err-clause-file : goal.returns-in-Err-clause-file
 returns-in-Err-clause-file g c =

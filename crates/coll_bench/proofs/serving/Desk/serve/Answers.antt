@@ -29,6 +29,6 @@ returns-in-Ok-answer_if-clause-room g c =
 pub returns-in-Err-answer_if-clause-served : goal.returns-in-Err-answer_if-clause-served
 returns-in-Err-answer_if-clause-served g c =
     let taken = g.W.Sink.taken in
-    serves_failed c.args.self.now c.answer_if.new.self c.args.line.now (taken c.args.output.now) (taken c.answer_if.new.output) c.write_failed.result c.write_failed.ensures
+    serves_failed c.args.self.now c.answer_if.new.self c.args.line.now (taken c.args.output.now) (taken c.answer_if.new.output) c.write_failed.result c.write_failed.ensures.fault
     (serves_taken {E = WriteStop} c.args.self.now c.answer_if.new.self c.take.new.self c.take.new.block c.args.line.now c.in-Ok.unit (taken c.args.output.now) (taken c.answer_if.new.output) (Err c.in-Err-answer_if.stop)
     c.in-Ok.ensures.taken c.answer_if.ensures.listener c.answer_if.ensures.block c.in-Err-answer_if.ensures.answered)
