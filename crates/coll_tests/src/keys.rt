@@ -1,47 +1,133 @@
 //! Tests of `coll_key`: what no run of the program shows. Those of `tests/runs/` have the keys of texts, their order, and the
 //! compiled listings.
 
+ghost use Rattle.std.specs.Prelude.{IfOk};
 ghost use Rattle.coll_ranks.specs.Ranks.{AreRanksOf};
 ghost use Rattle.coll_nodes.specs.TableLayout.{collation};
 
 use crate::assertions::assert_same;
+use crate::growths::{count_growths, count_no_growths, tell_refused};
 use crate::tables::examples::{BASE_TABLE, BOTH_FORWARD, FRENCH_TABLE, id, loaded_lines};
-use coll_key::{Ranks, compare, key};
+use coll_key::{KeyFault, Ranks, compare, key};
 use coll_syntax::Id;
 use coll_table::Table;
-use std::alloc::Global;
+use std::alloc::{AllocError, Global};
 use std::cmp::Ordering;
 use std::process::Abort;
 
-// Asserts the order of two words by a table. Its ranks are made before the line is written.
-fn assert_order<R: Abort + Print>(rt: &R, alloc: Global, table: &Table, order: Ordering) {
+fn counted_ranks<R: Abort + Print>(
+    rt: &R,
+    alloc: Global,
+    table: &Table,
+) -> Result<Ranks, AllocError>
+    ensures { IfOk result (λ ranks. AreRanksOf ranks (collation table.now)) }
+{
+    count_growths(rt);
+    let ranks = Ranks::new(alloc, table);
+    count_no_growths(rt);
+    ranks
+}
+
+// The ranks of a table, which are made again where memory is refused.
+fn ranks_of<R: Abort + Print>(rt: &R, alloc: Global, table: &Table) -> Ranks
+    ensures { AreRanksOf result (collation table.now) }
+{
+    match counted_ranks(rt, alloc, table) {
+        Ok(ranks) => ranks,
+        Err(_) => {
+            tell_refused(rt);
+            counted_ranks(rt, alloc, table).expect(rt, "the ranks")
+        }
+    }
+}
+
+// Two texts, and their order.
+type Compared = (&'static str, &'static str, Ordering);
+
+fn counted_order<R: Abort + Print>(
+    rt: &R,
+    alloc: Global,
+    table: &Table,
+    ranks: &Ranks,
+    texts: &Compared,
+) -> Result<Ordering, KeyFault>
+    requires { AreRanksOf ranks.now (collation table.now) }
+{
+    count_growths(rt);
+    let order = compare(alloc, table, ranks, texts.0, texts.1);
+    count_no_growths(rt);
+    order
+}
+
+fn assert_order<R: Abort + Print>(
+    rt: &R,
+    alloc: Global,
+    table: &Table,
+    ranks: &Ranks,
+    texts: &Compared,
+)
+    requires { AreRanksOf ranks.now (collation table.now) }
+{
+    let mut order = counted_order(rt, alloc, table, ranks, texts);
+    if order == Err(KeyFault::OutOfMemory) {
+        tell_refused(rt);
+        order = counted_order(rt, alloc, table, ranks, texts);
+    }
+    assert_same(rt, "the order", order, Ok(texts.2));
+}
+
+// Asserts the order of two words by a table. The growths of the comparison alone are counted.
+fn assert_order_by<R: Abort + Print>(rt: &R, alloc: Global, table: &Table, texts: &Compared) {
     let ranks = Ranks::new(alloc, table).expect(rt, "the ranks");
-    println!(rt; "the ranks are made").expect(rt, "a line");
-    let given = compare(alloc, table, &ranks, "coté", "côte");
-    assert_same(rt, "the order", given, Ok(order));
+    assert_order(rt, alloc, table, &ranks, texts);
     drop(ranks);
 }
 
-// `tests/refuse_growths.py` runs it with each growth refused once it has written its line, and it passes there too.
+// `tests/refuse_growths.py` finds no growth in it that it could refuse.
 #[test]
 fn a_comparison_at_forward_levels_takes_no_memory(rt: HostRuntime) {
     let table = BOTH_FORWARD.loaded(rt.alloc(), FRENCH_TABLE);
     let table = table.expect(&rt, "a table");
-    assert_order(&rt, rt.alloc(), &table, Ordering::Less);
+    assert_order_by(&rt, rt.alloc(), &table, &("coté", "côte", Ordering::Less));
     drop(table);
 }
 
-// The same run with growths refused has this one fail: a backward level takes memory.
+// In this one it finds some.
 #[test]
 fn a_comparison_at_a_backward_level_takes_memory(rt: HostRuntime) {
     let table = loaded_lines(rt.alloc(), FRENCH_TABLE).expect(&rt, "a table");
-    assert_order(&rt, rt.alloc(), &table, Ordering::Greater);
+    assert_order_by(
+        &rt,
+        rt.alloc(),
+        &table,
+        &("coté", "côte", Ordering::Greater),
+    );
     drop(table);
 }
 
-// The key of `ab` by the base table, with a zero behind each level.
-const NUMBERS: &[u64] = &[
-    8_388_608, 12_582_912, 0, 2_097_152, 2_097_152, 0, 4_194_304, 4_194_304, 0, 0,
+// Texts, and their keys by the base table, with a zero behind each level. A rank counts 2,097,152.
+const KEYS: &[(&str, &[u64])] = &[
+    (
+        "ab",
+        &[
+            8_388_608, 12_582_912, 0, 2_097_152, 2_097_152, 0, 4_194_304, 4_194_304, 0, 0,
+        ],
+    ),
+    // The sign is left out but at the last level, where it stands behind one element that has no weight there.
+    (
+        "a-b",
+        &[
+            8_388_608, 12_582_912, 0, 2_097_152, 2_097_152, 0, 4_194_304, 4_194_304, 0, 2,
+            18_874_368, 0,
+        ],
+    ),
+];
+
+// Texts, and their orders by the base table.
+const ORDERS: &[Compared] = &[
+    ("a", "A", Ordering::Less),
+    ("ab", "a-b", Ordering::Less),
+    ("a", "a", Ordering::Equal),
 ];
 
 // An identifier, and its rank in the base table: its place in all sections.
@@ -65,23 +151,63 @@ fn assert_ranks(rt: &impl Abort, alloc: Global, ranks: &Ranks) {
     }
 }
 
-fn assert_numbers(rt: &impl Abort, alloc: Global, table: &Table, ranks: &Ranks)
+fn counted_key<R: Abort + Print>(
+    rt: &R,
+    alloc: Global,
+    table: &Table,
+    ranks: &Ranks,
+    text: &str,
+) -> Result<Vec<u64>, KeyFault>
     requires { AreRanksOf ranks.now (collation table.now) }
 {
-    let key = key(alloc, table, ranks, "ab").expect(rt, "a key");
-    assert_same(rt, "the numbers", key.as_slice(), NUMBERS);
+    count_growths(rt);
+    let key = key(alloc, table, ranks, text);
+    count_no_growths(rt);
+    key
+}
+
+fn assert_key<R: Abort + Print>(
+    rt: &R,
+    alloc: Global,
+    table: &Table,
+    ranks: &Ranks,
+    text: &str,
+    numbers: &[u64],
+)
+    requires { AreRanksOf ranks.now (collation table.now) }
+{
+    let key = match counted_key(rt, alloc, table, ranks, text) {
+        Err(KeyFault::OutOfMemory) => {
+            tell_refused(rt);
+            counted_key(rt, alloc, table, ranks, text)
+        }
+        answer => answer,
+    };
+    let key = key.expect(rt, "a key");
+    assert_same(rt, text, key.as_slice(), numbers);
     drop(key);
 }
 
-fn assert_ranked(rt: &impl Abort, alloc: Global, table: &Table) {
-    let ranks = Ranks::new(alloc, table).expect(rt, "the ranks");
+fn assert_keys_and_orders<R: Abort + Print>(rt: &R, alloc: Global, table: &Table, ranks: &Ranks)
+    requires { AreRanksOf ranks.now (collation table.now) }
+{
+    for (text, numbers) in KEYS {
+        assert_key(rt, alloc, table, ranks, text, numbers);
+    }
+    for texts in ORDERS {
+        assert_order(rt, alloc, table, ranks, texts);
+    }
+}
+
+fn assert_ranked<R: Abort + Print>(rt: &R, alloc: Global, table: &Table) {
+    let ranks = ranks_of(rt, alloc, table);
     assert_ranks(rt, alloc, &ranks);
-    assert_numbers(rt, alloc, table, &ranks);
+    assert_keys_and_orders(rt, alloc, table, &ranks);
     drop(ranks);
 }
 
 #[test]
-fn a_key_has_the_ranks_of_its_weights(rt: HostRuntime) {
+fn keys_and_orders_are_those_of_the_weights(rt: HostRuntime) {
     let table = loaded_lines(rt.alloc(), BASE_TABLE).expect(&rt, "a table");
     assert_ranked(&rt, rt.alloc(), &table);
     drop(table);

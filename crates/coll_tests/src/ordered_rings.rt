@@ -1,13 +1,16 @@
 //! Rings of nodes: worked examples.
 //!
 //! There are two rings and two loose nodes at first. A table has calls, and what is to be seen between them. Each call is made
-//! as a caller from outside would: what it asks for is asserted first. A ring is shown as the list of its nodes' tags.
+//! as a caller from outside would: what it asks for is asserted first. A ring is shown as the list of its nodes' tags. The growths of
+//! the calls are counted, and one that is refused memory is made again (`growths`).
 
 ghost use Rattle.std.specs.Prelude.{IsTrue, ◌↔◌};
 ghost use Rattle.coll_order.specs.Layout.{IsPlace};
 
 use crate::assertions::{assert_same, assert_that};
+use crate::growths::{count_growths, count_no_growths, tell_refused};
 use coll_order::{NodeId, Place, RingId, Rings};
+use std::alloc::{AllocError, Global};
 use std::process::Abort;
 
 // One of two rings or nodes.
@@ -70,13 +73,51 @@ impl Names {
     }
 }
 
+fn counted_ring<R: Abort + Print>(rt: &R, rings: &mut Rings) -> Result<RingId, AllocError> {
+    count_growths(rt);
+    let ring = rings.new_ring();
+    count_no_growths(rt);
+    ring
+}
+
+fn new_ring<R: Abort + Print>(rt: &R, rings: &mut Rings) -> RingId {
+    match counted_ring(rt, rings) {
+        Ok(ring) => ring,
+        Err(_) => {
+            tell_refused(rt);
+            counted_ring(rt, rings).expect(rt, "a ring")
+        }
+    }
+}
+
+fn counted_node<R: Abort + Print>(
+    rt: &R,
+    rings: &mut Rings,
+    tag: usize,
+) -> Result<NodeId, AllocError> {
+    count_growths(rt);
+    let node = rings.new_node(tag);
+    count_no_growths(rt);
+    node
+}
+
+fn new_node<R: Abort + Print>(rt: &R, rings: &mut Rings, tag: usize) -> NodeId {
+    match counted_node(rt, rings, tag) {
+        Ok(node) => node,
+        Err(_) => {
+            tell_refused(rt);
+            counted_node(rt, rings, tag).expect(rt, "a node")
+        }
+    }
+}
+
 // Makes two rings, and loose nodes with the tags 7 and 8.
-fn make(rt: &impl Abort, rings: &mut Rings) -> Names {
+fn make<R: Abort + Print>(rt: &R, rings: &mut Rings) -> Names {
     Names {
-        first_ring: rings.new_ring().expect(rt, "a ring"),
-        second_ring: rings.new_ring().expect(rt, "a ring"),
-        first_node: rings.new_node(7).expect(rt, "a node"),
-        second_node: rings.new_node(8).expect(rt, "a node"),
+        first_ring: new_ring(rt, rings),
+        second_ring: new_ring(rt, rings),
+        first_node: new_node(rt, rings, 7),
+        second_node: new_node(rt, rings, 8),
     }
 }
 
@@ -89,15 +130,20 @@ fn is_place(rings: &Rings, place: Place) -> bool
     }
 }
 
-fn link(rt: &impl Abort, rings: &mut Rings, node: NodeId, place: Place) {
+fn link<R: Abort + Print>(rt: &R, rings: &mut Rings, node: NodeId, place: Place) {
     assert_that(rt, "a loose node", rings.is_loose(node));
     assert_that(rt, "a place", is_place(rings, place));
+    count_growths(rt);
     rings.link(node, place);
+    count_no_growths(rt);
 }
 
-fn unlink(rt: &impl Abort, rings: &mut Rings, node: NodeId) -> Place {
+fn unlink<R: Abort + Print>(rt: &R, rings: &mut Rings, node: NodeId) -> Place {
     assert_that(rt, "a linked node", rings.is_linked(node));
-    rings.unlink(node)
+    count_growths(rt);
+    let place = rings.unlink(node);
+    count_no_growths(rt);
+    place
 }
 
 fn drop_node(rt: &impl Abort, rings: &mut Rings, node: NodeId) {
@@ -124,7 +170,7 @@ fn assert_ring(rt: &impl Abort, rings: &Rings, ring: RingId, tags: &[usize], end
     assert_same(rt, "after the last", here, None);
 }
 
-fn perform(rt: &impl Abort, rings: &mut Rings, names: &Names, call: &Call) {
+fn perform<R: Abort + Print>(rt: &R, rings: &mut Rings, names: &Names, call: &Call) {
     match call {
         Link(node, at) => link(rt, rings, names.node(node), names.place(at)),
         Unlink(node, at) => {
@@ -139,7 +185,7 @@ fn perform(rt: &impl Abort, rings: &mut Rings, names: &Names, call: &Call) {
     }
 }
 
-fn perform_all(rt: &impl Abort, rings: &mut Rings, names: &Names, calls: &[Call]) {
+fn perform_all<R: Abort + Print>(rt: &R, rings: &mut Rings, names: &Names, calls: &[Call]) {
     for call in calls {
         perform(rt, rings, names, call);
     }
@@ -170,7 +216,7 @@ const INTO_ANOTHER_RING: &[Call] = &[
     Steps(5),
 ];
 
-fn assert_calls(rt: &impl Abort, rings: &mut Rings, calls: &[Call]) {
+fn assert_calls<R: Abort + Print>(rt: &R, rings: &mut Rings, calls: &[Call]) {
     let names = make(rt, rings);
     perform_all(rt, rings, &names, calls);
 }
@@ -194,8 +240,29 @@ const LAST_DROPPED: &[Call] = &[
 
 const STILL_LINKED: &[Call] = &[Shows(First, &[7, 8], After(Second))];
 
+fn counted_copy<R: Abort + Print>(
+    rt: &R,
+    alloc: Global,
+    source: &Rings,
+) -> Result<Rings, AllocError> {
+    count_growths(rt);
+    let copy = source.try_copy(alloc);
+    count_no_growths(rt);
+    copy
+}
+
+fn copy_of<R: Abort + Print>(rt: &R, alloc: Global, source: &Rings) -> Rings {
+    match counted_copy(rt, alloc, source) {
+        Ok(copy) => copy,
+        Err(_) => {
+            tell_refused(rt);
+            counted_copy(rt, alloc, source).expect(rt, "a copy")
+        }
+    }
+}
+
 // Changes both, and asserts that neither changes the other.
-fn assert_apart(rt: &impl Abort, source: &mut Rings, copy: &mut Rings, names: &Names) {
+fn assert_apart<R: Abort + Print>(rt: &R, source: &mut Rings, copy: &mut Rings, names: &Names) {
     let other = copy.new_ring().expect(rt, "a ring");
     perform_all(rt, source, names, LAST_DROPPED);
     perform_all(rt, copy, names, STILL_LINKED);
@@ -207,7 +274,7 @@ fn a_copy_and_its_source_change_apart(rt: HostRuntime) {
     let mut source = Rings::new(rt.alloc());
     let names = make(&rt, &mut source);
     perform_all(&rt, &mut source, &names, LINKED);
-    let mut copy = source.try_copy(rt.alloc()).expect(&rt, "a copy");
+    let mut copy = copy_of(&rt, rt.alloc(), &source);
     assert_apart(&rt, &mut source, &mut copy, &names);
     drop(source);
     drop(copy);

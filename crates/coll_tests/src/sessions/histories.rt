@@ -1,16 +1,18 @@
 //! The calls of a session, one after another.
 //!
-//! Before each statement it is judged alone, and the table is copied: both have to say what the session then does.
+//! Before each statement it is judged alone, and the table is copied, and the copy rewritten: all have to say what the session then
+//! does. The growths of these calls are counted, and one that is refused memory is made again (`growths`).
 
 ghost use Rattle.coll_syntax.specs.Proper.{IsProper};
 
-use crate::assertions::{assert_same, assert_that};
+use crate::assertions::{assert_same, assert_text, assert_that};
+use crate::growths::{count_growths, count_no_growths, tell_refused};
 use crate::statements::{Lines, statement_of};
 use crate::tables::examples::{BASE_TABLE, SECTIONS_TABLE, assert_printed, loaded_lines, printed};
 use coll_bench::{BenchFault, Session};
 use coll_syntax::Statement;
 use coll_table::{Refusal, Table};
-use std::alloc::Global;
+use std::alloc::{AllocError, Global};
 use std::process::Abort;
 
 // A call of a session, and its answer.
@@ -116,58 +118,248 @@ fn refusal_of(answer: Result<u32, BenchFault>) -> Result<(), Refusal> {
     }
 }
 
-// Asserts what a table answers to a statement that it only judges, and that a copy of it is printed as it is.
-fn assert_judged(
-    rt: &impl Abort,
+fn counted_check<R: Abort + Print>(
+    rt: &R,
+    table: &Table,
+    statement: &Statement,
+) -> Result<(), Refusal>
+    requires { IsProper statement.now }
+{
+    count_growths(rt);
+    let judged = table.check(statement);
+    count_no_growths(rt);
+    judged
+}
+
+fn counted_copy<R: Abort + Print>(
+    rt: &R,
+    alloc: Global,
+    table: &Table,
+) -> Result<Table, AllocError> {
+    count_growths(rt);
+    let copy = table.try_copy(alloc);
+    count_no_growths(rt);
+    copy
+}
+
+// Why a table refuses a statement, if it does.
+fn counted_apply<R: Abort + Print>(
+    rt: &R,
+    table: &mut Table,
+    statement: &Statement,
+) -> Option<Refusal>
+    requires { IsProper statement.now }
+{
+    count_growths(rt);
+    let applied = table.apply(statement);
+    count_no_growths(rt);
+    applied.err()
+}
+
+// Asserts what a table answers to a statement that it only judges, and which text it has then.
+fn assert_checked<R: Abort + Print>(
+    rt: &R,
     alloc: Global,
     table: &Table,
     statement: &Statement,
-    answer: Result<u32, BenchFault>,
+    answer: Result<(), Refusal>,
+    text: &[u8],
 )
     requires { IsProper statement.now }
 {
-    let before = printed(rt, alloc, table);
-    assert_same(
-        rt,
-        "the judgement",
-        table.check(statement),
-        refusal_of(answer),
-    );
-    assert_printed(rt, alloc, table, &before);
-    assert_copied(rt, alloc, table, &before);
+    let mut judged = counted_check(rt, table, statement);
+    if judged == Err(Refusal::OutOfMemory) {
+        tell_refused(rt);
+        assert_printed(rt, alloc, table, text);
+        judged = counted_check(rt, table, statement);
+    }
+    assert_same(rt, "the judgement", judged, answer);
+    assert_printed(rt, alloc, table, text);
 }
 
-fn assert_copied(rt: &impl Abort, alloc: Global, table: &Table, printed: &[u8]) {
-    let copy = table.try_copy(alloc).expect(rt, "a copy");
-    assert_printed(rt, alloc, &copy, printed);
+// A copy of a table with this text.
+fn copy_of<R: Abort + Print>(rt: &R, alloc: Global, table: &Table, text: &[u8]) -> Table {
+    let copy = match counted_copy(rt, alloc, table) {
+        Ok(copy) => copy,
+        Err(_) => {
+            tell_refused(rt);
+            assert_printed(rt, alloc, table, text);
+            counted_copy(rt, alloc, table).expect(rt, "a copy")
+        }
+    };
+    assert_printed(rt, alloc, &copy, text);
+    copy
+}
+
+// Asserts what a table with this text answers to a statement.
+fn assert_applied<R: Abort + Print>(
+    rt: &R,
+    alloc: Global,
+    table: &mut Table,
+    statement: &Statement,
+    answer: Option<Refusal>,
+    text: &[u8],
+)
+    requires { IsProper statement.now }
+{
+    let mut refusal = counted_apply(rt, table, statement);
+    if refusal == Some(Refusal::OutOfMemory) {
+        tell_refused(rt);
+        assert_printed(rt, alloc, table, text);
+        refusal = counted_apply(rt, table, statement);
+    }
+    assert_same(rt, "what is applied", refusal, answer);
+}
+
+// Asserts what a table answers to a statement, and what a copy of it does.
+fn assert_judged<R: Abort + Print>(
+    rt: &R,
+    alloc: Global,
+    table: &Table,
+    lines: &[&str],
+    answer: Result<(), Refusal>,
+) {
+    let text = printed(rt, alloc, table);
+    let statement = statement_of(rt, alloc, lines);
+    assert_checked(rt, alloc, table, &statement, answer, &text);
+    let mut copy = copy_of(rt, alloc, table, &text);
+    assert_applied(rt, alloc, &mut copy, &statement, answer.err(), &text);
     drop(copy);
+    drop(statement);
 }
 
-fn assert_stated(
-    rt: &impl Abort,
+const NO_MEMORY: Result<u32, BenchFault> = Err(BenchFault::Table(Refusal::OutOfMemory));
+
+// What is wrong with a session, for `tests/refuse_growths.py` to find.
+#[derive(Clone, Copy)]
+enum Wrong {
+    Nothing,
+    // What was taken back is lost before a statement has what memory it needs.
+    LosesUndone,
+    // An undo takes memory.
+    GrowsByUndo,
+}
+
+// What a session answers to a statement.
+fn counted_statement<R: Abort + Print>(
+    rt: &R,
+    alloc: Global,
+    session: &mut Session,
+    lines: &[&str],
+    wrong: Wrong,
+) -> Result<u32, BenchFault> {
+    let statement = statement_of(rt, alloc, lines);
+    if let Wrong::LosesUndone = wrong {
+        lose_undone(rt, alloc, session);
+    }
+    count_growths(rt);
+    let answer = session.statement(statement);
+    count_no_growths(rt);
+    answer
+}
+
+// Has what was taken back replaced by another statement.
+fn lose_undone(rt: &impl Abort, alloc: Global, session: &mut Session) {
+    let statement = statement_of(rt, alloc, &["reorder-after <U0061>"]);
+    assert_that(rt, "a block", session.statement(statement).is_ok());
+    assert_that(rt, "an undo", session.undo().is_ok());
+}
+
+// What a session answers to an undo.
+fn counted_undo<R: Abort + Print>(
+    rt: &R,
+    alloc: Global,
+    session: &mut Session,
+    wrong: Wrong,
+) -> Result<u32, BenchFault> {
+    count_growths(rt);
+    let answer = match wrong {
+        Wrong::GrowsByUndo => undo_by_growing(alloc, session),
+        _ => session.undo(),
+    };
+    count_no_growths(rt);
+    answer
+}
+
+fn undo_by_growing(alloc: Global, session: &mut Session) -> Result<u32, BenchFault> {
+    match Vec::<u64>::with_capacity(alloc, 1) {
+        Ok(list) => {
+            drop(list);
+            session.undo()
+        }
+        Err(_) => NO_MEMORY,
+    }
+}
+
+fn counted_redo<R: Abort + Print>(rt: &R, session: &mut Session) -> Result<u32, BenchFault> {
+    count_growths(rt);
+    let answer = session.redo();
+    count_no_growths(rt);
+    answer
+}
+
+// How a session stands: the text of its table, how many statements remain and were taken back, and the nearest of each.
+fn standing(rt: &impl Abort, alloc: Global, session: &Session) -> Vec<u8> {
+    let remaining = session.remaining_len();
+    let undone = session.undone_len();
+    let last = session.remaining(remaining);
+    let first = session.undone(1);
+    let shown = format!(in alloc; "{remaining} {last:?} {undone} {first:?}").expect(rt, "a text");
+    let mut text = printed(rt, alloc, session.table());
+    text.extend_from_slice(shown.as_bytes())
+        .expect(rt, "a text");
+    drop(shown);
+    text
+}
+
+fn assert_stated<R: Abort + Print>(
+    rt: &R,
     alloc: Global,
     session: &mut Session,
     lines: &[&str],
     answer: Result<u32, BenchFault>,
+    wrong: Wrong,
 ) {
-    let statement = statement_of(rt, alloc, lines);
-    assert_judged(rt, alloc, session.table(), &statement, answer);
-    assert_same(rt, "a statement", session.statement(statement), answer);
+    assert_judged(rt, alloc, session.table(), lines, refusal_of(answer));
+    let before = standing(rt, alloc, session);
+    let mut given = counted_statement(rt, alloc, session, lines, wrong);
+    if given == NO_MEMORY {
+        tell_refused(rt);
+        assert_text(rt, alloc, &standing(rt, alloc, session), &before);
+        given = counted_statement(rt, alloc, session, lines, wrong);
+    }
+    assert_same(rt, "a statement", given, answer);
 }
 
-fn assert_call(rt: &impl Abort, alloc: Global, session: &mut Session, call: &Call) {
+// What is taken back or put again takes no memory, so it is never refused for want of it.
+fn assert_call<R: Abort + Print>(
+    rt: &R,
+    alloc: Global,
+    session: &mut Session,
+    call: &Call,
+    wrong: Wrong,
+) {
     match call {
-        States(lines, answer) => assert_stated(rt, alloc, session, lines, *answer),
-        Undo(answer) => assert_same(rt, "an undo", session.undo(), *answer),
-        Redo(answer) => assert_same(rt, "a redo", session.redo(), *answer),
+        States(lines, answer) => assert_stated(rt, alloc, session, lines, *answer, wrong),
+        Undo(answer) => {
+            let given = counted_undo(rt, alloc, session, wrong);
+            assert_same(rt, "an undo", given, *answer);
+        }
+        Redo(answer) => assert_same(rt, "a redo", counted_redo(rt, session), *answer),
     }
 }
 
-fn assert_calls(rt: &impl Abort, alloc: Global, table: &[&str], calls: &[Call]) {
+fn assert_calls<R: Abort + Print>(
+    rt: &R,
+    alloc: Global,
+    table: &[&str],
+    calls: &[Call],
+    wrong: Wrong,
+) {
     let table = loaded_lines(alloc, table).expect(rt, "a table");
     let mut session = Session::new(alloc, table);
     for call in calls {
-        assert_call(rt, alloc, &mut session, call);
+        assert_call(rt, alloc, &mut session, call, wrong);
     }
     drop(session);
 }
@@ -175,8 +367,38 @@ fn assert_calls(rt: &impl Abort, alloc: Global, table: &[&str], calls: &[Call]) 
 #[test]
 fn a_statement_is_judged_as_it_is_answered(rt: HostRuntime) {
     for (table, calls) in SESSIONS {
-        assert_calls(&rt, rt.alloc(), table, calls);
+        assert_calls(&rt, rt.alloc(), table, calls, Wrong::Nothing);
     }
+}
+
+// A statement after another one was taken back.
+const AFTER_AN_UNDO: &[Call] = &[
+    States(&["collating-symbol <X>"], Ok(1)),
+    Undo(Ok(0)),
+    States(&["collating-symbol <Y>"], Ok(1)),
+];
+
+// These two pass as long as no growth is refused. `tests/refuse_growths.py` has them fail.
+#[test]
+fn a_session_may_lose_what_was_taken_back(rt: HostRuntime) {
+    assert_calls(
+        &rt,
+        rt.alloc(),
+        BASE_TABLE,
+        AFTER_AN_UNDO,
+        Wrong::LosesUndone,
+    );
+}
+
+#[test]
+fn a_session_may_grow_by_an_undo(rt: HostRuntime) {
+    assert_calls(
+        &rt,
+        rt.alloc(),
+        BASE_TABLE,
+        AFTER_AN_UNDO,
+        Wrong::GrowsByUndo,
+    );
 }
 
 // Whether a statement is the declaration of this symbol.

@@ -1,0 +1,80 @@
+//! Tests that `tests/refuse_growths.py` runs anew with one growth of memory refused: the first that is counted, then the second, and
+//! so on, until none is left to be refused.
+//!
+//! A test counts the growths of the calls that it shows, and no others. Where such a call answers want of memory, the test says so,
+//! looks whether all stands as it did, and makes the call again, which then has to answer. Tests of `sessions::histories`, of `keys`
+//! and of `ordered_rings` do so as well.
+
+use crate::tables::examples::{BASE_TABLE, TWO_SECTIONS, assert_printed, loaded, text_of};
+use coll_table::{LoadCause, LoadFault, Table};
+use std::alloc::Global;
+use std::process::Abort;
+
+/// From here on growths are counted.
+pub fn count_growths<R: Abort + Print>(rt: &R) {
+    println!(rt; "growths are counted").expect(rt, "a line");
+}
+
+/// From here on growths are counted no more.
+pub fn count_no_growths<R: Abort + Print>(rt: &R) {
+    println!(rt; "growths go by").expect(rt, "a line");
+}
+
+/// Says that a call answered want of memory.
+pub fn tell_refused<R: Abort + Print>(rt: &R) {
+    println!(rt; "a growth was refused").expect(rt, "a line");
+}
+
+fn counted_load<R: Abort + Print>(rt: &R, alloc: Global, text: &[u8]) -> Result<Table, LoadFault> {
+    count_growths(rt);
+    let table = loaded(alloc, text);
+    count_no_growths(rt);
+    table
+}
+
+// The table that a text is. A refused load gives none.
+fn table_of<R: Abort + Print>(rt: &R, alloc: Global, text: &[u8]) -> Table {
+    let table = match counted_load(rt, alloc, text) {
+        Err(
+            LoadFault {
+                cause: LoadCause::OutOfMemory,
+                ..
+            },
+        ) => {
+            tell_refused(rt);
+            counted_load(rt, alloc, text)
+        }
+        answer => answer,
+    };
+    table.expect(rt, "a table")
+}
+
+fn assert_loads<R: Abort + Print>(rt: &R, alloc: Global, lines: &[&str], printed: &[&str]) {
+    let text = text_of(alloc, lines).expect(rt, "a text");
+    let wanted = text_of(alloc, printed).expect(rt, "a text");
+    let table = table_of(rt, alloc, &text);
+    assert_printed(rt, alloc, &table, &wanted);
+    drop(table);
+}
+
+// The canonical text of the table with two sections.
+const PRINTED: &[&str] = &[
+    "comment_char %",
+    "escape_char /",
+    "LC_COLLATE",
+    "collating-element <ch> from \"<U0063><U0068>\"",
+    "order_start forward;forward,position",
+    "section <L>",
+    "<U0061>",
+    "section <M>",
+    "<ch>",
+    "UNDEFINED IGNORE;",
+    "order_end",
+    "END LC_COLLATE",
+];
+
+#[test]
+fn a_table_is_loaded_with_no_growth_refused(rt: HostRuntime) {
+    assert_loads(&rt, rt.alloc(), BASE_TABLE, BASE_TABLE);
+    assert_loads(&rt, rt.alloc(), TWO_SECTIONS, PRINTED);
+}
