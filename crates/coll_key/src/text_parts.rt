@@ -41,11 +41,7 @@ fn fault_without_memory(text: &str) -> KeyFault
 // The parts of a text, or nothing where it is too long.
 //
 // Its characters are counted as it is split, since a long text would take a tenth more time if they were counted before.
-fn split_parts(
-    alloc: Global,
-    ranks: &Ranks,
-    text: &str,
-) -> Result<Option<Vec<Part>>, AllocError>
+fn split_parts(alloc: Global, ranks: &Ranks, text: &str) -> Result<Option<Vec<Part>>, AllocError>
     ensures long { IfOk result (λ kept. MatchOption kept (is_too_long (chars text.now) ≡ true) (λ parts. is_too_long (chars text.now) ≡ false)) }
     ensures parts { IfOk result (λ kept. IfSome kept (λ parts. parts.items ≡ parts_of ranks.now (chars text.now))) }
 {

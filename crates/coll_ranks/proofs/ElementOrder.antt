@@ -1,11 +1,11 @@
 -- Elements in the order of their strings: each step of a search, and what one more element does.
-use Rattle.std.proofs.Common.{◌≡◌, ◌<◌, ◌≤◌, ℕ, zero, suc, ◌+◌, ◌-◌, ◌/◌, Bool, true, false, List, [], ◌∷◌, ◌++◌, length, get_or, drop, map, Option, None, sym, ap, subst, ◌∙◌, refl, arith}
+use Rattle.std.proofs.Common.{◌≡◌, ◌<◌, ◌≤◌, ℕ, ◌+◌, ◌-◌, ◌/◌, Bool, true, false, List, [], ◌∷◌, ◌++◌, length, get_or, drop, None, sym, ap, subst, ◌∙◌, refl, arith}
 use Rattle.std.specs.Prelude.{nat_lt}
 use Rattle.std.proofs.lemmas.Bool.{ltb-false}
 use Rattle.std.proofs.lemmas.Bool.Decides.{Decides-ltb, Decides-eqb}
 use Rattle.coll_ranks.proofs.Tests.{by_test}
 use Rattle.coll_ranks.proofs.StringOrder.{not_so, begun_between, not_begun_behind, not_before_all}
-use Rattle.std.specs.Prelude.{chars, encode_utf8_all, MatchBool, slice_index_or}
+use Rattle.std.specs.Prelude.{chars, encode_utf8_all, MatchBool}
 use Rattle.std.specs.Str.{IsUtf8}
 use Rattle.coll_ranks.specs.ElementOrder.{first_of}
 use Rattle.std.specs.Ordering.{is_lt, nat_cmp}
@@ -18,7 +18,7 @@ use Rattle.std.proofs.lemmas.Slice.Eq.{starts_is}
 use Rattle.std.proofs.lemmas.List.{get_or-map, length-map}
 use Rattle.coll_ranks.proofs.ElementBeginnings.{goes_on, begins_so}
 use Rattle.coll_ranks.specs.Elements.{begins_with}
-use Rattle.coll_ranks.specs.ElementOrder.{stands_before, string_there, AreAscending, AreLinked, AreBetween, IsLastBegun, IsOrder, strings_in, links_in, firsts_in}
+use Rattle.coll_ranks.specs.ElementOrder.{stands_before, string_there, AreAscending, AreLinked, IsLastBegun, IsOrder, strings_in, links_in}
 use Rattle.coll_ranks.specs.declared.element_order.OrderedElement.{OrderedElement}
 
 -- a text has the first character of a string that it begins with
@@ -105,7 +105,7 @@ steps_down ordered element text bytes found among left within ascending linked r
     record {
       below = omega (arith, some, link, (linked (left - 1) (omega (arith, there, counted))).within);
       apart = subst (λ (n : ℕ). NoneBegun (strings_in ordered) text n among) link
-      (none_to_link (strings_in ordered) (links_in ordered) text among left ascending linked (omega (arith, within, counted)) reached some below not_begun apart);
+          (none_to_link (strings_in ordered) (links_in ordered) text among left ascending linked (omega (arith, within, counted)) reached some below not_begun apart);
     }
 
 -- the walk ends where the text begins with the element

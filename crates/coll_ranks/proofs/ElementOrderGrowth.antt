@@ -1,5 +1,5 @@
 -- What one more element does to elements in the order of their strings.
-use Rattle.std.proofs.Common.{◌≡◌, ◌<◌, ◌≤◌, ℕ, ◌+◌, ◌-◌, ◌==◌, ◌&&◌, Bool, true, false, cond, List, [], ◌∷◌, ◌++◌, length, get_or, map, sym, ap, ap₂, subst, ◌∙◌, refl, arith}
+use Rattle.std.proofs.Common.{◌≡◌, ◌<◌, ◌≤◌, ℕ, ◌+◌, ◌-◌, ◌==◌, ◌&&◌, true, false, cond, List, [], ◌∷◌, ◌++◌, length, get_or, sym, ap, ap₂, subst, ◌∙◌, refl, arith}
 use Rattle.std.proofs.Math.ListN.{get_or-append}
 use Rattle.std.proofs.Math.Seq.{get_or-append_seam}
 use Rattle.std.proofs.lemmas.List.{map-append, length-map, length-append}
@@ -108,10 +108,12 @@ last_between : (starts ends others behind : List ℕ) (first count : ℕ) → Ar
 last_between starts ends others behind first count set order bounded =
     let same : (first == first) ≡ true = (Decides-eqb first first).1 refl in
     let start : get_or others first 0 ≡ cond (get_or ends first 0 == 0) count (get_or starts first 0) = set.0 first ∙ ap (λ b. cond (b && (get_or ends first 0 == 0)) count (get_or starts first 0)) same in
-    let end : get_or behind first 0 ≡ count + 1 = set.1 first ∙ ap (λ b. cond b (count + 1) (get_or ends first 0)) same in
-    (by_test (λ b. get_or others first 0 ≡ cond b count (get_or starts first 0) → get_or others first 0 ≤ count) (get_or ends first 0 == 0)
-    (λ none at. omega (arith, at))
-    (λ some at. omega (arith, at, order, bounded)) start, omega (arith, end))
+    let end : get_or behind first 0 ≡ count + 1 = set.1 first ∙ ap (λ b. cond b (count + 1) (get_or ends first 0)) same in (
+      by_test (λ b. get_or others first 0 ≡ cond b count (get_or starts first 0) → get_or others first 0 ≤ count) (get_or ends first 0 == 0)
+          (λ none at. omega (arith, at))
+          (λ some at. omega (arith, at, order, bounded)) start,
+      omega (arith, end),
+    )
 
 between_with : (firsts starts ends others behind : List ℕ) (first : ℕ) → AreBetween firsts starts ends → ((c : ℕ) → (get_or starts c 0 ≤ get_or ends c 0) × (get_or ends c 0 ≤ length firsts)) → AreSet starts ends others behind first (length firsts) → AreBetween (firsts ++ first ∷ []) others behind
 between_with firsts starts ends others behind first between bounded set c place below is =

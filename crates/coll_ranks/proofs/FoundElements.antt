@@ -1,7 +1,7 @@
 -- The last string that a text begins with, in their order, is that of its longest element.
-use Rattle.std.proofs.Common.{◌≡◌, ◌<◌, ◌≤◌, ℕ, ◌+◌, ◌-◌, ◌==◌, Bool, true, false, cond, List, [], ◌∷◌, ◌++◌, length, get_or, map, Option, Some, None, sym, ap, ap₂, subst, ◌∙◌, refl, append-nil, arith}
+use Rattle.std.proofs.Common.{◌≡◌, ◌<◌, ◌≤◌, ℕ, ◌-◌, true, cond, List, [], ◌∷◌, ◌++◌, length, get_or, Option, Some, None, sym, ap, subst, ◌∙◌, refl, append-nil, arith}
 use Rattle.std.proofs.lemmas.Bool.{false≢true, ltb-false}
-use Rattle.std.proofs.lemmas.Bool.Decides.{Decides-eqb, Decides-ltb}
+use Rattle.std.proofs.lemmas.Bool.Decides.{Decides-ltb}
 use Rattle.std.proofs.lemmas.List.{length-append, length-map, get_or-map}
 use Rattle.std.proofs.lemmas.Str.{chars-append, encodes-chars, encodes-append}
 use Rattle.std.specs.Prelude.{chars, encode_utf8_all, nat_lt}
@@ -11,11 +11,11 @@ use Rattle.coll_ranks.proofs.ElementBeginnings.{goes_on, begins_so, other_first}
 use Rattle.coll_ranks.proofs.LongestElements.{size_of, longest_is, longest_none}
 use Rattle.coll_ranks.proofs.StringOrder.{begun_between, not_before_its_front, not_so}
 use Rattle.coll_ranks.proofs.ElementOrder.{strings_count}
-use Rattle.coll_ranks.proofs.SortedStrings.{there_is, same_there}
+use Rattle.coll_ranks.proofs.SortedStrings.{there_is}
 use Rattle.coll_ranks.specs.Elements.{begins_with, longest}
 use Rattle.coll_ranks.specs.Ranks.{RankedElement, ranked_text}
 use Rattle.coll_ranks.specs.NamedElements.{Finds, if_begun}
-use Rattle.coll_ranks.specs.ElementOrder.{first_of, stands_before, string_there, AreAscending, AreStringsOf, IsLastBegun, IsOrder, IsSpelled, strings_in, places_in, firsts_in}
+use Rattle.coll_ranks.specs.ElementOrder.{first_of, string_there, AreAscending, AreStringsOf, IsLastBegun, IsOrder, IsSpelled, strings_in, places_in}
 use Rattle.coll_ranks.specs.declared.element_order.OrderedElement.{OrderedElement}
 use Rattle.coll_ranks.specs.declared.named_elements.FoundElement.{FoundElement}
 
@@ -73,20 +73,22 @@ last_is_longest elements strings places text among ranked order ascending utf8 l
           let string : IsSpelled y (string_there strings at.0) = order.each at.0 y at.1 (y_is ∙ ap (λ n. get_or elements n y) (sym at.2)) in
           let front : begins_with text (string_there strings at.0) ≡ true = begun_bytes text (string_there strings at.0) utf8 string.utf8 (ap (begins_with (chars text)) string.is ∙ on) in
           let not_behind : at.0 < among = by_test (λ _. at.0 < among) (nat_lt at.0 among)
-            (λ before. (Decides-ltb at.0 among).0 before)
-            (λ behind. absurd (false≢true (sym (last.apart at.0 (ltb-false at.0 among behind) at.1) ∙ front))) in
+          (λ before. (Decides-ltb at.0 among).0 before)
+          (λ behind. absurd (false≢true (sym (last.apart at.0 (ltb-false at.0 among behind) at.1) ∙ front))) in
           let low : at.0 ≤ last_at = omega (arith, not_behind) in
           let of_last : IsFront (string_there strings last_at) (string_there strings at.0) =
-            front_of (string_there strings last_at) (string_there strings at.0) spelled.utf8 string.utf8
-            (begun_between (string_there strings at.0) (string_there strings last_at) text (ascending at.0 last_at low there) (not_before_its_front text (string_there strings last_at) (last.begun some)) front) in
+          front_of (string_there strings last_at) (string_there strings at.0) spelled.utf8 string.utf8
+          (begun_between (string_there strings at.0) (string_there strings last_at) text (ascending at.0 last_at low there) (not_before_its_front text (string_there strings last_at) (last.begun some)) front) in
           let small : length (chars (string_there strings at.0)) ≡ size_of y = ap length string.is in
-          let large : length (chars (string_there strings last_at)) ≡ size_of ranked = ap length spelled.is in
-          (omega (arith, of_last.size, small, large), λ later.
-          by_test (λ _. size_of y < size_of ranked) (nat_lt (size_of y) (size_of ranked))
-          (λ less. (Decides-ltb (size_of y) (size_of ranked)).0 less)
-          (λ as_long.
-          let same = of_last.whole (omega (arith, small, large, ltb-false (size_of y) (size_of ranked) as_long)) in
-          absurd (omega (arith, later, order.alike at.0 last_at low there same, at.2))))
+          let large : length (chars (string_there strings last_at)) ≡ size_of ranked = ap length spelled.is in (
+            omega (arith, of_last.size, small, large),
+            λ later.
+                by_test (λ _. size_of y < size_of ranked) (nat_lt (size_of y) (size_of ranked))
+                (λ less. (Decides-ltb (size_of y) (size_of ranked)).0 less)
+                (λ as_long.
+                let same = of_last.whole (omega (arith, small, large, ltb-false (size_of y) (size_of ranked) as_long)) in
+                absurd (omega (arith, later, order.alike at.0 last_at low there same, at.2))),
+          )
 
 -- where a text begins with no string, it begins with no element
 pub none_is_longest : (elements : List RankedElement) (strings : List (List ℕ)) (places : List ℕ) (text : List ℕ) (among : ℕ) → AreStringsOf elements strings places → IsUtf8 text → IsLastBegun strings text (length strings) among → among ≤ 0 → longest ranked_text elements (chars text) ≡ None

@@ -1,5 +1,5 @@
 -- Which element of a list is the longest that a text begins with.
-use Rattle.std.proofs.Common.{◌≡◌, ◌<◌, ◌≤◌, ℕ, zero, suc, Bool, true, false, cond, List, [], ◌∷◌, length, get_or, Option, Some, None, sym, ap, ◌∙◌, refl, arith}
+use Rattle.std.proofs.Common.{◌≡◌, ◌<◌, ◌≤◌, ℕ, zero, suc, true, false, cond, List, [], ◌∷◌, length, get_or, Option, Some, None, sym, ap, ◌∙◌, refl, arith}
 use Rattle.std.specs.Prelude.{nat_lt}
 use Rattle.std.proofs.lemmas.Bool.{le-ltb}
 use Rattle.std.proofs.lemmas.Bool.Decides.{Decides-ltb}
@@ -49,8 +49,8 @@ longest_is (y ∷ ys) text zero x there is on all =
       longest_with_first zs z = longest ranked_text (z ∷ zs) text
 longest_is (y ∷ ys) text (suc place) x there is on all =
     let rest : longest ranked_text ys text ≡ Some x = longest_is ys text place x (omega (arith, there)) is on (λ other z below same begun.
-        let told = all (suc other) z (omega (arith, below)) same begun in
-        (told.0, λ later. told.1 (omega (arith, later)))) in
+    let told = all (suc other) z (omega (arith, below)) same begun in
+    (told.0, λ later. told.1 (omega (arith, later)))) in
     by_test (λ b. begins_with text (ranked_text y) ≡ b → cond b (Some (longer ranked_text y (longest ranked_text ys text))) (longest ranked_text ys text) ≡ Some x) (begins_with text (ranked_text y))
     (λ _ begun.
     ap (λ found. Some (longer ranked_text y found)) rest

@@ -1,14 +1,13 @@
 -- The strings of elements, numbered and sorted: what stands at each place, and what is put into their order.
-use Rattle.std.proofs.Common.{◌≡◌, ◌<◌, ◌≤◌, ℕ, zero, suc, ◌+◌, ◌==◌, Bool, true, false, cond, List, [], ◌∷◌, ◌++◌, length, get_or, take, map, sym, ap, ap₂, subst, ◌∙◌, refl, arith}
+use Rattle.std.proofs.Common.{◌≡◌, ◌<◌, ◌≤◌, ℕ, zero, suc, ◌+◌, ◌==◌, Bool, true, false, cond, List, [], ◌∷◌, ◌++◌, length, get_or, take, sym, ap, ap₂, subst, ◌∙◌, refl, arith}
 use Rattle.std.proofs.Math.ListN.{get_or-append}
 use Rattle.std.proofs.Math.Seq.{get_or-append_seam, take-suc}
 use Rattle.std.proofs.lemmas.List.{map-append, get_or-map, get_or-take, length-map, length-append}
 use Rattle.std.proofs.lemmas.List.Sorted.{sorted_far, ranks_by, length_permutation, Contains-permutation, IsPermutation-sym}
 use Rattle.std.proofs.lemmas.Cmp.{then_total, on_total, nat_cmp_total, nat_list_cmp_total}
-use Rattle.std.proofs.lemmas.Bool.{false≢true, ltb-false}
+use Rattle.std.proofs.lemmas.Bool.{ltb-false}
 use Rattle.std.proofs.lemmas.Bool.Decides.{Decides-ltb, Decides-eqb}
 use Rattle.std.specs.Prelude.{chars, nat_lt}
-use Rattle.std.specs.List.{Contains}
 use Rattle.std.specs.List.Sorted.{IsPermutation, IsSorted}
 use Rattle.std.specs.Ordering.{is_lt, nat_cmp, ordering_then}
 use Rattle.std.specs.Cmp.Lexicographic.{slice_cmp}
@@ -16,7 +15,6 @@ use Rattle.std.specs.declared.cmp.Ordering.{Ordering}
 use Rattle.std.specs.declared.cmp.Ordering.TheVariants.{Less, Equal, Greater}
 use denote.Ref.{Bor}
 use Rattle.coll_ranks.proofs.Tests.{by_test}
-use Rattle.coll_ranks.proofs.StringOrder.{not_before_itself, not_so}
 use Rattle.coll_ranks.specs.Ranks.{RankedElement}
 use Rattle.coll_ranks.specs.ElementOrder.{stands_before, string_there, AreAscending, AreStringsOf, AreNumbered, IsSpelled, texts_of, numbers_of}
 
@@ -127,10 +125,12 @@ module _ (elements : List RankedElement) (xs ys : List Numbered) (numbered : Are
       let here = there_is ys at there in
       let from = origin at here.0 there here.1 in
       let within : from.0 < length elements = omega (arith, from.1, numbered.counted) in
-      let number : get_or (numbers_of ys) at 0 ≡ from.0 = number_is ys at here.0 there here.1 ∙ (sym (number_is xs from.0 here.0 from.1 from.2) ∙ numbered.numbers from.0 within) in
-      (omega (arith, number, within), λ ranked is.
-      subst (IsSpelled ranked) (text_is xs from.0 here.0 from.1 from.2 ∙ sym (text_is ys at here.0 there here.1))
-      (numbered.each from.0 ranked within (is ∙ ap (λ n. get_or elements n ranked) number)))
+      let number : get_or (numbers_of ys) at 0 ≡ from.0 = number_is ys at here.0 there here.1 ∙ (sym (number_is xs from.0 here.0 from.1 from.2) ∙ numbered.numbers from.0 within) in (
+        omega (arith, number, within),
+        λ ranked is.
+            subst (IsSpelled ranked) (text_is xs from.0 here.0 from.1 from.2 ∙ sym (text_is ys at here.0 there here.1))
+            (numbered.each from.0 ranked within (is ∙ ap (λ n. get_or elements n ranked) number)),
+      )
 
   -- none stands before an earlier one
   rises : (earlier at : ℕ) (x y : Numbered) → earlier ≤ at → at < length ys → x ≡ get_or ys earlier x → y ≡ get_or ys at y → is_lt (numbered_order y x) ≡ false

@@ -1,7 +1,7 @@
 -- Placed elements in the order of their strings: the last string that a text begins with is the longest.
 --
 -- Strings are lists of bytes here, since texts are compared so.
-use Rattle.std.specs.Prelude.{◌≡◌, ◌<◌, ◌≤◌, ℕ, ◌-◌, Bool, true, false, List, ◌++◌, map, length, slice_index_or, []}
+use Rattle.std.specs.Prelude.{◌≡◌, ◌<◌, ◌≤◌, ℕ, ◌-◌, Bool, true, false, List, map, length, slice_index_or, []}
 use Rattle.std.specs.Prelude.{chars, encode_utf8_all}
 use Rattle.std.specs.Str.{IsUtf8}
 use Rattle.std.specs.Ordering.{is_lt, nat_cmp}

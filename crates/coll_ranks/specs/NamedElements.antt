@@ -1,5 +1,5 @@
 -- Placed elements as they are kept, each with its name, and what is found of one.
-use Rattle.std.specs.Prelude.{◌≡◌, ◌≢◌, ◌<◌, ◌≤◌, ℕ, ◌-◌, if◌then◌else◌, List, ◌++◌, Option, Some, None, map, length, chars, slice_index_or, slice_get}
+use Rattle.std.specs.Prelude.{◌≡◌, ◌<◌, ℕ, if◌then◌else◌, List, ◌++◌, Option, Some, None, map, length, chars, slice_get}
 use Rattle.std.specs.List.{All}
 use Rattle.std.specs.Option.{option_map}
 use Rattle.coll_ranks.specs.Elements.{begins_with}

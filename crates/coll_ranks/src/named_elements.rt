@@ -85,12 +85,7 @@ impl NamedElements {
     }
 
     /// Puts an element, whose string has a character, behind all others.
-    pub(crate) fn push(
-        self,
-        name: &str,
-        text: &str,
-        rank: u32,
-    ) -> Result<NamedElements, AllocError>
+    pub(crate) fn push(self, name: &str, text: &str, rank: u32) -> Result<NamedElements, AllocError>
         requires some { 0 < length (chars text.now) }
         requires few { length self < 1_000_000 }
         ensures { IfOk result (λ with. with ≡ self ++ ranked_element (chars name.now) (chars text.now) rank ∷ []) }
@@ -100,14 +95,7 @@ impl NamedElements {
             mut places,
             alloc,
         } = self;
-        put(
-            alloc,
-            &mut elements,
-            &mut places,
-            name,
-            text,
-            rank,
-        )?;
+        put(alloc, &mut elements, &mut places, name, text, rank)?;
         Ok(NamedElements {
             elements,
             places,
@@ -136,12 +124,7 @@ impl PlacedElement {
     ghost use Rattle.coll_ranks.specs.NamedElements.{Finds, if_begun, kept_element, IsKept};
 
     // An element with its string.
-    fn new(
-        alloc: Global,
-        name: &str,
-        text: &str,
-        rank: u32,
-    ) -> Result<PlacedElement, AllocError>
+    fn new(alloc: Global, name: &str, text: &str, rank: u32) -> Result<PlacedElement, AllocError>
         ensures { IfOk result (IsKept (chars name.now) (chars text.now) rank) }
     {
         let length = text.chars().count();

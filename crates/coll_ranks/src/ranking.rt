@@ -98,11 +98,7 @@ fn ranked_elements(
 }
 
 // The elements of a table that are placed, with their names and their ranks.
-fn named_elements(
-    alloc: Global,
-    table: &Table,
-    ids: &IdRanks,
-) -> Result<NamedElements, AllocError>
+fn named_elements(alloc: Global, table: &Table, ids: &IdRanks) -> Result<NamedElements, AllocError>
     requires { AreIdRanksOf ids.now (collation table.now) }
     ensures elements { IfOk result (λ elements. elements ≡ map (ranked_in (collation table.now)) (elements_placed (collation table.now))) }
     ensures few { IfOk result (λ elements. length elements < 1_000_000) }

@@ -1,5 +1,5 @@
 -- The string in the middle stands before the text, or at it, or behind it.
-use Rattle.std.proofs.Common.{◌≡◌, ◌<◌, ◌≤◌, ◌+◌, ◌-◌, ◌/◌, length, arith}
+use Rattle.std.proofs.Common.{◌-◌, arith}
 use Rattle.coll_ranks.proofs.ElementOrder.{halves_down, halves_up, half_below}
 use Rattle.coll_ranks.proofs.element_order.count_up_to.Goals as goal
 

@@ -1,5 +1,5 @@
 -- Each step goes to the last element before it that its string begins with.
-use Rattle.coll_ranks.proofs.ElementOrder.{steps_down, ends_begun, ends_empty}
+use Rattle.coll_ranks.proofs.ElementOrder.{steps_down, ends_begun}
 use Rattle.coll_ranks.proofs.element_order.last_begun.Goals as goal
 use Rattle.std.proofs.Common.{arith}
 

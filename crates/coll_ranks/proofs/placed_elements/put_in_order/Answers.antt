@@ -1,6 +1,6 @@
 -- The next string stands behind those before it.
-use Rattle.std.proofs.Common.{◌∙◌, ◌<◌, ◌≤◌, length, ap, arith}
-use Rattle.coll_ranks.specs.ElementOrder.{strings_in, places_in, texts_of, numbers_of}
+use Rattle.std.proofs.Common.{arith}
+use Rattle.coll_ranks.specs.ElementOrder.{strings_in}
 use Rattle.coll_ranks.proofs.ElementOrder.{strings_count}
 use Rattle.coll_ranks.proofs.SortedStrings.{so_many, next_behind, next_has_one, next_texts, next_numbers}
 use Rattle.coll_ranks.proofs.placed_elements.put_in_order.Goals as goal

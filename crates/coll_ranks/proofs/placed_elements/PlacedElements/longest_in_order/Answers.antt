@@ -1,6 +1,5 @@
 -- The last string that the text begins with is that of its longest element.
-use Rattle.std.proofs.Common.{ℕ, ◌≡◌, ◌<◌, ◌≤◌, ◌-◌, ◌∙◌, length, chars, sym, ap, subst, arith}
-use Rattle.coll_ranks.proofs.ElementOrder.{strings_count}
+use Rattle.std.proofs.Common.{◌-◌, length, ap, arith}
 use Rattle.coll_ranks.proofs.FoundElements.{none_found, found_there, place_within}
 use Rattle.coll_ranks.proofs.placed_elements.PlacedElements.longest_in_order.Goals as goal
 
