@@ -38,17 +38,17 @@ use Rattle.coll_bench.proofs.RunEnds.{last_on, last_stop}
 use Rattle.coll_bench.proofs.RunLemmas.{output_kept, heard_later, units_on, units_stop}
 
 -- the refusal for want of memory, of some line
-abbrev starved : ℕ → SessionUnit
+abbrev pub starved : ℕ → SessionUnit
 starved n = refused_at (starved_at n)
 
 -- it is one of these units
-abbrev Wants : List SessionUnit → Type 0
+abbrev pub Wants : List SessionUnit → Type 0
 Wants us = (n : ℕ) × (first : List SessionUnit) × (last : List SessionUnit) × (us ≡ first ++ starved n ∷ last)
 
 wants_first : (n : ℕ) (later : List SessionUnit) → Wants (starved n ∷ later)
 wants_first n later = (n, [], later, refl)
 
-wants_later : (front us : List SessionUnit) → Wants us → Wants (front ++ us)
+pub wants_later : (front us : List SessionUnit) → Wants us → Wants (front ++ us)
 wants_later front us (n, first, last, is) = (n, front ++ first, last, ap (λ (x : List SessionUnit). front ++ x) is ∙ sym (append_assoc front first (starved n ∷ last)))
 
 shows_later : (front bytes : List ℕ) → ShowsWant bytes → ShowsWant (front ++ bytes)
@@ -70,11 +70,11 @@ shows_at h n (unit ∷ first) last choices =
     let h2 = history_after_if (first_choice choices) h unit.request in
     shows_later (reply_if (first_choice choices) h unit.request) (answers h2 (first ++ starved n ∷ last) (later_choices choices)) (shows_at h2 n first last (later_choices choices))
 
-answers_want : (h : History) (us : List SessionUnit) (choices : List Bool) → Wants us → ShowsWant (answers h us choices)
+pub answers_want : (h : History) (us : List SessionUnit) (choices : List Bool) → Wants us → ShowsWant (answers h us choices)
 answers_want h us choices (n, first, last, is) = subst (λ (x : List SessionUnit). ShowsWant (answers h x choices)) (sym is) (shows_at h n first last choices)
 
 -- the replies where memory was refused to some units are those where it wasn't, or show it
-abbrev Exact : List ℕ → List ℕ → Type 0
+abbrev pub Exact : List ℕ → List ℕ → Type 0
 Exact written stated = (written ≡ stated) ⊎ ShowsWant written
 
 exact_later : (front written stated : List ℕ) → Exact written stated → Exact (front ++ written) (front ++ stated)
@@ -104,7 +104,7 @@ answers_step true h (request.Asks c) later choices ih = command_step h c later c
 answers_step true h (request.Refused f) later choices ih = answered_step h (request.Refused f) later choices ih
 answers_step true h (request.States s) later choices ih = inr ([], answers h later choices, refl)
 
-answers_exact : (h : History) (us : List SessionUnit) (choices : List Bool) → Exact (answers h us choices) (answers h us [])
+pub answers_exact : (h : History) (us : List SessionUnit) (choices : List Bool) → Exact (answers h us choices) (answers h us [])
 unfolding answers
 answers_exact h [] choices = inl refl
 answers_exact h (unit ∷ later) choices = answers_step (first_choice choices) h unit.request later (later_choices choices) (λ h2. answers_exact h2 later (later_choices choices))
@@ -169,17 +169,17 @@ refused_wants (Some block) n opening.Neither lines = stays block.so_far
     stays (so_far.Spoiled at) = starved_units block.line n lines
     stays (so_far.Starved w) = starved_units block.line w lines
 
-starved_line_units : (block : Option OpenBlock) (s : LexerState) (bytes : List ℕ) (lines : List HeardLine) → takes_memory s bytes ≡ true → Wants (kept_units true block (option_to_list (heard_at true s bytes) ++ lines))
+pub starved_line_units : (block : Option OpenBlock) (s : LexerState) (bytes : List ℕ) (lines : List HeardLine) → takes_memory s bytes ≡ true → Wants (kept_units true block (option_to_list (heard_at true s bytes) ++ lines))
 unfolding heard_in
 starved_line_units block s bytes lines takes =
     subst (λ (a : Result (Option Line × LexerState) LexFault). Wants (kept_units true block (option_to_list (heard_by true (number_of s) (opening_of (first_line s bytes)) a) ++ lines))) (sym (served_starved s bytes takes))
     (refused_wants block (number_of s) (opening_of (first_line s bytes)) lines)
 
 -- a line that no memory is taken for is served as if memory was there
-spared : (choices : List Bool) (s : LexerState) (bytes : List ℕ) (lines : List (List ℕ)) → takes_memory s bytes ≡ false → logical_lines (false ∷ choices) true s (bytes ∷ lines) ≡ logical_lines (true ∷ choices) true s (bytes ∷ lines)
+pub spared : (choices : List Bool) (ends : Bool) (s : LexerState) (bytes : List ℕ) (lines : List (List ℕ)) → takes_memory s bytes ≡ false → logical_lines (false ∷ choices) ends s (bytes ∷ lines) ≡ logical_lines (true ∷ choices) ends s (bytes ∷ lines)
 unfolding logical_lines served
-spared choices s bytes lines none =
-    ap (λ (b : Bool). lines_by s bytes (if b then Err lex.OutOfMemory else fed s bytes) ++ logical_lines choices true (state_by s (if b then Err lex.OutOfMemory else fed s bytes)) lines) (sym none)
+spared choices ends s bytes lines none =
+    ap (λ (b : Bool). lines_by s bytes (if b then Err lex.OutOfMemory else fed s bytes) ++ logical_lines choices ends (state_by s (if b then Err lex.OutOfMemory else fed s bytes)) lines) (sym none)
 
 -- what the lines ask for, where memory was refused to some, is what they ask for, or shows it
 abbrev ExactUnits : List SessionUnit → List SessionUnit → Type 0
@@ -217,7 +217,7 @@ exact_starved true choices s block bytes lines takes fine =
     inr (subst (λ (hs : List HeardLine). Wants (kept_units true block hs)) (sym (heard_later true choices true s bytes lines))
     (starved_line_units block s bytes (map heard (logical_lines choices true (state_by s (served true s bytes)) lines)) takes))
 exact_starved false choices s block bytes lines none fine =
-    subst (λ (ls : List LogicalLine). ExactUnits (kept_units true block (map heard ls)) (kept_units true block (map heard (logical_lines [] true s (bytes ∷ lines))))) (spared choices s bytes lines none) fine
+    subst (λ (ls : List LogicalLine). ExactUnits (kept_units true block (map heard ls)) (kept_units true block (map heard (logical_lines [] true s (bytes ∷ lines))))) (spared choices true s bytes lines none) fine
 
 units_exact : (choices : List Bool) (s : LexerState) (block : Option OpenBlock) (lines : List (List ℕ)) → ExactLines choices s block lines
 unfolding logical_lines
@@ -249,20 +249,20 @@ want_shows lines_starved units_starved table text =
 abbrev ExactLast : List Bool → LexerState → Option OpenBlock → List (List ℕ) → Type 0
 ExactLast choices s block lines = (last_line (logical_lines choices true s lines) ≡ last_line (logical_lines [] true s lines)) ⊎ Wants (kept_units true block (map heard (logical_lines choices true s lines)))
 
-none_chosen : (s : LexerState) (bytes : List ℕ) (lines : List (List ℕ)) → logical_lines (false ∷ []) true s (bytes ∷ lines) ≡ logical_lines [] true s (bytes ∷ lines)
+pub none_chosen : (ends : Bool) (s : LexerState) (bytes : List ℕ) (lines : List (List ℕ)) → logical_lines (false ∷ []) ends s (bytes ∷ lines) ≡ logical_lines [] ends s (bytes ∷ lines)
 unfolding logical_lines
-none_chosen s bytes lines = refl
+none_chosen ends s bytes lines = refl
 
 last_served : (stop : Option LexFault) (choices : List Bool) (s : LexerState) (block : Option OpenBlock) (bytes : List ℕ) (lines : List (List ℕ)) → stop_at (heard_at false s bytes) ≡ stop
     → ExactLast choices (state_by s (served false s bytes)) (line_block block (heard_at false s bytes)) lines → ExactLast (false ∷ choices) s block (bytes ∷ lines)
 last_served (Some f) choices s block bytes lines is later =
-    inl ((last_stop false s bytes choices true lines f is).line_is ∙ sym (last_stop false s bytes [] true lines f is).line_is ∙ ap last_line (none_chosen s bytes lines))
+    inl ((last_stop false s bytes choices true lines f is).line_is ∙ sym (last_stop false s bytes [] true lines f is).line_is ∙ ap last_line (none_chosen true s bytes lines))
 last_served None choices s block bytes lines is later =
     let x = heard_at false s bytes in
     let s2 = state_by s (served false s bytes) in
     ⊎_elim
     (λ (same : last_line (logical_lines choices true s2 lines) ≡ last_line (logical_lines [] true s2 lines)).
-    inl (last_on false s bytes choices true lines is ∙ same ∙ sym (last_on false s bytes [] true lines is) ∙ ap last_line (none_chosen s bytes lines)))
+    inl (last_on false s bytes choices true lines is ∙ same ∙ sym (last_on false s bytes [] true lines is) ∙ ap last_line (none_chosen true s bytes lines)))
     (λ (wants : Wants (kept_units true (line_block block x) (map heard (logical_lines choices true s2 lines)))).
     inr (subst (λ (hs : List HeardLine). Wants (kept_units true block hs)) (sym (heard_later false choices true s bytes lines))
     (subst (λ (us : List SessionUnit). Wants us) (sym (units_on true block x (map heard (logical_lines choices true s2 lines)) is))
@@ -274,7 +274,7 @@ last_starved true choices s block bytes lines takes fine =
     inr (subst (λ (hs : List HeardLine). Wants (kept_units true block hs)) (sym (heard_later true choices true s bytes lines))
     (starved_line_units block s bytes (map heard (logical_lines choices true (state_by s (served true s bytes)) lines)) takes))
 last_starved false choices s block bytes lines none fine =
-    subst (λ (ls : List LogicalLine). (last_line ls ≡ last_line (logical_lines [] true s (bytes ∷ lines))) ⊎ Wants (kept_units true block (map heard ls))) (spared choices s bytes lines none) fine
+    subst (λ (ls : List LogicalLine). (last_line ls ≡ last_line (logical_lines [] true s (bytes ∷ lines))) ⊎ Wants (kept_units true block (map heard ls))) (spared choices true s bytes lines none) fine
 
 last_exact : (choices : List Bool) (s : LexerState) (block : Option OpenBlock) (lines : List (List ℕ)) → ExactLast choices s block lines
 unfolding logical_lines

@@ -1,13 +1,14 @@
 //! The devices that lines are read from and replies are written to, and the count of their errors.
 //!
 //! A `Source` and a `Sink` are std's readers and writers with one thing more: a stored count of the
-//! errors that they answered, by which a caller can tell that a fault came from the device.
-//! `Counted` makes both of a std device. Other devices implement the traits themselves; a clause
-//! of a trait may be made stronger here, but every function over devices relies on each of them.
-ghost use Rattle.std.specs.Prelude.{◌≡◌, ℕ, List, Option};
+//! errors that they answered, by which a caller can tell that a fault came from the device. A `Sink`
+//! also says whether all that it took was flushed. `Counted` makes both of a std device. Other
+//! devices implement the traits themselves; a clause of a trait may be made stronger here, but every
+//! function over devices relies on each of them.
+ghost use Rattle.std.specs.Prelude.{◌≡◌, ℕ, Bool, true, List, Option};
 ghost use Rattle.std.specs.Io.{ReadsAtMost, WritesAtMost};
 ghost use Rattle.std.specs.Io.KnownBytes.{Keeps, ReadConsumes, WriteAppends};
-ghost use Rattle.coll_devices.specs.Devices.{CountsErr, CountsWrite, raised};
+ghost use Rattle.coll_devices.specs.Devices.{CountsErr, CountsWrite, FlushesAll, LeavesUnflushed, raised};
 
 use std::io;
 use std::io::{Read, Write};
@@ -32,7 +33,7 @@ pub trait Source {
         ensures { result ≡ failed self.now };
 }
 
-/// What bytes are written to, with a count of the writes and flushes that failed.
+/// What bytes are written to, with a count of the writes and flushes that failed, and word whether all was flushed.
 pub trait Sink {
     // The bytes taken so far, where they are known.
     ghost taken: { Self → Option (List ℕ) };
@@ -40,39 +41,55 @@ pub trait Sink {
     // The failures so far, modulo 2 to the power 64.
     ghost failed: { Self → ℕ };
 
+    // Whether all bytes taken were flushed: a flush succeeded since the last of them.
+    ghost flushed: { Self → Bool };
+
     /// Writes a front of `buf`, as std's `Write::write` does, and answers its length. An error, and
     /// a write of some bytes that takes none, is counted. An error takes nothing.
     fn write(&mut self, buf: &[u8]) -> io::Result<usize>
         ensures bound { WritesAtMost result buf.now }
         ensures bytes { WriteAppends (taken self.old) (taken self.new) result buf.now }
-        ensures errors { CountsWrite (failed self.old) (failed self.new) result buf.now };
+        ensures errors { CountsWrite (failed self.old) (failed self.new) result buf.now }
+        ensures unflushed { LeavesUnflushed (flushed self.old) (flushed self.new) result };
 
     /// Sends on what the device holds back. The bytes taken stay as they are; an error is counted.
     fn flush(&mut self) -> io::Result<()>
         ensures bytes { Keeps (taken self.old) (taken self.new) }
-        ensures errors { CountsErr (failed self.old) (failed self.new) result };
+        ensures errors { CountsErr (failed self.old) (failed self.new) result }
+        ensures flushed { FlushesAll (flushed self.old) (flushed self.new) result };
 
     /// The number of failed writes and flushes, modulo 2 to the power 64.
     fn errors(&self) -> u64
         ensures { result ≡ failed self.now };
+
+    /// Whether all bytes taken were flushed.
+    fn is_flushed(&self) -> bool
+        ensures { result ≡ flushed self.now };
 }
 
-/// A std device with a count of its errors, which begins at 0.
+/// A std device with a count of its errors, which begins at 0, and word whether what was written to it was flushed.
 #[derive(Drop)]
 pub struct Counted<T> {
     device: T,
     errors: u64,
+    // Whether no byte was taken since the last flush that succeeded, or else since the beginning.
+    flushed: bool,
 }
 
 impl<T> Counted<T> {
-    ghost use Rattle.coll_devices.specs.Counted.{device_of, errors_of};
+    ghost use Rattle.coll_devices.specs.Counted.{device_of, errors_of, flushed_of};
 
-    /// Wraps a device, of which no error was counted yet.
+    /// Wraps a device, of which no error was counted yet, and which has taken no byte since.
     pub fn new(device: T) -> Self
         ensures device { device_of result ≡ device }
         ensures errors { errors_of result ≡ 0 }
+        ensures flushed { flushed_of result ≡ true }
     {
-        Counted { device, errors: 0 }
+        Counted {
+            device,
+            errors: 0,
+            flushed: true,
+        }
     }
 
     /// The device itself.
@@ -86,6 +103,7 @@ impl<T> Counted<T> {
     fn count(&mut self)
         ensures errors { errors_of self.new ≡ raised (errors_of self.old) }
         ensures device { device_of self.new ≡ device_of self.old }
+        ensures flushed { flushed_of self.new ≡ flushed_of self.old }
     {
         self.errors = self.errors.wrapping_add(1);
     }
@@ -112,17 +130,20 @@ impl<T: Read> Source for Counted<T> {
 }
 
 impl<T: Write> Sink for Counted<T> {
-    ghost use Rattle.coll_devices.specs.Counted.{device_of, errors_of};
+    ghost use Rattle.coll_devices.specs.Counted.{device_of, errors_of, flushed_of};
 
     ghost taken = { λ c. T.contents (device_of c) };
 
     ghost failed = { errors_of };
 
+    ghost flushed = { flushed_of };
+
     fn write(&mut self, buf: &[u8]) -> io::Result<usize> {
         let result = self.device.write(buf);
         match result {
             Ok(0) if !buf.is_empty() => self.count(),
-            Ok(_) => {}
+            Ok(0) => {}
+            Ok(_) => self.flushed = false,
             Err(_) => self.count(),
         }
         result
@@ -132,11 +153,17 @@ impl<T: Write> Sink for Counted<T> {
         let result = self.device.flush();
         if result.is_err() {
             self.count();
+        } else {
+            self.flushed = true;
         }
         result
     }
 
     fn errors(&self) -> u64 {
         self.errors
+    }
+
+    fn is_flushed(&self) -> bool {
+        self.flushed
     }
 }

@@ -27,7 +27,8 @@ use std::cmp::Ordering;
 /// The order of two texts by a table.
 ///
 /// Where either has more than `MOST_TEXT_CHARACTERS` characters there is none, also where an earlier character decides. Where no
-/// level is `backward` it takes no memory.
+/// level is `backward` it takes no memory. The ranks must be those of the table as it stands: after an `apply` or a `flip` that
+/// changes it, they are to be made anew.
 pub fn compare(
     alloc: Global,
     table: &Table,

@@ -20,13 +20,15 @@ use std::alloc::Global;
 
 /// The sort key of a text: for each level its list of numbers, followed by 0.
 ///
-/// A text of more than `MOST_TEXT_CHARACTERS` characters has none.
+/// A text of more than `MOST_TEXT_CHARACTERS` characters has none. The ranks must be those of the table as it stands: after an
+/// `apply` or a `flip` that changes it, they are to be made anew.
 pub fn key(alloc: Global, table: &Table, ranks: &Ranks, text: &str) -> Result<Vec<u64>, KeyFault>
     requires { AreRanksOf ranks.now (collation table.now) }
     ensures ok { IfOk result (λ key. key.items ≡ key_of (collation table.now) (chars text.now)) }
     ensures form { IfOk result (λ key. has_key_form (collation table.now).rules key.items ≡ true) }
     ensures short { IfOk result (λ _. is_too_long (chars text.now) ≡ false) }
     ensures err { IfErr result (λ fault. fault ≢ OutOfMemory → is_too_long (chars text.now) ≡ true) }
+    ensures memory { IfErr result (λ fault. fault ≡ OutOfMemory → is_too_long (chars text.now) ≡ false) }
 {
     table.check_table();
     let parts = kept_parts(alloc, ranks, text)?;

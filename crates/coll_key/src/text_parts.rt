@@ -1,22 +1,49 @@
 //! The parts of a text, kept in a list.
 
-ghost use Rattle.std.specs.Prelude.{◌≡◌, ◌≢◌, chars, true, false, IfOk, IfErr};
+ghost use Rattle.std.specs.Prelude.{◌≡◌, ◌≢◌, chars, true, false, IfOk, IfErr, IfSome, MatchOption};
 ghost use Rattle.coll_key.specs.KeyLimits.{is_too_long};
 ghost use Rattle.coll_ranks.specs.Ranks.{parts_of};
 ghost use Rattle.coll_key.specs.declared.key_faults.KeyFault.TheVariants.{OutOfMemory};
 
 use crate::key_faults::KeyFault;
-use crate::limits::MOST_TEXT_CHARACTERS;
+use crate::limits::{MOST_TEXT_CHARACTERS, is_too_long};
 use coll_ranks::{Part, Ranks};
-use std::alloc::Global;
+use std::alloc::{AllocError, Global};
 
 /// The parts of a text that isn't too long.
 ///
-/// Its characters are counted as it is split, since a long text would take a tenth more time if they were counted before.
+/// Want of memory hides no text that is too long: where memory is refused, the text is judged by itself.
 pub(crate) fn kept_parts(alloc: Global, ranks: &Ranks, text: &str) -> Result<Vec<Part>, KeyFault>
     ensures ok { IfOk result (λ parts. parts.items ≡ parts_of ranks.now (chars text.now)) }
     ensures short { IfOk result (λ _. is_too_long (chars text.now) ≡ false) }
     ensures err { IfErr result (λ fault. fault ≢ OutOfMemory → is_too_long (chars text.now) ≡ true) }
+    ensures memory { IfErr result (λ fault. fault ≡ OutOfMemory → is_too_long (chars text.now) ≡ false) }
+{
+    match split_parts(alloc, ranks, text) {
+        Ok(Some(parts)) => Ok(parts),
+        Ok(None) => Err(KeyFault::TextTooLong),
+        Err(_) => Err(fault_without_memory(text)),
+    }
+}
+
+// Why a text has no parts where memory was refused.
+fn fault_without_memory(text: &str) -> KeyFault
+    ensures long { result ≢ OutOfMemory → is_too_long (chars text.now) ≡ true }
+    ensures memory { result ≡ OutOfMemory → is_too_long (chars text.now) ≡ false }
+{
+    if is_too_long(text) {
+        KeyFault::TextTooLong
+    } else {
+        KeyFault::OutOfMemory
+    }
+}
+
+// The parts of a text, or nothing where it is too long.
+//
+// Its characters are counted as it is split, since a long text would take a tenth more time if they were counted before.
+fn split_parts(alloc: Global, ranks: &Ranks, text: &str) -> Result<Option<Vec<Part>>, AllocError>
+    ensures long { IfOk result (λ kept. MatchOption kept (is_too_long (chars text.now) ≡ true) (λ parts. is_too_long (chars text.now) ≡ false)) }
+    ensures parts { IfOk result (λ kept. IfSome kept (λ parts. parts.items ≡ parts_of ranks.now (chars text.now))) }
 {
     let mut parts = Vec::new(alloc);
     parts.reserve(text.len().min(MOST_TEXT_CHARACTERS))?;
@@ -24,11 +51,11 @@ pub(crate) fn kept_parts(alloc: Global, ranks: &Ranks, text: &str) -> Result<Vec
     let mut room = MOST_TEXT_CHARACTERS;
     'parts: while let Some(first) = ranks.first_part(left) {
         if room < first.characters {
-            return Err(KeyFault::TextTooLong);
+            return Ok(None);
         }
         room -= first.characters;
         parts.push(first.part)?;
         left = first.rest;
     }
-    Ok(parts)
+    Ok(Some(parts))
 }

@@ -7,7 +7,7 @@ use Rattle.std.proofs.lemmas.Bool.Decides.{Decides-eqb}
 use Rattle.std.proofs.lemmas.Str.{chars-append, encodes-append, encodes-chars}
 use Rattle.coll_ranks.proofs.Tests.{by_test}
 use Rattle.coll_ranks.specs.Elements.{begins_with}
-use Rattle.coll_ranks.specs.ElementChains.{first_of}
+use Rattle.coll_ranks.specs.ElementOrder.{first_of}
 
 -- a text that begins with a string goes on behind it
 pub goes_on : (text string : List ℕ) → begins_with text string ≡ true → (rest : List ℕ) × (text ≡ string ++ rest)

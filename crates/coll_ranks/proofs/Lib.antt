@@ -1,8 +1,13 @@
 pub mod AlikeFronts
 pub mod ElementBeginnings
-pub mod ElementChains
+pub mod ElementOrder
+pub mod ElementOrderGrowth
+pub mod FoundElements
 pub mod LongestElements
+pub mod SortedStrings
+pub mod StringOrder
 pub mod NameLookUps
+pub mod NamedElements
 pub mod PartNumbers
 pub mod RankListLemmas
 pub mod RankingLemmas

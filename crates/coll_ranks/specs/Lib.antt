@@ -1,7 +1,8 @@
 pub mod AlikeFronts
-pub mod ElementChains
+pub mod ElementOrder
 pub mod Elements
 pub mod NameMaps
+pub mod NamedElements
 pub mod Rank
 pub mod RankLists
 pub mod Ranking

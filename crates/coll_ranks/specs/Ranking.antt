@@ -8,7 +8,7 @@ use Rattle.coll_nodes.specs.Table.{Collation}
 use Rattle.coll_nodes.specs.declared.declarations.Declaration.{Declaration}
 use Rattle.coll_nodes.specs.declared.declarations.Declaration.TheVariants as declaration
 use Rattle.coll_nodes.specs.declared.entries.Entry.{Entry}
-use Rattle.coll_ranks.specs.ElementChains.{ranked_element}
+use Rattle.coll_ranks.specs.NamedElements.{ranked_element}
 use Rattle.coll_ranks.specs.Rank.{rank_of}
 use Rattle.coll_ranks.specs.Ranks.{RanksById, RankedElement, rank_with}
 

@@ -4,7 +4,8 @@
 //! weighs at a level. A way through the crate, each file with its definitions in `specs/`:
 //!
 //! - `code_points`, `name_numbers` and `id_ranks`: which rank an identifier has (`Rank`, `Ranks`, `NameMaps`);
-//! - `placed_elements`: which collating element a text begins with (`Elements`, `ElementChains`);
+//! - `named_elements`, `element_order` and `placed_elements`: which collating element a text begins with (`Elements`,
+//!   `NamedElements`, `ElementOrder`);
 //! - `parts`: what a text is split into, and what a part weighs (`WeightNumbers`, `AlikeFronts`);
 //! - `compiled_weights`: the weights of all entries as ranks (`Ranks`, `RankLists`);
 //! - `ranks`, and `ranking`: the whole, made of a table (`Ranks`, `Ranking`).
@@ -12,8 +13,10 @@
 
 mod code_points;
 mod compiled_weights;
+mod element_order;
 mod id_ranks;
 mod name_numbers;
+mod named_elements;
 mod parts;
 mod placed_elements;
 mod ranking;

@@ -21,6 +21,7 @@ ghost use Rattle.coll_ranks.specs.Ranks.{rank_with, rank_or_zero, ranked_in, com
 
 use crate::compiled_weights::CompiledWeights;
 use crate::id_ranks::IdRanks;
+use crate::named_elements::NamedElements;
 use crate::placed_elements::PlacedElements;
 use coll_syntax::{Id, Weight};
 use coll_table::{Declared, DeclaredItem, Table, Walk, WalkItem};
@@ -83,7 +84,7 @@ pub(crate) fn elements_and_weights(
     Ok((elements, weights))
 }
 
-// The elements of a table that are placed, with their ranks.
+// The elements of a table that are placed, with their ranks, found by what a text begins with.
 fn ranked_elements(
     alloc: Global,
     table: &Table,
@@ -92,9 +93,19 @@ fn ranked_elements(
     requires { AreIdRanksOf ids.now (collation table.now) }
     ensures { IfOk result (λ elements. elements ≡ map (ranked_in (collation table.now)) (elements_placed (collation table.now))) }
 {
+    let named = named_elements(alloc, table, ids)?;
+    PlacedElements::new(alloc, named)
+}
+
+// The elements of a table that are placed, with their names and their ranks.
+fn named_elements(alloc: Global, table: &Table, ids: &IdRanks) -> Result<NamedElements, AllocError>
+    requires { AreIdRanksOf ids.now (collation table.now) }
+    ensures elements { IfOk result (λ elements. elements ≡ map (ranked_in (collation table.now)) (elements_placed (collation table.now))) }
+    ensures few { IfOk result (λ elements. length elements < 1_000_000) }
+{
     table.check_table();
     put_all(
-        PlacedElements::new(alloc, table.hash_keys()),
+        NamedElements::new(alloc, table.hash_keys()),
         ids,
         table.declared(),
     )
@@ -102,13 +113,14 @@ fn ranked_elements(
 
 // Puts the elements of declarations that have a rank behind others.
 fn put_all(
-    elements: PlacedElements,
+    elements: NamedElements,
     ids: &IdRanks,
     declared: Declared<'_>,
-) -> Result<PlacedElements, AllocError>
+) -> Result<NamedElements, AllocError>
     requires some { All HasString declared }
     requires few { length elements + length declared < 1_000_000 }
-    ensures { IfOk result (λ all. all ≡ elements ++ flat_map (ranked_declared ids.now) declared.entry) }
+    ensures all { IfOk result (λ all. all ≡ elements ++ flat_map (ranked_declared ids.now) declared.entry) }
+    ensures few { IfOk result (λ all. length all < 1_000_000) }
 {
     let mut all = elements;
     let mut left = declared;
@@ -120,10 +132,10 @@ fn put_all(
 
 // Puts what is declared behind other elements, if it is one that has a rank.
 fn put_declared(
-    elements: PlacedElements,
+    elements: NamedElements,
     ids: &IdRanks,
     item: DeclaredItem<'_>,
-) -> Result<PlacedElements, AllocError>
+) -> Result<NamedElements, AllocError>
     requires some { HasString (declared_by item) }
     requires few { length elements < 1_000_000 }
     ensures { IfOk result (λ with. with ≡ elements ++ ranked_declared ids.now (declared_by item.entry)) }

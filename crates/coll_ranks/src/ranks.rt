@@ -20,6 +20,9 @@ use std::alloc::{AllocError, Global};
 use std::marker::Model;
 
 /// The ranks of a table's identifiers, and its weights as ranks.
+///
+/// They are those of the table as it stood when they were made, with its rules, declarations, sections and weights. After an `apply`
+/// or a `flip` that changes one of these, they are to be made anew before they are handed on with the table.
 #[derive(Drop)]
 pub struct Ranks {
     ids: IdRanks,

@@ -4,7 +4,7 @@
 //! flush fails, the device has taken a front of the reply. A new unit is a new case of `respond`, and of the
 //! definition of replies.
 
-ghost use Rattle.std.specs.Prelude.{◌≡◌, ◌≤◌, ◌++◌, ◌∷◌, [], Bool, chars, encode_utf8_all, IfOk};
+ghost use Rattle.std.specs.Prelude.{◌≡◌, ◌≤◌, ◌++◌, ◌∷◌, [], Bool, true, chars, encode_utf8_all, IfOk, OnOk};
 ghost use Rattle.std.specs.Io.KnownBytes.{Keeps};
 ghost use Rattle.coll_devices.specs.Devices.{CountsErr, Sends};
 ghost use Rattle.coll_lex.specs.Spelling.{spelled_symbol};
@@ -45,6 +45,7 @@ pub fn answer<W: Sink>(
     ensures answered { (starved : Bool) × Sends (W.taken out.old) (W.taken out.new) (reply_if starved session.old request) result
         × (session.new ≡ history_after_if starved session.old request) }
     ensures errors { CountsErr (W.failed out.old) (W.failed out.new) result }
+    ensures flushed { OnOk result (W.flushed out.new ≡ true) }
 {
     respond(alloc, session, request, out)?;
     flush(out)
@@ -54,6 +55,7 @@ pub fn answer<W: Sink>(
 pub fn refuse<W: Sink>(fault: Fault, out: &mut W) -> Result<(), WriteStop>
     ensures sent { Sends (W.taken out.old) (W.taken out.new) (refused_line fault) result }
     ensures errors { CountsErr (W.failed out.old) (W.failed out.new) result }
+    ensures flushed { OnOk result (W.flushed out.new ≡ true) }
 {
     write_refused(out, fault)?;
     flush(out)
@@ -63,6 +65,7 @@ pub fn refuse<W: Sink>(fault: Fault, out: &mut W) -> Result<(), WriteStop>
 fn flush<W: Sink>(out: &mut W) -> Result<(), WriteStop>
     ensures sent { Keeps (W.taken out.old) (W.taken out.new) }
     ensures errors { CountsErr (W.failed out.old) (W.failed out.new) result }
+    ensures flushed { OnOk result (W.flushed out.new ≡ true) }
 {
     match out.flush() {
         Ok(()) => Ok(()),

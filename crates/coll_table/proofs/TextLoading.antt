@@ -157,6 +157,7 @@ module _ (start : Option (List ℕ)) (reader : ReaderState) (left : Option (List
             at.fed cut.went_on ∙ ap (λ rest. with_feeds at.whole ++ rest) cut.all,
             at.lines ∙ ap (λ rest. at.whole ++ lines_of rest) cut.all,
             cut.whole,
+            cut.short,
             subst IsUndecided (sym (ap (outcome_of false) (sym (append-nil at.whole)) ∙ at.decides false [])) (undecided_here way.before s way.stands going),
           ),
         )

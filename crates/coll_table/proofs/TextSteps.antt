@@ -1,5 +1,5 @@
 -- What a reader's answer to one call says of the lines of the text that is unread.
-use Rattle.std.proofs.Common.{◌≡◌, ℕ, ◌<◌, Bool, true, false, List, [], ◌∷◌, ◌++◌, length, Option, Some, None, ◌⊎◌, ⊎_elim, sym, ap, subst, ◌∙◌, refl, append_assoc, append-nil}
+use Rattle.std.proofs.Common.{◌≡◌, ℕ, ◌<◌, ◌≤◌, Bool, true, false, List, [], ◌∷◌, ◌++◌, length, Option, Some, None, ◌⊎◌, ⊎_elim, sym, ap, subst, ◌∙◌, refl, append_assoc, append-nil}
 use Rattle.std.proofs.lemmas.Bool.{false≢true}
 use Rattle.std.specs.Io.KnownBytes.{prepend_known, Keeps, IsAtEnd}
 use Rattle.coll_devices.specs.LineReading.{ReaderState, unread, Cuts, CutsLine, GivesLine, GivesEnd, EndsAgain, StopsNow, StopsAgain}
@@ -36,6 +36,7 @@ pub record IsCutShort (old : ReaderState) (left_after : Option (List ℕ)) (text
   pub left : left_after ≡ Some rest
   pub all : text ≡ part ++ rest
   pub whole : IsInLine part
+  pub short : length part ≤ most_line_bytes
   pub went_on : old.ended ≡ false
 
 -- bytes that are known lose a line, and the rest is known
@@ -110,4 +111,4 @@ module _ (old new : ReaderState) (left left_after : Option (List ℕ)) (failed f
   stops_short none either =
       let h = stops_now stop.ReadFault none either in
       let at = stopped_at stop.ReadFault h in
-      record { part = new.held; rest = at.0; left = at.1; all = at.2; whole = h.cause.1; went_on = h.not_ended }
+      record { part = new.held; rest = at.0; left = at.1; all = at.2; whole = h.cause.1; short = h.cause.2; went_on = h.not_ended }

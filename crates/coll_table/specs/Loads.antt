@@ -1,7 +1,8 @@
 -- What a load answers, and what it leaves of the text and of the device's count of errors.
-use Rattle.std.specs.Prelude.{◌≡◌, ℕ, false, List, [], ◌∷◌, ◌++◌, Option, Some, Result, Ok, Err, MatchResult}
+use Rattle.std.specs.Prelude.{◌≡◌, ◌≤◌, ℕ, false, List, [], ◌∷◌, ◌++◌, length, Option, Some, Result, Ok, Err, MatchResult}
 use Rattle.std.specs.List.{flat_map}
 use Rattle.coll_devices.specs.Devices.{raised}
+use Rattle.coll_devices.specs.Limits.{most_line_bytes}
 use Rattle.coll_devices.specs.PhysicalLines.{line_feed, lines_of, IsInLine}
 use Rattle.coll_lex.specs.declared.faults.LexFault.TheVariants as lex
 use Rattle.coll_devices.specs.declared.stops.ReadStop.{ReadStop}
@@ -30,11 +31,11 @@ stop_fault number stop.LineTooLong = at_line number (Lex lex.LineTooLong)
 stop_fault number stop.ReadFault = at_line 0 ReadFault
 
 -- a read failed behind a part of a line: the text begins with the lines read before it, each with its line feed, and these
--- decide nothing; behind them stand that part and the rest
+-- decide nothing; behind them stand that part, which is no longer than a line may be, and the rest
 abbrev pub StopsWithin : List ℕ → Option (List ℕ) → Type 0
 StopsWithin text left =
     (whole : List (List ℕ)) × (part : List ℕ) × (rest : List ℕ) × (left ≡ Some rest) × (text ≡ with_feeds whole ++ (part ++ rest))
-    × (lines_of text ≡ whole ++ lines_of (part ++ rest)) × IsInLine part × IsUndecided (outcome_of false whole)
+    × (lines_of text ≡ whole ++ lines_of (part ++ rest)) × IsInLine part × (length part ≤ most_line_bytes) × IsUndecided (outcome_of false whole)
 
 -- what a fault says of the text, by its cause; a want of memory says nothing, and has one spelling
 abbrev pub FaultSays : LoadCause → ℕ → List ℕ → Option (List ℕ) → Type 0

@@ -6,13 +6,13 @@ use Rattle.coll_nodes.specs.declared.declarations.Declaration.{Declaration}
 use Rattle.coll_ranks.specs.Ranking.{HasString, ranked_declared}
 use Rattle.coll_ranks.specs.Ranks.{RankedElement}
 use Rattle.coll_ranks.proofs.RankingLemmas.{have_strings, elements_ranked}
-use Rattle.coll_ranks.proofs.ranking.ranked_elements.Goals as goal
+use Rattle.coll_ranks.proofs.ranking.named_elements.Goals as goal
 
 pub put_all-requires-clause-some : goal.put_all-requires-clause-some
 put_all-requires-clause-some c = subst (All HasString) (sym c.declared.ensures) (have_strings _ c.check_table.ensures.well_formed.built.texts)
 
-pub returns : goal.returns
-returns c =
+pub returns-clause-elements : goal.returns-clause-elements
+returns-clause-elements c =
     let all = elements_ranked (collation c.args.table.now) c.args.ids.now (collation c.args.table.now).declared c.requires in
     let same = ap₂ (λ (es : List RankedElement) (ds : List Declaration). es ++ flat_map (ranked_declared c.args.ids.now) ds) c.new.ensures c.declared.ensures in
-    subst (λ (es : List RankedElement). IfOk c.put_all.result (λ all. all ≡ es)) (same ∙ all) c.put_all.ensures
+    subst (λ (es : List RankedElement). IfOk c.put_all.result (λ all. all ≡ es)) (same ∙ all) c.put_all.ensures.all

@@ -1,7 +1,7 @@
 -- The part at hand is kept, and its characters are counted.
 use Rattle.std.proofs.Common.{◌∷◌, ◌++◌, [], ◌∙◌, sym, ap, append_assoc, arith, chars, rules}
 use Rattle.coll_ranks.specs.Ranks.{parts_of}
-use Rattle.coll_key.proofs.text_parts.kept_parts.Goals as goal
+use Rattle.coll_key.proofs.text_parts.split_parts.Goals as goal
 
 pub parts-preserved : goal.parts-preserved
 parts-preserved c =

@@ -2,7 +2,7 @@
 use Rattle.std.proofs.Common.{chars, length, refl, ap, ◌∙◌}
 use Rattle.std.specs.Str.Iter.{chars_rest}
 use Rattle.std.proofs.lemmas.Str.{chars_from_encodes}
-use Rattle.coll_ranks.proofs.placed_elements.PlacedElement.new.Goals as goal
+use Rattle.coll_ranks.proofs.named_elements.PlacedElement.new.Goals as goal
 
 pub returns : goal.returns
 returns c =
@@ -13,5 +13,4 @@ returns c =
       text_is = c.new-2.ensures ∙ ap chars c.in_ok-text.ensures.ok;
       length_is = run.3 ∙ run.0.long ∙ ap length (chars_from_encodes run.0.items c.args.text.now c.utf8.text bytes);
       rank_is = refl;
-      among_is = refl;
     }

@@ -1,10 +1,10 @@
 -- A text begins with the bytes of an element where it begins with its characters.
 use Rattle.std.proofs.Common.{Bool, cond, Some, None, refl, sym, ap, subst, ◌∙◌}
 use Rattle.std.specs.Prelude.{chars}
-use Rattle.coll_ranks.specs.ElementChains.{Finds, kept_element}
+use Rattle.coll_ranks.specs.NamedElements.{Finds, kept_element}
 use Rattle.coll_ranks.specs.Elements.{begins_with}
 use Rattle.coll_ranks.proofs.ElementBeginnings.{not_begun, begun, begins_so}
-use Rattle.coll_ranks.proofs.placed_elements.PlacedElement.found_in.Goals as goal
+use Rattle.coll_ranks.proofs.named_elements.PlacedElement.found_in.Goals as goal
 
 pub returns-in_err-rest : goal.returns-in_err-rest
 returns-in_err-rest c =

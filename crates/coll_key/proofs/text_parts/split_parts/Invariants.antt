@@ -2,7 +2,7 @@ use Rattle.std.proofs.Common.{◌≡◌, ◌++◌, ◌+◌, chars, length}
 use denote.Shadow.{shadow}
 use denote.Text.{Utf8}
 use Rattle.coll_ranks.specs.Ranks.{parts_of}
-use Rattle.coll_key.proofs.text_parts.kept_parts.Given as goal
+use Rattle.coll_key.proofs.text_parts.split_parts.Given as goal
 
 abbrev pub invariant-parts : goal.invariant-parts
 invariant-parts l = record {
