@@ -23,6 +23,7 @@ pub mod LoadEnds
 pub mod LoadSteps
 pub mod LookUps
 pub mod PlaceLookUps
+pub mod OwnRefusals
 pub mod PreparedLemmas
 pub mod ReadTables
 pub mod RecordExtends
