@@ -16,6 +16,7 @@ pub mod ItemSections
 pub mod ItemWeights
 pub mod ItemsDone
 pub mod KeyReads
+pub mod ListedItems
 pub mod LineCauses
 pub mod LineMemory
 pub mod LinesRead

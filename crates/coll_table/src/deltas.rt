@@ -12,6 +12,7 @@ ghost use Rattle.coll_table.specs.Delta.{delta};
 ghost use Rattle.coll_table.specs.Judging.{judging_takes_memory};
 ghost use Rattle.coll_table.specs.Record.{Extends, Fits, IsSame, KeepsLoose, added_nodes, statement_items, statement_steps, turn, without_nodes};
 ghost use Rattle.coll_nodes.specs.TableLayout.{collation};
+ghost use Rattle.coll_table.specs.StatementItems.{AreItemsOf};
 ghost use Rattle.coll_table.specs.Turning.{CanDo, items_on, placed_items, steps_of, turned_on};
 ghost use Rattle.coll_nodes.specs.WellFormed.{IsWellFormed};
 ghost use Rattle.coll_table.specs.declared.refusals.Refusal.TheVariants.{OutOfMemory};
@@ -39,6 +40,7 @@ impl Table {
         ensures back { IfOk result (λ kept. Extends (turn self.new kept) self.old) }
         ensures added { IfOk result (λ kept. IsSame (without_nodes (turn self.new kept) (added_nodes kept.items)) self.old) }
         ensures items { IfOk result (λ kept. length kept.items ≡ statement_items statement.now) }
+        ensures listed { IfOk result (λ kept. AreItemsOf self.old self.new.layout statement.now kept.items) }
         ensures steps { IfOk result (λ kept. steps_of kept.items ≡ statement_steps (collation self.old) statement.now) }
         ensures loose { OnOk result (KeepsLoose self.old.layout self.new.layout) }
         ensures err { IfErr result (λ refusal. refusal ≢ OutOfMemory → delta (collation self.old) statement.now ≡ Err refusal) }

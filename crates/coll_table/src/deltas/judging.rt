@@ -42,9 +42,10 @@ impl Table {
         match statement {
             Statement::Symbol(name) => or_refused(self.symbol_refusal(name)),
             Statement::Element { name, text } => or_refused(self.element_refusal(name, text)),
-            Statement::Block { target, lines } => or_refused(
-                self.block_refusal(target, lines.get())?,
-            ),
+            Statement::Block { target, lines } => {
+                let refusal = self.block_refusal(target, lines.get())?;
+                or_refused(refusal)
+            }
             Statement::SectionAfter { moved, after } => or_refused(self.section_refusal(
                 moved, after,
             )),
@@ -148,11 +149,7 @@ impl Table {
     }
 
     /// Why a block is refused, if it is.
-    fn block_refusal(
-        &self,
-        target: &Id,
-        lines: &[OrderLine],
-    ) -> Result<Option<Refusal>, AllocError>
+    fn block_refusal(&self, target: &Id, lines: &[OrderLine]) -> Result<Option<Refusal>, AllocError>
         ensures refusal { IfOk result (λ refusal. block_delta (collation self.now) target.now lines.now ≡ unless_refused refusal (all_moved (collation self.now) target.now lines.now)) }
         ensures placed { OnErr result (is_placed (collation self.now) target.now ≡ true) }
     {

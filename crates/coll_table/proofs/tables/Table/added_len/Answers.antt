@@ -1,6 +1,5 @@
 -- A line more is counted, if its identifier isn't placed.
-use Rattle.std.proofs.Common.{◌≡◌, ◌+◌, ◌∙◌, sym, not, cond, ap, Bool, true, false, arith}
-use Rattle.coll_nodes.specs.Table.{is_placed}
+use Rattle.std.proofs.Common.{arith}
 use Rattle.coll_nodes.specs.TableLayout.{collation}
 use Rattle.coll_table.proofs.DeltaLines.{counted_few}
 use Rattle.coll_table.proofs.tables.Table.added_len.Goals as goal

@@ -1,5 +1,5 @@
 -- The lines decide, then the number of entries, then the identifiers in the weights.
-use Rattle.std.proofs.Common.{◌≡◌, ◌<◌, ◌≤◌, ◌-◌, length, sym, ap, ◌∙◌, refl, arith}
+use Rattle.std.proofs.Common.{◌<◌, ◌≤◌, ◌-◌, length, sym, ap, ◌∙◌, arith}
 use Rattle.coll_table.specs.Delta.{all_moved, unless_refused}
 use Rattle.coll_nodes.specs.Limits.{most_entries}
 use Rattle.coll_nodes.specs.Table.{entries_of}
