@@ -35,6 +35,7 @@ use Rattle.coll_table.specs.Record.{Extends, Fits, HasNodesOf, IsSame, KeepsLoos
 use Rattle.coll_nodes.specs.SoundLayouts.{IsTable}
 use Rattle.coll_nodes.specs.Table.{Collation, is_placed}
 use Rattle.coll_nodes.specs.TableLayout.{TableLayout, TableValue, collation, content_of}
+use Rattle.coll_table.specs.StatementItems.{AreItemsOf}
 use Rattle.coll_table.specs.Turning.{placed_items, steps_of, turned_on}
 use Rattle.coll_nodes.specs.WellFormed.{IsWellFormed}
 use Rattle.coll_nodes.specs.declared.declarations.Declaration.{Declaration}
@@ -106,14 +107,15 @@ module _ (old table new : TableValue) (s : Statement) (items : List Item) (kept 
       (subst (λ t. IsSame (without_nodes (turn new kept) (added_nodes items)) t) adds.dropped (same_without (turn new kept) table (added_nodes items) back))
 
   -- a statement that is ready is applied
-  pub applied : Applied old new s kept
-  applied = record {
+  pub applied : AreItemsOf old (turned_on table.layout items) s (record_of table.layout items).items → Applied old new s kept
+  applied listed = record {
     ok = ap (λ t. delta t s) (sym same) ∙ (ready.accepted ∙ ap Ok (sym table_is));
     in_force = ap (λ (k : Record). k.undone) kept_is;
     fits = subst (λ k. Fits new k) (sym kept_is) record_done.fits;
     back = turns_back;
     added = adds_theirs;
     items = ap (λ (k : Record). length k.items) kept_is ∙ (length_on table.layout (placed_items table.layout items) ∙ (length_placed table.layout items ∙ ready.counted));
+    listed = subst (λ l. AreItemsOf old l s kept.items) (sym layout) (subst (λ (k : Record). AreItemsOf old (turned_on table.layout items) s k.items) (sym kept_is) listed);
     steps = ap (λ (k : Record). steps_of k.items) kept_is ∙ (record_done.steps ∙ ap (λ t. statement_steps t s) same);
     loose = keeps_loose;
   }

@@ -21,14 +21,13 @@ use Rattle.coll_table.specs.declared.refusals.Refusal.TheVariants.{NotDeclared, 
 abbrev pub before_line : Id → List OrderLine → ℕ → List Id
 before_line target lines i = target ∷ line_ids (take i lines)
 
--- the lines before a place have been judged: their identifiers and the target's are kept, and those that add an entry counted
-pub record Judging (table : Collation) (target : Id) (lines : List OrderLine) (i : ℕ) (ids : List Id) (added : ℕ) : Type 0 where
+-- the lines before a place have been judged: their identifiers and the target's are kept
+pub record Judging (table : Collation) (target : Id) (lines : List OrderLine) (i : ℕ) (ids : List Id) : Type 0 where
   pub members : HaveSame ids (before_line target lines i)
   pub goes_on : lines_refusal table (target ∷ []) lines ≡ lines_refusal table (before_line target lines i) (drop i lines)
-  pub counted : added ≡ entries_added table (take i lines)
 
-module _ (table : Collation) (target : Id) (lines : List OrderLine) where
-  module _ (i : ℕ) (ids : List Id) (added : ℕ) (line : OrderLine) (h : Judging table target lines i ids added) (below : i < length lines) (at : line ≡ get_or lines i line) where
+module _ (table : Collation) (target : Id) (lines : List OrderLine) (i : ℕ) (line : OrderLine) (below : i < length lines) (at : line ≡ get_or lines i line) where
+  module _ (ids : List Id) (h : Judging table target lines i ids) where
     -- one line further there is one identifier more
     before_more : before_line target lines (i + 1) ≡ before_line target lines i ++ line.id ∷ []
     before_more =
@@ -52,21 +51,25 @@ module _ (table : Collation) (target : Id) (lines : List OrderLine) where
     pub judging_refused : (refusal : Refusal) → line_refusal table ids line ≡ Some refusal → lines_refusal table (target ∷ []) lines ≡ Some refusal
     judging_refused refusal refused = one_judged ∙ ap (λ r. option_or r (lines_refusal table (before_line target lines (i + 1)) (drop (i + 1) lines))) refused
 
-    -- one that passes is counted, if it adds an entry
-    pub judging_more : (after : List Id) (count : ℕ) → line_refusal table ids line ≡ None → AddsId ids after line.id → count ≡ added + cond (not (is_placed table line.id)) 1 0 → Judging table target lines (i + 1) after count
-    judging_more after count passes adds counts = record {
+    -- one that passes is kept
+    pub judging_more : (after : List Id) → line_refusal table ids line ≡ None → AddsId ids after line.id → Judging table target lines (i + 1) after
+    judging_more after passes adds = record {
       members = λ id. adds id ∙ (ap (λ b. same_id id line.id || b) (h.members id) ∙ (sym (has_push (before_line target lines i) line.id id) ∙ ap (λ ids. has_id ids id) (sym before_more)));
       goes_on = one_judged ∙ ap (λ r. option_or r (lines_refusal table (before_line target lines (i + 1)) (drop (i + 1) lines))) passes;
-      counted =
-          counts ∙ (ap (λ n. n + cond (not (is_placed table line.id)) 1 0) h.counted
-          ∙ (ap (λ (l : OrderLine). entries_added table (take i lines) + cond (not (is_placed table l.id)) 1 0) at
-          ∙ sym (length-filter_more (λ (l : OrderLine). not (is_placed table l.id)) lines i line below)));
     }
 
-    -- fewer entries were counted than there are lines
-    pub judging_few : added < length lines
-    judging_few =
-        let few = count_by-le-length (λ (l : OrderLine). not (is_placed table l.id)) (take i lines) in
-        let same = length-filter (λ (l : OrderLine). not (is_placed table l.id)) (take i lines) in
-        let taken = length-take i lines in
-        let is = h.counted in omega (arith, few, same, taken, is, below)
+module _ (table : Collation) (lines : List OrderLine) (i : ℕ) (line : OrderLine) (below : i < length lines) (at : line ≡ get_or lines i line) where
+  -- one line further one more is counted, if it adds an entry
+  pub counted_more : (added count : ℕ) → added ≡ entries_added table (take i lines) → count ≡ added + cond (not (is_placed table line.id)) 1 0 → count ≡ entries_added table (take (i + 1) lines)
+  counted_more added count counted counts =
+      counts ∙ (ap (λ n. n + cond (not (is_placed table line.id)) 1 0) counted
+      ∙ (ap (λ (l : OrderLine). entries_added table (take i lines) + cond (not (is_placed table l.id)) 1 0) at
+      ∙ sym (length-filter_more (λ (l : OrderLine). not (is_placed table l.id)) lines i line below)))
+
+  -- fewer are counted than there are lines
+  pub counted_few : (added : ℕ) → added ≡ entries_added table (take i lines) → added < length lines
+  counted_few added counted =
+      let few = count_by-le-length (λ (l : OrderLine). not (is_placed table l.id)) (take i lines) in
+      let same = length-filter (λ (l : OrderLine). not (is_placed table l.id)) (take i lines) in
+      let taken = length-take i lines in
+      omega (arith, few, same, taken, counted, below)

@@ -30,6 +30,7 @@ use Rattle.coll_nodes.specs.Entries.{entry_of, given_weights, kept_weights, weig
 use Rattle.coll_nodes.specs.Placement.{entry_at, placed_after, without}
 use Rattle.coll_table.specs.Prepared.{ArePrepared, IsNodeFor, IsPreparedLine, made_entry, weights_to}
 use Rattle.coll_table.specs.Record.{line_steps, lines_steps}
+use Rattle.coll_table.specs.StatementItems.{without_weights}
 use Rattle.coll_nodes.specs.SoundBodies.{has_key, ids_in}
 use Rattle.coll_nodes.specs.SoundLayouts.{IsSoundLayout}
 use Rattle.coll_nodes.specs.Table.{Collation, Section, entries_of, is_known, is_placed, is_placed_in, is_symbol}
@@ -79,6 +80,11 @@ placed_alike old new id old_sound new_sound keys =
     (λ on t. let at = placed_where new new_sound id t in sym (where_placed old old_sound id at.0 (sym (keys at.0) ∙ at.1)))
     (λ off t. by_test (λ b. is_placed_in (sections_at old) id ≡ b → false ≡ b) (is_placed_in (sections_at old) id)
     (λ on u. let at = placed_where old old_sound id u in not_both (where_placed new new_sound id at.0 (keys at.0 ∙ at.1)) t) (λ no u. refl) refl) refl
+
+-- where there is no entry, none is found
+no_entry_at : (found : Option Entry) → is_some found ≡ false → found ≡ None
+no_entry_at None e = refl
+no_entry_at (Some entry) e = not_both refl e
 
 -- A line, and its item.
 
@@ -140,23 +146,20 @@ module _ (table : TableValue) (line : OrderLine) (item : Item) (sound : IsSoundL
         steps = λ to. ap (λ from. steps_between from (Some to)) at ∙ sym (ap (λ b. cond b 2 1) placed);
         kept = λ none. ap (λ (weights : Option (List Weight)). entry_of (length table.rules) (declared_at layout) (record { id = line.id; weights = weights })) (sym none)
             ∙ sym (stays None absent none);
-      } where
-        no_entry_at : (found : Option Entry) → is_some found ≡ false → found ≡ None
-        no_entry_at None e = refl
-        no_entry_at (Some entry) e = not_both refl e
+      }
 
-  -- an item that is prepared for a line is ready
-  pub ready : (before : NodeId) → IsPreparedLine (collation table) table.layout before line item → IsReady table line item
-  ready before prepared =
+  -- an item with the node of a line is ready
+  pub ready : IsNodeFor (is_placed (collation table) line.id) (collation table) table.layout line.id item → IsReady table line item
+  ready node =
       by_test (λ b. is_placed (collation table) line.id ≡ b → IsNodeFor b (collation table) table.layout line.id item → IsReady table line item) (is_placed (collation table) line.id)
-      (λ on t node. ready_placed t node) (λ off t node. ready_new t node) refl prepared.node
+      (λ on t node. ready_placed t node) (λ off t node. ready_new t node) refl node
 
 -- a line that gives weights that aren't refused is no collating symbol
 pub no_symbol : (table : Collation) (line : OrderLine) → weights_refusal table line None ≡ None → (is_symbol table.declared line.id && is_some line.weights) ≡ false
 no_symbol table line e = (passed (is_symbol table.declared line.id && is_some line.weights) SymbolWithWeights _ e).0
 
 -- nor is one of a block that isn't refused
-symbol_passes : (table : Collation) (before : List Id) (line : OrderLine) → line_refusal table before line ≡ None → (is_symbol table.declared line.id && is_some line.weights) ≡ false
+pub symbol_passes : (table : Collation) (before : List Id) (line : OrderLine) → line_refusal table before line ≡ None → (is_symbol table.declared line.id && is_some line.weights) ≡ false
 symbol_passes table before line e =
     let first = passed (has_id before line.id) TwiceInBlock _ e in
     no_symbol table line (passed (not (is_known table.declared line.id)) NotDeclared (weights_refusal table line None) first.1).1
@@ -189,7 +192,7 @@ pub record LineDone (table : TableValue) (target : Id) (line : OrderLine) (item 
   pub was : (it : Entry) × (content_of table.layout item.node ≡ Some (content.Placed it)) × (it.id ≡ line.id)
   pub steps : steps_between (placed_at item.old table.layout item.node) item.new ≡ line_steps (collation table) line
 
-line_done : (table : TableValue) (target : Id) (before : NodeId) (line : OrderLine) (item : Item) → IsSoundLayout table.layout → has_key same_id ids_in table.layout target before ≡ true
+pub line_done : (table : TableValue) (target : Id) (before : NodeId) (line : OrderLine) (item : Item) → IsSoundLayout table.layout → has_key same_id ids_in table.layout target before ≡ true
     → same_id line.id target ≡ false → (is_symbol (collation table).declared line.id && is_some line.weights) ≡ false → IsPreparedLine (collation table) table.layout before line item
     → LineDone table target line item
 unfolding collation
@@ -197,7 +200,7 @@ line_done table target before line item sound has differ plain prepared =
     let layout = table.layout in
     let new = item_on layout item in
     let from = placed_at item.old layout item.node in
-    let r = ready table line item sound before prepared in
+    let r = ready table line item sound prepared.node in
     let aim = placed_entry layout target before sound has in
     let entry = entry_with item.weights r.entry in
     let apart = entries_apart layout line.id item.node target before r.entry aim.0 r.own aim.1 differ in
@@ -220,15 +223,19 @@ line_done table target before line item sound has differ plain prepared =
       steps = ap (λ to. steps_between from to) prepared.goes ∙ r.steps (After before);
     }
 
+-- a node is one entry
+placed_same : {a b : Entry} → Some (content.Placed a) ≡ Some (content.Placed b) → a ≡ b
+placed_same e = cc
+
 -- The lines after it.
 
 module _ (table : TableValue) (target : Id) (line : OrderLine) (item : Item) (sound : IsSoundLayout table.layout) (done : LineDone table target line item) where
   -- the table once the item is done
-  abbrev now : TableValue
+  abbrev pub now : TableValue
   now = with_layout table (item_on table.layout item)
 
   -- it is the one that the line makes
-  line_made : collation now ≡ moved (collation table) target line
+  pub line_made : collation now ≡ moved (collation table) target line
   unfolding collation
   line_made = ap₂ (λ (declared : List Declaration) (sections : List Section). record { rules = table.rules; declared = declared; sections = sections }) done.declared done.sections
 
@@ -236,6 +243,34 @@ module _ (table : TableValue) (target : Id) (line : OrderLine) (item : Item) (so
   still_placed : (id : Id) → same_id id line.id ≡ false → is_placed (collation now) id ≡ is_placed (collation table) id
   unfolding collation
   still_placed id far = placed_alike table.layout (item_on table.layout item) id sound done.sound (λ other. done.keys id other far)
+
+  -- and its entry is what it was
+  still_entry : (id : Id) → same_id id line.id ≡ false → entry_at (entries_of (collation now)) id ≡ entry_at (entries_of (collation table)) id
+  unfolding collation
+  still_entry id far =
+      let layout = table.layout in
+      let new = item_on layout item in
+      by_test (λ b. is_placed (collation table) id ≡ b → entry_at (entries_of (collation now)) id ≡ entry_at (entries_of (collation table)) id) (is_placed (collation table) id)
+      (λ on t.
+      let at = placed_where layout sound id t in
+      let mine = placed_entry layout id at.0 sound at.1 in
+      let differ : same_node at.0 item.node ≡ false = by_test (λ b. same_node at.0 item.node ≡ b → b ≡ false) (same_node at.0 item.node)
+      (λ on e.
+      let both : mine.0 ≡ done.was.0 = placed_same (sym mine.1.is ∙ (ap (content_of layout) (same_node_is at.0 item.node e) ∙ done.was.1)) in
+      let ids : id ≡ line.id = sym mine.1.same ∙ (ap (λ (e : Entry). e.id) both ∙ done.was.2) in
+      not_both (ap (same_id id) (sym ids) ∙ same_id_itself id) far) (λ off e. refl) refl in
+      let finds = finds_once same_id ids_in layout sound.ids in
+      let finds_now = finds_once same_id ids_in new done.sound.ids in
+      sym (entry_known new done.sound.shaped (node_by same_id ids_in new) id at.0 (content.Placed mine.0) finds_now (finds_now.finds id at.0 (done.keys id at.0 far ∙ at.1)) (done.contents at.0 differ ∙ mine.1.is))
+      ∙ entry_known layout sound.shaped (node_by same_id ids_in layout) id at.0 (content.Placed mine.0) finds (finds.finds id at.0 at.1) mine.1.is)
+      (λ off t.
+      no_entry_at (entry_at (entries_of (collation now)) id) (sym (entry_there (entries_of (collation now)) id) ∙ (still_placed id far ∙ t))
+      ∙ sym (no_entry_at (entry_at (entries_of (collation table)) id) (sym (entry_there (entries_of (collation table)) id) ∙ t))) refl
+
+  -- so a line that gives no weights has the entry that it had
+  pub still_standing : (id : Id) → same_id id line.id ≡ false → block_entry (collation now) (without_weights id) ≡ block_entry (collation table) (without_weights id)
+  unfolding collation
+  still_standing id far = ap₂ (λ (found : Option Entry) (declared : List Declaration). standing true found (entry_of (length table.rules) declared (without_weights id))) (still_entry id far) done.declared
 
   -- an entry is made as it was
   still_made : (id : Id) → made_entry (collation now) id ≡ made_entry (collation table) id
@@ -250,9 +285,7 @@ module _ (table : TableValue) (target : Id) (line : OrderLine) (item : Item) (so
       let both : made_entry (collation table) id ≡ done.was.0 = placed_same (sym node.2 ∙ (ap (content_of table.layout) (same_node_is its.node item.node t) ∙ done.was.1)) in
       let ids : id ≡ line.id = ap (λ (e : Entry). e.id) both ∙ done.was.2 in
       not_both (ap (same_id id) (sym ids) ∙ same_id_itself id) far) (λ off t. refl) refl in
-      (node.0, done.linked its.node differ ∙ node.1, done.contents its.node differ ∙ (node.2 ∙ ap (λ e. Some (content.Placed e)) (sym (still_made id)))) where
-        placed_same : {a b : Entry} → Some (content.Placed a) ≡ Some (content.Placed b) → a ≡ b
-        placed_same e = cc
+      (node.0, done.linked its.node differ ∙ node.1, done.contents its.node differ ∙ (node.2 ∙ ap (λ e. Some (content.Placed e)) (sym (still_made id))))
 
   -- an item that was prepared for another line is prepared for it still
   line_still : (before : NodeId) (other : OrderLine) (its : Item) → same_id other.id line.id ≡ false → IsPreparedLine (collation table) table.layout before other its
@@ -265,7 +298,7 @@ module _ (table : TableValue) (target : Id) (line : OrderLine) (item : Item) (so
   }
 
   -- so are those of the lines that follow
-  lines_still : (ids : List Id) (before : NodeId) (lines : List OrderLine) (items : List Item) → has_id ids line.id ≡ true → lines_refusal (collation table) ids lines ≡ None
+  pub lines_still : (ids : List Id) (before : NodeId) (lines : List OrderLine) (items : List Item) → has_id ids line.id ≡ true → lines_refusal (collation table) ids lines ≡ None
       → ArePrepared (collation table) table.layout before lines items → ArePrepared (collation now) (item_on table.layout item) before lines items
   unfolding ArePrepared
   lines_still ids before [] [] here judged prepared = prepared

@@ -16,6 +16,7 @@ pub mod ItemSections
 pub mod ItemWeights
 pub mod ItemsDone
 pub mod KeyReads
+pub mod ListedItems
 pub mod LineCauses
 pub mod LineMemory
 pub mod LinesRead
@@ -23,6 +24,7 @@ pub mod LoadEnds
 pub mod LoadSteps
 pub mod LookUps
 pub mod PlaceLookUps
+pub mod OwnRefusals
 pub mod PreparedLemmas
 pub mod ReadTables
 pub mod RecordExtends

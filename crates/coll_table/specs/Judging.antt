@@ -1,9 +1,12 @@
--- What is counted and looked up of a block while it is judged, before any of its lines is placed (the project's own).
-use Rattle.std.specs.Prelude.{◌≡◌, ℕ, ◌||◌, not, List, [], ◌∷◌, Option, None, map, filter, length}
+-- What is counted and looked up of a block while it is judged, before any of its lines is placed, and what memory that takes (the
+-- project's own).
+use Rattle.std.specs.Prelude.{◌≡◌, ℕ, Bool, false, ◌||◌, not, List, [], ◌∷◌, Option, None, map, filter, length}
 use Rattle.std.specs.Option.{option_or}
 use Rattle.coll_syntax.specs.Identifier.{has_id}
 use Rattle.coll_syntax.specs.declared.identifiers.Id.{Id}
 use Rattle.coll_syntax.specs.declared.statements.OrderLine.{OrderLine}
+use Rattle.coll_syntax.specs.declared.statements.Statement.{Statement}
+use Rattle.coll_syntax.specs.declared.statements.Statement.TheVariants as statement
 use Rattle.coll_draft.specs.Drafts.{refused_if}
 use Rattle.coll_nodes.specs.Table.{Collation, is_known, is_placed}
 use Rattle.coll_table.specs.declared.refusals.Refusal.{Refusal}
@@ -31,3 +34,11 @@ id_refusal table more id =
 abbrev pub ids_refusal : Collation → (more : List Id) → List Id → Option Refusal
 ids_refusal table more [] = None
 ids_refusal table more (id ∷ ids) = option_or (id_refusal table more id) (ids_refusal table more ids)
+
+-- memory may be taken to judge a statement: that of a block whose target is placed, for the identifiers of its lines, and no other
+abbrev pub judging_takes_memory : Collation → Statement → Bool
+judging_takes_memory table (statement.Symbol name) = false
+judging_takes_memory table (statement.Element name text) = false
+judging_takes_memory table (statement.Block target lines) = is_placed table target
+judging_takes_memory table (statement.SectionAfter name after) = false
+judging_takes_memory table (statement.Reweight line) = false

@@ -8,4 +8,5 @@ pub mod Record
 pub mod RecordLaws
 pub mod Refusals
 pub mod SoundLoaders
+pub mod StatementItems
 pub mod Turning

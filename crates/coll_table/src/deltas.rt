@@ -9,8 +9,10 @@ ghost use Rattle.coll_syntax.specs.Proper.{IsProper};
 ghost use Rattle.coll_syntax.specs.declared.statements.Statement.TheVariants as statement;
 ghost use Rattle.coll_table.specs.Applied.{Applied, declaring};
 ghost use Rattle.coll_table.specs.Delta.{delta};
+ghost use Rattle.coll_table.specs.Judging.{judging_takes_memory};
 ghost use Rattle.coll_table.specs.Record.{Extends, Fits, IsSame, KeepsLoose, added_nodes, statement_items, statement_steps, turn, without_nodes};
 ghost use Rattle.coll_nodes.specs.TableLayout.{collation};
+ghost use Rattle.coll_table.specs.StatementItems.{AreItemsOf};
 ghost use Rattle.coll_table.specs.Turning.{CanDo, items_on, placed_items, steps_of, turned_on};
 ghost use Rattle.coll_nodes.specs.WellFormed.{IsWellFormed};
 ghost use Rattle.coll_table.specs.declared.refusals.Refusal.TheVariants.{OutOfMemory};
@@ -28,7 +30,8 @@ use std::alloc::AllocError;
 impl Table {
     /// Rewrites the table by a statement. The answer is the record that undoes it.
     ///
-    /// A statement is accepted whole or refused whole: after a refusal the table is as it was.
+    /// A statement is accepted whole or refused whole: after a refusal the table is as it was. `OutOfMemory` stands in place of
+    /// another refusal for a block alone whose target is placed; else it is answered only where the statement would be accepted.
     pub fn apply(&mut self, statement: &Statement) -> Result<Record, Refusal>
         requires proper { IsProper statement.now }
         ensures ok { OnOk result (delta (collation self.old) statement.now ≡ Ok (collation self.new)) }
@@ -37,9 +40,11 @@ impl Table {
         ensures back { IfOk result (λ kept. Extends (turn self.new kept) self.old) }
         ensures added { IfOk result (λ kept. IsSame (without_nodes (turn self.new kept) (added_nodes kept.items)) self.old) }
         ensures items { IfOk result (λ kept. length kept.items ≡ statement_items statement.now) }
+        ensures listed { IfOk result (λ kept. AreItemsOf self.old self.new.layout statement.now kept.items) }
         ensures steps { IfOk result (λ kept. steps_of kept.items ≡ statement_steps (collation self.old) statement.now) }
         ensures loose { OnOk result (KeepsLoose self.old.layout self.new.layout) }
         ensures err { IfErr result (λ refusal. refusal ≢ OutOfMemory → delta (collation self.old) statement.now ≡ Err refusal) }
+        ensures memory { IfErr result (λ refusal. refusal ≡ OutOfMemory → judging_takes_memory (collation self.old) statement.now ≡ false → IsOk (delta (collation self.old) statement.now)) }
         ensures unchanged { OnErr result (self.new ≡ self.old) }
     {
         self.check(statement)?;

@@ -9,7 +9,7 @@
 //! - `loaders` and `loading`: a text, read line by line (`SoundLoaders`, `Loads`);
 //! - `printing`: the canonical text of a table, written;
 //! - `deltas`, with `deltas/judging` and `deltas/preparing`, `names`, `places` and `refusals`: a statement, judged, prepared and
-//!   applied (`Delta`, `Judging`, `Prepared`, `Growth`, `Applied`, `Refusals`);
+//!   applied (`Delta`, `Judging`, `Prepared`, `Growth`, `StatementItems`, `Applied`, `Refusals`);
 //! - `records`, `turning` and `record_laws`: a statement, taken back and done again (`Turning`, `Record`, `RecordLaws`).
 #![tactic(auto)]
 

@@ -2,17 +2,19 @@
 //!
 //! `check` is `delta` of `specs/Delta.antt` without its table: the refusals of a statement in their order, each asked of the table
 //! as it stands. The weights of a block are looked up in the table that results: an identifier is placed there where it is placed
-//! now, or has a line in the block (`specs/Judging.antt`). A new statement, or a new refusal of one, is a case of `delta` first.
+//! now, or has a line in the block (`specs/Judging.antt`). What only judges gives a refusal or none; what may want memory, and this
+//! is a block alone, gives an `AllocError` beside it; and `check` joins the two. A new statement, or a new refusal of one, is a
+//! case of `delta` first.
 
-ghost use Rattle.std.specs.Prelude.{◌≡◌, ◌≢◌, ◌∷◌, [], IsOk, Ok, Err, Some, None, IfOk, IfErr, OnOk, length, nat_le};
+ghost use Rattle.std.specs.Prelude.{◌≡◌, ◌≢◌, ◌∷◌, [], true, IsOk, Ok, Err, Some, None, IfOk, IfErr, OnOk, OnErr, length, nat_le};
 ghost use Rattle.std.specs.List.{flat_map};
 ghost use Rattle.coll_syntax.specs.Proper.{IsProper};
-ghost use Rattle.coll_table.specs.Delta.{block_delta, declaration_refusal, delta, ids_given, line_refusal, lines_refusal, reweight_delta, reweight_refusal, section_refusal, weights_refusal};
+ghost use Rattle.coll_table.specs.Delta.{all_moved, block_delta, declaration_refusal, delta, ids_given, line_refusal, lines_refusal, reweight_delta, reweight_refusal, reweighted, section_refusal, unless_refused, weights_refusal};
 ghost use Rattle.coll_draft.specs.Drafts.{refused_if};
 ghost use Rattle.coll_nodes.specs.Entries.{given_weights, weight_ids};
-ghost use Rattle.coll_table.specs.Judging.{entries_added, HaveSame, id_refusal, ids_refusal, line_ids};
+ghost use Rattle.coll_table.specs.Judging.{entries_added, HaveSame, id_refusal, ids_refusal, judging_takes_memory, line_ids};
 ghost use Rattle.coll_nodes.specs.Limits.{most_declarations};
-ghost use Rattle.coll_nodes.specs.LookUps.{AddsId};
+ghost use Rattle.coll_nodes.specs.Table.{is_placed};
 ghost use Rattle.coll_nodes.specs.TableLayout.{collation};
 ghost use Rattle.coll_nodes.specs.declared.declarations.Declaration.TheVariants as declaration;
 ghost use Rattle.coll_table.specs.declared.refusals.Refusal.TheVariants.{Full, OutOfMemory};
@@ -23,35 +25,31 @@ use coll_draft::given_len;
 use coll_lex::TextBuf;
 use coll_nodes::{MOST_DECLARATIONS, MOST_ENTRIES};
 use coll_syntax::{Id, OrderLine, Statement, Weight};
-
-/// What the lines of a block say together.
-#[derive(Drop)]
-struct Judged {
-    /// The identifiers of the target and of the lines.
-    ids: Places,
-    /// The number of lines whose identifiers aren't placed yet.
-    added: usize,
-}
+use std::alloc::AllocError;
 
 impl Table {
     /// Judges a statement as `apply` would, and changes nothing.
     ///
-    /// The answer is the first refusal of the statement, if it has one. It takes memory for a block alone, for the identifiers of
-    /// its lines, and where that is wanting `OutOfMemory` may stand in place of any other answer.
+    /// The answer is the first refusal of the statement, if it has one. It takes memory for a block alone whose target is placed,
+    /// for the identifiers of its lines, and where that is wanting `OutOfMemory` may stand in place of any other answer.
     #[tactic(auto, unfolding(crate::specs::Delta::delta))]
     pub fn check(&self, statement: &Statement) -> Result<(), Refusal>
         requires proper { IsProper statement.now }
         ensures ok { OnOk result (IsOk (delta (collation self.now) statement.now)) }
         ensures err { IfErr result (λ refusal. refusal ≢ OutOfMemory → delta (collation self.now) statement.now ≡ Err refusal) }
+        ensures memory { IfErr result (λ refusal. refusal ≡ OutOfMemory → judging_takes_memory (collation self.now) statement.now ≡ true) }
     {
         match statement {
             Statement::Symbol(name) => or_refused(self.symbol_refusal(name)),
             Statement::Element { name, text } => or_refused(self.element_refusal(name, text)),
-            Statement::Block { target, lines } => self.judge_block(target, lines.get()),
+            Statement::Block { target, lines } => {
+                let refusal = self.block_refusal(target, lines.get())?;
+                or_refused(refusal)
+            }
             Statement::SectionAfter { moved, after } => or_refused(self.section_refusal(
                 moved, after,
             )),
-            Statement::Reweight(line) => self.judge_reweight(line),
+            Statement::Reweight(line) => or_refused(self.reweight_refusal(line)),
         }
     }
 
@@ -108,19 +106,21 @@ impl Table {
         None
     }
 
-    /// Judges an order line outside a block.
-    fn judge_reweight(&self, line: &OrderLine) -> Result<(), Refusal>
-        ensures ok { OnOk result (IsOk (reweight_delta (collation self.now) line.now)) }
-        ensures err { IfErr result (λ refusal. reweight_delta (collation self.now) line.now ≡ Err refusal) }
+    /// Why an order line outside a block is refused, if it is.
+    fn reweight_refusal(&self, line: &OrderLine) -> Option<Refusal>
+        ensures { reweight_delta (collation self.now) line.now ≡ unless_refused result (reweighted (collation self.now) line.now) }
     {
-        if let Some(refusal) = self.reweight_refusal(line) {
-            return Err(refusal);
+        if let Some(refusal) = self.reweight_line_refusal(line) {
+            return Some(refusal);
         }
-        or_refused(self.given_refusal(&Places::new(self.alloc(), self.hash_keys()), line))
+        let none = Places::new(self.alloc(), self.hash_keys());
+        let refusal = self.given_refusal(&none, line);
+        drop(none);
+        refusal
     }
 
-    /// Why an order line outside a block is refused, if it is, the identifiers in its weights aside.
-    fn reweight_refusal(&self, line: &OrderLine) -> Option<Refusal>
+    /// The same, the identifiers in its weights aside.
+    fn reweight_line_refusal(&self, line: &OrderLine) -> Option<Refusal>
         ensures { result ≡ reweight_refusal (collation self.now) line.now }
     {
         if !self.is_known(&line.id) {
@@ -148,84 +148,87 @@ impl Table {
         None
     }
 
-    /// Judges a block.
-    fn judge_block(&self, target: &Id, lines: &[OrderLine]) -> Result<(), Refusal>
-        ensures ok { OnOk result (IsOk (block_delta (collation self.now) target.now lines.now)) }
-        ensures err { IfErr result (λ refusal. refusal ≢ OutOfMemory → block_delta (collation self.now) target.now lines.now ≡ Err refusal) }
+    /// Why a block is refused, if it is.
+    fn block_refusal(&self, target: &Id, lines: &[OrderLine]) -> Result<Option<Refusal>, AllocError>
+        ensures refusal { IfOk result (λ refusal. block_delta (collation self.now) target.now lines.now ≡ unless_refused refusal (all_moved (collation self.now) target.now lines.now)) }
+        ensures placed { OnErr result (is_placed (collation self.now) target.now ≡ true) }
     {
         if !self.is_placed(target) {
-            return Err(Refusal::TargetNotPlaced);
+            return Ok(Some(Refusal::TargetNotPlaced));
         }
-        let judged = self.judge_lines(target, lines)?;
-        self.check_table();
-        if judged.added > MOST_ENTRIES - self.len() {
-            drop(judged);
-            return Err(Refusal::Full);
-        }
-        let refusal = self.all_given_refusal(&judged.ids, lines);
-        drop(judged);
-        or_refused(refusal)
-    }
-
-    /// Judges the lines of a block one after another, the identifiers in their weights aside.
-    fn judge_lines(&self, target: &Id, lines: &[OrderLine]) -> Result<Judged, Refusal>
-        ensures ok { OnOk result (lines_refusal (collation self.now) (target.now ∷ []) lines.now ≡ None) }
-        ensures ids { IfOk result (λ judged. HaveSame judged.ids (target.now ∷ line_ids lines.now)) }
-        ensures added { IfOk result (λ judged. judged.added ≡ entries_added (collation self.now) lines.now) }
-        ensures err { IfErr result (λ refusal. refusal ≢ OutOfMemory → lines_refusal (collation self.now) (target.now ∷ []) lines.now ≡ Some refusal) }
-    {
         let mut ids = Places::new(self.alloc(), self.hash_keys());
-        match self.judge_each(&mut ids, target, lines) {
-            Ok(added) => Ok(Judged { ids, added }),
-            Err(refusal) => {
-                drop(ids);
-                Err(refusal)
-            }
-        }
+        let answer = self.placed_refusal(&mut ids, target, lines);
+        drop(ids);
+        answer
     }
 
-    /// The same, with the identifiers of the target and of the lines put in where there are none yet; the answer is the number of
-    /// lines whose identifiers aren't placed yet.
-    fn judge_each(
+    /// The same where the target is placed, with the identifiers of the target and of the lines put in where there are none yet.
+    fn placed_refusal(
         &self,
         ids: &mut Places,
         target: &Id,
         lines: &[OrderLine],
-    ) -> Result<usize, Refusal>
+    ) -> Result<Option<Refusal>, AllocError>
+        requires none { ids.old ≡ [] }
+        requires placed { is_placed (collation self.now) target.now ≡ true }
+        ensures { IfOk result (λ refusal. block_delta (collation self.now) target.now lines.now ≡ unless_refused refusal (all_moved (collation self.now) target.now lines.now)) }
+    {
+        if let Some(refusal) = self.lines_refusal(ids, target, lines)? {
+            return Ok(Some(refusal));
+        }
+        self.check_table();
+        if self.added_len(lines) > MOST_ENTRIES - self.len() {
+            return Ok(Some(Refusal::Full));
+        }
+        Ok(self.all_given_refusal(ids, lines))
+    }
+
+    /// Why the first line of a block that is refused is, the identifiers in the weights aside. Each is put in once it is judged:
+    /// there alone memory is taken.
+    fn lines_refusal(
+        &self,
+        ids: &mut Places,
+        target: &Id,
+        lines: &[OrderLine],
+    ) -> Result<Option<Refusal>, AllocError>
         requires { ids.old ≡ [] }
-        ensures ok { OnOk result (lines_refusal (collation self.now) (target.now ∷ []) lines.now ≡ None) }
-        ensures ids { OnOk result (HaveSame ids.new (target.now ∷ line_ids lines.now)) }
-        ensures added { IfOk result (λ added. added ≡ entries_added (collation self.now) lines.now) }
-        ensures err { IfErr result (λ refusal. refusal ≢ OutOfMemory → lines_refusal (collation self.now) (target.now ∷ []) lines.now ≡ Some refusal) }
+        ensures refusal { IfOk result (λ refusal. refusal ≡ lines_refusal (collation self.now) (target.now ∷ []) lines.now) }
+        ensures ids { IfOk result (λ refusal. refusal ≡ None → HaveSame ids.new (target.now ∷ line_ids lines.now)) }
     {
         ids.insert(target)?;
+        for line in lines {
+            if let Some(refusal) = self.line_refusal(ids, line) {
+                return Ok(Some(refusal));
+            }
+            ids.insert(&line.id)?;
+        }
+        Ok(None)
+    }
+
+    /// Why a line of a block is refused, if it is, from the identifiers of the target and of the lines before it.
+    fn line_refusal(&self, before: &Places, line: &OrderLine) -> Option<Refusal>
+        ensures { result ≡ line_refusal (collation self.now) before.now line.now }
+    {
+        if before.contains(&line.id) {
+            return Some(Refusal::TwiceInBlock);
+        }
+        if !self.is_known(&line.id) {
+            return Some(Refusal::NotDeclared);
+        }
+        self.weights_refusal(line)
+    }
+
+    /// The number of lines whose identifiers aren't placed yet.
+    fn added_len(&self, lines: &[OrderLine]) -> usize
+        ensures { result ≡ entries_added (collation self.now) lines.now }
+    {
         let mut added = 0;
         for line in lines {
-            self.judge_line(ids, line)?;
             if !self.is_placed(&line.id) {
                 added += 1;
             }
         }
-        Ok(added)
-    }
-
-    /// Judges a line of a block by the identifiers of the target and of the lines before it, and puts in its own.
-    fn judge_line(&self, before: &mut Places, line: &OrderLine) -> Result<(), Refusal>
-        ensures ok { OnOk result (line_refusal (collation self.now) before.old line.now ≡ None) }
-        ensures adds { OnOk result (AddsId before.old before.new line.now.id) }
-        ensures err { IfErr result (λ refusal. refusal ≢ OutOfMemory → line_refusal (collation self.now) before.old line.now ≡ Some refusal) }
-    {
-        if before.contains(&line.id) {
-            return Err(Refusal::TwiceInBlock);
-        }
-        if !self.is_known(&line.id) {
-            return Err(Refusal::NotDeclared);
-        }
-        if let Some(refusal) = self.weights_refusal(line) {
-            return Err(refusal);
-        }
-        before.insert(&line.id)?;
-        Ok(())
+        added
     }
 
     /// Why the first identifier that may not stand in the weights of these lines may not, where more is placed.

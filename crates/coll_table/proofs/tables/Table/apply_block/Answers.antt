@@ -4,6 +4,7 @@ use Rattle.coll_table.specs.Delta.{delta}
 use Rattle.coll_nodes.specs.TableLayout.{collation}
 use Rattle.coll_table.proofs.AcceptedStatements.{block_accepted}
 use Rattle.coll_table.proofs.AppliedStatements.{IsReady, applied, block_ready, ready_well_formed}
+use Rattle.coll_table.proofs.ListedItems.{block_listed}
 use Rattle.coll_table.proofs.tables.Table.apply_block.Goals as goal
 
 pub prepare_block-requires : goal.prepare_block-requires
@@ -27,3 +28,4 @@ returns-clause-applied c =
     applied c.args.self.now c.prepare_block.new.self c.carry_out.new.self (statement.Block c.args.target.now c.args.lines.now) c.in_ok-items.items.items c.carry_out.result c.check_table.ensures.table c.in_ok-items.ensures.added
     (block_ready c.args.self.now c.prepare_block.new.self c.args.target.now c.args.lines.now c.in_ok-items.items.items c.check_table.ensures.table c.in_ok-items.ensures.added c.requires.proper c.requires.accepted c.in_ok-items.ensures.prepared)
     c.carry_out.ensures.rules c.carry_out.ensures.layout c.carry_out.ensures.record
+    (block_listed c.args.self.now c.prepare_block.new.self c.args.target.now c.args.lines.now c.in_ok-items.items.items c.check_table.ensures.table c.in_ok-items.ensures.added c.requires.accepted c.in_ok-items.ensures.prepared)

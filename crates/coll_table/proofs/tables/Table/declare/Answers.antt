@@ -1,6 +1,7 @@
 -- A declaration is prepared, and carried out.
 use Rattle.coll_table.specs.Applied.{declaring}
 use Rattle.coll_table.proofs.AppliedStatements.{IsReady, applied, declaration_ready, ready_well_formed}
+use Rattle.coll_table.proofs.ListedItems.{declaration_listed}
 use Rattle.coll_table.proofs.tables.Table.declare.Goals as goal
 
 ready : (c : goal.After-carry_out-arg-1) → IsReady c.prepare_declaration.new.self (declaring c.args.new) c.in_ok-items.items.items
@@ -20,3 +21,4 @@ returns-clause-applied c =
     applied c.args.self.now c.prepare_declaration.new.self c.carry_out.new.self (declaring c.args.new) c.in_ok-items.items.items c.carry_out.result c.check_table.ensures.table c.in_ok-items.ensures.added
     (declaration_ready c.args.self.now c.prepare_declaration.new.self c.args.new c.in_ok-items.items.items c.check_table.ensures.table c.in_ok-items.ensures.added c.requires.proper c.requires.accepted c.in_ok-items.ensures.prepared)
     c.carry_out.ensures.rules c.carry_out.ensures.layout c.carry_out.ensures.record
+    (declaration_listed c.args.self.now c.prepare_declaration.new.self c.args.new c.in_ok-items.items.items c.in_ok-items.ensures.added c.in_ok-items.ensures.prepared)

@@ -4,6 +4,7 @@ use Rattle.coll_table.specs.Delta.{delta}
 use Rattle.coll_nodes.specs.TableLayout.{collation}
 use Rattle.coll_table.proofs.AcceptedStatements.{section_accepted}
 use Rattle.coll_table.proofs.AppliedStatements.{IsReady, applied, ready_well_formed, section_adds, section_ready}
+use Rattle.coll_table.proofs.ListedItems.{section_listed}
 use Rattle.coll_table.proofs.tables.Table.move_section.Goals as goal
 
 pub prepare_section-requires-clause-moved : goal.prepare_section-requires-clause-moved
@@ -31,3 +32,4 @@ returns-clause-applied c =
     applied c.args.self.now c.args.self.now c.carry_out.new.self (statement.SectionAfter c.args.moved.now c.args.after.now) c.in_ok-items.items.items c.carry_out.result c.check_table.ensures.table (section_adds c.args.self.now c.args.moved.now c.args.after.now c.in_ok-items.items.items c.in_ok-items.ensures)
     (section_ready c.args.self.now c.args.moved.now c.args.after.now c.in_ok-items.items.items c.check_table.ensures.table c.requires.proper c.requires.accepted c.in_ok-items.ensures)
     c.carry_out.ensures.rules c.carry_out.ensures.layout c.carry_out.ensures.record
+    (section_listed c.args.self.now c.args.moved.now c.args.after.now c.in_ok-items.items.items c.in_ok-items.ensures)

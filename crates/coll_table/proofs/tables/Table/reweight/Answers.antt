@@ -4,6 +4,7 @@ use Rattle.coll_table.specs.Delta.{delta}
 use Rattle.coll_nodes.specs.TableLayout.{collation}
 use Rattle.coll_table.proofs.AcceptedStatements.{reweight_accepted}
 use Rattle.coll_table.proofs.AppliedStatements.{IsReady, applied, ready_well_formed, reweight_adds, reweight_ready}
+use Rattle.coll_table.proofs.ListedItems.{reweight_listed}
 use Rattle.coll_table.proofs.tables.Table.reweight.Goals as goal
 
 pub prepare_reweight-requires : goal.prepare_reweight-requires
@@ -27,3 +28,4 @@ returns-clause-applied c =
     applied c.args.self.now c.args.self.now c.carry_out.new.self (statement.Reweight c.args.line.now) c.in_ok-items.items.items c.carry_out.result c.check_table.ensures.table (reweight_adds c.args.self.now c.args.line.now c.in_ok-items.items.items c.in_ok-items.ensures)
     (reweight_ready c.args.self.now c.args.line.now c.in_ok-items.items.items c.check_table.ensures.table c.requires.proper c.requires.accepted c.in_ok-items.ensures)
     c.carry_out.ensures.rules c.carry_out.ensures.layout c.carry_out.ensures.record
+    (reweight_listed c.args.self.now c.args.line.now c.in_ok-items.items.items c.check_table.ensures.table c.in_ok-items.ensures)
