@@ -224,6 +224,7 @@ module _ (input : ℕ) (first : Collation) where
               at.fed cut.went_on ∙ ap (λ rest. with_feeds at.whole ++ rest) cut.all,
               at.lines ∙ ap (λ rest. at.whole ++ lines_of rest) cut.all,
               cut.whole,
+              cut.short,
               undecided text e,
             ),
           )

@@ -1,8 +1,9 @@
 -- A run that is under way ends: what was then written of its whole text, one lemma for each way to end.
-use Rattle.std.proofs.Common.{◌≡◌, ℕ, ◌<◌, Bool, true, false, List, [], ◌∷◌, ◌++◌, length, Option, Some, None, Result, Ok, Err, refl, sym, ap, ◌∙◌, subst, append-nil, append_assoc, inl, ⊎_elim}
+use Rattle.std.proofs.Common.{◌≡◌, ℕ, ◌<◌, ◌≤◌, Bool, true, false, List, [], ◌∷◌, ◌++◌, length, Option, Some, None, Result, Ok, Err, refl, sym, ap, ◌∙◌, subst, append-nil, append_assoc, inl, ⊎_elim}
 use Rattle.std.specs.Prelude.{◌⊎◌}
 use Rattle.std.specs.Io.KnownBytes.{Appends, Keeps, prepend_known, IsAtEnd}
 use Rattle.coll_devices.specs.Devices.{AppendsFront}
+use Rattle.coll_devices.specs.Limits.{most_line_bytes}
 use Rattle.coll_devices.specs.PhysicalLines.{IsInLine, lines_of}
 use Rattle.coll_devices.specs.LineReading.{ReaderState, Cuts, IsLongLine, GivesEnd, EndsAgain, StopsNow, unread}
 use Rattle.coll_lex.specs.LogicalLines.{LexerState, pending, number_of, first_line, first_state, served, state_by, logical_lines}
@@ -178,21 +179,22 @@ long_ended table text before left ended0 unread0 left1 taken0 taken1 old held en
 
 -- a read failed: a part of the next line was read
 read_ran : (table : Collation) (text before : List ℕ) (ended0 : Bool) (unread0 taken0 : Option (List ℕ)) (old : Desk) (read rest written : List ℕ) (lines units : List Bool) (held more : List ℕ)
-    → IsUnderway table text before ended0 unread0 taken0 old read rest written lines units → ended0 ≡ false → rest ≡ held ++ more → IsInLine held → RanToReadFault table text (Some more) written (lines ++ []) (units ++ []) read held more
-read_ran table text before ended0 unread0 taken0 old read rest written lines units held more u going is whole = record {
+    → IsUnderway table text before ended0 unread0 taken0 old read rest written lines units → ended0 ≡ false → rest ≡ held ++ more → IsInLine held → length held ≤ most_line_bytes → RanToReadFault table text (Some more) written (lines ++ []) (units ++ []) read held more
+read_ran table text before ended0 unread0 taken0 old read rest written lines units held more u going is whole short = record {
   text_is = u.text_is ∙ ap (λ (r : List ℕ). read ++ r) is;
   in_feeds = u.there.in_feeds going;
   whole = ap lines_of u.text_is ∙ u.there.cut going rest ∙ ap (λ (r : List ℕ). lines_of read ++ lines_of r) is;
   part_in_line = whole;
+  part_short = short;
   left_is = refl;
   output_is = sym (output_kept (lines ++ []) (units ++ []) false table read ∙ ap (λ (ls : List (List ℕ)). written_from first_state None (begun table) (lines ++ []) (units ++ []) false ls) (sym (append-nil (lines_of read)))
       ∙ u.goes_on [] [] false [] ∙ ap (λ (l : List ℕ). written ++ l) (written_cut old.listener old.block old.session) ∙ append-nil written);
   no_last = ap (λ (ls : List (List ℕ)). last_line (logical_lines (lines ++ []) false first_state ls)) (sym (append-nil (lines_of read))) ∙ u.last [] false [] ∙ last_cut old.listener;
 }
 
-pub read_ended : (table : Collation) (text before : List ℕ) (ended0 : Bool) (unread0 left1 taken0 taken1 : Option (List ℕ)) (old : Desk) (held : List ℕ) (ended : RunFault) → Underway table text before ended0 unread0 taken0 old → ended0 ≡ false → Keeps unread0 (prepend_known held left1) → IsInLine held
+pub read_ended : (table : Collation) (text before : List ℕ) (ended0 : Bool) (unread0 left1 taken0 taken1 : Option (List ℕ)) (old : Desk) (held : List ℕ) (ended : RunFault) → Underway table text before ended0 unread0 taken0 old → ended0 ≡ false → Keeps unread0 (prepend_known held left1) → IsInLine held → length held ≤ most_line_bytes
     → (ended ≡ read_failed) × (taken1 ≡ taken0) → Leaves table text before left1 taken1 (Err ended)
-read_ended table text before ended0 unread0 left1 taken0 taken1 old held ended (read, rest, written, lines, units, u) going keeps whole (is, kept) =
+read_ended table text before ended0 unread0 left1 taken0 taken1 old held ended (read, rest, written, lines, units, u) going keeps whole short (is, kept) =
     let (more, left_is, rest_is) = held_first held unread0 left1 rest u.unread_is keeps in (
       written,
       kept ∙ u.taken_is,
@@ -204,7 +206,7 @@ read_ended table text before ended0 unread0 left1 taken0 taken1 old held ended (
         held,
         more,
         subst (λ (l : Option (List ℕ)). RanToReadFault table text l written (lines ++ []) (units ++ []) read held more) (sym left_is)
-            (read_ran table text before ended0 unread0 taken0 old read rest written lines units held more u going rest_is whole),
+            (read_ran table text before ended0 unread0 taken0 old read rest written lines units held more u going rest_is whole short),
       ),
     )
 
@@ -285,4 +287,4 @@ pub cut_off_ended : (table : Collation) (text before : List ℕ) (old new : Read
 cut_off_ended table text before old new left left1 taken0 taken1 failed failed1 desk stop.LineTooLong ended stops u cut =
     long_ended table text before left1 old.ended (unread old left) left1 taken0 taken1 desk new.held ended u stops.not_ended stops.kept stops.cause.1 cut
 cut_off_ended table text before old new left left1 taken0 taken1 failed failed1 desk stop.ReadFault ended stops u cut =
-    read_ended table text before old.ended (unread old left) left1 taken0 taken1 desk new.held ended u stops.not_ended stops.kept stops.cause.1 cut
+    read_ended table text before old.ended (unread old left) left1 taken0 taken1 desk new.held ended u stops.not_ended stops.kept stops.cause.1 stops.cause.2 cut

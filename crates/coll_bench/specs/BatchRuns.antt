@@ -1,6 +1,7 @@
 -- A whole run of a batch: what was written and what was answered are stated functions of what its inputs have.
 use Rattle.std.specs.Prelude.{◌≡◌, ◌≤◌, ◌+◌, ◌==◌, ◌⊎◌, ℕ, zero, suc, false, if◌then◌else◌, List, [], ◌∷◌, ◌++◌, length, map, take, slice_get, Option, Some, Result, Ok, Err}
 use Rattle.coll_devices.specs.Devices.{raised}
+use Rattle.coll_devices.specs.Limits.{most_line_bytes}
 use Rattle.coll_devices.specs.PhysicalLines.{lines_of, IsInLine}
 use Rattle.coll_nodes.specs.Table.{Collation}
 use Rattle.coll_table.specs.Loads.{with_feeds, StopsWithin, FaultSays}
@@ -35,11 +36,11 @@ DecidesNothing (Decided answer) = ⊥
 DecidesNothing (Undecided cause) = Unit {0}
 
 -- a read of a delta file failed behind a part of a line: its text begins with the lines read before it, each with its line feed,
--- and these decide nothing; behind them stand that part and the rest, which is left
+-- and these decide nothing; behind them stand that part, which is no longer than a line may be, and the rest, which is left
 abbrev pub DeltaStopsWithin : (input : ℕ) → Collation → (text : List ℕ) → (left : Option (List ℕ)) → Type 0
 DeltaStopsWithin input table text left =
     (whole : List (List ℕ)) × (part : List ℕ) × (rest : List ℕ) × (left ≡ Some rest) × (text ≡ with_feeds whole ++ (part ++ rest))
-    × (lines_of text ≡ whole ++ lines_of (part ++ rest)) × IsInLine part × DecidesNothing (decision input table (delta_outcome false whole))
+    × (lines_of text ≡ whole ++ lines_of (part ++ rest)) × IsInLine part × (length part ≤ most_line_bytes) × DecidesNothing (decision input table (delta_outcome false whole))
 
 -- a read of one of the delta files failed, with so many before it, which give a table
 abbrev pub DeltasStopWithin : (before : ℕ) → Collation → (texts : List (List ℕ)) → (lefts : List (Option (List ℕ))) → Type 0

@@ -1,6 +1,7 @@
 -- A whole run of a session: what is written is a stated function of what is read.
-use Rattle.std.specs.Prelude.{◌≡◌, ◌==◌, ℕ, Bool, true, false, if◌then◌else◌, List, [], ◌∷◌, ◌++◌, map, Option, Some, None, Result, Ok, Err}
+use Rattle.std.specs.Prelude.{◌≡◌, ◌==◌, ◌≤◌, ℕ, Bool, true, false, if◌then◌else◌, List, [], ◌∷◌, ◌++◌, map, length, Option, Some, None, Result, Ok, Err}
 use Rattle.coll_devices.specs.Devices.{raised}
+use Rattle.coll_devices.specs.Limits.{most_line_bytes}
 use Rattle.coll_devices.specs.PhysicalLines.{lines_of, IsInLine}
 use Rattle.coll_lex.specs.LogicalLines.{LogicalLine, first_state, logical_lines}
 use Rattle.coll_lex.specs.declared.tokens.Token.{Token}
@@ -50,12 +51,13 @@ pub record RanToEnd (table : Collation) (text : List ℕ) (left : Option (List �
   pub left_is : left ≡ Some []
 
 -- a read failed: the lines read whole before it, each of which ends in a line feed, were served, and of the next a part was
--- read
+-- read, which is no longer than a line may be
 pub record RanToReadFault (table : Collation) (text : List ℕ) (left : Option (List ℕ)) (written : List ℕ) (lines_starved units_starved : List Bool) (read part rest : List ℕ) : Type 0 where
   pub text_is : text ≡ read ++ (part ++ rest)
   pub in_feeds : read ≡ with_feeds (lines_of read)
   pub whole : lines_of text ≡ lines_of read ++ lines_of (part ++ rest)
   pub part_in_line : IsInLine part
+  pub part_short : length part ≤ most_line_bytes
   pub left_is : left ≡ Some rest
   pub output_is : written ≡ starved_output lines_starved units_starved false table read
   pub no_last : last_of lines_starved false read ≡ None

@@ -1,5 +1,5 @@
 -- What serving one physical line does, from where a session stands between two lines.
-use Rattle.std.specs.Prelude.{◌≡◌, ◌⊎◌, ℕ, Bool, false, ◌==◌, if◌then◌else◌, List, [], ◌∷◌, ◌++◌, Option, Some, None, Result, Ok, Err}
+use Rattle.std.specs.Prelude.{◌≡◌, ◌⊎◌, ℕ, Bool, true, false, ◌==◌, if◌then◌else◌, List, [], ◌∷◌, ◌++◌, Option, Some, None, Result, Ok, Err}
 use Rattle.std.specs.Io.KnownBytes.{Appends}
 use Rattle.coll_devices.specs.Devices.{AppendsFront, raised}
 use Rattle.coll_devices.specs.LineReading.{counted}
@@ -88,6 +88,15 @@ CountsEnd old new ended = new ≡ (if fault_number ended.fault == 68 then raised
 abbrev pub CountsWrites : ℕ → ℕ → Result (Unit {0}) RunFault → Type 0
 CountsWrites old new (Ok done) = new ≡ old
 CountsWrites old new (Err ended) = CountsEnd old new ended
+
+-- all that was taken is flushed, unless a write failed
+abbrev pub IsFlushedAt : Bool → RunFault → Type 0
+IsFlushedAt flushed ended = (fault_number ended.fault == 68) ≡ false → flushed ≡ true
+
+-- the same of a run that may have gone well
+abbrev pub IsFlushedAfter : Bool → Result (Unit {0}) RunFault → Type 0
+IsFlushedAfter flushed (Ok done) = flushed ≡ true
+IsFlushedAfter flushed (Err ended) = IsFlushedAt flushed ended
 
 -- the session ended with its text: all replies were written, or a write failed and a front of them was
 abbrev pub FinishesWith : Option (List ℕ) → Option (List ℕ) → List ℕ → Result (Unit {0}) RunFault → Type 0

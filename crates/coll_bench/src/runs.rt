@@ -5,11 +5,11 @@
 //! lemmas put together what each line does, over all that may come later. The desk and the reader are dropped by calls,
 //! since a check pays for each field of a value at each place that drops it.
 
-ghost use Rattle.std.specs.Prelude.{◌≡◌, IfErr};
+ghost use Rattle.std.specs.Prelude.{◌≡◌, true, IfErr};
 ghost use Rattle.coll_devices.specs.LineReading.{no_line};
 ghost use Rattle.coll_nodes.specs.Table.{Collation};
 ghost use Rattle.coll_nodes.specs.TableLayout.{collation};
-ghost use Rattle.coll_bench.specs.Serving.{IsBegun, EndsSession, CountsWrites, never_ran};
+ghost use Rattle.coll_bench.specs.Serving.{IsBegun, EndsSession, CountsWrites, IsFlushedAfter, never_ran};
 ghost use Rattle.coll_bench.specs.Runs.{Runs, CountsReads};
 
 use crate::serving::Desk;
@@ -36,6 +36,7 @@ pub fn run_session<R: Source, W: Sink>(
     ensures ends { IfErr result (λ ended. EndsSession ended.fault) }
     ensures reads { CountsReads (R.failed input.old) (R.failed input.new) result }
     ensures writes { CountsWrites (W.failed output.old) (W.failed output.new) result }
+    ensures flushed { W.flushed output.old ≡ true → IsFlushedAfter (W.flushed output.new) result }
 {
     match Desk::new(alloc, table) {
         Ok(mut desk) => {
@@ -59,6 +60,7 @@ fn serve_text<R: Source, W: Sink>(
     ensures ends { IfErr result (λ ended. EndsSession ended.fault) }
     ensures reads { CountsReads (R.failed input.old) (R.failed input.new) result }
     ensures writes { CountsWrites (W.failed output.old) (W.failed output.new) result }
+    ensures flushed { W.flushed output.old ≡ true → IsFlushedAfter (W.flushed output.new) result }
 {
     match LineReader::new(alloc) {
         Ok(mut reader) => {
@@ -84,6 +86,7 @@ fn serve_lines<R: Source, W: Sink>(
     ensures ends { IfErr result (λ ended. EndsSession ended.fault) }
     ensures reads { CountsReads (R.failed input.old) (R.failed input.new) result }
     ensures writes { CountsWrites (W.failed output.old) (W.failed output.new) result }
+    ensures flushed { W.flushed output.old ≡ true → IsFlushedAfter (W.flushed output.new) result }
 {
     'lines: loop {
         match reader.advance(input) {

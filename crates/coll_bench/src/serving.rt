@@ -14,7 +14,7 @@ ghost use Rattle.coll_nodes.specs.TableLayout.{collation};
 ghost use Rattle.coll_units.specs.OpenBlocks.{kept_end_faults, kept_dropped_faults, kept_last_faults};
 ghost use Rattle.coll_replies.specs.Replies.{refused_line, refused_lines};
 ghost use Rattle.coll_units.specs.Units.{dangling as dangling_faults};
-ghost use Rattle.coll_bench.specs.Serving.{EndsSession, EndsWith, FinishesWith, IsCutOff, CountsEnd, CountsWrites, CountsStop, ReadsNone, write_failed as failed_write, too_long};
+ghost use Rattle.coll_bench.specs.Serving.{EndsSession, EndsWith, FinishesWith, IsCutOff, CountsEnd, CountsWrites, CountsStop, IsFlushedAt, IsFlushedAfter, ReadsNone, write_failed as failed_write, too_long};
 
 use coll_lex::{LexFault, ReadStop, Sink, WriteStop};
 use coll_replies::{Fault, RankedSession, RunFault, answer, refuse};
@@ -64,6 +64,7 @@ impl Desk {
         ensures ends { IfErr result (λ ended. EndsSession ended.fault) }
         ensures reads { IfErr result (λ ended. ReadsNone ended) }
         ensures errors { CountsWrites (W.failed output.old) (W.failed output.new) result }
+        ensures flushed { W.flushed output.old ≡ true → IsFlushedAfter (W.flushed output.new) result }
     {
         let number = self.listener.next_number();
         match self.listener.take(alloc, &mut self.block, line) {
@@ -88,6 +89,7 @@ impl Desk {
         ensures block { self.new.block ≡ self.old.block }
         ensures listener { self.new.listener ≡ self.old.listener }
         ensures errors { CountsErr (W.failed output.old) (W.failed output.new) result }
+        ensures flushed { W.flushed output.old ≡ true → OnOk result (W.flushed output.new ≡ true) }
     {
         match unit {
             Some(unit) => answer(alloc, &mut self.session, unit.request, output),
@@ -104,6 +106,7 @@ impl Desk {
         ensures ends { EndsSession result.fault }
         ensures reads { ReadsNone result }
         ensures errors { CountsEnd (W.failed output.old) (W.failed output.new) result }
+        ensures flushed { W.flushed output.old ≡ true → IsFlushedAt (W.flushed output.new) result }
     {
         match write_last(&self.block, number, fault, output) {
             Ok(()) => RunFault {
@@ -122,6 +125,7 @@ impl Desk {
         ensures ends { IfErr result (λ ended. EndsSession ended.fault) }
         ensures reads { IfErr result (λ ended. ReadsNone ended) }
         ensures errors { CountsWrites (W.failed output.old) (W.failed output.new) result }
+        ensures flushed { W.flushed output.old ≡ true → IsFlushedAfter (W.flushed output.new) result }
     {
         let continued = self.listener.finish();
         match write_end(&self.block, continued, output) {
@@ -138,6 +142,7 @@ impl Desk {
         ensures ends { EndsSession result.fault }
         ensures reads { CountsStop stop result }
         ensures errors { CountsEnd (W.failed output.old) (W.failed output.new) result }
+        ensures flushed { W.flushed output.old ≡ true → IsFlushedAt (W.flushed output.new) result }
     {
         match stop {
             ReadStop::LineTooLong => {
@@ -174,6 +179,7 @@ fn write_last<W: Sink>(
 ) -> Result<(), WriteStop>
     ensures sent { Sends (W.taken output.old) (W.taken output.new) (refused_lines (kept_last_faults block.now number fault)) result }
     ensures errors { CountsErr (W.failed output.old) (W.failed output.new) result }
+    ensures flushed { W.flushed output.old ≡ true → OnOk result (W.flushed output.new ≡ true) }
 {
     match fault {
         LexFault::DanglingEscape => write_end(block, Some(number), output),
@@ -189,6 +195,7 @@ fn write_dropped<W: Sink>(
 ) -> Result<(), WriteStop>
     ensures sent { Sends (W.taken output.old) (W.taken output.new) (refused_lines (kept_dropped_faults block.now) ++ refused_line (Fault.Lex fault)) result }
     ensures errors { CountsErr (W.failed output.old) (W.failed output.new) result }
+    ensures flushed { W.flushed output.old ≡ true → OnOk result (W.flushed output.new ≡ true) }
 {
     refuse_if(dropped_fault(block), output)?;
     refuse(Fault::Lex(fault), output)
@@ -202,6 +209,7 @@ fn write_end<W: Sink>(
 ) -> Result<(), WriteStop>
     ensures sent { Sends (W.taken output.old) (W.taken output.new) (refused_lines (kept_end_faults block.now continued)) result }
     ensures errors { CountsErr (W.failed output.old) (W.failed output.new) result }
+    ensures flushed { W.flushed output.old ≡ true → OnOk result (W.flushed output.new ≡ true) }
 {
     refuse_if(end_fault(block, continued), output)
 }
@@ -210,6 +218,7 @@ fn write_end<W: Sink>(
 fn refuse_if<W: Sink>(at: Option<FaultAt>, output: &mut W) -> Result<(), WriteStop>
     ensures sent { Sends (W.taken output.old) (W.taken output.new) (refused_lines (option_to_list at)) result }
     ensures errors { CountsErr (W.failed output.old) (W.failed output.new) result }
+    ensures flushed { W.flushed output.old ≡ true → OnOk result (W.flushed output.new ≡ true) }
 {
     match at {
         Some(at) => refuse(Fault::from(at.fault), output),

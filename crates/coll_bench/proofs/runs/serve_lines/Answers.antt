@@ -16,6 +16,7 @@ lines-init g c = record {
   going = ap (λ (r : ReaderState). r.stop) c.requires;
   reads = refl;
   writes = refl;
+  flushed = λ all. all;
   underway = λ table text before begins left_is taken_is.
       underway_begun table text before c.args.reader.now.ended (unread c.args.reader.now (g.R.Source.left c.args.input.now)) (g.W.Sink.taken c.args.output.now) c.args.desk.now begins
       (ap (λ (r : ReaderState). r.ended) c.requires) (unread_begun c.args.reader.now (g.R.Source.left c.args.input.now) text c.requires left_is) taken_is;
@@ -40,6 +41,7 @@ lines-preserved g c =
       going = line.stop;
       reads = line.count ∙ c.lines.invariant.reads;
       writes = c.in_default.ensures.errors ∙ c.lines.invariant.writes;
+      flushed = λ all. c.in_default.ensures.flushed (c.lines.invariant.flushed all);
       underway = λ table text before begins left_is taken_is.
           underway_on table text before c.lines.reader.ended c.advance.new.self.ended (unread c.lines.reader (left c.lines.input)) (unread c.advance.new.self (left c.advance.new.input)) (taken c.lines.output) (taken c.serve.new.output) c.lines.desk c.serve.new.self c.line.result.now
           (c.lines.invariant.underway table text before begins left_is taken_is) line.not_ended

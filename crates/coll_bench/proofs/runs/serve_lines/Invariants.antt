@@ -1,5 +1,5 @@
 -- What was read and written so far, and what was counted; each line is one of the most lines that a text may have.
-use Rattle.std.proofs.Common.{◌≡◌, ℕ, ◌-◌, List, Some, None}
+use Rattle.std.proofs.Common.{◌≡◌, true, ℕ, ◌-◌, List, Some, None}
 use Rattle.coll_devices.specs.LineReading.{unread}
 use Rattle.coll_lex.specs.Limits.{most_lines}
 use Rattle.coll_nodes.specs.Table.{Collation}
@@ -16,6 +16,7 @@ invariant-lines g l =
       going : l.reader.stop ≡ None;
       reads : g.R.Source.failed l.input ≡ g.R.Source.failed l.initial.input;
       writes : g.W.Sink.failed l.output ≡ g.W.Sink.failed l.initial.output;
+      flushed : g.W.Sink.flushed l.initial.output ≡ true → g.W.Sink.flushed l.output ≡ true;
       underway : (table : Collation) (text before : List ℕ) → IsBegun l.initial.desk table → g.R.Source.left l.initial.input ≡ Some text → g.W.Sink.taken l.initial.output ≡ Some before
           → Underway table text before l.reader.ended (unread l.reader (g.R.Source.left l.input)) (g.W.Sink.taken l.output) l.desk;
     }
