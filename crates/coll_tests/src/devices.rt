@@ -20,6 +20,8 @@ pub enum Step {
     AllBytes,
     /// Answers an error.
     Error,
+    /// Answers that it was interrupted, which is an error like any other.
+    Interruption,
     /// Takes no byte where it is to write, and answers an error where it is to flush.
     Refusal,
 }
@@ -42,18 +44,29 @@ impl Step {
             Step::OneByte => Some(1),
             Step::SomeBytes => Some(3),
             Step::AllBytes => Some(usize::MAX),
-            Step::Error => None,
+            Step::Error | Step::Interruption => None,
         }
+    }
+
+    // The error that is answered, where one is.
+    fn error(self) -> io::Error {
+        io::Error::from(match self {
+            Step::Interruption => ErrorKind::Interrupted,
+            _ => ErrorKind::BrokenPipe,
+        })
     }
 
     /// Nothing where a flush succeeds; none where it answers an error.
     pub fn flushed(self) -> Option<()> {
         match self {
-            Step::Error | Step::Refusal => None,
+            Step::Error | Step::Interruption | Step::Refusal => None,
             _ => Some(()),
         }
     }
 }
+
+/// How a read fails.
+pub const FAILED_READS: &[Step] = &[Step::Error, Step::Interruption];
 
 /// What a device does at each call.
 #[derive(Clone, Copy)]
@@ -81,6 +94,12 @@ impl Script {
         }
     }
 }
+
+/// A device that gives or takes everything at once.
+pub const WHOLE: Script = Script::Each(Step::AllBytes);
+
+/// A device that gives or takes at most three bytes at a time.
+pub const SMALL: Script = Script::Each(Step::SomeBytes);
 
 // A digit of a number to the base 4, counted from 1 and from the last.
 fn digit(number: u8, at: usize) -> u8 {
@@ -125,9 +144,10 @@ impl<'a> ShortReader<'a> {
 impl Read for ShortReader<'_> {
     fn read(&mut self, buf: &mut [u8]) -> io::Result<usize> {
         self.reads = self.reads.saturating_add(1);
-        let Some(most) = self.script.step(self.reads).most() else {
+        let step = self.script.step(self.reads);
+        let Some(most) = step.most() else {
             self.errors = self.errors.saturating_add(1);
-            return Err(io::Error::from(ErrorKind::BrokenPipe));
+            return Err(step.error());
         };
         let count = self.text.len().min(buf.len()).min(most);
         buf[..count].copy_from_slice(&self.text[..count]);
@@ -168,7 +188,7 @@ impl ShortWriter {
         ShortWriter::scripted(taken, Script::ButFor(fails_at, step))
     }
 
-    /// A writer behind these bytes that does what a script says.
+    /// A writer behind these bytes that does what a script says. Its writes and flushes are counted together.
     pub fn scripted(taken: Vec<u8>, script: Script) -> Self {
         ShortWriter {
             script,
@@ -192,9 +212,10 @@ impl ShortWriter {
 
 impl Write for ShortWriter {
     fn write(&mut self, buf: &[u8]) -> io::Result<usize> {
-        let Some(most) = self.step().most() else {
+        let step = self.step();
+        let Some(most) = step.most() else {
             self.count_error();
-            return Err(io::Error::from(ErrorKind::BrokenPipe));
+            return Err(step.error());
         };
         if most == 0 {
             self.count_error();
@@ -207,9 +228,10 @@ impl Write for ShortWriter {
     }
 
     fn flush(&mut self) -> io::Result<()> {
-        if self.step().flushed().is_none() {
+        let step = self.step();
+        if step.flushed().is_none() {
             self.count_error();
-            return Err(io::Error::from(ErrorKind::BrokenPipe));
+            return Err(step.error());
         }
         Ok(())
     }
