@@ -1,7 +1,7 @@
 //! Devices that give and take little at a time and fail where they are told to.
 //!
 //! `ShortReader` and `ShortWriter` do at each call what their script says, and count their own calls and errors;
-//! `NarrowWriter` has no more room.
+//! `NarrowWriter` has no more room, and `Endless` never comes to an end.
 
 use std::alloc::Global;
 use std::io;
@@ -67,6 +67,9 @@ impl Step {
 
 /// How a read fails.
 pub const FAILED_READS: &[Step] = &[Step::Error, Step::Interruption];
+
+/// How a write or a flush fails.
+pub const FAILED_WRITES: &[Step] = &[Step::Error, Step::Interruption, Step::Refusal];
 
 /// What a device does at each call.
 #[derive(Clone, Copy)]
@@ -156,15 +159,6 @@ impl Read for ShortReader<'_> {
     }
 }
 
-/// How a `ShortWriter` fails.
-#[derive(Clone, Copy)]
-pub enum Failure {
-    /// The call answers an error.
-    Error,
-    /// The write takes no byte; a flush answers an error.
-    TakesNothing,
-}
-
 /// Takes bytes, and answers flushes, as its script says.
 #[derive(Drop)]
 pub struct ShortWriter {
@@ -178,16 +172,6 @@ pub struct ShortWriter {
 }
 
 impl ShortWriter {
-    /// A writer behind these bytes, which takes at most three bytes per write, and fails at its n-th write or flush. These
-    /// are counted together, from 1.
-    pub fn new(taken: Vec<u8>, fails_at: usize, failure: Failure) -> Self {
-        let step = match failure {
-            Failure::Error => Step::Error,
-            Failure::TakesNothing => Step::Refusal,
-        };
-        ShortWriter::scripted(taken, Script::ButFor(fails_at, step))
-    }
-
     /// A writer behind these bytes that does what a script says. Its writes and flushes are counted together.
     pub fn scripted(taken: Vec<u8>, script: Script) -> Self {
         ShortWriter {
@@ -275,5 +259,27 @@ impl Write for NarrowWriter {
         } else {
             Err(io::Error::from(ErrorKind::BrokenPipe))
         }
+    }
+}
+
+/// Gives the bytes of a text, and then one byte again and again.
+#[derive(Drop)]
+pub struct Endless<'a> {
+    /// The bytes of the text that are not given yet.
+    pub text: &'a [u8],
+    /// The byte that is given then.
+    pub byte: u8,
+}
+
+impl Read for Endless<'_> {
+    fn read(&mut self, buf: &mut [u8]) -> io::Result<usize> {
+        if self.text.is_empty() {
+            buf.fill(self.byte);
+            return Ok(buf.len());
+        }
+        let count = self.text.len().min(buf.len());
+        buf[..count].copy_from_slice(&self.text[..count]);
+        self.text = &self.text[count..];
+        Ok(count)
     }
 }
