@@ -1,55 +1,58 @@
 //! Batches: what is written for a table and its delta files, or the line that tells the first fault, and the exit status.
 
-mod asked;
+pub mod asked;
 mod device_faults;
-mod runs;
+pub mod runs;
 
-use crate::devices::ShortReader;
+use crate::devices::{SMALL, Script, ShortReader};
 use coll_bench::{Batch, RunFault, exit_status, run_batch};
 use coll_lex::{Counted, Sink};
 use std::alloc::Global;
 use std::process::Abort;
 
 /// A delta file that moves an entry of the base table.
-const C_BEHIND_A: &str =
+pub const C_BEHIND_A: &str =
     "escape_char /\ncomment_char %\nLC_COLLATE\nreorder-after <U0061>\n<U0063>\nreorder-end\nEND LC_COLLATE\n";
 
-/// A read of a batch that fails: of which input, and which of its reads, from 1. None fails where that is 0.
+/// How an input of a batch is read: of the one with a number by this script, and of the others three bytes at a time.
 #[derive(Clone, Copy)]
-struct FailedRead {
-    input: usize,
-    read: usize,
+pub struct InputRead {
+    pub input: usize,
+    pub script: Script,
 }
 
 /// No read that fails.
-const NONE_FAILS: FailedRead = FailedRead { input: 0, read: 0 };
+pub const NONE_FAILS: InputRead = InputRead {
+    input: 0,
+    script: SMALL,
+};
 
-// A reader of an input, which gives three bytes at a time.
-fn reader(text: &[u8], input: usize, failed: FailedRead) -> Counted<ShortReader<'_>> {
-    let read = if input == failed.input {
-        failed.read
+// A reader of an input.
+fn reader(text: &[u8], input: usize, read: InputRead) -> Counted<ShortReader<'_>> {
+    let script = if input == read.input {
+        read.script
     } else {
-        0
+        SMALL
     };
-    Counted::new(ShortReader::new(text, read))
+    Counted::new(ShortReader::scripted(text, script))
 }
 
 /// What a batch over a table and delta files answers.
-fn run<W: Sink>(
+pub fn run<W: Sink>(
     rt: &impl Abort,
     alloc: Global,
     batch: Batch,
     table: &[u8],
     deltas: &[&str],
-    failed: FailedRead,
+    read: InputRead,
     output: &mut W,
 ) -> Result<(), RunFault> {
     let mut readers = Vec::new(alloc);
     for (input, text) in (1..).zip(deltas) {
-        let delta = reader(text.as_bytes(), input, failed);
+        let delta = reader(text.as_bytes(), input, read);
         readers.push(delta).expect(rt, "room");
     }
-    let mut table = reader(table, 0, failed);
+    let mut table = reader(table, 0, read);
     run_batch(alloc, batch, &mut table, readers.as_mut_slice(), output)
 }
 

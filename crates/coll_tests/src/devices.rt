@@ -1,7 +1,7 @@
 //! Devices that give and take little at a time and fail where they are told to.
 //!
 //! `ShortReader` and `ShortWriter` do at each call what their script says, and count their own calls and errors;
-//! `NarrowWriter` has no more room.
+//! `NarrowWriter` has no more room, and `Endless` never comes to an end.
 
 use std::alloc::Global;
 use std::io;
@@ -20,6 +20,8 @@ pub enum Step {
     AllBytes,
     /// Answers an error.
     Error,
+    /// Answers that it was interrupted, which is an error like any other.
+    Interruption,
     /// Takes no byte where it is to write, and answers an error where it is to flush.
     Refusal,
 }
@@ -42,18 +44,32 @@ impl Step {
             Step::OneByte => Some(1),
             Step::SomeBytes => Some(3),
             Step::AllBytes => Some(usize::MAX),
-            Step::Error => None,
+            Step::Error | Step::Interruption => None,
         }
+    }
+
+    // The error that is answered, where one is.
+    fn error(self) -> io::Error {
+        io::Error::from(match self {
+            Step::Interruption => ErrorKind::Interrupted,
+            _ => ErrorKind::BrokenPipe,
+        })
     }
 
     /// Nothing where a flush succeeds; none where it answers an error.
     pub fn flushed(self) -> Option<()> {
         match self {
-            Step::Error | Step::Refusal => None,
+            Step::Error | Step::Interruption | Step::Refusal => None,
             _ => Some(()),
         }
     }
 }
+
+/// How a read fails.
+pub const FAILED_READS: &[Step] = &[Step::Error, Step::Interruption];
+
+/// How a write or a flush fails.
+pub const FAILED_WRITES: &[Step] = &[Step::Error, Step::Interruption, Step::Refusal];
 
 /// What a device does at each call.
 #[derive(Clone, Copy)]
@@ -81,6 +97,12 @@ impl Script {
         }
     }
 }
+
+/// A device that gives or takes everything at once.
+pub const WHOLE: Script = Script::Each(Step::AllBytes);
+
+/// A device that gives or takes at most three bytes at a time.
+pub const SMALL: Script = Script::Each(Step::SomeBytes);
 
 // A digit of a number to the base 4, counted from 1 and from the last.
 fn digit(number: u8, at: usize) -> u8 {
@@ -125,24 +147,16 @@ impl<'a> ShortReader<'a> {
 impl Read for ShortReader<'_> {
     fn read(&mut self, buf: &mut [u8]) -> io::Result<usize> {
         self.reads = self.reads.saturating_add(1);
-        let Some(most) = self.script.step(self.reads).most() else {
+        let step = self.script.step(self.reads);
+        let Some(most) = step.most() else {
             self.errors = self.errors.saturating_add(1);
-            return Err(io::Error::from(ErrorKind::BrokenPipe));
+            return Err(step.error());
         };
         let count = self.text.len().min(buf.len()).min(most);
         buf[..count].copy_from_slice(&self.text[..count]);
         self.text = &self.text[count..];
         Ok(count)
     }
-}
-
-/// How a `ShortWriter` fails.
-#[derive(Clone, Copy)]
-pub enum Failure {
-    /// The call answers an error.
-    Error,
-    /// The write takes no byte; a flush answers an error.
-    TakesNothing,
 }
 
 /// Takes bytes, and answers flushes, as its script says.
@@ -158,17 +172,7 @@ pub struct ShortWriter {
 }
 
 impl ShortWriter {
-    /// A writer behind these bytes, which takes at most three bytes per write, and fails at its n-th write or flush. These
-    /// are counted together, from 1.
-    pub fn new(taken: Vec<u8>, fails_at: usize, failure: Failure) -> Self {
-        let step = match failure {
-            Failure::Error => Step::Error,
-            Failure::TakesNothing => Step::Refusal,
-        };
-        ShortWriter::scripted(taken, Script::ButFor(fails_at, step))
-    }
-
-    /// A writer behind these bytes that does what a script says.
+    /// A writer behind these bytes that does what a script says. Its writes and flushes are counted together.
     pub fn scripted(taken: Vec<u8>, script: Script) -> Self {
         ShortWriter {
             script,
@@ -192,9 +196,10 @@ impl ShortWriter {
 
 impl Write for ShortWriter {
     fn write(&mut self, buf: &[u8]) -> io::Result<usize> {
-        let Some(most) = self.step().most() else {
+        let step = self.step();
+        let Some(most) = step.most() else {
             self.count_error();
-            return Err(io::Error::from(ErrorKind::BrokenPipe));
+            return Err(step.error());
         };
         if most == 0 {
             self.count_error();
@@ -207,9 +212,10 @@ impl Write for ShortWriter {
     }
 
     fn flush(&mut self) -> io::Result<()> {
-        if self.step().flushed().is_none() {
+        let step = self.step();
+        if step.flushed().is_none() {
             self.count_error();
-            return Err(io::Error::from(ErrorKind::BrokenPipe));
+            return Err(step.error());
         }
         Ok(())
     }
@@ -253,5 +259,27 @@ impl Write for NarrowWriter {
         } else {
             Err(io::Error::from(ErrorKind::BrokenPipe))
         }
+    }
+}
+
+/// Gives the bytes of a text, and then one byte again and again.
+#[derive(Drop)]
+pub struct Endless<'a> {
+    /// The bytes of the text that are not given yet.
+    pub text: &'a [u8],
+    /// The byte that is given then.
+    pub byte: u8,
+}
+
+impl Read for Endless<'_> {
+    fn read(&mut self, buf: &mut [u8]) -> io::Result<usize> {
+        if self.text.is_empty() {
+            buf.fill(self.byte);
+            return Ok(buf.len());
+        }
+        let count = self.text.len().min(buf.len());
+        buf[..count].copy_from_slice(&self.text[..count]);
+        self.text = &self.text[count..];
+        Ok(count)
     }
 }

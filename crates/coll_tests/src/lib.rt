@@ -2,9 +2,10 @@
 //!
 //! A module shows each crate: `lines` is of `coll_devices` and `coll_lex`, `ordered_rings` of `coll_order`, `grammar` of
 //! `coll_syntax`, `tables` of `coll_table`, `keys` of `coll_key`, `sessions` and `batches` of `coll_units` and `coll_bench`, and
-//! `faults` of the shown text of the faults of all of them; `growths` says which of them are run with growths of memory refused;
-//! `statements` makes statements of their lines, `devices` has the devices that they use, `long_texts` makes their longest texts,
-//! and `assertions` compares what they are given.
+//! `faults` of the shown text of the faults of all of them. `writes` is of what any of them writes to a device that fails, and
+//! `endless` of readers that never end; `growths` says which of them are run with growths of memory refused. `statements` makes
+//! statements of their lines, `devices` has the devices that they use, `long_texts` makes their longest texts, and `assertions`
+//! compares what they are given.
 //! Expected values come from POSIX.1-2017 (7.3.2), from ISO/IEC 14651 and from docs/, and never from what a program wrote.
 //! What only takes a text and gives one is a run of the program, in tests/runs, unless it is a worked example.
 //! What no public call shows is proved, and has no test. The crates below have no tests of their own, since a crate with
@@ -17,6 +18,8 @@ mod assertions;
 mod batches;
 #[cfg(test)]
 mod devices;
+#[cfg(test)]
+mod endless;
 #[cfg(test)]
 mod faults;
 #[cfg(test)]
@@ -37,3 +40,5 @@ mod sessions;
 mod statements;
 #[cfg(test)]
 mod tables;
+#[cfg(test)]
+mod writes;

@@ -9,8 +9,8 @@ use coll_lex::Counted;
 use std::alloc::Global;
 use std::process::Abort;
 
-// The base table, compiled.
-const BASE_LISTING: Lines = &[
+/// The base table, compiled.
+pub const BASE_LISTING: Lines = &[
     "compiled 1 4 9",
     "rule forward",
     "rule backward",

@@ -445,3 +445,20 @@ fn each_call_has_its_answer(rt: HostRuntime) {
     assert_calls(&rt, rt.alloc(), &mut lexer);
     drop(lexer);
 }
+
+// Asserts that a text has the most lines, and not one more.
+fn assert_most_lines(rt: &impl Abort, lexer: &mut Lexer) {
+    for _ in 0..4_194_304 {
+        assert_same(rt, "a line", feed(lexer, b""), Ok(false));
+    }
+    let refused = Err(LexFault::TooManyLines);
+    assert_same(rt, "one more", feed(lexer, b""), refused);
+    assert_same(rt, "and another", feed(lexer, b""), refused);
+}
+
+#[test]
+fn a_text_has_at_most_4194304_lines(rt: HostRuntime) {
+    let mut lexer = new_lexer(&rt, rt.alloc());
+    assert_most_lines(&rt, &mut lexer);
+    drop(lexer);
+}

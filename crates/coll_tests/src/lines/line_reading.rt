@@ -1,16 +1,11 @@
 //! Lines as a device gives them: cut at line feeds, up to the longest, the end and errors.
 
 use crate::assertions::assert_same;
-use crate::devices::{Script, ShortReader, Step};
+use crate::devices::{SMALL, Script, ShortReader, Step, WHOLE};
 use crate::long_texts::repeated;
 use coll_lex::{Counted, LineReader, ReadStop, Source};
 use std::alloc::Global;
 use std::process::Abort;
-
-// Devices: one that gives as many bytes as are asked for, and one that gives three bytes at a time.
-const WHOLE: Script = Script::Each(Step::AllBytes);
-
-const SMALL: Script = Script::Each(Step::SomeBytes);
 
 // A part so many times, and a rest.
 type Text = (&'static [u8], usize, &'static [u8]);

@@ -2,7 +2,7 @@
 //! `lexing`.
 
 use crate::assertions::{assert_same, assert_that};
-use crate::devices::{Script, ShortWriter, Step};
+use crate::devices::{SMALL, Script, ShortWriter, Step, WHOLE};
 use coll_lex::{Counted, Sink, WriteStop, write_bytes, write_char, write_symbol};
 use std::alloc::Global;
 use std::process::Abort;
@@ -17,11 +17,6 @@ enum What {
 }
 
 use What::{Bytes, Char, Flush, Name};
-
-// Devices: one that takes everything at once, and one that takes three bytes at a time.
-const WHOLE: Script = Script::Each(Step::AllBytes);
-
-const SMALL: Script = Script::Each(Step::SomeBytes);
 
 // A name of 256 bytes, and a text of 257, with their spellings.
 const MOST: &str = "\

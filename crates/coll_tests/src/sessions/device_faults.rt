@@ -1,34 +1,14 @@
-//! Sessions whose reader or writer fails in mid-text.
+//! Sessions whose reader or writer fails in mid-text. That what is written is then a front of the replies, `writes` shows.
 
-use crate::assertions::{assert_same, assert_that};
-use crate::devices::{Failure, NarrowWriter, ShortReader, ShortWriter};
-use crate::sessions::{MOVED, MOVED_TEXT, run};
+use crate::assertions::{assert_same, assert_text, assert_that};
+use crate::devices::{FAILED_READS, NarrowWriter, Script, ShortReader, Step};
+use crate::sessions::run;
+use crate::sessions::transcripts::{SESSIONS, Session};
+use crate::tables::examples::BASE_TABLE;
 use coll_bench::{Fault, RunFault};
-use coll_lex::{Counted, ReadStop, Sink, Source, WriteStop};
-use std::alloc::{AllocError, Global};
+use coll_lex::{Counted, ReadStop, Source, WriteStop};
+use std::alloc::Global;
 use std::process::Abort;
-
-// All that is written for the session's text.
-fn all_replies(alloc: Global) -> Result<String, AllocError> {
-    let mut replies = String::new(alloc);
-    for (_, reply) in MOVED {
-        replies.push_str(reply)?;
-    }
-    Ok(replies)
-}
-
-// How many bytes are written for the lines that stand whole in so many bytes of that text.
-fn written_within(bytes: usize) -> usize {
-    let mut end = 0_usize;
-    let mut written = 0_usize;
-    for (line, reply) in MOVED {
-        end = end.saturating_add(line.len());
-        if end <= bytes {
-            written = written.saturating_add(reply.len());
-        }
-    }
-    written
-}
 
 const READ_FAULT: RunFault = RunFault {
     input: 0,
@@ -36,33 +16,62 @@ const READ_FAULT: RunFault = RunFault {
     fault: Fault::Read(ReadStop::ReadFault),
 };
 
-// Asserts what a session answers and writes whose n-th read fails, if it comes so far.
+// Asserts what a session answers and writes whose n-th read fails, if it comes so far: the replies to the lines that were
+// read whole. Each read before gave three bytes. Nothing is read then.
 fn assert_read(
     rt: &impl Abort,
     alloc: Global,
-    replies: &str,
-    fails_at: usize,
+    session: Session,
+    fails: Step,
+    at: usize,
     answer: Result<(), RunFault>,
 ) {
-    let mut input = Counted::new(ShortReader::new(MOVED_TEXT, fails_at));
+    let read = at.saturating_sub(1).saturating_mul(3);
+    let course = session.course(rt, alloc, read);
+    let script = Script::ButFor(at, fails);
+    let mut input = Counted::new(ShortReader::scripted(&course.text, script));
     let mut output = Counted::new(Vec::new(alloc));
-    let given = run(rt, alloc, &mut input, &mut output);
-    assert_same(rt, fails_at, given, answer);
+    let given = run(rt, alloc, BASE_TABLE, &mut input, &mut output);
+    assert_same(rt, at, given, answer);
     assert_same(rt, "the errors", input.errors(), u64::from(answer.is_err()));
-    let end = written_within(fails_at.saturating_sub(1).saturating_mul(3));
-    let written = output.device().as_slice();
-    assert_same(rt, fails_at, Some(written), replies.as_bytes().get(..end));
+    let reads = at.saturating_sub(usize::from(answer.is_ok()));
+    assert_same(rt, "the reads", input.device().reads, reads);
+    assert_text(rt, alloc, output.device().as_slice(), &course.replies);
 }
 
-// The text has 66 bytes, which 22 reads give. A further read finds its end.
+// Asserts that each of so many reads, of which the last finds the end, ends the session where it fails.
+fn assert_reads(rt: &impl Abort, alloc: Global, session: Session, fails: Step, reads: usize) {
+    for at in 1..=reads {
+        assert_read(rt, alloc, session, fails, at, Err(READ_FAULT));
+    }
+    let at = reads.saturating_add(1);
+    assert_read(rt, alloc, session, fails, at, Ok(()));
+}
+
+// Asserts it of a session.
+fn assert_session(rt: &impl Abort, alloc: Global, session: Session, reads: usize) {
+    for fails in FAILED_READS {
+        assert_reads(rt, alloc, session, *fails, reads);
+    }
+}
+
+// The texts have 67, 140 and 250 bytes, which three bytes a read give, and a further read finds their end.
 #[test]
 fn a_read_that_fails_ends_the_session_without_a_reply(rt: HostRuntime) {
-    let replies = all_replies(rt.alloc()).expect(&rt, "the replies");
-    assert_same(&rt, "the text's bytes", MOVED_TEXT.len(), 66);
-    for fails_at in 1..=23 {
-        assert_read(&rt, rt.alloc(), replies.as_str(), fails_at, Err(READ_FAULT));
+    for (session, reads) in SESSIONS.iter().zip([24, 48, 85]) {
+        assert_session(&rt, rt.alloc(), *session, reads);
     }
-    assert_read(&rt, rt.alloc(), replies.as_str(), 24, Ok(()));
+}
+
+// The front of the first session up to its first `:undo` and the bytes `:re`, which get no reply.
+const CUT: &[u8] = b"reorder-after <U0061>\n<U0063>\nreorder-end\n:undo\n:re";
+
+#[test]
+fn a_cut_line_gets_no_reply(rt: HostRuntime) {
+    let course = Session::Moved.course(&rt, rt.alloc(), CUT.len());
+    assert_that(&rt, "the front", course.text.as_slice().starts_with(CUT));
+    assert_text(&rt, rt.alloc(), &course.replies, b"ok 1\nundone 0\n");
+    drop(course);
 }
 
 const WRITE_FAULT: RunFault = RunFault {
@@ -71,69 +80,22 @@ const WRITE_FAULT: RunFault = RunFault {
     fault: Fault::Write(WriteStop::WriteFault),
 };
 
-// Whether a session has no n-th write or flush that could fail. Asserts that it writes all replies if so, and else answers
-// the fault and has written a front of them.
-fn is_whole(
-    rt: &impl Abort,
-    alloc: Global,
-    replies: &str,
-    fails_at: usize,
-    failure: Failure,
-) -> bool {
-    let writer = ShortWriter::new(Vec::new(alloc), fails_at, failure);
-    let mut output = Counted::new(writer);
-    let answer = run(rt, alloc, &mut Counted::new(MOVED_TEXT), &mut output);
-    let taken = output.device().taken.as_slice();
-    if answer.is_ok() {
-        assert_same(rt, fails_at, taken, replies.as_bytes());
-    } else {
-        assert_same(rt, fails_at, answer, Err(WRITE_FAULT));
-        assert_that(rt, fails_at, replies.as_bytes().starts_with(taken));
-    }
-    let errors = u64::from(answer.is_err());
-    assert_same(rt, "the errors", output.errors(), errors);
-    answer.is_ok()
-}
-
-// Each write and each flush of the session fails in turn, up to a run in which none is left to fail.
-#[test]
-fn a_write_that_fails_leaves_a_front_of_the_replies(rt: HostRuntime) {
-    let replies = all_replies(rt.alloc()).expect(&rt, "the replies");
-    for failure in [Failure::Error, Failure::TakesNothing] {
-        let whole = (1..1_000).find(|at| is_whole(&rt, rt.alloc(), replies.as_str(), *at, failure));
-        assert_that(&rt, "a whole run", whole.is_some());
-    }
-}
-
-const BLOCK_AND_UNDO: &[u8] = b"reorder-after <U0061>\n<U0063>\nreorder-end\n:undo\n:re";
-
-// A line that a failing read cuts off gets no reply. Three bytes are given at a time.
-#[test]
-fn a_cut_line_gets_no_reply(rt: HostRuntime) {
-    let reads = BLOCK_AND_UNDO.len().div_ceil(3);
-    let mut input = Counted::new(ShortReader::new(BLOCK_AND_UNDO, reads.saturating_add(1)));
-    let mut output = Counted::new(Vec::new(rt.alloc()));
-    let answer = run(&rt, rt.alloc(), &mut input, &mut output);
-    assert_same(&rt, "the answer", answer, Err(READ_FAULT));
-    let written = output.device().as_slice();
-    assert_same(&rt, "the replies", written, b"ok 1\nundone 0\n".as_slice());
-}
-
 // How many bytes a device takes in all, whether it flushes, and what it then has taken.
 const NARROW: &[(usize, bool, &[u8])] = &[(6, true, b"ok 1\nu"), (100, false, b"ok 1\n")];
+
+fn assert_narrow(rt: &impl Abort, alloc: Global, room: usize, flushes: bool, taken: &[u8]) {
+    let course = Session::Moved.course(rt, alloc, 0);
+    let mut input = Counted::new(course.text.as_slice());
+    let mut output = Counted::new(NarrowWriter::new(alloc, room, flushes));
+    let answer = run(rt, alloc, BASE_TABLE, &mut input, &mut output);
+    assert_same(rt, "the answer", answer, Err(WRITE_FAULT));
+    assert_text(rt, alloc, output.device().taken.as_slice(), taken);
+    drop(course);
+}
 
 #[test]
 fn a_device_that_is_full_or_fails_to_flush_ends_the_session(rt: HostRuntime) {
     for (room, flushes, taken) in NARROW {
-        let mut output = Counted::new(NarrowWriter::new(rt.alloc(), *room, *flushes));
-        let answer = run(
-            &rt,
-            rt.alloc(),
-            &mut Counted::new(BLOCK_AND_UNDO),
-            &mut output,
-        );
-        assert_same(&rt, "the answer", answer, Err(WRITE_FAULT));
-        let given = output.device().taken.as_slice();
-        assert_same(&rt, "the replies", given, *taken);
+        assert_narrow(&rt, rt.alloc(), *room, *flushes, taken);
     }
 }

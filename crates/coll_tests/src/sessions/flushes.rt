@@ -1,12 +1,33 @@
 //! A session whose reader looks, at each read, at what its writer has flushed.
 
 use crate::assertions::assert_same;
-use crate::sessions::{MOVED, run};
+use crate::sessions::run;
+use crate::tables::examples::FIRST_TABLE;
 use coll_lex::Counted;
 use std::cell::Cell;
 use std::io;
 use std::io::{ErrorKind, Read, Write};
 use std::process::Abort;
+
+// The lines of a session in which a character is moved, and moved back, and what is written once each is served.
+const MOVED: &[(&str, &str)] = &[
+    (
+        ":list\n",
+        "1 <BASE>\n2 <U0061>\n3 <U0062>\n4 <U0063>\nlisted 4\n",
+    ),
+    ("reorder-after <U0063>\n", ""),
+    ("<U0061>\n", ""),
+    ("reorder-end\n", "ok 1\n"),
+    (
+        ":list\n",
+        "1 <BASE>\n2 <U0062>\n3 <U0063>\n4 <U0061>\nlisted 4\n",
+    ),
+    (":undo\n", "undone 0\n"),
+    (
+        ":list\n",
+        "1 <BASE>\n2 <U0061>\n3 <U0062>\n4 <U0063>\nlisted 4\n",
+    ),
+];
 
 // Gives a line per read, and keeps how many bytes were flushed when each read began.
 #[derive(Drop)]
@@ -73,7 +94,7 @@ fn each_reply_is_flushed_before_the_next_line_is_read(rt: HostRuntime) {
         taken: 0,
         flushed: &flushed,
     });
-    let answer = run(&rt, rt.alloc(), &mut input, &mut output);
+    let answer = run(&rt, rt.alloc(), FIRST_TABLE, &mut input, &mut output);
     assert_same(&rt, "the answer", answer, Ok(()));
     assert_flushed(&rt, input.device().seen.as_slice());
 }

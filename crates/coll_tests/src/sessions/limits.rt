@@ -3,6 +3,7 @@
 use crate::assertions::{assert_same, assert_text};
 use crate::long_texts::repeated;
 use crate::sessions::run;
+use crate::tables::examples::FIRST_TABLE;
 use coll_bench::MOST_REMAINING;
 use coll_lex::Counted;
 use std::alloc::{AllocError, Global};
@@ -18,7 +19,7 @@ fn push_replies(replies: &mut String) -> Result<(), AllocError> {
 
 fn assert_replies(rt: &impl Abort, alloc: Global, text: &[u8], replies: &str) {
     let mut output = Counted::new(Vec::new(alloc));
-    let answer = run(rt, alloc, &mut Counted::new(text), &mut output);
+    let answer = run(rt, alloc, FIRST_TABLE, &mut Counted::new(text), &mut output);
     assert_same(rt, "the answer", answer, Ok(()));
     assert_text(rt, alloc, output.device().as_slice(), replies.as_bytes());
 }

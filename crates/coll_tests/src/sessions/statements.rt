@@ -27,10 +27,6 @@ pub const ON_BASE: &[Worked] = &[
         text: "reorder-after <U0061>\n<U0063>\nreorder-end\n:key \"c\"\n",
         replies: &[Told("ok 1\n5 | 1 | 2 | |\n")],
     },
-    Worked {
-        text: "reorder-after <U0061>\n<U0063>\nreorder-end\n:undo\n:redo\n:undo\n:print\n",
-        replies: &[Told("ok 1\nundone 0\nredone 1\nundone 0\n"), Base],
-    },
     // Each line is placed behind the line before, in whichever order they stood.
     Worked {
         text: "reorder-after <U0064>\n<U0061>\n<U0041>\nreorder-end\n:key \"aA\"\n:undo\n:key \"aA\"\n:print\n",
@@ -80,13 +76,6 @@ pub const ON_BASE: &[Worked] = &[
             }),
         ],
     },
-    // An element fits once it is placed.
-    Worked {
-        text: "collating-element <ch> from \"<U0063><U0068>\"\n:key \"cha\"\nreorder-after <U0063>\n<ch> <ch>;<BASE>;<MIN>;IGNORE\nreorder-end\n:key \"cha\"\n:history\n",
-        replies: &[Told(
-            "ok 1\n7 10+104 4 | 1 10+104 1 | 2 10+104 2 | @2 10+104 |\nok 2\n8 4 | 1 1 | 2 2 | |\n1 element <ch>\n2 block <U0063> 1\nhistory 2 0\n",
-        )],
-    },
     // A declaration that was taken back is none, and a refused statement leaves what can be put again.
     Worked {
         text: "collating-symbol <X>\n:undo\nreorder-after <X>\nreorder-end\n:redo\n:undo\ncollating-symbol <X>\n:redo\n",
@@ -101,16 +90,6 @@ pub const ON_BASE: &[Worked] = &[
     Worked {
         text: "<U0062> <U0062>;\"<MIN><CAP>\"\n:key \"ab\"\n",
         replies: &[Told("ok 1\n4 6 | 3 2 1 | 2 6 | @2 6 |\n")],
-    },
-    // Statements of every kind, and lines that are none and get no reply.
-    Worked {
-        text: "collating-symbol <X>\nreorder-after <MIN>\n<X>\n<U0061> <U0061>;<X>;<MIN>;IGNORE\nreorder-end\ncopy \"iso14651_t1\"\nscript <Latn>\nLC_COLLATE\nEND LC_COLLATE\n<U0041> <U0061>\ncollating-symbol <BASE>\n:history\n:undo\n:list\n:redo\n:undo\n:undo\n:undo\n:history\n:print\n",
-        replies: &[
-            Told(
-                "ok 1\nok 2\nok 3\nrefused 33 DeclaredTwice\n1 symbol <X>\n2 block <MIN> 2\n3 reweight <U0041>\nhistory 3 0\nundone 2\n1 <BASE>\n2 <MIN>\n3 <X>\n4 <U0061>\n5 <CAP>\n6 <U0041>\n7 <U0062>\n8 <U0063>\n9 <U0064>\nsection <PUNCT>\n10 <U002D>\nlisted 10\nredone 3\nundone 2\nundone 1\nundone 0\nhistory 0 3\n",
-            ),
-            Base,
-        ],
     },
     Worked {
         text: "reorder-after <U0061>\n:key \"a\"\nbogus\nalso <U0063>\nreorder-end\nreorder-after <U0061>\n<U0063>\n",

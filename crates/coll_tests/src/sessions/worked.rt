@@ -5,7 +5,7 @@
 
 use super::statements::{ON_BASE, ON_FIRST, ON_SECTIONS};
 use crate::assertions::{assert_same, assert_text};
-use crate::devices::{Failure, ShortReader, ShortWriter};
+use crate::devices::{SMALL, ShortReader, ShortWriter};
 use crate::statements::Lines;
 use crate::tables::examples::{
     BASE_TABLE, Change, FIRST_TABLE, SECTIONS_TABLE, loaded_lines, push_lines,
@@ -58,8 +58,8 @@ fn assert_whole(rt: &impl Abort, alloc: Global, table: Lines, text: &[u8], repli
 // Asserts what it writes over devices that give and take a few bytes at a time.
 fn assert_in_parts(rt: &impl Abort, alloc: Global, table: Lines, text: &[u8], replies: &[u8]) {
     let table = loaded_lines(alloc, table).expect(rt, "a table");
-    let mut output = Counted::new(ShortWriter::new(Vec::new(alloc), 0, Failure::Error));
-    let mut input = Counted::new(ShortReader::new(text, 0));
+    let mut output = Counted::new(ShortWriter::scripted(Vec::new(alloc), SMALL));
+    let mut input = Counted::new(ShortReader::scripted(text, SMALL));
     let answer = run_session(alloc, table, &mut input, &mut output);
     assert_same(rt, "the answer", answer, Ok(()));
     assert_text(rt, alloc, output.device().taken.as_slice(), replies);

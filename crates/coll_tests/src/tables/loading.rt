@@ -1,9 +1,9 @@
 //! Tables loaded from a reader that fails in mid-text, and from each front of a text.
 
-use crate::assertions::{assert_same, assert_that};
-use crate::devices::ShortReader;
+use crate::assertions::{assert_same, assert_text};
+use crate::devices::{FAILED_READS, Script, ShortReader, Step};
 use crate::tables::examples::{BASE_TABLE, loaded, text_of};
-use coll_lex::{Counted, Source};
+use coll_lex::{Counted, LexFault, Source};
 use coll_syntax::SyntaxFault;
 use coll_table::{LoadCause, LoadFault, load};
 use std::alloc::Global;
@@ -14,33 +14,38 @@ const READ_FAULT: LoadFault = LoadFault {
     cause: LoadCause::ReadFault,
 };
 
-// Asserts the fault of a load whose n-th read fails, if it comes so far.
+// Asserts the fault of a load whose n-th read fails, if it comes so far, and that nothing is read then.
 fn assert_read(
     rt: &impl Abort,
     alloc: Global,
     text: &[u8],
-    fails_at: usize,
+    fails: Step,
+    at: usize,
     fault: Option<LoadFault>,
 ) {
-    let mut input = Counted::new(ShortReader::new(text, fails_at));
-    assert_same(rt, fails_at, load(alloc, &mut input).err(), fault);
+    let mut input = Counted::new(ShortReader::scripted(text, Script::ButFor(at, fails)));
+    assert_same(rt, at, load(alloc, &mut input).err(), fault);
     assert_same(rt, "the errors", input.errors(), u64::from(fault.is_some()));
+    let reads = at.saturating_sub(usize::from(fault.is_none()));
+    assert_same(rt, "the reads", input.device().reads, reads);
 }
 
 // Asserts that each of so many reads, which give a text to its last line feed, is the fault where it fails, and that no
 // further one is made.
-fn assert_reads(rt: &impl Abort, alloc: Global, text: &[u8], reads: usize) {
+fn assert_reads(rt: &impl Abort, alloc: Global, text: &[u8], fails: Step, reads: usize) {
     assert_same(rt, "the reads", text.len().div_ceil(3), reads);
-    for fails_at in 1..=reads {
-        assert_read(rt, alloc, text, fails_at, Some(READ_FAULT));
+    for at in 1..=reads {
+        assert_read(rt, alloc, text, fails, at, Some(READ_FAULT));
     }
-    assert_read(rt, alloc, text, reads.saturating_add(1), None);
+    assert_read(rt, alloc, text, fails, reads.saturating_add(1), None);
 }
 
 #[test]
 fn a_read_that_fails_within_the_category_is_the_fault(rt: HostRuntime) {
     let text = text_of(rt.alloc(), BASE_TABLE).expect(&rt, "a text");
-    assert_reads(&rt, rt.alloc(), text.as_slice(), 147);
+    for fails in FAILED_READS {
+        assert_reads(&rt, rt.alloc(), text.as_slice(), *fails, 147);
+    }
 }
 
 // The fault of a line that was read whole is answered before the read behind it, and else the read's. The line feed of line
@@ -52,29 +57,107 @@ fn a_line_read_whole_decides_before_a_later_read(rt: HostRuntime) {
         line: 2,
         cause: LoadCause::Syntax(SyntaxFault::UnknownStatement),
     };
-    assert_read(&rt, rt.alloc(), text, 6, Some(READ_FAULT));
+    let alloc = rt.alloc();
+    assert_read(&rt, alloc, text, Step::Error, 6, Some(READ_FAULT));
     let mut input = Counted::new(ShortReader::new(text, 7));
-    assert_same(
-        &rt,
-        "the line",
-        load(rt.alloc(), &mut input).err(),
-        Some(fault),
-    );
+    assert_same(&rt, "the line", load(alloc, &mut input).err(), Some(fault));
     assert_same(&rt, "the errors", input.errors(), 0);
 }
 
-// Asserts that each shorter front of a text isn't a table.
-fn assert_fronts(rt: &impl Abort, alloc: Global, text: &[u8]) {
-    for count in 0..text.len() {
-        let refused = loaded(alloc, &text[..count]).err().is_some();
-        assert_that(rt, count, refused);
+// The base table, and below each byte of a line, its line feed included, the fault of the text that ends with this byte.
+const FRONTS: &str = "\
+comment_char %
+cccccccccccddcc
+escape_char /
+ccccccccccddcc
+LC_COLLATE
+cccccccccee
+collating-symbol <BASE>
+xuuuuuuuuuuuuuummoooooee
+collating-symbol <MIN>
+xuuuuuuuuuuuuuummooooee
+collating-symbol <CAP>
+xuuuuuuuuuuuuuummooooee
+order_start forward;backward;forward;forward,position
+xuuuuuuuuueerrrrrrerrrrrrrrerrrrrrrerrrrrrrerrrrrrrree
+<BASE>
+oooooee
+<MIN>
+ooooee
+<CAP>
+ooooee
+<U0061> <U0061>;<BASE>;<MIN>;IGNORE
+ooooooeeooooooeeoooooeeooooeeewwwwee
+<U0041> <U0061>;<BASE>;<CAP>;IGNORE
+ooooooeeooooooeeoooooeeooooeeewwwwee
+<U0062> <U0062>;<BASE>;<MIN>;IGNORE
+ooooooeeooooooeeoooooeeooooeeewwwwee
+<U0063> <U0063>;<BASE>;<MIN>;IGNORE
+ooooooeeooooooeeoooooeeooooeeewwwwee
+<U0064> <U0064>;<BASE>;<MIN>;IGNORE
+ooooooeeooooooeeoooooeeooooeeewwwwee
+section <PUNCT>
+euuuuummooooooee
+<U002D> IGNORE;IGNORE;IGNORE;<U002D>
+ooooooeeewwwweeewwwweeewwwweeooooooee
+order_end
+euuuuuuuee
+END LC_COLLATE
+xummwwwwwwwww--";
+
+// The fault that a letter stands for.
+fn cause(letter: u8) -> Option<LoadCause> {
+    match letter {
+        b'o' => Some(LoadCause::Lex(LexFault::OpenSymbol)),
+        b'd' => Some(LoadCause::Lex(LexFault::BadCharDirective)),
+        b'u' => Some(LoadCause::Syntax(SyntaxFault::UnknownStatement)),
+        b'm' => Some(LoadCause::Syntax(SyntaxFault::MissingOperand)),
+        b'r' => Some(LoadCause::Syntax(SyntaxFault::BadRule)),
+        b'w' => Some(LoadCause::Syntax(SyntaxFault::BadOperand)),
+        b'c' => Some(LoadCause::NoCategory),
+        b'x' => Some(LoadCause::OutsideOrder),
+        b'e' => Some(LoadCause::NoEnd),
+        _ => None,
+    }
+}
+
+// Asserts that a text that ends in the line of a number has the fault of a letter there, or none.
+fn assert_front(rt: &impl Abort, alloc: Global, text: &[u8], line: u32, letter: u8) {
+    let fault = match cause(letter) {
+        Some(cause) => Some(LoadFault { line, cause }),
+        None => None,
+    };
+    assert_same(rt, text.len(), loaded(alloc, text).err(), fault);
+}
+
+// Asserts the fault of each text that ends in a line, which is put behind the lines before it.
+fn assert_line(
+    rt: &impl Abort,
+    alloc: Global,
+    text: &mut Vec<u8>,
+    number: u32,
+    line: &str,
+    letters: &str,
+) {
+    assert_same(rt, line, letters.trim_end().len(), line.len());
+    for (byte, letter) in line.bytes().zip(letters.bytes()) {
+        text.push(byte).expect(rt, "room");
+        assert_front(rt, alloc, text.as_slice(), number, letter);
     }
 }
 
 #[test]
-fn each_front_of_a_table_is_a_fault_but_for_the_last_line_feed(rt: HostRuntime) {
-    let text = text_of(rt.alloc(), BASE_TABLE).expect(&rt, "a text");
-    let whole = &text[..text.len().saturating_sub(1)];
-    assert_fronts(&rt, rt.alloc(), whole);
-    assert_same(&rt, "the whole", loaded(rt.alloc(), whole).err(), None);
+fn each_front_of_a_table_has_its_fault(rt: HostRuntime) {
+    let mut text = Vec::new(rt.alloc());
+    let mut line = "";
+    assert_front(&rt, rt.alloc(), &text, 0, b'c');
+    for (number, row) in (2_u32..).zip(FRONTS.split_inclusive('\n')) {
+        if number % 2 == 0 {
+            line = row;
+        } else {
+            assert_line(&rt, rt.alloc(), &mut text, number / 2, line, row);
+        }
+    }
+    let table = text_of(rt.alloc(), BASE_TABLE).expect(&rt, "the table");
+    assert_text(&rt, rt.alloc(), &text, &table);
 }

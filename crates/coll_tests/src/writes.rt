@@ -1,0 +1,240 @@
+//! Whatever is written, each write and each flush of it fails in turn, or takes no byte, until none is left to fail.
+//!
+//! What a device has taken where it fails is a front of what is written, and it is called no more.
+
+ghost use Rattle.coll_ranks.specs.Ranks.{AreRanksOf};
+ghost use Rattle.coll_nodes.specs.TableLayout.{collation};
+
+use crate::assertions::{assert_same, assert_that};
+use crate::batches::asked::named;
+use crate::batches::runs::{BASE_LISTING, PRINTED};
+use crate::batches::{C_BEHIND_A, NONE_FAILS, run as run_batch};
+use crate::devices::{FAILED_WRITES, Script, ShortWriter, Step};
+use crate::sessions::run as run_session;
+use crate::sessions::transcripts::Session;
+use crate::statements::Lines;
+use crate::tables::examples::{BASE_TABLE, loaded_lines, text_of};
+use coll_bench::{Batch, Fault, RunFault, write_fault};
+use coll_key::{Ranks, key, write_compiled, write_key};
+use coll_lex::{Counted, LexFault, Sink, WriteStop};
+use coll_table::Table;
+use std::alloc::Global;
+use std::process::Abort;
+
+// What is written.
+#[derive(Clone, Copy)]
+enum Written {
+    // The base table's canonical text.
+    Canonical,
+    // The key of `a-b` by it.
+    Key,
+    // Its compiled listing.
+    Listing,
+    // The line of a fault.
+    Fault,
+    // The replies of a session over it.
+    Replies(Session),
+    // The output of a batch.
+    Compiled,
+    // .. with a delta file.
+    Printed,
+}
+
+type Output = Counted<ShortWriter>;
+
+const LONG_LINE: RunFault = RunFault {
+    input: 0,
+    line: 7,
+    fault: Fault::Lex(LexFault::LineTooLong),
+};
+
+const WRITE_FAULT: RunFault = RunFault {
+    input: 0,
+    line: 0,
+    fault: Fault::Write(WriteStop::WriteFault),
+};
+
+// A stop as the fault of a run.
+fn stopped(answer: Result<(), WriteStop>) -> Result<(), RunFault> {
+    match answer {
+        Ok(()) => Ok(()),
+        Err(WriteStop::WriteFault) => Err(WRITE_FAULT),
+    }
+}
+
+fn write_ranked(
+    rt: &impl Abort,
+    alloc: Global,
+    table: &Table,
+    what: Written,
+    out: &mut Output,
+) -> Result<(), WriteStop> {
+    let ranks = Ranks::new(alloc, table).expect(rt, "the ranks");
+    let answer = match what {
+        Written::Listing => write_compiled(table, &ranks, out),
+        _ => write_key_of(rt, alloc, table, &ranks, out),
+    };
+    drop(ranks);
+    answer
+}
+
+fn write_key_of(
+    rt: &impl Abort,
+    alloc: Global,
+    table: &Table,
+    ranks: &Ranks,
+    out: &mut Output,
+) -> Result<(), WriteStop>
+    requires { AreRanksOf ranks.now (collation table.now) }
+{
+    let key = key(alloc, table, ranks, "a-b").expect(rt, "a key");
+    let answer = write_key(table.rules(), &key, out);
+    drop(key);
+    answer
+}
+
+// Writes what a table gives.
+fn write_of_table(
+    rt: &impl Abort,
+    alloc: Global,
+    what: Written,
+    out: &mut Output,
+) -> Result<(), RunFault> {
+    let table = loaded_lines(alloc, BASE_TABLE).expect(rt, "a table");
+    let answer = match what {
+        Written::Canonical => table.print(out),
+        _ => write_ranked(rt, alloc, &table, what, out),
+    };
+    drop(table);
+    stopped(answer)
+}
+
+fn write_fault_line(rt: &impl Abort, names: &[String], out: &mut Output) -> Result<(), RunFault> {
+    assert!(rt; names.len() == 1, "one name");
+    match write_fault(&LONG_LINE, names, out) {
+        Ok(()) => Ok(()),
+        Err(fault) => Err(RunFault {
+            fault,
+            ..WRITE_FAULT
+        }),
+    }
+}
+
+fn write_fault_of(rt: &impl Abort, alloc: Global, out: &mut Output) -> Result<(), RunFault> {
+    let names = named(alloc, &["B.txt"]).expect(rt, "a name");
+    let answer = write_fault_line(rt, &names, out);
+    drop(names);
+    answer
+}
+
+fn write_replies(
+    rt: &impl Abort,
+    alloc: Global,
+    session: Session,
+    out: &mut Output,
+) -> Result<(), RunFault> {
+    let course = session.course(rt, alloc, 0);
+    let mut input = Counted::new(course.text.as_slice());
+    let answer = run_session(rt, alloc, BASE_TABLE, &mut input, out);
+    drop(course);
+    answer
+}
+
+fn write_batch(
+    rt: &impl Abort,
+    alloc: Global,
+    batch: Batch,
+    deltas: &[&str],
+    out: &mut Output,
+) -> Result<(), RunFault> {
+    let table = text_of(alloc, BASE_TABLE).expect(rt, "the table");
+    let answer = run_batch(rt, alloc, batch, &table, deltas, NONE_FAILS, out);
+    drop(table);
+    answer
+}
+
+fn write(rt: &impl Abort, alloc: Global, what: Written, out: &mut Output) -> Result<(), RunFault> {
+    match what {
+        Written::Fault => write_fault_of(rt, alloc, out),
+        Written::Replies(session) => write_replies(rt, alloc, session, out),
+        Written::Compiled => write_batch(rt, alloc, Batch::Compile, &[], out),
+        Written::Printed => write_batch(rt, alloc, Batch::Print, &[C_BEHIND_A], out),
+        _ => write_of_table(rt, alloc, what, out),
+    }
+}
+
+fn lines(rt: &impl Abort, alloc: Global, lines: Lines) -> Vec<u8> {
+    text_of(alloc, lines).expect(rt, "a text")
+}
+
+// All that is written.
+fn wanted(rt: &impl Abort, alloc: Global, what: Written) -> Vec<u8> {
+    match what {
+        Written::Canonical => lines(rt, alloc, BASE_TABLE),
+        Written::Key => {
+            let mut key = Vec::new(alloc);
+            key.extend_from_slice(b"4 6 | 1 1 | 2 2 | @2 9 |")
+                .expect(rt, "room");
+            key
+        }
+        Written::Fault => lines(rt, alloc, &["B.txt:7: 10 LineTooLong"]),
+        Written::Replies(session) => session.course(rt, alloc, usize::MAX).replies,
+        Written::Printed => lines(rt, alloc, PRINTED),
+        Written::Listing | Written::Compiled => lines(rt, alloc, BASE_LISTING),
+    }
+}
+
+// Whether there is no n-th write or flush that could fail. Asserts that all is written if so, and else a front of it, that the answer
+// is the fault, and that the device is called no more.
+fn is_whole(
+    rt: &impl Abort,
+    alloc: Global,
+    what: Written,
+    wanted: &[u8],
+    fails: Step,
+    at: usize,
+) -> bool {
+    let script = Script::ButFor(at, fails);
+    let mut output = Counted::new(ShortWriter::scripted(Vec::new(alloc), script));
+    let answer = write(rt, alloc, what, &mut output);
+    let errors = u64::from(answer.is_err());
+    assert_same(rt, "the errors", output.errors(), errors);
+    let device = output.device();
+    let taken = device.taken.as_slice();
+    if answer.is_ok() {
+        assert_same(rt, at, taken, wanted);
+        return true;
+    }
+    assert_same(rt, at, answer, Err(WRITE_FAULT));
+    assert_that(rt, at, wanted.starts_with(taken));
+    assert_same(rt, "the calls", device.calls, at);
+    false
+}
+
+fn assert_fronts(rt: &impl Abort, alloc: Global, what: Written) {
+    let wanted = wanted(rt, alloc, what);
+    for fails in FAILED_WRITES {
+        let whole = (1..1_000).find(|at| is_whole(rt, alloc, what, &wanted, *fails, *at));
+        assert_that(rt, "a whole run", whole.is_some());
+    }
+    drop(wanted);
+}
+
+const ALL: &[Written] = &[
+    Written::Canonical,
+    Written::Key,
+    Written::Listing,
+    Written::Fault,
+    Written::Replies(Session::Moved),
+    Written::Replies(Session::Element),
+    Written::Replies(Session::History),
+    Written::Compiled,
+    Written::Printed,
+];
+
+#[test]
+fn a_write_that_fails_leaves_a_front(rt: HostRuntime) {
+    for what in ALL {
+        assert_fronts(&rt, rt.alloc(), *what);
+    }
+}
