@@ -2,6 +2,7 @@
 use Rattle.std.specs.Prelude.{◌≡◌, ◌≢◌, ◌-◌, ◌==◌, ℕ, zero, suc, nat_le, if◌then◌else◌, List, [], ◌∷◌, ◌++◌, length, take, drop, slice_get, Option, None, Result, Ok, Err}
 use Rattle.coll_syntax.specs.declared.statements.Statement.{Statement}
 use Rattle.coll_nodes.specs.Table.{Collation}
+use Rattle.coll_nodes.specs.TableLayout.{TableLayout}
 use Rattle.coll_table.specs.Delta.{delta}
 use Rattle.coll_table.specs.Record.{statement_steps}
 use Rattle.coll_history.specs.Limits.{most_remaining}
@@ -79,7 +80,9 @@ numbered statements (suc before) = slice_get statements before
 abbrev pub RefusesStatement : History → Statement → BenchFault → Type 0
 RefusesStatement h statement fault = fault ≢ Table refusal.OutOfMemory → judged h statement ≡ Err fault
 
--- a session as contracts see it: its history, and the number of ring steps that its table has taken
+-- a session as contracts see it: its history, and of its table the layout, loose nodes included, and the number of ring steps that
+-- it has taken
 pub record SessionValue : Type 0 where
   pub history : History
+  pub layout : TableLayout
   pub steps : ℕ

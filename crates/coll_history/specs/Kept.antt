@@ -49,7 +49,7 @@ history_of table remaining undone =
 
 -- what contracts see of a session
 abbrev pub session_of : TableValue → List Kept → List Kept → SessionValue
-session_of table remaining undone = record { history = history_of (uncounted table) remaining undone; steps = table.steps }
+session_of table remaining undone = record { history = history_of (uncounted table) remaining undone; layout = table.layout; steps = table.steps }
 
 -- what holds of a session: its records lead where they say, the history isn't too long, and each undo and each redo has its room
 pub record IsSoundSession (s : Inside) : Type 0 where

@@ -11,6 +11,8 @@ ghost use Rattle.coll_syntax.specs.Proper.{IsProper};
 ghost use Rattle.coll_table.specs.Record.{AreLoose, Extends, dropped_nodes, more_steps, without_nodes};
 ghost use Rattle.coll_nodes.specs.TableLayout.{collation};
 ghost use Rattle.coll_history.specs.Kept.{added_by_all, statements_of};
+ghost use Rattle.coll_history.specs.Limits.{most_remaining};
+ghost use Rattle.coll_history.specs.declared.history_faults.BenchFault.TheVariants.{HistoryFull};
 ghost use Rattle.coll_history.specs.Histories.{History, begun, judged, taken_back, put_again, undo_steps, redo_steps, numbered, table_now, RefusesStatement};
 
 use crate::history_faults::BenchFault;
@@ -57,6 +59,7 @@ impl Session {
     /// A session on a table, in which nothing has happened yet. It takes no memory.
     pub fn new(alloc: Global, table: Table) -> Session
         ensures history { result.history ≡ begun (collation table) }
+        ensures layout { result.layout ≡ table.layout }
         ensures steps { result.steps ≡ table.steps }
     {
         Session {
@@ -75,6 +78,7 @@ impl Session {
         requires proper { IsProper statement }
         ensures accepted { IfOk result (λ _. judged self.old.history statement ≡ Ok self.new.history) }
         ensures count { IfOk result (λ n. n ≡ length self.new.history.remaining) }
+        ensures full { most_remaining ≤ length self.old.history.remaining → result ≡ Err HistoryFull }
         ensures refused { IfErr result (λ fault. RefusesStatement self.old.history statement fault) }
         ensures unchanged { OnErr result (self.new ≡ self.old) }
     {
@@ -189,6 +193,7 @@ impl Session {
     /// The table now: the one at first, rewritten by the statements that remain, in order.
     pub fn table(&self) -> &Table
         ensures table { collation result.now ≡ table_now self.now.history }
+        ensures layout { result.now.layout ≡ self.now.layout }
         ensures steps { result.now.steps ≡ self.now.steps }
     {
         // Each field is named, so that a session that keeps more is refused here.
