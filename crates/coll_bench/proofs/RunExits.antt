@@ -60,7 +60,7 @@ lex_fault_ran table text left written ls us number lex.OutOfMemory last r = absu
 -- the whole output, of a text whose next line is this one
 output_by : (table : Collation) (text before : List ℕ) (ended0 : Bool) (unread0 taken0 : Option (List ℕ)) (old : Desk) (read rest written : List ℕ) (lines units : List Bool) (line : List ℕ) (later : List (List ℕ)) (c d : List Bool)
     → IsUnderway table text before ended0 unread0 taken0 old read rest written lines units → GoesBy text read line later
-    → starved_output (lines ++ c) (units ++ d) true table text ≡ written ++ written_from old.listener old.block old.session c d true (line ∷ later)
+    → starved_output (lines ++ c) (units ++ d) true table text ≡ written ++ written_from old.listener old.block old.session.history c d true (line ∷ later)
 output_by table text before ended0 unread0 taken0 old read rest written lines units line later c d u by =
     output_kept (lines ++ c) (units ++ d) true table text
     ∙ ap (λ (ls : List (List ℕ)). written_from first_state None (begun table) (lines ++ c) (units ++ d) true ls) by ∙ u.goes_on c d true (line ∷ later)
@@ -71,7 +71,7 @@ output_stop : (table : Collation) (text before : List ℕ) (ended0 : Bool) (unre
     → starved_output (lines ++ memory ∷ []) (units ++ (choices_for starved (line_units old.block (heard_at memory old.listener line)) ++ [])) true table text ≡ written ++ line_replies memory starved old line
 output_stop table text before ended0 unread0 taken0 old read rest written lines units line later memory starved f u by stops =
     output_by table text before ended0 unread0 taken0 old read rest written lines units line later (memory ∷ []) (choices_for starved (line_units old.block (heard_at memory old.listener line)) ++ []) u by
-    ∙ ap (λ (l : List ℕ). written ++ l) (written_stop memory starved old.listener old.block old.session line [] [] true later f stops)
+    ∙ ap (λ (l : List ℕ). written ++ l) (written_stop memory starved old.listener old.block old.session.history line [] [] true later f stops)
 
 -- a front of the bytes that were to be written was written
 abbrev front_written : (written front back more : List ℕ) → (bytes : List ℕ) → bytes ≡ front ++ back → written ++ (bytes ++ more) ≡ (written ++ front) ++ (back ++ more)
@@ -123,10 +123,10 @@ cut_ran : (table : Collation) (text before : List ℕ) (left : Option (List ℕ)
 cut_ran table text before left ended0 unread0 taken0 taken1 old read rest written lines units line later memory starved ended u by on failed front =
     let us = line_units old.block (heard_at memory old.listener line) in
     write_ran table text before left taken0 taken1 written (line_replies memory starved old line)
-    (written_from (state_by old.listener (served memory old.listener line)) (line_block old.block (heard_at memory old.listener line)) (history_after_all starved old.session us) [] [] true later)
+    (written_from (state_by old.listener (served memory old.listener line)) (line_block old.block (heard_at memory old.listener line)) (history_after_all starved old.session.history us) [] [] true later)
     (lines ++ memory ∷ []) (units ++ (choices_for starved us ++ [])) ended
     (output_by table text before ended0 unread0 taken0 old read rest written lines units line later (memory ∷ []) (choices_for starved us ++ []) u by
-    ∙ ap (λ (l : List ℕ). written ++ l) (written_on memory starved old.listener old.block old.session line [] [] true later on))
+    ∙ ap (λ (l : List ℕ). written ++ l) (written_on memory starved old.listener old.block old.session.history line [] [] true later on))
     u.taken_is failed front
 
 ends_by : (table : Collation) (text before : List ℕ) (left : Option (List ℕ)) (ended0 : Bool) (unread0 taken0 taken1 : Option (List ℕ)) (old : Desk) (read rest written : List ℕ) (lines units : List Bool) (line : List ℕ) (later : List (List ℕ)) (memory starved : Bool) (ended : RunFault)
@@ -188,7 +188,7 @@ read_ran table text before ended0 unread0 taken0 old read rest written lines uni
   part_short = short;
   left_is = refl;
   output_is = sym (output_kept (lines ++ []) (units ++ []) false table read ∙ ap (λ (ls : List (List ℕ)). written_from first_state None (begun table) (lines ++ []) (units ++ []) false ls) (sym (append-nil (lines_of read)))
-      ∙ u.goes_on [] [] false [] ∙ ap (λ (l : List ℕ). written ++ l) (written_cut old.listener old.block old.session) ∙ append-nil written);
+      ∙ u.goes_on [] [] false [] ∙ ap (λ (l : List ℕ). written ++ l) (written_cut old.listener old.block old.session.history) ∙ append-nil written);
   no_last = ap (λ (ls : List (List ℕ)). last_line (logical_lines (lines ++ []) false first_state ls)) (sym (append-nil (lines_of read))) ∙ u.last [] false [] ∙ last_cut old.listener;
 }
 
@@ -230,7 +230,7 @@ end_output : (table : Collation) (text before : List ℕ) (ended0 : Bool) (unrea
 end_output table text before ended0 unread0 taken0 old read rest written lines units u none =
     output_kept (lines ++ []) (units ++ []) true table text
     ∙ ap (λ (ls : List (List ℕ)). written_from first_state None (begun table) (lines ++ []) (units ++ []) true ls) (end_lines text read rest u.text_is none)
-    ∙ u.goes_on [] [] true [] ∙ ap (λ (l : List ℕ). written ++ l) (written_end old.listener old.block old.session)
+    ∙ u.goes_on [] [] true [] ∙ ap (λ (l : List ℕ). written ++ l) (written_end old.listener old.block old.session.history)
 
 end_ran : (table : Collation) (text before : List ℕ) (left1 taken0 taken1 : Option (List ℕ)) (ended0 : Bool) (unread0 : Option (List ℕ)) (old : Desk) (read rest written : List ℕ) (lines units : List Bool) (r : Result (Unit {0}) RunFault)
     → IsUnderway table text before ended0 unread0 taken0 old read rest written lines units → rest ≡ [] → left1 ≡ Some [] → FinishesWith taken0 taken1 (refused_lines (kept_end_faults old.block (pending old.listener))) r → Leaves table text before left1 taken1 r

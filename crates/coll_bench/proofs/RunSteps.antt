@@ -176,7 +176,7 @@ served_on table text before ended ended2 unread0 unread1 taken0 taken1 old new r
         there = n.there;
         unread_is = unread_is;
         taken_is = appended taken0 taken1 before written (line_replies memory starved old line) u.taken_is more;
-        goes_on = goes_on_by table read read2 written line lines units old.listener new.listener old.block new.block old.session new.session memory starved u.goes_on n.lines_are served.goes_on served.listener served.block served.session;
+        goes_on = goes_on_by table read read2 written line lines units old.listener new.listener old.block new.block old.session.history new.session.history memory starved u.goes_on n.lines_are served.goes_on served.listener served.block served.session;
         last = has_last_by read read2 line lines old.listener new.listener memory u.last n.lines_are served.goes_on served.listener;
       },
     )

@@ -116,7 +116,7 @@ counts_line s s2 line block block2 completed (memory, takes) few = count_of memo
 -- a line that was taken, with its reply
 pub serves_taken : {E : Type 0} (old new : Desk) (s2 : LexerState) (block2 : Option OpenBlock) (line : List ℕ) (completed : Option SessionUnit) (taken taken_after : Option (List ℕ)) (r : Result (Unit {0}) E)
     → Takes old.listener s2 line old.block block2 (Ok completed) → new.listener ≡ s2 → new.block ≡ block2
-    → (starved : Bool) × Sends taken taken_after (replies_to starved old.session (option_to_list completed)) r × (new.session ≡ history_after_all starved old.session (option_to_list completed))
+    → (starved : Bool) × Sends taken taken_after (replies_to starved old.session.history (option_to_list completed)) r × (new.session.history ≡ history_after_all starved old.session.history (option_to_list completed))
     → (memory : Bool) × (starved : Bool) × Served memory starved old new line × Sends taken taken_after (line_replies memory starved old line) r
 serves_taken old new s2 block2 line completed taken taken_after r (memory, takes) listener block (starved, sent, session) = (
   memory,
@@ -125,9 +125,9 @@ serves_taken old new s2 block2 line completed taken taken_after r (memory, takes
     goes_on = takes.answers.0;
     listener = listener ∙ takes.stands;
     block = block ∙ takes.answers.1;
-    session = session ∙ ap (history_after_all starved old.session) takes.answers.2;
+    session = session ∙ ap (history_after_all starved old.session.history) takes.answers.2;
   },
-  subst (λ (units : List SessionUnit). Sends taken taken_after (replies_to starved old.session units) r) takes.answers.2 sent,
+  subst (λ (units : List SessionUnit). Sends taken taken_after (replies_to starved old.session.history units) r) takes.answers.2 sent,
 )
 
 refusals_replies : (starved : Bool) (h : History) (faults : List FaultAt) → replies_to starved h (refusals faults) ≡ refused_lines faults
@@ -140,9 +140,9 @@ refusals_replies false h (at ∷ faults) = ap (λ (bytes : List ℕ). refused_li
 pub stopped_replies : (memory starved : Bool) (old : Desk) (line : List ℕ) (x : HeardLine) (f : LexFault) → heard_at memory old.listener line ≡ Some x → stop_of x.heard ≡ Some f → refused_lines (kept_last_faults old.block x.number f) ≡ line_replies memory starved old line
 unfolding line_units
 stopped_replies memory starved old line x f at stops =
-    sym (refusals_replies starved old.session (kept_last_faults old.block x.number f))
-    ∙ ap (λ (o : Option LexFault). replies_to starved old.session (units_or_last old.block x o)) (sym stops)
-    ∙ ap (λ (h : Option HeardLine). replies_to starved old.session (line_units old.block h)) (sym at)
+    sym (refusals_replies starved old.session.history (kept_last_faults old.block x.number f))
+    ∙ ap (λ (o : Option LexFault). replies_to starved old.session.history (units_or_last old.block x o)) (sym stops)
+    ∙ ap (λ (h : Option HeardLine). replies_to starved old.session.history (line_units old.block h)) (sym at)
 
 -- a line at which the session ends has the number of its logical line
 stop_number : (n : ℕ) (o : Opening) (a : Result (Option Line × LexerState) LexFault) (x : HeardLine) (f : LexFault) → heard_by true n o a ≡ Some x → stop_of x.heard ≡ Some f → x.number ≡ n

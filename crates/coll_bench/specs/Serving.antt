@@ -35,14 +35,14 @@ history_after_all starved h (unit ∷ later) = history_after_all starved (histor
 pub record IsBegun (desk : Desk) (table : Collation) : Type 0 where
   pub listener : desk.listener ≡ first_state
   pub block : desk.block ≡ None
-  pub session : desk.session ≡ begun table
+  pub session : desk.session.history ≡ begun table
 
 -- a physical line was served, and the session goes on
 pub record Served (memory starved : Bool) (old new : Desk) (line : List ℕ) : Type 0 where
   pub goes_on : stop_at (heard_at memory old.listener line) ≡ None
   pub listener : new.listener ≡ state_by old.listener (served memory old.listener line)
   pub block : new.block ≡ line_block old.block (heard_at memory old.listener line)
-  pub session : new.session ≡ history_after_all starved old.session (line_units old.block (heard_at memory old.listener line))
+  pub session : new.session.history ≡ history_after_all starved old.session.history (line_units old.block (heard_at memory old.listener line))
 
 -- the session ends with a write that failed
 abbrev pub write_failed : RunFault
@@ -59,7 +59,7 @@ EndsWith number f taken taken_after bytes ended =
 
 -- the replies to the units that a physical line completes
 abbrev pub line_replies : (memory starved : Bool) → Desk → List ℕ → List ℕ
-line_replies memory starved old line = replies_to starved old.session (line_units old.block (heard_at memory old.listener line))
+line_replies memory starved old line = replies_to starved old.session.history (line_units old.block (heard_at memory old.listener line))
 
 -- the session ended at this line: at a fault of the lexer, or since a write failed
 abbrev pub EndsAtLine : (memory starved : Bool) → Desk → List ℕ → Option (List ℕ) → Option (List ℕ) → RunFault → Type 0

@@ -35,7 +35,7 @@ pub record IsUnderway (table : Collation) (text before : List ℕ) (ended : Bool
   pub there : IsCutThere ended read rest
   pub unread_is : unread ≡ Some rest
   pub taken_is : taken ≡ Some (before ++ written)
-  pub goes_on : (c d : List Bool) (ends : Bool) (later : List (List ℕ)) → written_from first_state None (begun table) (lines ++ c) (units ++ d) ends (lines_of read ++ later) ≡ written ++ written_from desk.listener desk.block desk.session c d ends later
+  pub goes_on : (c d : List Bool) (ends : Bool) (later : List (List ℕ)) → written_from first_state None (begun table) (lines ++ c) (units ++ d) ends (lines_of read ++ later) ≡ written ++ written_from desk.listener desk.block desk.session.history c d ends later
   pub last : (c : List Bool) (ends : Bool) (later : List (List ℕ)) → last_line (logical_lines (lines ++ c) ends first_state (lines_of read ++ later)) ≡ last_line (logical_lines c ends desk.listener later)
 
 -- the same, of some reading and writing

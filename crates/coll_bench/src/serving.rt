@@ -84,8 +84,8 @@ impl Desk {
         output: &mut W,
     ) -> Result<(), WriteStop>
         requires { IfSome unit (λ completed. IsProperRequest completed.request) }
-        ensures answered { (starved : Bool) × Sends (W.taken output.old) (W.taken output.new) (replies_to starved self.old.session (option_to_list unit)) result
-            × (self.new.session ≡ history_after_all starved self.old.session (option_to_list unit)) }
+        ensures answered { (starved : Bool) × Sends (W.taken output.old) (W.taken output.new) (replies_to starved self.old.session.history (option_to_list unit)) result
+            × (self.new.session.history ≡ history_after_all starved self.old.session.history (option_to_list unit)) }
         ensures block { self.new.block ≡ self.old.block }
         ensures listener { self.new.listener ≡ self.old.listener }
         ensures errors { CountsErr (W.failed output.old) (W.failed output.new) result }

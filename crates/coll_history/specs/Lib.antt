@@ -1,5 +1,6 @@
 pub mod Histories
 pub mod HistoryFaults
 pub mod Kept
+pub mod Laws
 pub mod Limits
 pub mod Replay

@@ -4,13 +4,16 @@
 //! definitions in `specs/`:
 //!
 //! - `histories`: a table with its history (`Histories`, `Replay`, and of what is kept `Kept`);
+//! - `laws`: what follows from the definitions (`Laws`);
 //! - `history_faults` and `limits`: why a history refuses, and how many statements remain at most (`HistoryFaults`, `Limits`).
 #![tactic(auto)]
 
 mod histories;
 mod history_faults;
+mod laws;
 mod limits;
 
 pub use histories::Session;
 pub use history_faults::BenchFault;
+pub use laws::undo_restores;
 pub use limits::{MOST_REMAINING, limits_are_stated};

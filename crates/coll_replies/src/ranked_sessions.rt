@@ -2,9 +2,9 @@
 //!
 //! Ranks are made where a key or an order is first asked for, kept over commands and refusals, and given up with each change of
 //! the table: an accepted statement, an undo, a redo. Whoever adds a call that changes the table gives them up there. Contracts
-//! see the history alone.
+//! see what they see of the session, and no ranks.
 
-ghost use Rattle.std.specs.Prelude.{◌≡◌, ◌≢◌, ◌||◌, true, false, chars, length, IsSome, IfOk, IfErr, OnOk, OnErr};
+ghost use Rattle.std.specs.Prelude.{◌≡◌, ◌≢◌, ◌≤◌, ◌||◌, true, false, chars, length, IsSome, IfOk, IfErr, OnOk, OnErr};
 ghost use Rattle.coll_syntax.specs.Proper.{IsProper};
 ghost use Rattle.coll_nodes.specs.TableLayout.{collation};
 ghost use Rattle.coll_key.specs.KeyLimits.{is_too_long};
@@ -12,7 +12,10 @@ ghost use Rattle.coll_key.specs.SortKey.{key_of};
 ghost use Rattle.coll_key.specs.TextOrder.{order_of};
 ghost use Rattle.coll_key.specs.WrittenKey.{has_key_form};
 ghost use Rattle.coll_key.specs.declared.key_faults.KeyFault.TheVariants.{OutOfMemory};
-ghost use Rattle.coll_history.specs.Histories.{begun, judged, taken_back, put_again, table_now, RefusesStatement};
+ghost use Rattle.coll_table.specs.Record.{more_steps};
+ghost use Rattle.coll_history.specs.Limits.{most_remaining};
+ghost use Rattle.coll_history.specs.declared.history_faults.BenchFault.TheVariants.{HistoryFull};
+ghost use Rattle.coll_history.specs.Histories.{begun, judged, taken_back, put_again, undo_steps, redo_steps, table_now, RefusesStatement};
 ghost use Rattle.coll_replies.specs.Ranked.{AreRanksIfAny};
 
 use coll_history::{BenchFault, Session};
@@ -31,12 +34,12 @@ pub struct RankedSession {
 }
 
 impl Model for RankedSession {
-    ghost use Rattle.coll_history.specs.Histories.{History, table_now};
+    ghost use Rattle.coll_history.specs.Histories.{SessionValue, table_now};
     ghost use Rattle.coll_replies.specs.Ranked.{AreRanksIfAny};
 
-    ghost Value = { History };
+    ghost Value = { SessionValue };
 
-    ghost view = { λ s. s.session.history };
+    ghost view = { λ s. s.session };
 
     ghost invariant = { λ s. AreRanksIfAny s.ranks (table_now s.session.history) };
 }
@@ -44,7 +47,9 @@ impl Model for RankedSession {
 impl RankedSession {
     /// A session on a table, in which nothing has happened yet. It takes no memory.
     pub fn new(alloc: Global, table: Table) -> RankedSession
-        ensures { result ≡ begun (collation table) }
+        ensures history { result.history ≡ begun (collation table) }
+        ensures layout { result.layout ≡ table.layout }
+        ensures steps { result.steps ≡ table.steps }
     {
         RankedSession {
             session: Session::new(alloc, table),
@@ -58,9 +63,10 @@ impl RankedSession {
     /// included, changes nothing.
     pub fn statement(&mut self, statement: Statement) -> Result<u32, BenchFault>
         requires proper { IsProper statement }
-        ensures accepted { IfOk result (λ _. judged self.old statement ≡ Ok self.new) }
-        ensures count { IfOk result (λ n. n ≡ length self.new.remaining) }
-        ensures refused { IfErr result (λ fault. RefusesStatement self.old statement fault) }
+        ensures accepted { IfOk result (λ _. judged self.old.history statement ≡ Ok self.new.history) }
+        ensures count { IfOk result (λ n. n ≡ length self.new.history.remaining) }
+        ensures full { most_remaining ≤ length self.old.history.remaining → result ≡ Err HistoryFull }
+        ensures refused { IfErr result (λ fault. RefusesStatement self.old.history statement fault) }
         ensures unchanged { OnErr result (self.new ≡ self.old) }
     {
         let count = self.session.statement(statement)?;
@@ -72,9 +78,10 @@ impl RankedSession {
     ///
     /// It is refused with `NothingToUndo` exactly where no statement remains; nothing has then changed.
     pub fn undo(&mut self) -> Result<u32, BenchFault>
-        ensures undone { IfOk result (λ _. taken_back self.old ≡ Ok self.new) }
-        ensures count { IfOk result (λ n. n ≡ length self.new.remaining) }
-        ensures refused { IfErr result (λ fault. taken_back self.old ≡ Err fault) }
+        ensures undone { IfOk result (λ _. taken_back self.old.history ≡ Ok self.new.history) }
+        ensures count { IfOk result (λ n. n ≡ length self.new.history.remaining) }
+        ensures steps { OnOk result (self.new.steps ≡ more_steps self.old.steps (undo_steps self.old.history)) }
+        ensures refused { IfErr result (λ fault. taken_back self.old.history ≡ Err fault) }
         ensures unchanged { OnErr result (self.new ≡ self.old) }
     {
         let count = self.session.undo()?;
@@ -86,9 +93,10 @@ impl RankedSession {
     ///
     /// It is refused with `NothingToRedo` exactly where nothing was taken back; nothing has then changed.
     pub fn redo(&mut self) -> Result<u32, BenchFault>
-        ensures redone { IfOk result (λ _. put_again self.old ≡ Ok self.new) }
-        ensures count { IfOk result (λ n. n ≡ length self.new.remaining) }
-        ensures refused { IfErr result (λ fault. put_again self.old ≡ Err fault) }
+        ensures redone { IfOk result (λ _. put_again self.old.history ≡ Ok self.new.history) }
+        ensures count { IfOk result (λ n. n ≡ length self.new.history.remaining) }
+        ensures steps { OnOk result (self.new.steps ≡ more_steps self.old.steps (redo_steps self.old.history)) }
+        ensures refused { IfErr result (λ fault. put_again self.old.history ≡ Err fault) }
         ensures unchanged { OnErr result (self.new ≡ self.old) }
     {
         let count = self.session.redo()?;
@@ -98,7 +106,7 @@ impl RankedSession {
 
     /// The session.
     pub fn session(&self) -> &Session
-        ensures { result.now.history ≡ self.now }
+        ensures { result.now ≡ self.now }
     {
         &self.session
     }
@@ -109,8 +117,8 @@ impl RankedSession {
     /// is refused to the ranks or to the key. The history stays.
     pub fn key(&mut self, alloc: Global, text: &str) -> Result<Vec<u64>, KeyFault>
         ensures unchanged { self.new ≡ self.old }
-        ensures ok { IfOk result (λ key. key.items ≡ key_of (table_now self.old) (chars text.now)) }
-        ensures form { IfOk result (λ key. has_key_form (table_now self.old).rules key.items ≡ true) }
+        ensures ok { IfOk result (λ key. key.items ≡ key_of (table_now self.old.history) (chars text.now)) }
+        ensures form { IfOk result (λ key. has_key_form (table_now self.old.history).rules key.items ≡ true) }
         ensures short { IfOk result (λ _. is_too_long (chars text.now) ≡ false) }
         ensures err { IfErr result (λ fault. fault ≢ OutOfMemory → is_too_long (chars text.now) ≡ true) }
     {
@@ -128,7 +136,7 @@ impl RankedSession {
     /// is refused to the ranks or to the comparison. The history stays.
     pub fn compare(&mut self, alloc: Global, text: &str, other: &str) -> Result<Ordering, KeyFault>
         ensures unchanged { self.new ≡ self.old }
-        ensures ok { IfOk result (λ order. order ≡ order_of (table_now self.old) (chars text.now) (chars other.now)) }
+        ensures ok { IfOk result (λ order. order ≡ order_of (table_now self.old.history) (chars text.now) (chars other.now)) }
         ensures short { IfOk result (λ _. (is_too_long (chars text.now) || is_too_long (chars other.now)) ≡ false) }
         ensures err { IfErr result (λ fault. fault ≢ OutOfMemory → (is_too_long (chars text.now) || is_too_long (chars other.now)) ≡ true) }
     {

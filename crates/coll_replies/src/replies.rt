@@ -42,8 +42,8 @@ pub fn answer<W: Sink>(
     out: &mut W,
 ) -> Result<(), WriteStop>
     requires { IsProperRequest request }
-    ensures answered { (starved : Bool) × Sends (W.taken out.old) (W.taken out.new) (reply_if starved session.old request) result
-        × (session.new ≡ history_after_if starved session.old request) }
+    ensures answered { (starved : Bool) × Sends (W.taken out.old) (W.taken out.new) (reply_if starved session.old.history request) result
+        × (session.new.history ≡ history_after_if starved session.old.history request) }
     ensures errors { CountsErr (W.failed out.old) (W.failed out.new) result }
     ensures flushed { OnOk result (W.flushed out.new ≡ true) }
 {
@@ -81,8 +81,8 @@ fn respond<W: Sink>(
     out: &mut W,
 ) -> Result<(), WriteStop>
     requires { IsProperRequest request }
-    ensures answered { (starved : Bool) × Sends (W.taken out.old) (W.taken out.new) (reply_if starved session.old request) result
-        × (session.new ≡ history_after_if starved session.old request) }
+    ensures answered { (starved : Bool) × Sends (W.taken out.old) (W.taken out.new) (reply_if starved session.old.history request) result
+        × (session.new.history ≡ history_after_if starved session.old.history request) }
     ensures errors { CountsErr (W.failed out.old) (W.failed out.new) result }
 {
     match request {
@@ -102,8 +102,8 @@ fn obey<W: Sink>(
     command: &Command,
     out: &mut W,
 ) -> Result<(), WriteStop>
-    ensures answered { (starved : Bool) × Sends (W.taken out.old) (W.taken out.new) (reply_if starved session.old (Request.Asks command.now)) result
-        × (session.new ≡ history_after_command session.old command.now) }
+    ensures answered { (starved : Bool) × Sends (W.taken out.old) (W.taken out.new) (reply_if starved session.old.history (Request.Asks command.now)) result
+        × (session.new.history ≡ history_after_command session.old.history command.now) }
     ensures errors { CountsErr (W.failed out.old) (W.failed out.new) result }
 {
     match command {

@@ -23,7 +23,7 @@ pub(crate) fn answer_key<W: Sink>(
     text: &TextBuf,
     out: &mut W,
 ) -> Result<(), WriteStop>
-    ensures answered { (starved : Bool) × Sends (W.taken out.old) (W.taken out.new) (reply_if starved session.old (Asks (Key text.now))) result }
+    ensures answered { (starved : Bool) × Sends (W.taken out.old) (W.taken out.new) (reply_if starved session.old.history (Asks (Key text.now))) result }
     ensures unchanged { session.new ≡ session.old }
     ensures errors { CountsErr (W.failed out.old) (W.failed out.new) result }
 {
@@ -55,7 +55,7 @@ pub(crate) fn answer_compare<W: Sink>(
     other: &TextBuf,
     out: &mut W,
 ) -> Result<(), WriteStop>
-    ensures answered { (starved : Bool) × Sends (W.taken out.old) (W.taken out.new) (reply_if starved session.old (Asks (Compare text.now other.now))) result }
+    ensures answered { (starved : Bool) × Sends (W.taken out.old) (W.taken out.new) (reply_if starved session.old.history (Asks (Compare text.now other.now))) result }
     ensures unchanged { session.new ≡ session.old }
     ensures errors { CountsErr (W.failed out.old) (W.failed out.new) result }
 {

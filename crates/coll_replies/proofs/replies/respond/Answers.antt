@@ -5,17 +5,17 @@ use Rattle.coll_replies.proofs.replies.respond.Goals as goal
 pub returns-in-Asks-clause-answered : goal.returns-in-Asks-clause-answered
 returns-in-Asks-clause-answered g c =
     let taken = g.W.Sink.taken in
-    rw c.in-Asks.is (answers_command (taken c.args.out.now) (taken c.obey.new.out) c.args.session.now c.obey.new.session c.in-Asks.command c.obey.result c.obey.ensures.answered)
+    rw c.in-Asks.is (answers_command (taken c.args.out.now) (taken c.obey.new.out) c.args.session.now.history c.obey.new.session.history c.in-Asks.command c.obey.result c.obey.ensures.answered)
 
 pub returns-in-States-clause-answered : goal.returns-in-States-clause-answered
 returns-in-States-clause-answered g c =
     let taken = g.W.Sink.taken in
     rw c.in-States.is
-    (answers_statement (taken c.args.out.now) (taken c.write_outcome.new.out) c.args.session.now c.statement-outcome.new.self _ c.statement-outcome.result c.write_outcome.result
+    (answers_statement (taken c.args.out.now) (taken c.write_outcome.new.out) c.args.session.now.history c.statement-outcome.new.self.history _ c.statement-outcome.result c.write_outcome.result
     c.statement-outcome.ensures.accepted c.statement-outcome.ensures.count c.statement-outcome.ensures.refused c.statement-outcome.ensures.unchanged c.write_outcome.ensures.sent)
 
 pub returns-in-Refused-clause-answered : goal.returns-in-Refused-clause-answered
 returns-in-Refused-clause-answered g c =
     let taken = g.W.Sink.taken in
     let sent = rw c.from.ensures at c.write_refused.ensures.sent in
-    rw c.in-Refused.is (answers_refused (taken c.args.out.now) (taken c.write_refused.new.out) c.args.session.now c.in-Refused.fault c.write_refused.result sent)
+    rw c.in-Refused.is (answers_refused (taken c.args.out.now) (taken c.write_refused.new.out) c.args.session.now.history c.in-Refused.fault c.write_refused.result sent)
