@@ -1,14 +1,13 @@
 -- The undo of an accepted statement gives the table in which it was accepted.
-use Rattle.std.proofs.Common.{◌≡◌, Bool, true, false, List, [], ◌∷◌, ◌++◌, Result, Ok, Err, refl, subst, length}
+use Rattle.std.proofs.Common.{◌≡◌, Bool, true, false, [], ◌∷◌, Result, Ok, Err, refl, subst, length}
 use Rattle.std.specs.Prelude.{nat_le, if◌then◌else◌}
 use Rattle.coll_syntax.specs.declared.statements.Statement.{Statement}
 use Rattle.coll_nodes.specs.Table.{Collation}
 use Rattle.coll_table.specs.Delta.{delta}
 use Rattle.coll_table.specs.declared.refusals.Refusal.{Refusal}
-use Rattle.coll_history.specs.Histories.{History, table_now, with_statement, judged_by, judged, taken_back, put_again}
+use Rattle.coll_history.specs.Histories.{History, table_now, with_statement, judged_by, judged, put_again}
 use Rattle.coll_history.specs.Laws.{Restores, UndoRestores}
 use Rattle.coll_history.specs.Limits.{most_remaining}
-use Rattle.coll_history.specs.declared.history_faults.BenchFault.{BenchFault}
 use Rattle.coll_history.specs.declared.history_faults.BenchFault.TheVariants.{HistoryFull}
 use Rattle.coll_history.proofs.HistoryLemmas.{taken_back_push}
 
