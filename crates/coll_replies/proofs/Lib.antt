@@ -1,3 +1,4 @@
+pub mod LawLemmas
 pub mod ListingLemmas
 pub mod Members
 pub mod ReplyLemmas

@@ -1,4 +1,5 @@
 pub mod Faults
+pub mod Laws
 pub mod Listing
 pub mod Ranked
 pub mod Replies

@@ -7,15 +7,18 @@
 //! - `faults`: all faults of a session and a batch, and the one that ends a run (`Faults`);
 //! - `replies`: the reply to each unit (`Replies`, and of a table's listing `Listing`), with `past` for `:history` and `texts` for
 //!   `:key` and `:compare`; a batch writes its counts, keys and orders by the same functions;
+//! - `laws`: what follows from the definition of replies (`Laws`);
 //! - `reports`: the line of a fault, and the exit status of the program (`Reports`).
 #![tactic(auto)]
 
 mod faults;
+mod laws;
 mod ranked_sessions;
 mod replies;
 mod reports;
 
 pub use faults::{Fault, RunFault};
+pub use laws::refused_lines_change_nothing;
 pub use ranked_sessions::RankedSession;
 pub use replies::{answer, refuse, write_checked, write_key_ended, write_order};
 pub use reports::{exit_status, write_fault};
