@@ -17,7 +17,7 @@ use Rattle.coll_key.specs.WrittenKey.{written_key}
 use Rattle.coll_key.specs.declared.key_faults.KeyFault.{KeyFault}
 use Rattle.coll_key.specs.declared.key_faults.KeyFault.TheVariants as key_fault
 use Rattle.coll_replies.specs.Faults.{fault_of}
-use Rattle.coll_history.specs.Histories.{History, table_now, judged, numbered, RefusesStatement}
+use Rattle.coll_history.specs.Histories.{History, SessionValue, table_now, judged, numbered, RefusesStatement}
 use Rattle.coll_replies.specs.Replies.{counted_line, refused_line, too_long_line, order_word, count_reply, outcome_line, history_or, command_reply, history_after_command, reply, history_after, reply_if, history_after_if, key_line, order_line, history_line, history_lines}
 use Rattle.coll_history.specs.declared.history_faults.BenchFault.{BenchFault}
 use Rattle.coll_history.specs.declared.history_faults.BenchFault.TheVariants as bench
@@ -27,6 +27,11 @@ use Rattle.coll_units.specs.declared.session_lines.Command.TheVariants as comman
 use Rattle.coll_units.specs.declared.unit_faults.UnitFault.{UnitFault}
 use Rattle.coll_units.specs.declared.units.Request.{Request}
 use Rattle.coll_units.specs.declared.units.Request.TheVariants as request
+
+-- a call that leaves the session leaves its history
+pub history_stays : {T : Type 0} (r : Result T BenchFault) (new old : SessionValue) → OnErr r (new ≡ old) → OnErr r (new.history ≡ old.history)
+history_stays (Ok count) new old same = same
+history_stays (Err fault) new old same = ap (λ (s : SessionValue). s.history) same
 
 -- a call that stopped at the first of two parts sent a front of both
 pub stopped_at_first : {T E : Type 0} (old new : Option (List ℕ)) (first later : List ℕ) (r : Result T E) → IsErr r → AppendsFront old new first → Sends old new (first ++ later) r

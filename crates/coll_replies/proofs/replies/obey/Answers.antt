@@ -4,21 +4,21 @@ use Rattle.coll_print.specs.CanonicalText.{text}
 use Rattle.coll_history.specs.Histories.{SessionValue, table_now, taken_back, put_again}
 use Rattle.coll_replies.specs.Replies.{listing, checked_line, history_listing}
 use Rattle.coll_units.specs.declared.session_lines.Command.TheVariants as command
-use Rattle.coll_replies.proofs.ReplyLemmas.{outcome_is, obeys, obeys_outcome, obeys_starving}
+use Rattle.coll_replies.proofs.ReplyLemmas.{history_stays, outcome_is, obeys, obeys_outcome, obeys_starving}
 use Rattle.coll_replies.proofs.replies.obey.Goals as goal
 
 pub returns-in-Undo-clause-answered : goal.returns-in-Undo-clause-answered
 returns-in-Undo-clause-answered g c =
     let taken = g.W.Sink.taken in
     let h = c.args.session.now.history in
-    let o = outcome_is (codes "undone") h c.undo-outcome.new.self.history c.undo-outcome.result (taken_back h) c.undo-outcome.ensures.undone c.undo-outcome.ensures.count c.undo-outcome.ensures.refused c.undo-outcome.ensures.unchanged in
+    let o = outcome_is (codes "undone") h c.undo-outcome.new.self.history c.undo-outcome.result (taken_back h) c.undo-outcome.ensures.undone c.undo-outcome.ensures.count c.undo-outcome.ensures.refused (history_stays c.undo-outcome.result c.undo-outcome.new.self c.args.session.now c.undo-outcome.ensures.unchanged) in
     rw c.in-Undo.is (obeys_outcome (taken c.args.out.now) (taken c.write_outcome.new.out) h c.undo-outcome.new.self.history command.Undo (codes "undone") (taken_back h) c.undo-outcome.result c.write_outcome.result o c.write_outcome.ensures.sent refl refl)
 
 pub returns-in-Redo-clause-answered : goal.returns-in-Redo-clause-answered
 returns-in-Redo-clause-answered g c =
     let taken = g.W.Sink.taken in
     let h = c.args.session.now.history in
-    let o = outcome_is (codes "redone") h c.redo-outcome.new.self.history c.redo-outcome.result (put_again h) c.redo-outcome.ensures.redone c.redo-outcome.ensures.count c.redo-outcome.ensures.refused c.redo-outcome.ensures.unchanged in
+    let o = outcome_is (codes "redone") h c.redo-outcome.new.self.history c.redo-outcome.result (put_again h) c.redo-outcome.ensures.redone c.redo-outcome.ensures.count c.redo-outcome.ensures.refused (history_stays c.redo-outcome.result c.redo-outcome.new.self c.args.session.now c.redo-outcome.ensures.unchanged) in
     rw c.in-Redo.is (obeys_outcome (taken c.args.out.now) (taken c.write_outcome-in-Redo.new.out) h c.redo-outcome.new.self.history command.Redo (codes "redone") (put_again h) c.redo-outcome.result c.write_outcome-in-Redo.result o c.write_outcome-in-Redo.ensures.sent refl refl)
 
 pub returns-in-List-clause-answered : goal.returns-in-List-clause-answered

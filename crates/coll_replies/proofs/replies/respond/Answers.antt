@@ -1,5 +1,5 @@
 -- Each reply is that of the definition, or the one to want of memory.
-use Rattle.coll_replies.proofs.ReplyLemmas.{answers_command, answers_statement, answers_refused}
+use Rattle.coll_replies.proofs.ReplyLemmas.{answers_command, answers_statement, answers_refused, history_stays}
 use Rattle.coll_replies.proofs.replies.respond.Goals as goal
 
 pub returns-in-Asks-clause-answered : goal.returns-in-Asks-clause-answered
@@ -12,7 +12,7 @@ returns-in-States-clause-answered g c =
     let taken = g.W.Sink.taken in
     rw c.in-States.is
     (answers_statement (taken c.args.out.now) (taken c.write_outcome.new.out) c.args.session.now.history c.statement-outcome.new.self.history _ c.statement-outcome.result c.write_outcome.result
-    c.statement-outcome.ensures.accepted c.statement-outcome.ensures.count c.statement-outcome.ensures.refused c.statement-outcome.ensures.unchanged c.write_outcome.ensures.sent)
+    c.statement-outcome.ensures.accepted c.statement-outcome.ensures.count c.statement-outcome.ensures.refused (history_stays c.statement-outcome.result c.statement-outcome.new.self c.args.session.now c.statement-outcome.ensures.unchanged) c.write_outcome.ensures.sent)
 
 pub returns-in-Refused-clause-answered : goal.returns-in-Refused-clause-answered
 returns-in-Refused-clause-answered g c =
