@@ -1,9 +1,9 @@
 //! A batch: a table is read, rewritten by delta files, and answered from once.
 //!
-//! `run_batch` carries the theorem of a batch: what is written and what is answered are stated functions of the texts of its inputs
-//! (`BatchRuns` of `specs/BatchRuns.antt`). `inputs` reads the table and the delta files, `delta_files` a single one, and `output`
-//! writes what the batch asks for. Every input is read before the first byte is written, and no history is kept. A new batch is a
-//! new variant of `Batch`, a case of `batch_output`, and of `write_output`.
+//! `run_batch_keyed` carries the theorem of a batch: what is written and what is answered are stated functions of the texts of its
+//! inputs (`BatchRuns` of `specs/BatchRuns.antt`). `inputs` reads the table and the delta files, `delta_files` a single one, and
+//! `output` writes what the batch asks for. Every input is read before the first byte is written, and no history is kept. A new
+//! batch is a new variant of `Batch`, a case of `batch_output`, and of `write_output`.
 
 ghost use Rattle.std.specs.Prelude.{◌≡◌, ◌≤◌, ◌∷◌, length, map, IfErr};
 ghost use Rattle.coll_bench.specs.BatchOutcome.{fault_in, texts_of as texts_asked, is_any_too_long as any_too_long};
@@ -19,7 +19,7 @@ mod output;
 use coll_key::{KeyFault, MOST_TEXT_CHARACTERS};
 use coll_lex::{ListBuf, Sink, Source, TextBuf};
 use coll_replies::{Fault, RunFault};
-use coll_table::Table;
+use coll_table::{HashKeys, Table};
 use inputs::read_inputs;
 use output::write_output;
 use std::alloc::Global;
@@ -39,13 +39,7 @@ pub enum Batch {
     Compare(TextBuf, TextBuf),
 }
 
-/// Reads a table, rewrites it by delta files in their order, and writes what is asked of the result.
-///
-/// Input 0 is the table, input k the k-th delta file; nothing behind the end of a category is looked at. The first fault met is
-/// the answer, with its input and its line (of a refused block that of its `reorder-after`), and then nothing is written. After all
-/// inputs were read, a text of more than 65,536 characters is refused, with input 0 and line 0, before anything is written. A
-/// write that fails, and want of memory while keys are written, have input 0 and line 0, and leave a front of the output. A read
-/// that fails has line 0 and its input, unless the lines read whole before it are at fault already.
+/// Runs a batch over texts that one trusts, as `run_batch_keyed` does: what they name is looked up under keys that anyone knows.
 pub fn run_batch<R: Source, W: Sink>(
     alloc: Global,
     batch: Batch,
@@ -58,7 +52,31 @@ pub fn run_batch<R: Source, W: Sink>(
     ensures reads { CountsInputs (R.failed table.old ∷ map R.failed deltas.old) (R.failed table.new ∷ map R.failed deltas.new) result }
     ensures writes { CountsWrites (W.failed output.old) (W.failed output.new) result }
 {
-    match read_inputs(alloc, table, deltas) {
+    run_batch_keyed(alloc, HashKeys::zeros(), batch, table, deltas, output)
+}
+
+/// Reads a table, rewrites it by delta files in their order, and writes what is asked of the result.
+///
+/// Input 0 is the table, input k the k-th delta file; nothing behind the end of a category is looked at. The first fault met is
+/// the answer, with its input and its line (of a refused block that of its `reorder-after`), and then nothing is written. After all
+/// inputs were read, a text of more than 65,536 characters is refused, with input 0 and line 0, before anything is written. A
+/// write that fails, and want of memory while keys are written, have input 0 and line 0, and leave a front of the output. A read
+/// that fails has line 0 and its input, unless the lines read whole before it are at fault already. What the texts name is
+/// looked up under these keys: where the texts can't know them, they can't slow the look-ups down.
+pub fn run_batch_keyed<R: Source, W: Sink>(
+    alloc: Global,
+    keys: HashKeys,
+    batch: Batch,
+    table: &mut R,
+    deltas: &mut [R],
+    output: &mut W,
+) -> Result<(), RunFault>
+    ensures run { BatchRuns batch (R.left table.old) (R.left table.new) (map R.left deltas.old) (map R.left deltas.new) (W.taken output.old) (W.taken output.new) result }
+    ensures input { IfErr result (λ ended. ended.input ≤ length deltas.old) }
+    ensures reads { CountsInputs (R.failed table.old ∷ map R.failed deltas.old) (R.failed table.new ∷ map R.failed deltas.new) result }
+    ensures writes { CountsWrites (W.failed output.old) (W.failed output.new) result }
+{
+    match read_inputs(alloc, keys, table, deltas) {
         Ok(changed) => {
             let answer = answer_batch(alloc, &batch, &changed, output);
             drop(changed);

@@ -11,7 +11,7 @@ mod laws;
 mod runs;
 mod serving;
 
-pub use batches::{Batch, run_batch};
+pub use batches::{Batch, run_batch, run_batch_keyed};
 pub use coll_history::{BenchFault, MOST_REMAINING, Session, limits_are_stated};
 pub use coll_replies::{Fault, RunFault, exit_status, write_fault};
 pub use laws::want_of_memory_shows;

@@ -1,19 +1,22 @@
 //! The program: a thin `main` over `coll_bench`, which runs batches and serves sessions.
 //!
-//! `command_line` reads the words, and `files` opens what they name. Here the runs are started, and their faults are told: a line
-//! on standard error, and the exit status, which stands also where that line can't be written.
+//! `command_line` reads the words, `random_keys` draws the keys that names are looked up under, and `files` opens what the words
+//! name. Here the runs are started, and their faults are told: a line on standard error, and the exit status, which stands also
+//! where that line can't be written.
 #![tactic(auto)]
 
 ghost use Rattle.std.specs.Prelude.{◌<◌, length, vec_len, IfOk, IfErr, ◌≡◌};
 
 mod command_line;
 mod files;
+mod random_keys;
 
-use coll_bench::{Batch, Fault, RunFault, exit_status, run_batch, run_session, write_fault};
-use coll_lex::{Counted, LexFault, Sink, WriteStop};
-use coll_table::{Table, load};
+use coll_bench::{Batch, Fault, RunFault, exit_status, run_batch_keyed, run_session, write_fault};
+use coll_lex::{Counted, LexFault, ReadStop, Sink, WriteStop};
+use coll_table::{HashKeys, Table, load_keyed};
 use command_line::{Request, Task, Unasked, read_words};
 use files::{Input, at_no_line, open_all};
+use random_keys::random_keys;
 use std::alloc::{AllocError, Global};
 use std::env;
 use std::io::{BufWriter, ErrorKind, Stdout};
@@ -55,15 +58,32 @@ fn obey(rt: &HostRuntime, request: Request<'_>) -> ExitCode
     }
 }
 
-// Does a task on these files, and answers the exit status.
+// Does a task on these files, under keys of this run, and answers the exit status.
 fn do_task(rt: &HostRuntime, task: Task, files: &[&str], names: &[String]) -> ExitCode
     requires some { 0 < length files.now }
     requires names { length names.now ≡ length files.now }
 {
+    match random_keys(rt) {
+        Ok(keys) => do_keyed(rt, keys, task, files, names),
+        Err(_) => tell_at_start(rt, Fault::Read(ReadStop::ReadFault)),
+    }
+}
+
+// Does a task on these files, in which names are looked up under these keys, and answers the exit status.
+fn do_keyed(
+    rt: &HostRuntime,
+    keys: HashKeys,
+    task: Task,
+    files: &[&str],
+    names: &[String],
+) -> ExitCode
+    requires some { 0 < length files.now }
+    requires names { length names.now ≡ length files.now }
+{
     match task {
-        Task::Batch(batch) => status(rt, run_on_files(rt, batch, files), names),
+        Task::Batch(batch) => status(rt, run_on_files(rt, keys, batch, files), names),
         Task::Session => match String::from_str(rt.alloc(), STANDARD_INPUT) {
-            Ok(name) => serve(rt, files, names, &[name]),
+            Ok(name) => serve(rt, keys, files, names, &[name]),
             Err(_) => tell_no_memory(rt),
         },
     }
@@ -81,23 +101,33 @@ fn copied_names(alloc: Global, files: &[&str]) -> Result<Vec<String>, AllocError
 }
 
 // Runs a batch on the table and the delta files with these names, to standard output.
-fn run_on_files(rt: &HostRuntime, batch: Batch, files: &[&str]) -> Result<(), RunFault>
+fn run_on_files(
+    rt: &HostRuntime,
+    keys: HashKeys,
+    batch: Batch,
+    files: &[&str],
+) -> Result<(), RunFault>
     requires { 0 < length files.now }
     ensures { IfErr result (λ fault. fault.input < length files.now) }
 {
     match open_all(rt, files) {
-        Ok(mut inputs) => run_on_inputs(rt, batch, inputs.as_mut_slice()),
+        Ok(mut inputs) => run_on_inputs(rt, keys, batch, inputs.as_mut_slice()),
         Err(fault) => Err(fault),
     }
 }
 
 // Runs a batch on a table and delta files, to standard output.
-fn run_on_inputs(rt: &HostRuntime, batch: Batch, inputs: &mut [Input]) -> Result<(), RunFault>
+fn run_on_inputs(
+    rt: &HostRuntime,
+    keys: HashKeys,
+    batch: Batch,
+    inputs: &mut [Input],
+) -> Result<(), RunFault>
     requires { 0 < length inputs.old }
     ensures { IfErr result (λ fault. fault.input < length inputs.old) }
 {
     match standard_output(rt) {
-        Ok(mut output) => write_batch(rt, batch, inputs, &mut output),
+        Ok(mut output) => write_batch(rt, keys, batch, inputs, &mut output),
         Err(fault) => Err(fault),
     }
 }
@@ -106,6 +136,7 @@ fn run_on_inputs(rt: &HostRuntime, batch: Batch, inputs: &mut [Input]) -> Result
 // is the fault, since what is in the buffer was written before any other fault was met.
 fn write_batch(
     rt: &HostRuntime,
+    keys: HashKeys,
     batch: Batch,
     inputs: &mut [Input],
     output: &mut Output,
@@ -114,7 +145,7 @@ fn write_batch(
     ensures { IfErr result (λ fault. fault.input < length inputs.old) }
 {
     let (table, deltas) = inputs.split_at_mut(1);
-    let ran = run_batch(rt.alloc(), batch, &mut table[0], deltas, output);
+    let ran = run_batch_keyed(rt.alloc(), keys, batch, &mut table[0], deltas, output);
     match output.flush() {
         Ok(()) => ran,
         Err(_) => Err(at_no_line(0, Fault::Write(WriteStop::WriteFault))),
@@ -122,34 +153,40 @@ fn write_batch(
 }
 
 // Serves a session over the table in the first of these files. `inputs` has the name of standard input.
-fn serve(rt: &HostRuntime, files: &[&str], names: &[String], inputs: &[String]) -> ExitCode
+fn serve(
+    rt: &HostRuntime,
+    keys: HashKeys,
+    files: &[&str],
+    names: &[String],
+    inputs: &[String],
+) -> ExitCode
     requires some { 0 < length files.now }
     requires names { length names.now ≡ length files.now }
     requires input { 0 < length inputs.now }
 {
-    match read_table(rt, files) {
+    match read_table(rt, keys, files) {
         Ok(table) => status(rt, serve_standard_input(rt, table), inputs),
         Err(fault) => tell_fault(rt, &fault, names),
     }
 }
 
 // The table in the first of these files.
-fn read_table(rt: &HostRuntime, files: &[&str]) -> Result<Table, RunFault>
+fn read_table(rt: &HostRuntime, keys: HashKeys, files: &[&str]) -> Result<Table, RunFault>
     requires { 0 < length files.now }
     ensures { IfErr result (λ fault. fault.input < length files.now) }
 {
     match open_all(rt, files) {
-        Ok(mut inputs) => read_first(rt, inputs.as_mut_slice()),
+        Ok(mut inputs) => read_first(rt, keys, inputs.as_mut_slice()),
         Err(fault) => Err(fault),
     }
 }
 
 // The table in the first of these inputs.
-fn read_first(rt: &HostRuntime, inputs: &mut [Input]) -> Result<Table, RunFault>
+fn read_first(rt: &HostRuntime, keys: HashKeys, inputs: &mut [Input]) -> Result<Table, RunFault>
     requires { 0 < length inputs.old }
     ensures { IfErr result (λ fault. fault.input ≡ 0) }
 {
-    match load(rt.alloc(), &mut inputs[0]) {
+    match load_keyed(rt.alloc(), keys, &mut inputs[0]) {
         Ok(table) => Ok(table),
         Err(fault) => Err(RunFault {
             input: 0,
@@ -209,7 +246,11 @@ fn tell_fault(rt: &HostRuntime, fault: &RunFault, names: &[String]) -> ExitCode
 
 // Tells that memory was refused before there was an input.
 fn tell_no_memory(rt: &HostRuntime) -> ExitCode {
-    let fault = Fault::Lex(LexFault::OutOfMemory);
+    tell_at_start(rt, Fault::Lex(LexFault::OutOfMemory))
+}
+
+// Tells a fault that was met before there was an input.
+fn tell_at_start(rt: &HostRuntime, fault: Fault) -> ExitCode {
     let _ = eprintln!(rt; "-:0: {fault}");
     ExitCode::from(exit_status(&fault))
 }

@@ -9,12 +9,13 @@ ghost use Rattle.coll_bench.specs.BatchRuns.{CountsInputs};
 use super::delta_files::read_delta;
 use coll_lex::Source;
 use coll_replies::{Fault, RunFault};
-use coll_table::{LoadFault, Table, load};
+use coll_table::{HashKeys, LoadFault, Table, load_keyed};
 use std::alloc::Global;
 
 /// Reads the table and the delta files. The answer is the table after all of them, or the first fault met.
 pub(crate) fn read_inputs<R: Source>(
     alloc: Global,
+    keys: HashKeys,
     table: &mut R,
     deltas: &mut [R],
 ) -> Result<Table, RunFault>
@@ -23,7 +24,7 @@ pub(crate) fn read_inputs<R: Source>(
     ensures writes { IfErr result (λ ended. WritesNone ended) }
     ensures reads { CountsInputs (R.failed table.old ∷ map R.failed deltas.old) (R.failed table.new ∷ map R.failed deltas.new) result }
 {
-    match load(alloc, table) {
+    match load_keyed(alloc, keys, table) {
         Ok(mut first) => match read_deltas(alloc, &mut first, deltas) {
             Ok(()) => Ok(first),
             Err(ended) => {

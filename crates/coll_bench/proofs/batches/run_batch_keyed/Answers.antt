@@ -1,7 +1,7 @@
 -- The inputs give a table, or are at fault.
 use Rattle.std.proofs.Common.{◌∷◌, length, map}
 use Rattle.coll_bench.proofs.RunCases.{inputs_fail, output_input, output_reads}
-use Rattle.coll_bench.proofs.batches.run_batch.Goals as goal
+use Rattle.coll_bench.proofs.batches.run_batch_keyed.Goals as goal
 
 pub returns-in-Ok-clause-run : goal.returns-in-Ok-clause-run
 returns-in-Ok-clause-run g c =
