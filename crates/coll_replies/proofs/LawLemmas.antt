@@ -1,5 +1,5 @@
 -- A unit whose reply is a refusal leaves the history: a unit that changes it has a reply that begins with another word.
-use Rattle.std.proofs.Common.{◌≡◌, ℕ, Bool, true, false, List, Result, Ok, Err, refl, length}
+use Rattle.std.proofs.Common.{◌≡◌, ℕ, zero, suc, Bool, true, false, List, [], ◌∷◌, Result, Ok, Err, refl, sym, ap, ◌∙◌, arith, length}
 use Rattle.std.specs.Prelude.{◌&&◌, if◌then◌else◌, codes}
 use Rattle.coll_history.specs.Histories.{History, judged, taken_back, put_again}
 use Rattle.coll_history.specs.declared.history_faults.BenchFault.{BenchFault}
@@ -11,18 +11,42 @@ use Rattle.coll_units.specs.declared.session_lines.Command.TheVariants as comman
 use Rattle.coll_units.specs.declared.units.Request.{Request}
 use Rattle.coll_units.specs.declared.units.Request.TheVariants as request
 
--- a line of a count isn't one of a refusal, where its word has another beginning
+-- a character of a line, by how many stand before it
+at : ℕ → List ℕ → ℕ
+at n [] = 0
+at zero (c ∷ cs) = c
+at (suc n) (c ∷ cs) = at n cs
+
+-- the first or the third character of a line that counts, and of one that refuses
+first_ok : (n : ℕ) → at 0 (counted_line (codes "ok") n) ≡ 111
+unfolding counted_line at
+first_ok n = refl
+
+first_undone : (n : ℕ) → at 0 (counted_line (codes "undone") n) ≡ 117
+unfolding counted_line at
+first_undone n = refl
+
+third_redone : (n : ℕ) → at 2 (counted_line (codes "redone") n) ≡ 100
+unfolding counted_line at
+third_redone n = refl
+
+first_refused : (f : Fault) → at 0 (refused_line f) ≡ 114
+unfolding refused_line at
+first_refused f = refl
+
+third_refused : (f : Fault) → at 2 (refused_line f) ≡ 102
+unfolding refused_line at
+third_refused f = refl
+
+-- a line that counts isn't one that refuses, since the words differ
 counted_ok : (n : ℕ) (f : Fault) → counted_line (codes "ok") n ≡ refused_line f → ⊥
-unfolding counted_line refused_line
-counted_ok n f e = cc
+counted_ok n f e = let same : 111 ≡ 114 = sym (first_ok n) ∙ ap (at 0) e ∙ first_refused f in omega (arith, same)
 
 counted_undone : (n : ℕ) (f : Fault) → counted_line (codes "undone") n ≡ refused_line f → ⊥
-unfolding counted_line refused_line
-counted_undone n f e = cc
+counted_undone n f e = let same : 117 ≡ 114 = sym (first_undone n) ∙ ap (at 0) e ∙ first_refused f in omega (arith, same)
 
 counted_redone : (n : ℕ) (f : Fault) → counted_line (codes "redone") n ≡ refused_line f → ⊥
-unfolding counted_line refused_line
-counted_redone n f e = cc
+counted_redone n f e = let same : 100 ≡ 102 = sym (third_redone n) ∙ ap (at 2) e ∙ third_refused f in omega (arith, same)
 
 -- what a call of the history answered leaves it, where the reply to it is a refusal
 by_answer : (word : List ℕ) (apart : (n : ℕ) (f : Fault) → counted_line word n ≡ refused_line f → ⊥) (h : History) (r : Result History BenchFault) (f : Fault)
