@@ -7,8 +7,8 @@ Run by hand, after `make`, which builds the program; no gate runs it:
 
 Elements of one table share their first character, those of the other the first eleven of sixteen. Texts are one letter over and over,
 and what an element begins with over and over, so that at each place many elements fit far and none fits whole. Printed are the least
-processor times of some runs of `:key` and `:compare` of a long text, beyond that of the same session with texts of one letter, and how
-many times that of the table with few elements the one with many takes.
+processor times of some runs of a `:key` and a `:compare` of long texts, of which a session has forty, beyond that of a session with one short
+text, and how many times that of the table with few elements the one with many takes.
 
 Target: with 100,000 such elements at most 3 times the time with ten.
 """
@@ -21,7 +21,7 @@ import tempfile
 from slow_texts import PROGRAM, RUNS, time
 
 FEW, COUNT = 10, 100_000
-LONG, LONG_PAIR = 60_000, 32_000
+LONG, LONG_PAIR, LINES = 60_000, 32_000, 40
 LETTERS = "bcdefghijklmnopqrstuvwxyz"
 
 
@@ -55,9 +55,9 @@ def sessions(strings):
 
 
 def beyond(program, path, line):
-    """The time that a line takes beyond the load and the ranks."""
-    words = ["session", path]
-    return time(program, words, line.encode()) - time(program, words, b':key "a"\n')
+    """The time that a line takes, beyond the load and the ranks."""
+    words, first = ["session", path], ':key "a"\n'
+    return (time(program, words, (first + line * LINES).encode()) - time(program, words, first.encode())) / LINES
 
 
 def main(program, count, folder):
@@ -69,7 +69,7 @@ def main(program, count, folder):
                 file.write(table(strings(size)))
         for line_name, line in sessions(strings(FEW)):
             few, many = (beyond(program, path, line) for path in paths)
-            print(f"{name}, {line_name}: {many:.4f} s with {count:,}, {many / few:.1f} times {few:.4f} s with {FEW}, least of {RUNS} runs", flush=True)
+            print(f"{name}, {line_name}: {1000 * many:.2f} ms with {count:,}, {many / few:.1f} times {1000 * few:.2f} ms with {FEW}, least of {RUNS} runs", flush=True)
 
 
 if __name__ == "__main__":
