@@ -90,6 +90,7 @@ impl Loader {
         ensures err { IfErr result (λ fault. fault.cause ≢ OutOfMemory → loaded_line self.old line.now ≡ Err fault) }
         ensures again { IfErr result (λ fault. (first : LoadFault) → self.old.fault ≡ Some first → fault ≡ first) }
         ensures memory { IfErr result (λ fault. fault.cause ≡ OutOfMemory → self.old.fault ≡ None → MayTake self.old line.now) }
+        ensures starved_at { IfErr result (λ fault. fault.cause ≡ OutOfMemory → self.old.fault ≡ None → fault.line ≡ number_of self.old.lexer) }
         ensures cause { IfErr result (λ fault. IsLineCause fault.cause) }
         ensures stays { IfErr result (λ fault. self.new.fault ≡ Some fault) }
         ensures ended { OnErr result (self.new.ended ≡ self.old.ended) }
@@ -181,6 +182,7 @@ impl Loader {
         ensures ok { OnOk result (by_where self.old line.now ≡ Ok self.new) }
         ensures err { IfErr result (λ fault. fault.cause ≢ OutOfMemory → by_where self.old line.now ≡ Err fault) }
         ensures memory { IfErr result (λ fault. fault.cause ≡ OutOfMemory → MayTake self.old line.now) }
+        ensures starved_at { IfErr result (λ fault. fault.cause ≡ OutOfMemory → fault.line ≡ number_of self.old.lexer) }
         ensures cause { IfErr result (λ fault. IsLineCause fault.cause) }
         ensures ended { OnErr result (self.new.ended ≡ self.old.ended) }
     {
@@ -220,6 +222,7 @@ impl Loader {
         ensures ok { OnOk result (by_fed self.old (fed self.old.lexer line.now) ≡ Ok self.new) }
         ensures err { IfErr result (λ fault. fault.cause ≢ OutOfMemory → by_fed self.old (fed self.old.lexer line.now) ≡ Err fault) }
         ensures memory { IfErr result (λ fault. fault.cause ≡ OutOfMemory → IsTrue (takes_memory self.old.lexer line.now)) }
+        ensures starved_at { IfErr result (λ fault. fault.cause ≡ OutOfMemory → fault.line ≡ number_of self.old.lexer) }
         ensures cause { IfErr result (λ fault. IsLineCause fault.cause) }
         ensures ended { OnErr result (self.new.ended ≡ self.old.ended) }
     {
@@ -240,6 +243,7 @@ impl Loader {
         requires going { self.old.ended ≡ false }
         ensures ok { OnOk result (by_read self.old line.now.number (table_line line.now.tokens) ≡ Ok self.new) }
         ensures err { IfErr result (λ fault. fault.cause ≢ OutOfMemory → by_read self.old line.now.number (table_line line.now.tokens) ≡ Err fault) }
+        ensures starved_at { IfErr result (λ fault. fault.cause ≡ OutOfMemory → fault.line ≡ line.now.number) }
         ensures cause { IfErr result (λ fault. IsLineCause fault.cause) }
         ensures ended { OnErr result (self.new.ended ≡ self.old.ended) }
     {
