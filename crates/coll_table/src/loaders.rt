@@ -127,6 +127,7 @@ impl Loader {
         ensures ok { IfOk result (λ table. loaded self ≡ Ok (collation table)) }
         ensures err { IfErr result (λ fault. loaded self ≡ Err fault) }
         ensures cause { IfErr result (λ fault. IsLineCause fault.cause) }
+        ensures spared { IfErr result (λ fault. self.fault ≡ None → fault.cause ≢ OutOfMemory) }
         ensures well_formed { IfOk result (λ table. IsWellFormed (collation table)) }
     {
         if let Some(fault) = self.end_fault() {
@@ -146,6 +147,7 @@ impl Loader {
         ensures none { IfNone result (loaded self.now ≡ Ok (table_of self.now.draft)) }
         ensures ended { IfNone result (self.now.ended ≡ true) }
         ensures cause { IfSome result (λ fault. IsLineCause fault.cause) }
+        ensures spared { IfSome result (λ fault. self.now.fault ≡ None → fault.cause ≢ OutOfMemory) }
     {
         if let Some(fault) = self.fault {
             return Some(fault);
@@ -160,6 +162,7 @@ impl Loader {
     fn early_end(&self) -> LoadFault
         ensures fault { result ≡ early_end self.now self.now.lexer.line }
         ensures cause { IsLineCause result.cause }
+        ensures spared { result.cause ≢ OutOfMemory }
     {
         if let Some(number) = self.lexer.pending() {
             return LoadFault {
