@@ -5,7 +5,7 @@
 //! of line, as `cause_after` does. After a refusal the draft is given up. What may stand where is changed in
 //! `specs/Drafts.antt` first.
 
-ghost use Rattle.std.specs.Prelude.{◌≡◌, ◌≢◌, true, false, [], length, Some, None, IfOk, IfErr, OnOk};
+ghost use Rattle.std.specs.Prelude.{◌≡◌, ◌≢◌, true, false, [], length, Some, None, IfOk, IfErr, IfSome, OnOk};
 ghost use Rattle.std.specs.List.{flat_map};
 ghost use Rattle.coll_lex.specs.Names.{IsName};
 ghost use Rattle.coll_syntax.specs.Proper.{IsProperTableLine, IsProperLine, IsNameIfGiven, AreRulesIfGiven};
@@ -87,6 +87,7 @@ impl Draft {
         ensures ended { IfOk result (λ ended. ended ≡ is_end line) }
         ensures well_formed { IfOk result (λ ended. ended ≡ true → IsWellFormed (table_of self.new)) }
         ensures err { IfErr result (λ fault. fault.cause ≢ OutOfMemory → line_fault self.old (record { number = number; line = line }) ≡ Some fault) }
+        ensures memory { IfErr result (λ fault. fault.cause ≡ OutOfMemory → fault.line ≡ number) }
     {
         let ends = ends_category(&line);
         match self.keep(number, line) {
@@ -358,7 +359,8 @@ impl Draft {
     /// Why an identifier in a weight is refused, if it is: what is placed was declared, so a second look is taken only at
     /// what isn't.
     fn weight_cause(&self, id: &Id) -> Option<LoadCause>
-        ensures { result ≡ weight_cause self.now.declared self.now.sections id.now }
+        ensures cause { result ≡ weight_cause self.now.declared self.now.sections id.now }
+        ensures spared { IfSome result (λ cause. cause ≢ OutOfMemory) }
     {
         if self.builder.is_placed(id) {
             return None;
@@ -371,7 +373,8 @@ impl Draft {
 
     /// Why the first of these identifiers that is refused in a weight is.
     fn ids_cause(&self, ids: &[Id]) -> Option<LoadCause>
-        ensures { result ≡ ids_cause self.now.declared self.now.sections ids.now }
+        ensures cause { result ≡ ids_cause self.now.declared self.now.sections ids.now }
+        ensures spared { IfSome result (λ cause. cause ≢ OutOfMemory) }
     {
         for id in ids {
             if let Some(cause) = self.weight_cause(id) {
@@ -383,7 +386,8 @@ impl Draft {
 
     /// Why a weight is refused, if it is.
     fn named_cause(&self, weight: &Weight) -> Option<LoadCause>
-        ensures { result ≡ ids_cause self.now.declared self.now.sections (weight_ids weight.now) }
+        ensures cause { result ≡ ids_cause self.now.declared self.now.sections (weight_ids weight.now) }
+        ensures spared { IfSome result (λ cause. cause ≢ OutOfMemory) }
     {
         match weight {
             Weight::Names(ids) => self.ids_cause(ids.get()),
@@ -393,7 +397,8 @@ impl Draft {
 
     /// Why the first of these weights that is refused is.
     fn weights_cause(&self, weights: &[Weight]) -> Option<LoadCause>
-        ensures { result ≡ ids_cause self.now.declared self.now.sections (flat_map weight_ids weights.now) }
+        ensures cause { result ≡ ids_cause self.now.declared self.now.sections (flat_map weight_ids weights.now) }
+        ensures spared { IfSome result (λ cause. cause ≢ OutOfMemory) }
     {
         for weight in weights {
             if let Some(cause) = self.named_cause(weight) {
@@ -407,6 +412,7 @@ impl Draft {
     fn judge_weights(&self) -> Result<(), LoadFault>
         ensures ok { OnOk result (weights_fault self.now ≡ None) }
         ensures err { IfErr result (λ fault. weights_fault self.now ≡ Some fault) }
+        ensures spared { IfErr result (λ fault. fault.cause ≢ OutOfMemory) }
     {
         self.judge_met(&self.numbers, self.builder.walk())
     }
@@ -416,6 +422,7 @@ impl Draft {
         requires { length numbers.now ≡ length (entries_met walk) }
         ensures ok { OnOk result (entries_fault self.now numbers.now (entries_met walk.entry) ≡ None) }
         ensures err { IfErr result (λ fault. entries_fault self.now numbers.now (entries_met walk.entry) ≡ Some fault) }
+        ensures spared { IfErr result (λ fault. fault.cause ≢ OutOfMemory) }
     {
         for item in walk {
             let entry = match item {

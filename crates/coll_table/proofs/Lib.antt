@@ -19,6 +19,7 @@ pub mod KeyReads
 pub mod ListedItems
 pub mod LineCauses
 pub mod LineMemory
+pub mod LineNumbers
 pub mod LinesRead
 pub mod LoadEnds
 pub mod LoadSteps

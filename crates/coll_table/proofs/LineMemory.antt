@@ -1,11 +1,12 @@
 -- For which lines memory may be taken: none before the category, and in it each that ends a logical line with tokens.
-use Rattle.std.proofs.Common.{◌≡◌, ℕ, false, IsTrue, List, Some, Result, Ok, Err, IfErr, ap, ◌∙◌, refl}
+use Rattle.std.proofs.Common.{◌≡◌, ℕ, false, IsTrue, List, Some, Result, Ok, Err, IfErr, ap, subst, ◌∙◌, refl}
 use Rattle.std.specs.Prelude.{◌==◌}
 use Rattle.coll_lex.specs.LogicalLines.{LexerState, number_of, outside, fed, needs_memory, takes_memory}
 use Rattle.coll_lex.specs.Faults.{lex_fault_number}
 use Rattle.coll_lex.specs.declared.faults.LexFault.{LexFault}
 use Rattle.coll_lex.specs.declared.faults.LexFault.TheVariants as lex
 use Rattle.coll_lex.specs.declared.tokens.Line.{Line}
+use Rattle.coll_lex.proofs.LineEnds.{fed-number}
 use Rattle.coll_lex.proofs.OutsideLines.{outside-not_starved}
 use Rattle.coll_draft.specs.LoadFaults.{lex_cause}
 use Rattle.coll_draft.specs.Loading.{LoaderState, by_outside}
@@ -39,3 +40,7 @@ pub whole_takes : {A : Type 0} (s after : LexerState) (line : List ℕ) (whole :
 unfolding takes_memory
 whole_takes s after line whole (Ok answer) e = tt
 whole_takes s after line whole (Err fault) e = λ _. ap needs_memory e
+
+-- a want of memory at a line that ends a logical line carries its number, which is that of the line handed in
+pub whole_numbered : {A : Type 0} (s after : LexerState) (line : List ℕ) (whole : Line) (result : Result A LoadFault) → fed s line ≡ Ok (Some whole, after) → IfErr result (λ fault. fault.cause ≡ OutOfMemory → fault.line ≡ whole.number) → IfErr result (λ fault. fault.cause ≡ OutOfMemory → fault.line ≡ number_of s)
+whole_numbered s after line whole result e h = subst (λ (number : ℕ). IfErr result (λ fault. fault.cause ≡ OutOfMemory → fault.line ≡ number)) (fed-number s line whole after e) h

@@ -19,6 +19,7 @@ use Rattle.coll_draft.specs.declared.load_faults.LoadFault.{LoadFault}
 use Rattle.coll_draft.specs.declared.load_faults.LoadCause.TheVariants.{Lex, NoCategory, NoEnd}
 use Rattle.coll_draft.proofs.DraftSteps.{draft_more}
 use Rattle.coll_draft.proofs.EndedDrafts.{unchanged_at_end}
+use Rattle.coll_table.proofs.LineNumbers.{IsOpenWithin, none_open, fed_within}
 
 -- The definition of reading, one line on.
 
@@ -62,13 +63,14 @@ outcome_from ends before s lines =
     else outcome_before ends s.lexer lines)
 
 -- these lines were accepted, what they say is stored, and no fault is; before the category there are none, and no logical
--- line is open
+-- line is open; one that is open is one of the lines handed in
 pub record StandsAfter (before : List Numbered) (s : LoaderState) : Type 0 where
   pub said : s.draft ≡ draft_of before
   pub faultless : s.fault ≡ None
   pub none_before : s.begun ≡ false → before ≡ []
   pub closed : s.begun ≡ false → s.lexer.line ≡ None
   pub few : s.lexer.count ≤ most_lines
+  pub opens : IsOpenWithin s.lexer
 
 -- a line was taken, and what the later ones decide is what it decides with them
 pub record LeadsOn (before : List Numbered) (s : LoaderState) (taken : List ℕ) (after : LoaderState) : Type 0 where
@@ -85,7 +87,7 @@ Judged before s taken (Err fault) = (ends : Bool) (lines : List (List ℕ)) → 
 
 -- the first line of a text has all of it before it
 pub stands_first : StandsAfter [] first_loader
-stands_first = record { said = refl; faultless = refl; none_before = λ _. refl; closed = λ _. refl; few = omega arith }
+stands_first = record { said = refl; faultless = refl; none_before = λ _. refl; closed = λ _. refl; few = omega arith; opens = none_open first_loader.lexer refl }
 
 pub from_ended : (ends : Bool) (before : List Numbered) (s : LoaderState) (lines : List (List ℕ)) → s.ended ≡ true → outcome_from ends before s lines ≡ Decided (Ok (table_of s.draft))
 from_ended ends before s lines e = rw e refl
@@ -116,7 +118,7 @@ module _ (before : List Numbered) (s : LoaderState) (taken : List ℕ) (stands :
         let counts = outside-one s.lexer after taken true e stands.few in
         record {
           next = before;
-          stands = record { said = stands.said; faultless = stands.faultless; none_before = λ n. absurd (false≢true (sym n)); closed = λ n. absurd (false≢true (sym n)); few = omega (arith, counts.0, counts.1) };
+          stands = record { said = stands.said; faultless = stands.faultless; none_before = λ n. absurd (false≢true (sym n)); closed = λ n. absurd (false≢true (sym n)); few = omega (arith, counts.0, counts.1); opens = none_open after (outside-closed s.lexer after taken true e) };
           went_on = λ n. going;
           counts = λ n. counts;
           decides = λ ends lines.
@@ -129,7 +131,7 @@ module _ (before : List Numbered) (s : LoaderState) (taken : List ℕ) (stands :
         let counts = outside-one s.lexer after taken false e stands.few in
         record {
           next = before;
-          stands = record { said = stands.said; faultless = stands.faultless; none_before = λ n. stands.none_before none; closed = λ n. outside-closed s.lexer after taken false e; few = omega (arith, counts.0, counts.1) };
+          stands = record { said = stands.said; faultless = stands.faultless; none_before = λ n. stands.none_before none; closed = λ n. outside-closed s.lexer after taken false e; few = omega (arith, counts.0, counts.1); opens = none_open after (outside-closed s.lexer after taken false e) };
           went_on = λ n. going;
           counts = λ n. counts;
           decides = λ ends lines.
@@ -147,7 +149,7 @@ module _ (before : List Numbered) (s : LoaderState) (taken : List ℕ) (stands :
           let counts = fed-one s.lexer taken None after e stands.few in
           record {
             next = before;
-            stands = record { said = stands.said; faultless = stands.faultless; none_before = stands.none_before; closed = λ n. absurd (false≢true (sym n ∙ within)); few = omega (arith, counts.0, counts.1) };
+            stands = record { said = stands.said; faultless = stands.faultless; none_before = stands.none_before; closed = λ n. absurd (false≢true (sym n ∙ within)); few = omega (arith, counts.0, counts.1); opens = fed_within s.lexer after taken None stands.opens stands.few e };
             went_on = λ n. going;
             counts = λ n. counts;
             decides = λ ends lines.
@@ -188,7 +190,7 @@ module _ (before : List Numbered) (s : LoaderState) (taken : List ℕ) (stands :
             let counts = fed-one s.lexer taken (Some given) after e stands.few in
             record {
               next = before ++ n ∷ [];
-              stands = record { said = ap (λ d. draft_after d n) stands.said ∙ sym (draft_more before n); faultless = stands.faultless; none_before = λ none. absurd (false≢true (sym none ∙ within)); closed = λ none. absurd (false≢true (sym none ∙ within)); few = omega (arith, counts.0, counts.1) };
+              stands = record { said = ap (λ d. draft_after d n) stands.said ∙ sym (draft_more before n); faultless = stands.faultless; none_before = λ none. absurd (false≢true (sym none ∙ within)); closed = λ none. absurd (false≢true (sym none ∙ within)); few = omega (arith, counts.0, counts.1); opens = fed_within s.lexer after taken (Some given) stands.opens stands.few e };
               went_on = λ none. going;
               counts = λ none. counts;
               decides = λ ends lines. by_judgement n None same f g ends lines ∙ (accepted_by n ended _ is ∙ decides ended is ends lines);

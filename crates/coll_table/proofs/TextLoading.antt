@@ -1,5 +1,5 @@
 -- A text that is read line by line: what is known of it after some lines, and what each end of the reading says of it.
-use Rattle.std.proofs.Common.{◌≡◌, ◌≢◌, ℕ, Bool, true, false, List, [], ◌∷◌, ◌++◌, length, Option, Some, None, Result, Ok, Err, ◌⊎◌, ⊎_elim, sym, ap, subst, ◌∙◌, refl, arith, append_assoc, append-nil, length-append}
+use Rattle.std.proofs.Common.{◌≡◌, ◌≢◌, ℕ, Bool, true, false, List, [], ◌∷◌, ◌++◌, length, Option, Some, None, Result, Ok, Err, ◌⊎◌, inr, ⊎_elim, sym, ap, subst, ◌∙◌, refl, arith, append_assoc, append-nil, length-append}
 use Rattle.std.proofs.lemmas.Bool.{false≢true}
 use Rattle.std.proofs.lemmas.Grind.{flat_map-append}
 use Rattle.std.specs.Io.KnownBytes.{prepend_known}
@@ -15,13 +15,14 @@ use Rattle.coll_nodes.specs.Table.{Collation}
 use Rattle.coll_nodes.specs.TableLayout.{TableValue, collation}
 use Rattle.coll_draft.specs.Drafts.{Numbered, table_of, at_line}
 use Rattle.coll_draft.specs.Loading.{LoaderState, first_loader, loaded_line, loaded}
-use Rattle.coll_table.specs.Loads.{with_feeds, stop_fault, IsUndecided, FaultSays, Loads, counted_by, CountsFault}
+use Rattle.coll_table.specs.Loads.{with_feeds, stop_fault, IsUndecided, Starves, FaultSays, Loads, counted_by, CountsFault}
 use Rattle.coll_draft.specs.Reading.{Outcome, Decided, outcome_of, answer_at_end, reads}
 use Rattle.coll_table.specs.SoundLoaders.{IsLineCause}
 use Rattle.coll_draft.specs.declared.load_faults.LoadFault.{LoadFault}
 use Rattle.coll_draft.specs.declared.load_faults.LoadCause.{LoadCause}
 use Rattle.coll_draft.specs.declared.load_faults.LoadCause.TheVariants.{Lex, Syntax, ReadFault, OutOfMemory}
 use Rattle.coll_table.proofs.LoadEnds.{loaded_ended, ends_here, undecided_here, long_line}
+use Rattle.coll_table.proofs.LineNumbers.{next_within}
 use Rattle.coll_table.proofs.LoadSteps.{outcome_from, StandsAfter, CountsOne, LeadsOn, Judged, stands_first, from_ended, judged}
 use Rattle.coll_table.proofs.TextSteps.{IsUnread, gives_first, was_last, stops_long, stops_short}
 
@@ -87,13 +88,13 @@ reads_by : (text : List ℕ) (count : ℕ) (outcome : Outcome) → outcome_of tr
 unfolding reads
 reads_by text count outcome e n = ap (answer_at_end (length (lines_of text))) e ∙ ap (λ c. answer_at_end c outcome) n
 
--- a fault of lines says of the text what is answered to it, unless memory was refused
-pub fault_says : (text : List ℕ) (left : Option (List ℕ)) (line : ℕ) (cause : LoadCause) → IsLineCause cause → (cause ≢ OutOfMemory → reads text ≡ Err (record { line = line; cause = cause })) → FaultSays cause line text left
-fault_says text left line OutOfMemory own h = tt
-fault_says text left line (Lex lex.OutOfMemory) own h = own
-fault_says text left line (Syntax syntax.OutOfMemory) own h = own
-fault_says text left line ReadFault own h = absurd own
-fault_says text left line _ own h = h (λ e. cc)
+-- a fault of lines says of the text what is answered to it, or at which of its lines memory was refused
+pub fault_says : (text : List ℕ) (left : Option (List ℕ)) (line : ℕ) (cause : LoadCause) → IsLineCause cause → (cause ≡ OutOfMemory → Starves text line) → (cause ≢ OutOfMemory → reads text ≡ Err (record { line = line; cause = cause })) → FaultSays cause line text left
+fault_says text left line OutOfMemory own starves h = starves refl
+fault_says text left line (Lex lex.OutOfMemory) own starves h = own
+fault_says text left line (Syntax syntax.OutOfMemory) own starves h = own
+fault_says text left line ReadFault own starves h = absurd own
+fault_says text left line _ own starves h = h (λ e. cc)
 
 module _ (start : Option (List ℕ)) (reader : ReaderState) (left : Option (List ℕ)) (s : LoaderState) (way : OnWay start reader left s) (going : s.ended ≡ false) where
   -- what is decided of the text by the lines unread
@@ -101,6 +102,12 @@ module _ (start : Option (List ℕ)) (reader : ReaderState) (left : Option (List
   from_here text e lines ahead =
       let at = way.read text e in
       ap (outcome_of true) (at.lines ∙ ap (λ l. at.whole ++ l) ahead) ∙ at.decides true lines
+
+  -- the lines so far decide nothing
+  undecided : (text : List ℕ) (e : start ≡ Some text) → IsUndecided (outcome_of false (way.read text e).whole)
+  undecided text e =
+      let at = way.read text e in
+      subst IsUndecided (sym (ap (outcome_of false) (sym (append-nil at.whole)) ∙ at.decides false [])) (undecided_here way.before s way.stands going)
 
   module _ (new : ReaderState) (left_after : Option (List ℕ)) (failed failed_after : ℕ) where
     -- a line more that was taken
@@ -124,12 +131,21 @@ module _ (start : Option (List ℕ)) (reader : ReaderState) (left : Option (List
               };
         }
 
+    -- a line more to which memory was refused
+    starved : (number : ℕ) → GivesLine reader new left left_after failed failed_after → number ≡ number_of s.lexer → (text : List ℕ) → start ≡ Some text → Starves text number
+    starved number gives same text e =
+        let at = way.read text e in
+        let first = gives_first reader new left left_after failed failed_after at.rest at.unread gives in
+        let within = next_within s.lexer way.stands.opens in
+        inr (at.whole, new.line, lines_of first.rest, at.lines ∙ ap (λ lines. at.whole ++ lines) first.first, undecided text e, (omega (arith, same, within.0), omega (arith, same, within.1, at.count going)))
+
     -- a line more that was refused
-    pub refused : (fault : LoadFault) → GivesLine reader new left left_after failed failed_after → IsLineCause fault.cause → (fault.cause ≢ OutOfMemory → loaded_line s new.line ≡ Err fault) → Loads start left_after (Err fault)
-    refused fault gives own says = λ text e.
+    pub refused : (fault : LoadFault) → GivesLine reader new left left_after failed failed_after → IsLineCause fault.cause → (fault.cause ≡ OutOfMemory → s.fault ≡ None → fault.line ≡ number_of s.lexer) → (fault.cause ≢ OutOfMemory → loaded_line s new.line ≡ Err fault) → Loads start left_after (Err fault)
+    refused fault gives own number says = λ text e.
         let at = way.read text e in
         let first = gives_first reader new left left_after failed failed_after at.rest at.unread gives in
         fault_says text left_after fault.line fault.cause own
+        (λ want. starved fault.line gives (number want way.stands.faultless) text e)
         (λ memory.
         let decides : (ends : Bool) (lines : List (List ℕ)) → outcome_from ends way.before s (new.line ∷ lines) ≡ Decided (Err fault) = subst (Judged way.before s new.line) (says memory) (judged way.before s new.line way.stands) in
         reads_decided text (Err fault) (from_here text e (new.line ∷ lines_of first.rest) first.first ∙ decides true (lines_of first.rest)))
@@ -158,7 +174,7 @@ module _ (start : Option (List ℕ)) (reader : ReaderState) (left : Option (List
             at.lines ∙ ap (λ rest. at.whole ++ lines_of rest) cut.all,
             cut.whole,
             cut.short,
-            subst IsUndecided (sym (ap (outcome_of false) (sym (append-nil at.whole)) ∙ at.decides false [])) (undecided_here way.before s way.stands going),
+            undecided text e,
           ),
         )
 
@@ -191,9 +207,10 @@ ended_reads start reader left s way ended text e =
     ∙ sym (loaded_ended way.before s way.stands ended)
 
 -- what a loader answers at the end is the answer to the text
-pub loads : (start left_after : Option (List ℕ)) (s : LoaderState) (result : Result TableValue LoadFault) → ((text : List ℕ) → start ≡ Some text → reads text ≡ loaded s) → IfOk result (λ table. loaded s ≡ Ok (collation table)) → IfErr result (λ fault. loaded s ≡ Err fault) → IfErr result (λ fault. IsLineCause fault.cause) → Loads start left_after result
-loads start left_after s (Ok table) all ok err own = λ text e. all text e ∙ ok
-loads start left_after s (Err fault) all ok err own = λ text e. fault_says text left_after fault.line fault.cause own (λ memory. all text e ∙ err)
+pub loads : (start left_after : Option (List ℕ)) (s : LoaderState) (result : Result TableValue LoadFault) → s.fault ≡ None → ((text : List ℕ) → start ≡ Some text → reads text ≡ loaded s) → IfOk result (λ table. loaded s ≡ Ok (collation table)) → IfErr result (λ fault. loaded s ≡ Err fault) → IfErr result (λ fault. IsLineCause fault.cause) → IfErr result (λ fault. s.fault ≡ None → fault.cause ≢ OutOfMemory) → Loads start left_after result
+loads start left_after s (Ok table) faultless all ok err own spared = λ text e. all text e ∙ ok
+loads start left_after s (Err fault) faultless all ok err own spared = λ text e.
+    fault_says text left_after fault.line fault.cause own (λ want. absurd (spared faultless want)) (λ memory. all text e ∙ err)
 
 counted_lines : (cause : LoadCause) (count : ℕ) → IsLineCause cause → counted_by cause count ≡ count
 counted_lines ReadFault count own = absurd own

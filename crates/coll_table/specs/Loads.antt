@@ -1,5 +1,5 @@
 -- What a load answers, and what it leaves of the text and of the device's count of errors.
-use Rattle.std.specs.Prelude.{◌≡◌, ◌≤◌, ℕ, false, List, [], ◌∷◌, ◌++◌, length, Option, Some, Result, Ok, Err, MatchResult}
+use Rattle.std.specs.Prelude.{◌≡◌, ◌≤◌, ◌+◌, ◌⊎◌, ℕ, false, List, [], ◌∷◌, ◌++◌, length, Option, Some, Result, Ok, Err, MatchResult}
 use Rattle.std.specs.List.{flat_map}
 use Rattle.coll_devices.specs.Devices.{raised}
 use Rattle.coll_devices.specs.Limits.{most_line_bytes}
@@ -37,9 +37,23 @@ StopsWithin text left =
     (whole : List (List ℕ)) × (part : List ℕ) × (rest : List ℕ) × (left ≡ Some rest) × (text ≡ with_feeds whole ++ (part ++ rest))
     × (lines_of text ≡ whole ++ lines_of (part ++ rest)) × IsInLine part × (length part ≤ most_line_bytes) × IsUndecided (outcome_of false whole)
 
--- what a fault says of the text, by its cause; a want of memory says nothing, and has one spelling
+-- the number of one of so many lines, from 1
+abbrev pub IsLineWithin : (number count : ℕ) → Type 0
+IsLineWithin number count = (1 ≤ number) × (number ≤ count)
+
+-- memory was refused at a line: the lines handed in before it decide nothing, and the fault has the number of a line up to it
+abbrev pub StarvesWithin : (text : List ℕ) → (number : ℕ) → Type 0
+StarvesWithin text number =
+    (whole : List (List ℕ)) × (line : List ℕ) × (later : List (List ℕ)) × (lines_of text ≡ whole ++ line ∷ later)
+    × IsUndecided (outcome_of false whole) × IsLineWithin number (length whole + 1)
+
+-- memory was refused to a text: before its first line, or at one of its lines
+abbrev pub Starves : (text : List ℕ) → (number : ℕ) → Type 0
+Starves text number = (number ≡ 0) ⊎ StarvesWithin text number
+
+-- what a fault says of the text, by its cause; a want of memory has one spelling
 abbrev pub FaultSays : LoadCause → ℕ → List ℕ → Option (List ℕ) → Type 0
-FaultSays OutOfMemory line text left = Unit {0}
+FaultSays OutOfMemory line text left = Starves text line
 FaultSays (Lex lex.OutOfMemory) line text left = ⊥
 FaultSays (Syntax syntax.OutOfMemory) line text left = ⊥
 FaultSays ReadFault line text left = (line ≡ 0) × StopsWithin text left

@@ -90,6 +90,7 @@ impl Loader {
         ensures err { IfErr result (λ fault. fault.cause ≢ OutOfMemory → loaded_line self.old line.now ≡ Err fault) }
         ensures again { IfErr result (λ fault. (first : LoadFault) → self.old.fault ≡ Some first → fault ≡ first) }
         ensures memory { IfErr result (λ fault. fault.cause ≡ OutOfMemory → self.old.fault ≡ None → MayTake self.old line.now) }
+        ensures starved_at { IfErr result (λ fault. fault.cause ≡ OutOfMemory → self.old.fault ≡ None → fault.line ≡ number_of self.old.lexer) }
         ensures cause { IfErr result (λ fault. IsLineCause fault.cause) }
         ensures stays { IfErr result (λ fault. self.new.fault ≡ Some fault) }
         ensures ended { OnErr result (self.new.ended ≡ self.old.ended) }
@@ -126,6 +127,7 @@ impl Loader {
         ensures ok { IfOk result (λ table. loaded self ≡ Ok (collation table)) }
         ensures err { IfErr result (λ fault. loaded self ≡ Err fault) }
         ensures cause { IfErr result (λ fault. IsLineCause fault.cause) }
+        ensures spared { IfErr result (λ fault. self.fault ≡ None → fault.cause ≢ OutOfMemory) }
         ensures well_formed { IfOk result (λ table. IsWellFormed (collation table)) }
     {
         if let Some(fault) = self.end_fault() {
@@ -145,6 +147,7 @@ impl Loader {
         ensures none { IfNone result (loaded self.now ≡ Ok (table_of self.now.draft)) }
         ensures ended { IfNone result (self.now.ended ≡ true) }
         ensures cause { IfSome result (λ fault. IsLineCause fault.cause) }
+        ensures spared { IfSome result (λ fault. self.now.fault ≡ None → fault.cause ≢ OutOfMemory) }
     {
         if let Some(fault) = self.fault {
             return Some(fault);
@@ -159,6 +162,7 @@ impl Loader {
     fn early_end(&self) -> LoadFault
         ensures fault { result ≡ early_end self.now self.now.lexer.line }
         ensures cause { IsLineCause result.cause }
+        ensures spared { result.cause ≢ OutOfMemory }
     {
         if let Some(number) = self.lexer.pending() {
             return LoadFault {
@@ -181,6 +185,7 @@ impl Loader {
         ensures ok { OnOk result (by_where self.old line.now ≡ Ok self.new) }
         ensures err { IfErr result (λ fault. fault.cause ≢ OutOfMemory → by_where self.old line.now ≡ Err fault) }
         ensures memory { IfErr result (λ fault. fault.cause ≡ OutOfMemory → MayTake self.old line.now) }
+        ensures starved_at { IfErr result (λ fault. fault.cause ≡ OutOfMemory → fault.line ≡ number_of self.old.lexer) }
         ensures cause { IfErr result (λ fault. IsLineCause fault.cause) }
         ensures ended { OnErr result (self.new.ended ≡ self.old.ended) }
     {
@@ -220,6 +225,7 @@ impl Loader {
         ensures ok { OnOk result (by_fed self.old (fed self.old.lexer line.now) ≡ Ok self.new) }
         ensures err { IfErr result (λ fault. fault.cause ≢ OutOfMemory → by_fed self.old (fed self.old.lexer line.now) ≡ Err fault) }
         ensures memory { IfErr result (λ fault. fault.cause ≡ OutOfMemory → IsTrue (takes_memory self.old.lexer line.now)) }
+        ensures starved_at { IfErr result (λ fault. fault.cause ≡ OutOfMemory → fault.line ≡ number_of self.old.lexer) }
         ensures cause { IfErr result (λ fault. IsLineCause fault.cause) }
         ensures ended { OnErr result (self.new.ended ≡ self.old.ended) }
     {
@@ -240,6 +246,7 @@ impl Loader {
         requires going { self.old.ended ≡ false }
         ensures ok { OnOk result (by_read self.old line.now.number (table_line line.now.tokens) ≡ Ok self.new) }
         ensures err { IfErr result (λ fault. fault.cause ≢ OutOfMemory → by_read self.old line.now.number (table_line line.now.tokens) ≡ Err fault) }
+        ensures starved_at { IfErr result (λ fault. fault.cause ≡ OutOfMemory → fault.line ≡ line.now.number) }
         ensures cause { IfErr result (λ fault. IsLineCause fault.cause) }
         ensures ended { OnErr result (self.new.ended ≡ self.old.ended) }
     {

@@ -4,7 +4,7 @@
 //! category as logical lines, each judged from the lines accepted before it, and the first line at fault decides. The lines
 //! come from a reader of physical lines, and a `Loader` takes them. A new cause of a refused load is a case of `reads` first.
 
-ghost use Rattle.std.specs.Prelude.{◌≡◌, Err, IfOk, IfErr, OnOk};
+ghost use Rattle.std.specs.Prelude.{◌≡◌, None, Err, IfOk, IfErr, OnOk};
 ghost use Rattle.coll_devices.specs.LineReading.{no_line};
 ghost use Rattle.coll_table.specs.Loads.{Loads, AnswersText, CountsFault, stop_fault};
 ghost use Rattle.coll_draft.specs.Loading.{first_loader};
@@ -56,6 +56,7 @@ pub fn load_keyed<R: Source>(
 fn read_text<R: Source>(alloc: Global, input: &mut R, loader: &mut Loader) -> Result<(), LoadFault>
     requires { loader.old ≡ first_loader }
     ensures read { OnOk result (AnswersText (R.left input.old) loader.new) }
+    ensures faultless { OnOk result (loader.new.fault ≡ None) }
     ensures fault { IfErr result (λ fault. Loads (R.left input.old) (R.left input.new) (Err fault)) }
     ensures errors { CountsFault (R.failed input.old) (R.failed input.new) result }
 {
@@ -72,6 +73,7 @@ fn read_lines<R: Source>(
     requires reader { reader.old ≡ no_line }
     requires loader { loader.old ≡ first_loader }
     ensures read { OnOk result (AnswersText (R.left input.old) loader.new) }
+    ensures faultless { OnOk result (loader.new.fault ≡ None) }
     ensures fault { IfErr result (λ fault. Loads (R.left input.old) (R.left input.new) (Err fault)) }
     ensures errors { CountsFault (R.failed input.old) (R.failed input.new) result }
 {

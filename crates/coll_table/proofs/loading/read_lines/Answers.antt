@@ -25,7 +25,7 @@ returns-in_err-line-in-Ok-true-clause-fault g c =
     let given : c.line.result.now ≡ c.advance.new.self.line = c.line.ensures in
     let p = err_from_is_err_and c.from_residual.result c.from_residual.ensures.1 in
     let fault = c.in_err-line-in-Ok-true.field-0.0 in
-    rw (p.1, p.2) (refused (left c.args.input.now) c.lines.reader (left c.lines.input) c.lines.loader c.lines.invariant.way c.lines.invariant.going c.advance.new.self (left c.advance.new.input) (failed c.lines.input) (failed c.advance.new.input) fault gives c.in_err-line-in-Ok-true.ensures.cause
+    rw (p.1, p.2) (refused (left c.args.input.now) c.lines.reader (left c.lines.input) c.lines.loader c.lines.invariant.way c.lines.invariant.going c.advance.new.self (left c.advance.new.input) (failed c.lines.input) (failed c.advance.new.input) fault gives c.in_err-line-in-Ok-true.ensures.cause c.in_err-line-in-Ok-true.ensures.starved_at
     (λ memory. subst (λ line. loaded_line c.lines.loader line ≡ Err fault) given (c.in_err-line-in-Ok-true.ensures.err memory)))
 
 pub returns-in_err-line-in-Ok-true-clause-errors : goal.returns-in_err-line-in-Ok-true-clause-errors
@@ -43,6 +43,9 @@ returns-in-Ok-false-clause-read g c =
     let failed = g.R.Source.failed in
     let none = gives_none c.lines.reader c.advance.new.self (left c.lines.input) (left c.advance.new.input) (failed c.lines.input) (failed c.advance.new.input) c.in-Ok-false.field-0 c.in-Ok-false.field-0-test c.in-Ok-false.ensures in
     all_read (left c.args.input.now) c.lines.reader (left c.lines.input) c.lines.loader c.lines.invariant.way c.lines.invariant.going c.advance.new.self (left c.advance.new.input) (failed c.lines.input) (failed c.advance.new.input) none
+
+pub returns-in-Ok-false-clause-faultless : goal.returns-in-Ok-false-clause-faultless
+returns-in-Ok-false-clause-faultless g c = c.lines.invariant.way.stands.faultless
 
 pub returns-in-Ok-false-clause-errors : goal.returns-in-Ok-false-clause-errors
 returns-in-Ok-false-clause-errors g c =
@@ -72,6 +75,16 @@ returns-then-finished-clause-read g c =
     let taken : loaded_line c.lines.loader c.advance.new.self.line ≡ Ok c.line-in-Ok-true.new.self = subst (λ line. loaded_line c.lines.loader line ≡ Ok c.line-in-Ok-true.new.self) given c.in_ok-line-in-Ok-true.ensures.ok in
     let way = goes_on (left c.args.input.now) c.lines.reader (left c.lines.input) c.lines.loader c.lines.invariant.way c.lines.invariant.going c.advance.new.self (left c.advance.new.input) (failed c.lines.input) (failed c.advance.new.input) c.line-in-Ok-true.new.self gives taken in
     ended_reads (left c.args.input.now) c.advance.new.self (left c.advance.new.input) c.line-in-Ok-true.new.self way (sym c.finished.ensures ∙ c.if-finished.true)
+
+pub returns-then-finished-clause-faultless : goal.returns-then-finished-clause-faultless
+returns-then-finished-clause-faultless g c =
+    let left = g.R.Source.left in
+    let failed = g.R.Source.failed in
+    let gives = gives_line c.lines.reader c.advance.new.self (left c.lines.input) (left c.advance.new.input) (failed c.lines.input) (failed c.advance.new.input) c.in-Ok-true.field-0 c.in-Ok-true.field-0-test c.in-Ok-true.ensures in
+    let given : c.line.result.now ≡ c.advance.new.self.line = c.line.ensures in
+    let taken : loaded_line c.lines.loader c.advance.new.self.line ≡ Ok c.line-in-Ok-true.new.self = subst (λ line. loaded_line c.lines.loader line ≡ Ok c.line-in-Ok-true.new.self) given c.in_ok-line-in-Ok-true.ensures.ok in
+    let way = goes_on (left c.args.input.now) c.lines.reader (left c.lines.input) c.lines.loader c.lines.invariant.way c.lines.invariant.going c.advance.new.self (left c.advance.new.input) (failed c.lines.input) (failed c.advance.new.input) c.line-in-Ok-true.new.self gives taken in
+    way.stands.faultless
 
 pub returns-then-finished-clause-errors : goal.returns-then-finished-clause-errors
 returns-then-finished-clause-errors g c =

@@ -4,6 +4,6 @@ use Rattle.coll_draft.specs.Drafts.{DraftState, weight_cause}
 use Rattle.coll_draft.proofs.WeightCauses.{placed_unrefused}
 use Rattle.coll_draft.proofs.drafts.Draft.weight_cause.Goals as goal
 
-pub returns-then-is_placed : goal.returns-then-is_placed
-returns-then-is_placed c =
+pub returns-then-is_placed-clause-cause : goal.returns-then-is_placed-clause-cause
+returns-then-is_placed-clause-cause c =
     sym (ap (λ (d : DraftState). weight_cause d.declared d.sections c.args.id.now) (sym c.self.view_is) ∙ placed_unrefused _ c.args.id.now c.self.invariant (sym c.if-is_placed.ensures))
