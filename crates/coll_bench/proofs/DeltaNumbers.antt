@@ -1,18 +1,18 @@
 -- The numbers that the faults of a delta file carry: those of lines that were handed in.
-use Rattle.std.proofs.Common.{◌≡◌, ℕ, ◌+◌, ◌≤◌, Bool, true, false, List, [], ◌∷◌, Option, Some, None, Result, Ok, Err, refl, sym, ap, ◌∙◌, subst, ⊎_elim, arith}
-use Rattle.std.specs.Prelude.{if◌then◌else◌, unwrap_or, option_map}
+use Rattle.std.proofs.Common.{◌≡◌, ℕ, ◌+◌, ◌≤◌, Bool, true, false, List, [], ◌∷◌, Option, Some, None, Result, Ok, Err, refl, sym, ap, ◌∙◌, subst}
+use Rattle.std.specs.Prelude.{if◌then◌else◌}
 use Rattle.std.proofs.lemmas.Bool.{false≢true}
 use Rattle.coll_lex.specs.Limits.{most_lines}
-use Rattle.coll_lex.specs.LogicalLines.{LexerState, OpenLine, number_of, first_line, extended, fed, outside, served, state_by}
+use Rattle.coll_lex.specs.LogicalLines.{LexerState, number_of, first_line, fed, outside, served, state_by}
 use Rattle.coll_lex.specs.declared.faults.LexFault.{LexFault}
 use Rattle.coll_lex.specs.declared.tokens.Line.{Line}
-use Rattle.coll_lex.proofs.LineEnds.{fed-number, fed-one}
-use Rattle.coll_lex.proofs.LineSteps.{fed-open}
+use Rattle.coll_lex.proofs.LineEnds.{fed-number}
 use Rattle.coll_lex.proofs.OutsideLines.{outside-closed}
+use Rattle.coll_table.proofs.LineNumbers.{IsOpenWithin, none_open, fed_within}
 use Rattle.coll_units.specs.Hearing.{heard_by, heard_in}
 use Rattle.coll_units.specs.SessionLines.{opening_of}
 use Rattle.coll_units.specs.DeltaFiles.{file_fault, statements_in, fault_outside, apart_fault}
-use Rattle.coll_units.specs.DeltaReading.{DeltaState, Step, kept_fault_inside, kept_fault_under, kept_ended_before, faulty, judged, by_heard, by_physical, by_outside, by_where, unless_faulty as unless_stands, delta_line}
+use Rattle.coll_units.specs.DeltaReading.{DeltaState, Step, kept_fault_inside, kept_fault_under, kept_ended_before, faulty, judged, by_heard, by_physical, by_outside, by_where, delta_line}
 use Rattle.coll_units.specs.OpenBlocks.{is_full}
 use Rattle.coll_units.specs.declared.delta_faults.DeltaFault.{DeltaFault}
 use Rattle.coll_units.specs.declared.delta_files.StatementAt.{StatementAt}
@@ -23,35 +23,11 @@ use Rattle.coll_units.specs.declared.session_lines.Heard.{Heard}
 use Rattle.coll_units.specs.declared.session_lines.Heard.TheVariants as heard
 use Rattle.coll_units.specs.declared.session_lines.HeardLine.{HeardLine}
 use Rattle.coll_units.specs.declared.units.FaultAt.{FaultAt}
-use Rattle.coll_bench.specs.BatchRuns.{IsLineWithin}
-
--- the line that is open, if one is, is one of those handed in
-abbrev pub IsOpenWithin : LexerState → Type 0
-IsOpenWithin l = (o : OpenLine) → l.line ≡ Some o → IsLineWithin o.number l.count
-
--- so the next line is one of these or the one behind them
-pub next_within : (l : LexerState) → IsOpenWithin l → IsLineWithin (number_of l) (l.count + 1)
-next_within l opens = by_line l.line refl
-  where
-    by_line : (left : Option OpenLine) → l.line ≡ left → IsLineWithin (unwrap_or (option_map (λ (o : OpenLine). o.number) left) (l.count + 1)) (l.count + 1)
-    by_line None e = (omega arith, omega arith)
-    by_line (Some o) e = let within = opens o e in (within.0, omega (arith, within.1))
-
-pub none_open : (l : LexerState) → l.line ≡ None → IsOpenWithin l
-none_open l closed o is = let both : None ≡ Some o = sym closed ∙ is in absurd cc
 
 module _ (l : LexerState) (line : List ℕ) (opens : IsOpenWithin l) (few : l.count ≤ most_lines) where
   opens_by : (r : Result (Option Line × LexerState) LexFault) → fed l line ≡ r → IsOpenWithin (state_by l r)
   opens_by (Err f) e = none_open (state_by l (Err f)) refl
-  opens_by (Ok (answer, after)) e =
-      ⊎_elim (λ (none : after.line ≡ None). none_open after none)
-      (λ (kept : after.line ≡ Some (extended l line)) (o : OpenLine) (is : after.line ≡ Some o).
-      let within = next_within l opens in
-      let one = fed-one l line answer after e few in
-      let same : Some (extended l line) ≡ Some o = sym kept ∙ is in
-      let number : number_of l ≡ o.number = ap (λ (x : Option OpenLine). unwrap_or (option_map (λ (o : OpenLine). o.number) x) 0) same in
-      (omega (arith, within.0, number), omega (arith, within.1, number, one.1)))
-      (fed-open l line answer after e)
+  opens_by (Ok (answer, after)) e = fed_within l after line answer opens few e
 
   opens_fed : IsOpenWithin (state_by l (fed l line))
   opens_fed = opens_by (fed l line) refl

@@ -4,7 +4,7 @@ use Rattle.coll_devices.specs.Devices.{raised}
 use Rattle.coll_devices.specs.Limits.{most_line_bytes}
 use Rattle.coll_devices.specs.PhysicalLines.{lines_of, IsInLine}
 use Rattle.coll_nodes.specs.Table.{Collation}
-use Rattle.coll_table.specs.Loads.{with_feeds, StopsWithin, FaultSays}
+use Rattle.coll_table.specs.Loads.{with_feeds, IsLineWithin, StopsWithin, FaultSays}
 use Rattle.coll_draft.specs.declared.load_faults.LoadCause.TheVariants as load
 use Rattle.coll_draft.specs.Reading.{reads}
 use Rattle.coll_units.specs.DeltaFiles.{delta_outcome}
@@ -53,10 +53,6 @@ abbrev pub InputsStopWithin : (input : ℕ) → (table_text : List ℕ) → (del
 InputsStopWithin zero table_text delta_texts left lefts = StopsWithin table_text left
 InputsStopWithin (suc before) table_text delta_texts left lefts =
     (first : Collation) × (reads table_text ≡ Ok first) × DeltasStopWithin before first delta_texts lefts
-
--- the number of one of so many lines, from 1
-abbrev pub IsLineWithin : (number count : ℕ) → Type 0
-IsLineWithin number count = (1 ≤ number) × (number ≤ count)
 
 -- the number of a statement that these lines of a delta file give
 abbrev pub IsLineOfStatement : (lines : List (List ℕ)) → (number : ℕ) → Type 0
