@@ -19,7 +19,7 @@ use thiserror::Error;
 #[error("line {line}: {cause}")]
 pub struct LoadFault {
     /// The number of the line at fault, from 1; of a text that ends too early, the number of its lines; 0 where no line
-    /// is at fault. A want of memory may carry any.
+    /// is at fault. A want of memory has the number of the line for which memory was refused, and 0 before the first.
     pub line: u32,
     /// What was wrong.
     pub cause: LoadCause,
