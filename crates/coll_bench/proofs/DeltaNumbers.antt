@@ -1,5 +1,5 @@
 -- The numbers that the faults of a delta file carry: those of lines that were handed in.
-use Rattle.std.proofs.Common.{◌≡◌, ℕ, ◌+◌, ◌≤◌, Bool, true, false, List, [], ◌∷◌, Option, Some, None, Result, Ok, Err, refl, sym, ap, ◌∙◌, subst}
+use Rattle.std.proofs.Common.{◌≡◌, ℕ, ◌≤◌, Bool, true, false, List, [], ◌∷◌, Option, Some, None, Result, Ok, Err, refl, sym, ap, ◌∙◌, subst}
 use Rattle.std.specs.Prelude.{if◌then◌else◌}
 use Rattle.std.proofs.lemmas.Bool.{false≢true}
 use Rattle.coll_lex.specs.Limits.{most_lines}
@@ -12,7 +12,7 @@ use Rattle.coll_table.proofs.LineNumbers.{IsOpenWithin, none_open, fed_within}
 use Rattle.coll_units.specs.Hearing.{heard_by, heard_in}
 use Rattle.coll_units.specs.SessionLines.{opening_of}
 use Rattle.coll_units.specs.DeltaFiles.{file_fault, statements_in, fault_outside, apart_fault}
-use Rattle.coll_units.specs.DeltaReading.{DeltaState, Step, kept_fault_inside, kept_fault_under, kept_ended_before, faulty, judged, by_heard, by_physical, by_outside, by_where, delta_line}
+use Rattle.coll_units.specs.DeltaReading.{DeltaState, Step, kept_fault_inside, kept_fault_under, kept_ended_before, faulty, judged, by_heard, by_physical, by_outside, by_where, unless_faulty as unless_stands, delta_line}
 use Rattle.coll_units.specs.OpenBlocks.{is_full}
 use Rattle.coll_units.specs.declared.delta_faults.DeltaFault.{DeltaFault}
 use Rattle.coll_units.specs.declared.delta_files.StatementAt.{StatementAt}

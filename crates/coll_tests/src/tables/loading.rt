@@ -64,44 +64,63 @@ fn a_line_read_whole_decides_before_a_later_read(rt: HostRuntime) {
     assert_same(&rt, "the errors", input.errors(), 0);
 }
 
-// The base table, and below each byte of a line, its line feed included, the fault of the text that ends with this byte.
+// The base table, and below each byte of a line, its line feed included, the fault of the text that ends with this byte. A blank line
+// parts the lines.
 const FRONTS: &str = "\
 comment_char %
 cccccccccccddcc
+
 escape_char /
 ccccccccccddcc
+
 LC_COLLATE
 cccccccccee
+
 collating-symbol <BASE>
 xuuuuuuuuuuuuuummoooooee
+
 collating-symbol <MIN>
 xuuuuuuuuuuuuuummooooee
+
 collating-symbol <CAP>
 xuuuuuuuuuuuuuummooooee
+
 order_start forward;backward;forward;forward,position
 xuuuuuuuuueerrrrrrerrrrrrrrerrrrrrrerrrrrrrerrrrrrrree
+
 <BASE>
 oooooee
+
 <MIN>
 ooooee
+
 <CAP>
 ooooee
+
 <U0061> <U0061>;<BASE>;<MIN>;IGNORE
 ooooooeeooooooeeoooooeeooooeeewwwwee
+
 <U0041> <U0061>;<BASE>;<CAP>;IGNORE
 ooooooeeooooooeeoooooeeooooeeewwwwee
+
 <U0062> <U0062>;<BASE>;<MIN>;IGNORE
 ooooooeeooooooeeoooooeeooooeeewwwwee
+
 <U0063> <U0063>;<BASE>;<MIN>;IGNORE
 ooooooeeooooooeeoooooeeooooeeewwwwee
+
 <U0064> <U0064>;<BASE>;<MIN>;IGNORE
 ooooooeeooooooeeoooooeeooooeeewwwwee
+
 section <PUNCT>
 euuuuummooooooee
+
 <U002D> IGNORE;IGNORE;IGNORE;<U002D>
 ooooooeeewwwweeewwwweeewwwweeooooooee
+
 order_end
 euuuuuuuee
+
 END LC_COLLATE
 xummwwwwwwwww--";
 
@@ -139,24 +158,23 @@ fn assert_line(
     line: &str,
     letters: &str,
 ) {
-    assert_same(rt, line, letters.trim_end().len(), line.len());
+    assert_same(rt, line, letters.len(), line.len() + 1);
     for (byte, letter) in line.bytes().zip(letters.bytes()) {
         text.push(byte).expect(rt, "room");
         assert_front(rt, alloc, text.as_slice(), number, letter);
     }
+    text.push(b'\n').expect(rt, "room");
+    let letter = letters.bytes().last().expect(rt, "a letter");
+    assert_front(rt, alloc, text.as_slice(), number, letter);
 }
 
 #[test]
 fn each_front_of_a_table_has_its_fault(rt: HostRuntime) {
     let mut text = Vec::new(rt.alloc());
-    let mut line = "";
     assert_front(&rt, rt.alloc(), &text, 0, b'c');
-    for (number, row) in (2_u32..).zip(FRONTS.split_inclusive('\n')) {
-        if number % 2 == 0 {
-            line = row;
-        } else {
-            assert_line(&rt, rt.alloc(), &mut text, number / 2, line, row);
-        }
+    for (number, row) in (1_u32..).zip(FRONTS.split("\n\n")) {
+        let (line, letters) = row.split_once('\n').expect(&rt, "letters below a line");
+        assert_line(&rt, rt.alloc(), &mut text, number, line, letters);
     }
     let table = text_of(rt.alloc(), BASE_TABLE).expect(&rt, "the table");
     assert_text(&rt, rt.alloc(), &text, &table);
