@@ -24,7 +24,8 @@ use itoa::Buffer;
 
 /// Writes the compiled listing of a table: its levels, its rules, and for each entry its rank and the ranks of its weights.
 ///
-/// Where it stops, the device has taken a front of the listing.
+/// Where it stops, the device has taken a front of the listing. The ranks, which have the compiled weights with them, must be those
+/// of the table as it stands: after an `apply` or a `flip` that changes it, they are to be made anew.
 pub fn write_compiled<W: Sink>(table: &Table, ranks: &Ranks, out: &mut W) -> Result<(), WriteStop>
     requires { AreRanksOf ranks.now (collation table.now) }
     ensures sent { Sends (W.taken out.old) (W.taken out.new) (compiled_listing (collation table.now)) result }
