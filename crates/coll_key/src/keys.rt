@@ -3,7 +3,7 @@
 //! A key is made level by level from the parts of the text, for which room is reserved first. That keys are ordered as their
 //! texts is a law over the definitions alone.
 
-ghost use Rattle.std.specs.Prelude.{◌≡◌, ◌≢◌, chars, true, false, IfOk, IfErr};
+ghost use Rattle.std.specs.Prelude.{◌≡◌, ◌≢◌, ◌≤◌, ◌+◌, ◌*◌, chars, true, false, IfOk, IfErr};
 ghost use Rattle.coll_nodes.specs.TableLayout.{collation};
 ghost use Rattle.coll_key.specs.KeyLimits.{is_too_long};
 ghost use Rattle.coll_ranks.specs.Ranks.{AreRanksOf};
@@ -49,7 +49,9 @@ pub fn keys_are_ordered_as_texts()
 {}
 
 // The numbers of a key whose weights name one identifier each, at most. A key of longer weights grows beyond that.
-fn likely_numbers(parts: usize, levels: usize) -> usize {
+fn likely_numbers(parts: usize, levels: usize) -> usize
+    ensures { result ≤ (parts * 2 + 1) * levels }
+{
     parts
         .saturating_mul(2)
         .saturating_add(1)
