@@ -40,7 +40,8 @@ pub fn compare(
     ensures ok { IfOk result (λ order. order ≡ order_of (collation table.now) (chars text.now) (chars other.now)) }
     ensures short { IfOk result (λ _. (is_too_long (chars text.now) || is_too_long (chars other.now)) ≡ false) }
     ensures err { IfErr result (λ fault. fault ≢ OutOfMemory → (is_too_long (chars text.now) || is_too_long (chars other.now)) ≡ true) }
-    ensures memory { All IsForward (collation table.now).rules → IfErr result (λ fault. fault ≡ TextTooLong) }
+    ensures memory { IfErr result (λ fault. fault ≡ OutOfMemory → (is_too_long (chars text.now) || is_too_long (chars other.now)) ≡ false) }
+    ensures forward { All IsForward (collation table.now).rules → IfErr result (λ fault. fault ≡ TextTooLong) }
 {
     if is_too_long(text) {
         return Err(KeyFault::TextTooLong);
