@@ -210,7 +210,7 @@ impl CompiledWeights {
         ensures own { IfOk result (λ compiled. compiled.own ≡ map is_own undefined.now) }
     {
         let own = own_levels(alloc, undefined)?;
-        let mut lists = RankLists::with_room(alloc, (entries + 1) * levels)?;
+        let mut lists = RankLists::with_room(alloc, likely_weights(entries, levels))?;
         lists.push_row(ids, &Id::Undefined, undefined, levels)?;
         Ok(CompiledWeights { levels, lists, own })
     }
@@ -245,6 +245,15 @@ impl CompiledWeights {
         self.lists.push_row(ids, owner, weights, self.levels)?;
         Ok(())
     }
+}
+
+// The number of weights of so many entries and of `UNDEFINED`. Where each names one identifier, as most do, there are as many ranks.
+fn likely_weights(entries: usize, levels: usize) -> usize
+    requires levels { levels ≤ 4 }
+    requires few { entries < 1_000_000 }
+    ensures { result ≡ (entries + 1) * levels }
+{
+    (entries + 1) * levels
 }
 
 // For each weight whether it is its entry's own.
