@@ -99,6 +99,7 @@ fn answer_batch<W: Sink>(
 ) -> Result<(), RunFault>
     ensures run { AnswersBatch batch.now table.now (W.taken output.old) (W.taken output.new) result }
     ensures input { IfErr result (λ ended. ended.input ≡ 0) }
+    ensures line { IfErr result (λ ended. ended.line ≡ 0) }
     ensures reads { IfErr result (λ ended. ReadsNone ended) }
     ensures writes { CountsWrites (W.failed output.old) (W.failed output.new) result }
 {
