@@ -66,6 +66,7 @@ order_start-proper (token.Comma ∷ rest) a = only_rules (token.Comma ∷ rest)
 table_keyword : (word : Keyword) (rest : List Token) → All IsToken rest → IfOk (tables.keyword_row word rest) IsProperTableLine
 table_keyword keyword.CollatingSymbol rest a = if_as IsName IsProperTableLine table.Symbol (only name_in rest) (if_only IsName name_in rest a name_in-name) (λ name p. p)
 table_keyword keyword.CollatingElement rest a = if_as (λ read. IsName read.0 × IsElementText read.1) IsProperTableLine (λ read. table.Element read.0 read.1) (element rest) (element-proper rest a) (λ read p. p)
+table_keyword keyword.SymbolEquivalence rest a = if_as (λ names. IsName names.0 × IsName names.1) IsProperTableLine (λ names. table.Equivalence names.0 names.1) (two_names rest) (two_names-proper rest a) (λ names p. p)
 table_keyword keyword.OrderStart rest a = order_start-proper rest a
 table_keyword keyword.OrderEnd rest a = if_ended IsProperTableLine table.OrderEnd rest tt
 table_keyword keyword.Section rest a = if_as IsName IsProperTableLine table.Section (only name_in rest) (if_only IsName name_in rest a name_in-name) (λ name p. p)
@@ -86,6 +87,7 @@ table_begun None first rest h a = if_as IsProperLine IsProperTableLine table.Ord
 delta_keyword : (word : Keyword) (rest : List Token) → All IsToken rest → IfOk (deltas.keyword_row word rest) IsProperDeltaLine
 delta_keyword keyword.CollatingSymbol rest a = if_as IsName IsProperDeltaLine delta.Symbol (only name_in rest) (if_only IsName name_in rest a name_in-name) (λ name p. p)
 delta_keyword keyword.CollatingElement rest a = if_as (λ read. IsName read.0 × IsElementText read.1) IsProperDeltaLine (λ read. delta.Element read.0 read.1) (element rest) (element-proper rest a) (λ read p. p)
+delta_keyword keyword.SymbolEquivalence rest a = if_as (λ names. IsName names.0 × IsName names.1) IsProperDeltaLine (λ names. delta.Equivalence names.0 names.1) (two_names rest) (two_names-proper rest a) (λ names p. p)
 delta_keyword keyword.OrderStart rest a = tt
 delta_keyword keyword.OrderEnd rest a = tt
 delta_keyword keyword.Section rest a = tt

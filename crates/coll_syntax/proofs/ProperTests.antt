@@ -112,6 +112,7 @@ pub is_proper_tells : (s : Statement) → Decides (is_proper s) (IsProper s)
 unfolding is_proper
 is_proper_tells (statement.Symbol name) = Decides-name name
 is_proper_tells (statement.Element name text) = Decides-and (is_proper_name name) (is_element_text text) (Decides-name name) (Decides-text text)
+is_proper_tells (statement.Equivalence name symbol) = Decides-and (is_proper_name name) (is_proper_name symbol) (Decides-name name) (Decides-name symbol)
 is_proper_tells (statement.Block target lines) = Decides-three (is_proper_id target) (nat_le (length lines) 4096) (list_all is_proper_line lines) (Decides-id target) (Decides-leb (length lines) 4096) (Decides-all is_proper_line IsProperLine Decides-line lines)
 is_proper_tells (statement.SectionAfter moved after) = Decides-and (is_proper_name moved) (is_proper_name after) (Decides-name moved) (Decides-name after)
 is_proper_tells (statement.Reweight line) = Decides-line line

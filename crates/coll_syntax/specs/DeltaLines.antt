@@ -1,5 +1,6 @@
 -- What a line of a delta says, read from its tokens (`reorder-after` and `reorder-end` as in ISO/IEC 14651; category lines
--- as in POSIX.1-2017, 7.3, declarations and order lines as in 7.3.2; the others are the project's own).
+-- as in POSIX.1-2017, 7.3, declarations of symbols and of elements and order lines as in 7.3.2; the others are the project's
+-- own).
 use Rattle.std.specs.Prelude.{List, [], ◌∷◌, Option, Some, None, Result, Err, codes}
 use Rattle.coll_lex.specs.declared.tokens.Token.{Token}
 use Rattle.coll_syntax.specs.Keywords.{keyword_of}
@@ -9,7 +10,7 @@ use Rattle.coll_syntax.specs.OrderLines.{order_line}
 use Rattle.coll_syntax.specs.declared.keywords.Keyword.{Keyword}
 use Rattle.coll_syntax.specs.declared.keywords.Keyword.TheVariants as keyword
 use Rattle.coll_syntax.specs.declared.lines.DeltaLine.{DeltaLine}
-use Rattle.coll_syntax.specs.declared.lines.DeltaLine.TheVariants.{Symbol, Element, Script, Category, EndCategory, Copy, ReorderAfter, ReorderEnd, SectionAfter, Order}
+use Rattle.coll_syntax.specs.declared.lines.DeltaLine.TheVariants.{Symbol, Element, Equivalence, Script, Category, EndCategory, Copy, ReorderAfter, ReorderEnd, SectionAfter, Order}
 use Rattle.coll_syntax.specs.declared.syntax_faults.SyntaxFault.{SyntaxFault}
 use Rattle.coll_syntax.specs.declared.syntax_faults.SyntaxFault.TheVariants.{UnknownStatement}
 
@@ -17,6 +18,7 @@ use Rattle.coll_syntax.specs.declared.syntax_faults.SyntaxFault.TheVariants.{Unk
 abbrev pub keyword_row : Keyword → List Token → Result DeltaLine SyntaxFault
 keyword_row keyword.CollatingSymbol rest = read_as Symbol (only name_in rest)
 keyword_row keyword.CollatingElement rest = read_as (λ read. Element read.0 read.1) (element rest)
+keyword_row keyword.SymbolEquivalence rest = read_as (λ names. Equivalence names.0 names.1) (two_names rest)
 keyword_row keyword.Script rest = read_as (λ name. Script) (only name_in rest)
 keyword_row keyword.Category rest = ended Category rest
 keyword_row keyword.End rest = read_as (λ word. EndCategory) (only (word_in (codes "LC_COLLATE")) rest)

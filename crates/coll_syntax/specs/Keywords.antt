@@ -3,13 +3,14 @@ use Rattle.std.specs.Prelude.{if◌then◌else◌, Option, Some, None, codes}
 use Rattle.coll_lex.specs.declared.tokens.Token.{Token}
 use Rattle.coll_syntax.specs.Identifier.{is_word}
 use Rattle.coll_syntax.specs.declared.keywords.Keyword.{Keyword}
-use Rattle.coll_syntax.specs.declared.keywords.Keyword.TheVariants.{CollatingSymbol, CollatingElement, OrderStart, OrderEnd, Section, Script, Category, End, Copy, ReorderAfter, ReorderEnd, ReorderSectionAfter}
+use Rattle.coll_syntax.specs.declared.keywords.Keyword.TheVariants.{CollatingSymbol, CollatingElement, SymbolEquivalence, OrderStart, OrderEnd, Section, Script, Category, End, Copy, ReorderAfter, ReorderEnd, ReorderSectionAfter}
 
 -- the keyword that a token spells, if it spells one
 unfoldable pub keyword_of : Token → Option Keyword
 keyword_of t =
     if is_word t (codes "collating-symbol") then Some CollatingSymbol
     else (if is_word t (codes "collating-element") then Some CollatingElement
+    else (if is_word t (codes "symbol-equivalence") then Some SymbolEquivalence
     else (if is_word t (codes "order_start") then Some OrderStart
     else (if is_word t (codes "order_end") then Some OrderEnd
     else (if is_word t (codes "section") then Some Section
@@ -20,4 +21,4 @@ keyword_of t =
     else (if is_word t (codes "reorder-after") then Some ReorderAfter
     else (if is_word t (codes "reorder-end") then Some ReorderEnd
     else (if is_word t (codes "reorder-section-after") then Some ReorderSectionAfter
-    else None)))))))))))
+    else None))))))))))))

@@ -55,6 +55,7 @@ IsElementText text = (2 ≤ length text) × (length text ≤ 16) × AreCharacter
 abbrev pub IsProper : Statement → Type 0
 IsProper (statement.Symbol name) = IsName name
 IsProper (statement.Element name text) = IsName name × IsElementText text
+IsProper (statement.Equivalence name symbol) = IsName name × IsName symbol
 IsProper (statement.Block target lines) = IsId target × (length lines ≤ 4096) × All IsProperLine lines
 IsProper (statement.SectionAfter moved after) = IsName moved × IsName after
 IsProper (statement.Reweight line) = IsProperLine line
@@ -73,6 +74,7 @@ AreRulesIfGiven (Some rules) = (1 ≤ length rules) × (length rules ≤ 4)
 abbrev pub IsProperTableLine : TableLine → Type 0
 IsProperTableLine (table.Symbol name) = IsName name
 IsProperTableLine (table.Element name text) = IsName name × IsElementText text
+IsProperTableLine (table.Equivalence name symbol) = IsName name × IsName symbol
 IsProperTableLine (table.OrderStart section rules) = IsNameIfGiven section × AreRulesIfGiven rules
 IsProperTableLine table.OrderEnd = Unit {0}
 IsProperTableLine (table.Section name) = IsName name
@@ -84,6 +86,7 @@ IsProperTableLine (table.Order line) = IsProperLine line
 abbrev pub IsProperDeltaLine : DeltaLine → Type 0
 IsProperDeltaLine (delta.Symbol name) = IsProper (statement.Symbol name)
 IsProperDeltaLine (delta.Element name text) = IsProper (statement.Element name text)
+IsProperDeltaLine (delta.Equivalence name symbol) = IsProper (statement.Equivalence name symbol)
 IsProperDeltaLine delta.Script = Unit {0}
 IsProperDeltaLine delta.Category = Unit {0}
 IsProperDeltaLine delta.EndCategory = Unit {0}
@@ -130,6 +133,7 @@ is_element_text text = nat_le 2 (length text) && nat_le (length text) 16 && all_
 unfoldable pub is_proper : Statement → Bool
 is_proper (statement.Symbol name) = is_proper_name name
 is_proper (statement.Element name text) = is_proper_name name && is_element_text text
+is_proper (statement.Equivalence name symbol) = is_proper_name name && is_proper_name symbol
 is_proper (statement.Block target lines) = is_proper_id target && nat_le (length lines) 4096 && list_all is_proper_line lines
 is_proper (statement.SectionAfter moved after) = is_proper_name moved && is_proper_name after
 is_proper (statement.Reweight line) = is_proper_line line

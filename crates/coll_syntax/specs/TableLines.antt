@@ -1,9 +1,10 @@
--- What a line of a table says, read from its tokens (POSIX.1-2017, 7.3.2; `section` and `script` are the project's own).
+-- What a line of a table says, read from its tokens (POSIX.1-2017, 7.3.2; `symbol-equivalence`, `section` and `script` are
+-- the project's own).
 use Rattle.std.specs.Prelude.{List, [], ◌∷◌, Option, Some, None, Result, Ok, Err, codes}
 use Rattle.coll_lex.specs.declared.tokens.Token.{Token}
 use Rattle.coll_lex.specs.declared.tokens.Token.TheVariants as token
 use Rattle.coll_syntax.specs.Keywords.{keyword_of}
-use Rattle.coll_syntax.specs.Operands.{read_as, ended, only, name_in, word_in}
+use Rattle.coll_syntax.specs.Operands.{read_as, ended, only, name_in, word_in, two_names}
 use Rattle.coll_syntax.specs.Elements.{element}
 use Rattle.coll_syntax.specs.Rules.{rules}
 use Rattle.coll_syntax.specs.OrderLines.{order_line}
@@ -11,7 +12,7 @@ use Rattle.coll_syntax.specs.declared.keywords.Keyword.{Keyword}
 use Rattle.coll_syntax.specs.declared.keywords.Keyword.TheVariants as keyword
 use Rattle.coll_syntax.specs.declared.rules.Rule.{Rule}
 use Rattle.coll_syntax.specs.declared.lines.TableLine.{TableLine}
-use Rattle.coll_syntax.specs.declared.lines.TableLine.TheVariants.{Symbol, Element, OrderStart, OrderEnd, Section, Script, EndCategory, Order}
+use Rattle.coll_syntax.specs.declared.lines.TableLine.TheVariants.{Symbol, Element, Equivalence, OrderStart, OrderEnd, Section, Script, EndCategory, Order}
 use Rattle.coll_syntax.specs.declared.syntax_faults.SyntaxFault.{SyntaxFault}
 use Rattle.coll_syntax.specs.declared.syntax_faults.SyntaxFault.TheVariants.{UnknownStatement, ExtraOperand, BadOperand}
 
@@ -33,6 +34,7 @@ order_start ts = read_as (λ given. OrderStart None (Some given)) (rules ts)
 abbrev pub keyword_row : Keyword → List Token → Result TableLine SyntaxFault
 keyword_row keyword.CollatingSymbol rest = read_as Symbol (only name_in rest)
 keyword_row keyword.CollatingElement rest = read_as (λ read. Element read.0 read.1) (element rest)
+keyword_row keyword.SymbolEquivalence rest = read_as (λ names. Equivalence names.0 names.1) (two_names rest)
 keyword_row keyword.OrderStart rest = order_start rest
 keyword_row keyword.OrderEnd rest = ended OrderEnd rest
 keyword_row keyword.Section rest = read_as Section (only name_in rest)

@@ -33,11 +33,12 @@ abbrev pub order_takes_memory : Token → List Token → Bool
 order_takes_memory first [] = is_symbol first
 order_takes_memory first (t ∷ ts) = is_some (id_of first)
 
--- a line of a table, by its keyword: a symbol that is declared and a section, once the line is read; an element and
--- `order_start` where they begin with a name; `order_end`, `script` and `END` never
+-- a line of a table, by its keyword: a symbol that is declared, its second name and a section, once the line is read; an
+-- element and `order_start` where they begin with a name; `order_end`, `script` and `END` never
 abbrev pub table_keyword_takes_memory : Keyword → List Token → Bool
 table_keyword_takes_memory keyword.CollatingSymbol rest = is_read (only name_in rest)
 table_keyword_takes_memory keyword.CollatingElement rest = begins_with_symbol rest
+table_keyword_takes_memory keyword.SymbolEquivalence rest = is_read (two_names rest)
 table_keyword_takes_memory keyword.OrderStart rest = begins_with_symbol rest
 table_keyword_takes_memory keyword.Section rest = is_read (only name_in rest)
 table_keyword_takes_memory _ rest = false
@@ -52,12 +53,13 @@ unfoldable pub table_line_takes_memory : List Token → Bool
 table_line_takes_memory [] = false
 table_line_takes_memory (first ∷ rest) = table_row_takes_memory (keyword_of first) first rest
 
--- a line of a delta, by its keyword: a symbol that is declared and the move of a section, once the line is read; an
--- element and the target of a block where they begin with a name; `reorder-end`, `LC_COLLATE`, `END`, `script` and
--- `copy` never
+-- a line of a delta, by its keyword: a symbol that is declared, its second name and the move of a section, once the line is
+-- read; an element and the target of a block where they begin with a name; `reorder-end`, `LC_COLLATE`, `END`, `script`
+-- and `copy` never
 abbrev pub delta_keyword_takes_memory : Keyword → List Token → Bool
 delta_keyword_takes_memory keyword.CollatingSymbol rest = is_read (only name_in rest)
 delta_keyword_takes_memory keyword.CollatingElement rest = begins_with_symbol rest
+delta_keyword_takes_memory keyword.SymbolEquivalence rest = is_read (two_names rest)
 delta_keyword_takes_memory keyword.ReorderAfter rest = begins_with_symbol rest
 delta_keyword_takes_memory keyword.ReorderSectionAfter rest = is_read (two_names rest)
 delta_keyword_takes_memory _ rest = false

@@ -73,6 +73,10 @@ fn keyword_row(
             let (name, text) = element(alloc, operands)?;
             Ok(DeltaLine::Element { name, text })
         }
+        Keyword::SymbolEquivalence => {
+            let (name, symbol) = two_names(alloc, operands)?;
+            Ok(DeltaLine::Equivalence { name, symbol })
+        }
         Keyword::Script => {
             let _name = only_name(operands)?;
             Ok(DeltaLine::Script)

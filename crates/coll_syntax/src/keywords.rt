@@ -15,6 +15,7 @@ use coll_lex::Token;
 pub(crate) enum Keyword {
     CollatingSymbol,
     CollatingElement,
+    SymbolEquivalence,
     OrderStart,
     OrderEnd,
     Section,
@@ -48,6 +49,9 @@ pub(crate) fn keyword_of(token: &Token) -> Option<Keyword>
     }
     if is_word(token, "collating-element") {
         return Some(Keyword::CollatingElement);
+    }
+    if is_word(token, "symbol-equivalence") {
+        return Some(Keyword::SymbolEquivalence);
     }
     if is_word(token, "order_start") {
         return Some(Keyword::OrderStart);

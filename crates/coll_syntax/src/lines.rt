@@ -17,6 +17,13 @@ pub enum TableLine {
         /// The characters that it stands for, 2 to 16.
         text: TextBuf,
     },
+    /// `symbol-equivalence <X> <Y>`: declares the first name as a second name of a symbol.
+    Equivalence {
+        /// The second name.
+        name: TextBuf,
+        /// The name of the symbol that it stands for.
+        symbol: TextBuf,
+    },
     /// `order_start`, `order_start rules`, `order_start <N>` or `order_start <N>;rules`: opens the order.
     OrderStart {
         /// The name of the section that begins here, if one does.
@@ -36,8 +43,8 @@ pub enum TableLine {
     Order(OrderLine),
 }
 
-/// A line of a delta: `reorder-after` and `reorder-end` are those of ISO/IEC 14651, category lines, declarations and order
-/// lines those of POSIX.1-2017, 7.3 and 7.3.2; the others are the project's own.
+/// A line of a delta: `reorder-after` and `reorder-end` are those of ISO/IEC 14651, category lines, declarations of symbols
+/// and of elements, and order lines those of POSIX.1-2017, 7.3 and 7.3.2; the others are the project's own.
 #[derive(Debug, Drop)]
 pub enum DeltaLine {
     /// `collating-symbol <X>`: declares the name.
@@ -48,6 +55,13 @@ pub enum DeltaLine {
         name: TextBuf,
         /// The characters that it stands for, 2 to 16.
         text: TextBuf,
+    },
+    /// `symbol-equivalence <X> <Y>`: declares the first name as a second name of a symbol.
+    Equivalence {
+        /// The second name.
+        name: TextBuf,
+        /// The name of the symbol that it stands for.
+        symbol: TextBuf,
     },
     /// `script <N>`, which has no effect, so its name isn't kept.
     Script,

@@ -3,8 +3,9 @@
 //! Both are plain data, which the grammar makes and a table judges. Which of them are proper, that is within the limits
 //! of the language, is `IsProper` of `specs/Proper.antt`; all that the grammar gives are.
 
-ghost use Rattle.std.specs.Prelude.{◌≡◌, ◌↔◌, IsTrue};
+ghost use Rattle.std.specs.Prelude.{◌≡◌, ◌↔◌, ◌&&◌, IsTrue};
 ghost use Rattle.std.specs.List.{list_all};
+ghost use Rattle.coll_lex.specs.Names.{is_proper_name};
 ghost use Rattle.coll_syntax.specs.Proper.{is_proper as passes, is_proper_line, is_proper_weight};
 
 use crate::elements::is_element_text;
@@ -62,6 +63,13 @@ pub enum Statement {
         /// The characters that it stands for, 2 to 16.
         text: TextBuf,
     },
+    /// `symbol-equivalence <X> <Y>`: declares the first name as a second name of a symbol.
+    Equivalence {
+        /// The second name.
+        name: TextBuf,
+        /// The name of the symbol that it stands for.
+        symbol: TextBuf,
+    },
     /// `reorder-after`, its lines and `reorder-end`: the lines' entries are placed after the target, one after another.
     Block {
         /// The identifier that the first line is placed after.
@@ -107,6 +115,7 @@ fn is_proper(statement: &Statement) -> bool
             }
             is_element_text(text.get())
         }
+        Statement::Equivalence { name, symbol } => are_names(name, symbol),
         Statement::Block { target, lines } => {
             if !target.is_proper() {
                 return false;
@@ -116,14 +125,19 @@ fn is_proper(statement: &Statement) -> bool
             }
             are_proper_lines(lines.get())
         }
-        Statement::SectionAfter { moved, after } => {
-            if !is_name(moved.get()) {
-                return false;
-            }
-            is_name(after.get())
-        }
+        Statement::SectionAfter { moved, after } => are_names(moved, after),
         Statement::Reweight(line) => line.is_proper(),
     }
+}
+
+/// Whether both of these texts are names.
+fn are_names(first: &TextBuf, second: &TextBuf) -> bool
+    ensures { result ≡ (is_proper_name first.now && is_proper_name second.now) }
+{
+    if !is_name(first.get()) {
+        return false;
+    }
+    is_name(second.get())
 }
 
 /// Whether all of these lines are proper.

@@ -13,7 +13,7 @@ ghost use Rattle.coll_syntax.specs.Proper.{IsProperTableLine};
 
 use crate::elements::element;
 use crate::keywords::{Keyword, keyword_of};
-use crate::operands::{copied_name, ended, only_copied_name, only_name, only_word};
+use crate::operands::{copied_name, ended, only_copied_name, only_name, only_word, two_names};
 use crate::order_lines::order_line;
 use crate::rule_lists::rules;
 use crate::{Rules, SyntaxFault, TableLine};
@@ -71,6 +71,10 @@ fn keyword_row(
         Keyword::CollatingElement => {
             let (name, text) = element(alloc, operands)?;
             Ok(TableLine::Element { name, text })
+        }
+        Keyword::SymbolEquivalence => {
+            let (name, symbol) = two_names(alloc, operands)?;
+            Ok(TableLine::Equivalence { name, symbol })
         }
         Keyword::OrderStart => order_start(alloc, operands),
         Keyword::OrderEnd => ended(TableLine::OrderEnd, operands),

@@ -34,6 +34,7 @@ command_goes_on (Err f) = refl
 delta_goes_on : (o : Opening) (r : Result DeltaLine SyntaxFault) → stop_of (delta_heard o r) ≡ None
 delta_goes_on o (Ok (delta.Symbol name)) = refl
 delta_goes_on o (Ok (delta.Element name text)) = refl
+delta_goes_on o (Ok (delta.Equivalence name symbol)) = refl
 delta_goes_on o (Ok delta.Script) = refl
 delta_goes_on o (Ok delta.Category) = refl
 delta_goes_on o (Ok delta.EndCategory) = refl

@@ -39,6 +39,7 @@ command_heard (Err f) = Misasks f
 abbrev pub delta_heard : Opening → Result DeltaLine SyntaxFault → Heard
 delta_heard opening (Ok (delta.Symbol name)) = Apart (apart.States (statement.Symbol name))
 delta_heard opening (Ok (delta.Element name text)) = Apart (apart.States (statement.Element name text))
+delta_heard opening (Ok (delta.Equivalence name symbol)) = Apart (apart.States (statement.Equivalence name symbol))
 delta_heard opening (Ok delta.Script) = Apart apart.Idle
 delta_heard opening (Ok delta.Category) = Apart apart.Idle
 delta_heard opening (Ok delta.EndCategory) = Apart apart.EndsCategory

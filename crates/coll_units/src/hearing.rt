@@ -243,6 +243,9 @@ fn accepted(line: DeltaLine) -> Heard
         DeltaLine::Element { name, text } => {
             Heard::Apart(ApartLine::States(Statement::Element { name, text }))
         }
+        DeltaLine::Equivalence { name, symbol } => {
+            Heard::Apart(ApartLine::States(Statement::Equivalence { name, symbol }))
+        }
         DeltaLine::Script | DeltaLine::Category | DeltaLine::Copy => Heard::Apart(ApartLine::Idle),
         DeltaLine::EndCategory => Heard::Apart(ApartLine::EndsCategory),
         DeltaLine::ReorderAfter(target) => Heard::Opens(target),
