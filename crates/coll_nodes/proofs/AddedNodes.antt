@@ -12,14 +12,15 @@ use Rattle.coll_syntax.specs.Identifier.{same_name, same_id, has_name}
 use Rattle.coll_syntax.specs.declared.identifiers.Id.{Id}
 use Rattle.coll_nodes.specs.Bodies.{Makes}
 use Rattle.coll_nodes.specs.SoundBodies.{read_at, ring_at, has_key, names_in, texts_in, section_names_in, rings_in, ids_in, same_ring, IsPlaceIn, IsShaped, with_empty_ring}
-use Rattle.coll_nodes.specs.Table.{is_declared, is_placed_in, texts_of, section_names, joined_entries}
+use Rattle.coll_nodes.specs.Table.{is_declared, is_placed_in, has_text, name_of, text_of, texts_of, section_names, joined_entries}
 use Rattle.coll_nodes.specs.TableLayout.{TableLayout, content_of, declared_at, sections_at}
 use Rattle.coll_nodes.specs.Moving.{AreNew, IsApart, Suits}
 use Rattle.coll_nodes.specs.declared.contents.Content.{Content}
 use Rattle.coll_nodes.specs.declared.contents.Content.TheVariants as content
-use Rattle.coll_nodes.specs.declared.declarations.Declaration.TheVariants.{Symbol, Element}
+use Rattle.coll_nodes.specs.declared.declarations.Declaration.{Declaration}
+use Rattle.coll_nodes.specs.declared.declarations.Declaration.TheVariants.{Symbol, Element, Equivalence}
 use Rattle.coll_nodes.specs.declared.entries.Entry.{Entry}
-use Rattle.coll_nodes.proofs.BodyReads.{ids_of_node}
+use Rattle.coll_nodes.proofs.BodyReads.{one, ids_of_node}
 use Rattle.coll_nodes.proofs.EmptyRings.{key_push, place_push}
 use Rattle.coll_nodes.proofs.LayoutReads.{both_true, names_read, texts_read, section_names_read, declared_covers, begun_covers, owned_low, placed_to}
 use Rattle.coll_nodes.proofs.MadeBodies.{made_suits, section_makes}
@@ -27,16 +28,16 @@ use Rattle.coll_nodes.proofs.NodeLists.{any_map, any_to}
 use Rattle.coll_nodes.proofs.Sameness.{same_name_decides, same_id_decides}
 use Rattle.coll_order.proofs.RingLemmas.{is_in_push}
 
--- what is the same as one of a list of one is it
-one : (b : Bool) → (b || false) ≡ true → b ≡ true
-one true e = refl
-one false e = e
-
 -- a key that isn't read of the nodes that may have it is that of none
 unread : {Key : Type 0} (layout : TableLayout) (same : Key → Key → Bool) (keys : Content → List Key) (nodes : List NodeId) → ((key : Key) (node : NodeId) → has_key same keys layout key node ≡ true → has_node nodes node ≡ true)
     → (key : Key) → list_any (same key) (flat_map (read_at keys layout) nodes) ≡ false → (other : NodeId) → has_key same keys layout key other ≡ false
 unread layout same keys nodes covers key absent other = by_test (λ b. has_key same keys layout key other ≡ b → b ≡ false) (has_key same keys layout key other)
     (λ on has. not_both (any_to (same key) (read_at keys layout) nodes other (covers key other has) (both_true _ _ has).1) absent) (λ off _. refl) refl
+
+-- what isn't so of a list of one isn't so of it
+off : (b : Bool) → (b || false) ≡ false → b ≡ false
+off true e = e
+off false e = refl
 
 -- no node has one of no keys
 none_new : {Key : Type 0} (layout : TableLayout) (same : Key → Key → Bool) (keys : Content → List Key) (it : Content) → keys it ≡ [] → AreNew same keys layout it
@@ -77,24 +78,20 @@ module _ (layout : TableLayout) (shaped : IsShaped layout) where
       let there : list_any test joined ≡ true = placed_to layout shaped test other parts.0 (sym (ids_of_node layout shaped id (content_of layout other)) ∙ parts.1) in
       not_both (any_map (same_id id) (λ (entry : Entry). entry.id) joined ∙ there) absent) (λ off _. refl) refl
 
-  -- nothing has a key of a symbol whose name isn't declared
-  pub symbol_apart : (name : List ℕ) → is_declared (declared_at layout) name ≡ false → IsApart layout (content.Declared (Symbol name))
-  symbol_apart name absent = record {
-    names = name_new name absent;
-    texts = none_new layout same_name texts_in (content.Declared (Symbol name)) refl;
-    sections = none_new layout same_name section_names_in (content.Declared (Symbol name)) refl;
-    rings = none_new layout same_ring rings_in (content.Declared (Symbol name)) refl;
-    ids = none_new layout same_id ids_in (content.Declared (Symbol name)) refl;
-  }
+  -- the strings of a declaration that none has
+  texts_new : (new : Declaration) → has_text (declared_at layout) (text_of new) ≡ false → AreNew same_name texts_in layout (content.Declared new)
+  texts_new (Symbol name) free = none_new layout same_name texts_in (content.Declared (Symbol name)) refl
+  texts_new (Equivalence name symbol) free = none_new layout same_name texts_in (content.Declared (Equivalence name symbol)) refl
+  texts_new (Element name text) free = text_new text (off (has_name (texts_of (declared_at layout)) text) free)
 
-  -- nor one of an element whose name isn't declared, and whose string no other has
-  pub element_apart : (name text : List ℕ) → is_declared (declared_at layout) name ≡ false → has_name (texts_of (declared_at layout)) text ≡ false → IsApart layout (content.Declared (Element name text))
-  element_apart name text absent free = record {
-    names = name_new name absent;
-    texts = text_new text free;
-    sections = none_new layout same_name section_names_in (content.Declared (Element name text)) refl;
-    rings = none_new layout same_ring rings_in (content.Declared (Element name text)) refl;
-    ids = none_new layout same_id ids_in (content.Declared (Element name text)) refl;
+  -- nothing has a key of a declaration whose name isn't declared, and whose string no other has
+  pub declared_apart : (new : Declaration) → is_declared (declared_at layout) (name_of new) ≡ false → has_text (declared_at layout) (text_of new) ≡ false → IsApart layout (content.Declared new)
+  declared_apart new absent free = record {
+    names = name_new (name_of new) absent;
+    texts = texts_new new free;
+    sections = none_new layout same_name section_names_in (content.Declared new) refl;
+    rings = none_new layout same_ring rings_in (content.Declared new) refl;
+    ids = none_new layout same_id ids_in (content.Declared new) refl;
   }
 
   -- nor one of an entry that isn't placed

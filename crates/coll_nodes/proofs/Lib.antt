@@ -23,6 +23,8 @@ pub mod NodeLemmas
 pub mod NodeLists
 pub mod NodeLookUps
 pub mod NodeTags
+pub mod OwnNames
+pub mod OwnTables
 pub mod RingPlaces
 pub mod Sameness
 pub mod SectionLemmas

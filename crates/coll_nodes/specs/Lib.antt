@@ -10,6 +10,7 @@ pub mod LookUps
 pub mod Moving
 pub mod NodeLookUps
 pub mod NodeMaps
+pub mod OwnNames
 pub mod Placement
 pub mod SoundBodies
 pub mod SoundLayouts

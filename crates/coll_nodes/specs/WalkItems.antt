@@ -17,3 +17,4 @@ met_by (item.Entry entry) = MetEntry entry.now
 abbrev pub declared_by : DeclaredItem → Declaration
 declared_by (declared.Symbol name) = declaration.Symbol (chars name.now)
 declared_by (declared.Element name text) = declaration.Element (chars name.now) (chars text.now)
+declared_by (declared.Equivalence name symbol) = declaration.Equivalence (chars name.now) (chars symbol.now)

@@ -10,6 +10,7 @@ use Rattle.coll_nodes.specs.declared.declarations.Declaration.{Declaration}
 use Rattle.coll_nodes.specs.declared.entries.Entry.{Entry}
 use Rattle.coll_nodes.specs.Table.{Collation, Section, names_of, texts_of, entries_of, ids_of, section_names, is_known, is_symbol, is_placed}
 use Rattle.coll_nodes.specs.Entries.{names_only, ids_named}
+use Rattle.coll_nodes.specs.OwnNames.{MeanSymbols}
 use Rattle.coll_nodes.specs.Limits.{most_entries, most_declarations, most_sections}
 
 -- no member of a list is the same as a later one
@@ -53,15 +54,16 @@ HasPlacedWeights table entry = All (λ id. IsTrue (is_placed table id)) (ids_nam
 
 -- what holds of a table already while it is read: all but that it has a level and that the identifiers in its weights are
 -- placed. It has at most four levels; names declared and names of sections are names, strings may be those of elements, and
--- identifiers placed are identifiers; of each of these four none stands twice; the first section alone has no name; each name
--- placed is declared; each entry has one weight for each level, and none if it is a collating symbol, and no weight is a list
--- that names only its entry; the limits hold
+-- identifiers placed are identifiers; of each of these four none stands twice; the symbol of each second name is declared before
+-- it; the first section alone has no name; each name placed is an own name that is declared; each entry has one weight for each
+-- level, and none if it is a collating symbol, and no weight is a list that names only its entry; the limits hold
 pub record IsBuilt (table : Collation) : Type 0 where
   pub few_levels : length table.rules ≤ 4
   pub names : All IsName (names_of table.declared)
   pub texts : All IsElementText (texts_of table.declared)
   pub distinct_names : AreDistinct same_name (names_of table.declared)
   pub distinct_texts : AreDistinct same_name (texts_of table.declared)
+  pub meant : MeanSymbols table.declared
   pub first_unnamed : FirstIsUnnamed table.sections
   pub ids : All IsId (ids_of (entries_of table))
   pub distinct_sections : AreDistinct same_name (section_names table.sections)

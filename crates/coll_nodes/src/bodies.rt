@@ -3,14 +3,15 @@
 //! A `Body` has the nodes, look-ups by hash, and counts. Contracts see its layout (`specs/Bodies.antt`), from which
 //! `declared_at` and `sections_at` of `specs/TableLayout.antt` read the table. What stands in which ring, and that the look-ups
 //! find just the nodes that stand in a ring, is said in `specs/SoundBodies.antt` and `specs/BodyInvariant.antt`. Here it is read,
-//! and gets declarations, sections and entries; what is done with one node is in `linking`. A new kind of node is a new ring, and
-//! a look-up where it has a key.
+//! and gets declarations, sections and entries; what names stand for is in `own_names`, and what is done with one node in
+//! `linking`. A new kind of node is a new ring, and a look-up where it has a key.
 
 ghost use Rattle.std.specs.Prelude.{◌≡◌, ◌∷◌, ◌++◌, [], Some, None, false, length, ◌+◌, IfOk, OnOk, OnErr, option_copied};
 ghost use Rattle.coll_syntax.specs.Identifier.{has_name};
-ghost use Rattle.coll_nodes.specs.SoundBodies.{declares_a_symbol, entry_if};
+ghost use Rattle.coll_nodes.specs.SoundBodies.{entry_if};
 
 mod linking;
+mod own_names;
 
 use crate::contents::Content;
 use crate::counts::Counts;
@@ -47,16 +48,6 @@ impl Model for Body {
     ghost invariant = { λ b. IsSoundBody b.nodes.layout b.declarations b.sections b.keys b.counts };
 }
 
-// Whether a node declares a collating symbol.
-fn is_symbol_node(node: &Content) -> bool
-    ensures { result ≡ declares_a_symbol node.now }
-{
-    match node {
-        Content::Declared(Declaration::Symbol(_)) => true,
-        _ => false,
-    }
-}
-
 // The entry that a node is.
 fn entry_of(node: &Content) -> Option<&Entry>
     ensures { option_copied result ≡ entry_if node.now }
@@ -74,9 +65,7 @@ impl Body {
     ghost use Rattle.coll_nodes.specs.Placement.{entry_at};
     ghost use Rattle.coll_nodes.specs.SoundLayouts.{IsSoundLayout};
     ghost use Rattle.coll_nodes.specs.SoundBodies.{IsShaped, IsPlaceIn, IsEntryPlace, Adds, with_empty_ring};
-    ghost use Rattle.std.specs.List.{list_any};
-    ghost use Rattle.coll_nodes.specs.declared.declarations.Declaration.TheVariants.{Symbol, Element};
-    ghost use Rattle.coll_nodes.specs.Table.{declares_symbol, name_of, text_of, texts_of, is_declared, is_known, is_symbol, is_placed_in, section_names, joined_entries};
+    ghost use Rattle.coll_nodes.specs.Table.{name_of, text_of, texts_of, is_declared, is_known, is_symbol, is_placed_in, section_names, joined_entries};
     ghost use Rattle.coll_nodes.specs.TableLayout.{declared_at, sections_at, declarations_ring, sections_ring};
     ghost use Rattle.coll_nodes.specs.declared.contents.Content.TheVariants as content;
 
@@ -167,7 +156,7 @@ impl Body {
         self.nodes.check_layout();
     }
 
-    /// Whether a name is declared.
+    /// Whether a name is declared in any way.
     pub fn declares(&self, name: &TextBuf) -> bool
         ensures { result ≡ is_declared (declared_at self.now.layout) name.now }
     {
@@ -195,12 +184,12 @@ impl Body {
         self.keys.placed.find(id).is_some()
     }
 
-    /// Whether an identifier may be used: a name has to be declared.
+    /// Whether an identifier may stand in a section: a name has to be declared as an own name.
     pub fn is_known(&self, id: &Id) -> bool
         ensures { result ≡ is_known (declared_at self.now.layout) id.now }
     {
         match id {
-            Id::Named(name) => self.declares(name),
+            Id::Named(name) => self.is_own_name(name),
             _ => true,
         }
     }
@@ -212,17 +201,6 @@ impl Body {
         match id {
             Id::Named(name) => self.is_symbol_name(name),
             _ => false,
-        }
-    }
-
-    // Whether a name is declared as a collating symbol.
-    fn is_symbol_name(&self, name: &TextBuf) -> bool
-        ensures { result ≡ list_any (declares_symbol name.now) (declared_at self.now.layout) }
-    {
-        self.nodes.check_layout();
-        match self.keys.names.find(name) {
-            Some(node) => is_symbol_node(self.nodes.content(node)),
-            None => false,
         }
     }
 
@@ -258,36 +236,17 @@ impl Body {
         self.counts.entries
     }
 
-    /// Puts a declaration of a collating symbol directly after a place.
-    pub fn declare_symbol(&mut self, name: TextBuf, place: Place) -> Result<NodeId, AllocError>
-        requires name { is_declared (declared_at self.old.layout) name ≡ false }
+    /// Puts a declaration directly after a place.
+    pub fn declare(&mut self, new: Declaration, place: Place) -> Result<NodeId, AllocError>
+        requires name { is_declared (declared_at self.old.layout) (name_of new) ≡ false }
+        requires text { has_text (declared_at self.old.layout) (text_of new) ≡ false }
         requires place { IsPlaceIn self.old.layout 0 place }
-        ensures ok { IfOk result (λ node. Adds self.old.layout self.new.layout node (content.Declared (Symbol name)) place) }
+        ensures ok { IfOk result (λ node. Adds self.old.layout self.new.layout node (content.Declared new) place) }
         ensures steps { OnOk result (self.new.steps ≡ one_step_more self.old.steps) }
         ensures err { OnErr result (self.new ≡ self.old) }
     {
         self.check_layout();
-        let node = self.make(Content::Declared(Declaration::Symbol(name)))?;
-        self.put_in(node, place);
-        Ok(node)
-    }
-
-    /// Puts a declaration of a collating element directly after a place.
-    pub fn declare_element(
-        &mut self,
-        name: TextBuf,
-        text: TextBuf,
-        place: Place,
-    ) -> Result<NodeId, AllocError>
-        requires name { is_declared (declared_at self.old.layout) name ≡ false }
-        requires text { has_name (texts_of (declared_at self.old.layout)) text ≡ false }
-        requires place { IsPlaceIn self.old.layout 0 place }
-        ensures ok { IfOk result (λ node. Adds self.old.layout self.new.layout node (content.Declared (Element name text)) place) }
-        ensures steps { OnOk result (self.new.steps ≡ one_step_more self.old.steps) }
-        ensures err { OnErr result (self.new ≡ self.old) }
-    {
-        self.check_layout();
-        let node = self.make(Content::Declared(Declaration::Element { name, text }))?;
+        let node = self.make(Content::Declared(new))?;
         self.put_in(node, place);
         Ok(node)
     }

@@ -1,4 +1,4 @@
-//! What a table declares: collating symbols and collating elements.
+//! What a table declares: collating symbols, collating elements, and second names for symbols.
 //!
 //! A declaration is plain data, which a line of a table or of a delta gives; a new kind of declaration is a new variant.
 
@@ -7,7 +7,8 @@ ghost use Rattle.std.specs.Prelude.{◌≡◌};
 use coll_lex::TextBuf;
 use std::alloc::AllocError;
 
-/// A declaration of a table (POSIX.1-2017, 7.3.2.1 and 7.3.2.2).
+/// A declaration of a table (POSIX.1-2017, 7.3.2.1 and 7.3.2.2; second names are the project's own meaning of a line that some
+/// tables have).
 #[derive(Debug, Drop)]
 pub enum Declaration {
     /// A collating symbol, which has a place in the order and no weights.
@@ -18,6 +19,13 @@ pub enum Declaration {
         name: TextBuf,
         /// The characters that it stands for, 2 to 16.
         text: TextBuf,
+    },
+    /// A second name for a collating symbol.
+    Equivalence {
+        /// The second name, which is apart from all names declared.
+        name: TextBuf,
+        /// The own name of the symbol that it stands for.
+        symbol: TextBuf,
     },
 }
 
@@ -34,6 +42,11 @@ impl Clone for Declaration {
                 let name = name.try_copy()?;
                 let text = text.try_copy()?;
                 Ok(Declaration::Element { name, text })
+            }
+            Declaration::Equivalence { name, symbol } => {
+                let name = name.try_copy()?;
+                let symbol = symbol.try_copy()?;
+                Ok(Declaration::Equivalence { name, symbol })
             }
         }
     }

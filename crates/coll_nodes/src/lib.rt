@@ -8,8 +8,8 @@
 //! - `contents` and `nodes`: rings of nodes, and what each node is (`TableLayout`, `Bodies`, `Moving`);
 //! - `node_names`, `node_ids` and `node_keys`: which node has a name, and which an identifier (`NodeLookUps`, `NodeMaps`,
 //!   `KeyedNodes`), under keys, `hash_keys`;
-//! - `bodies`, and `bodies/linking`: the whole, with its look-ups and `counts`, and what is put in, moved and taken out
-//!   (`SoundBodies`, `SoundLayouts`, `BodyInvariant`, `Counting`, `Linking`);
+//! - `bodies`, `bodies/own_names` and `bodies/linking`: the whole, with its look-ups and `counts`, what names stand for, and what is
+//!   put in, moved and taken out (`SoundBodies`, `SoundLayouts`, `BodyInvariant`, `Counting`, `OwnNames`, `Linking`);
 //! - `walks` and `met_nodes`: a body, read in order (`Walks`, `WalkStates`, `WalkItems`);
 //! - and, for the look-ups of blocks in `coll_table`, `LookUps`.
 #![tactic(auto)]

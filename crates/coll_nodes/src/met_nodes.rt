@@ -61,6 +61,9 @@ pub(crate) fn declaration_of<'a>(nodes: &'a Nodes, node: NodeId) -> DeclaredItem
         Content::Declared(Declaration::Element { name, text }) => {
             DeclaredItem::Element(name.get(), text.get())
         }
+        Content::Declared(Declaration::Equivalence { name, symbol }) => {
+            DeclaredItem::Equivalence(name.get(), symbol.get())
+        }
         _ => unreachable!(),
     }
 }

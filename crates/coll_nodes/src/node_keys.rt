@@ -71,6 +71,7 @@ impl NodeKeys {
                 self.names.reserve(name)?;
                 self.texts.reserve(text)
             }
+            Content::Declared(Declaration::Equivalence { name, .. }) => self.names.reserve(name),
             Content::Begun { name, .. } => self.reserve_section(name),
             Content::Placed(entry) => self.placed.reserve(&entry.id),
         }
@@ -100,6 +101,7 @@ impl NodeKeys {
                 self.names.set(name, node);
                 self.texts.set(text, node);
             }
+            Content::Declared(Declaration::Equivalence { name, .. }) => self.names.set(name, node),
             Content::Begun { name, .. } => self.set_section(name, node),
             Content::Placed(entry) => self.placed.set(&entry.id, node),
         }

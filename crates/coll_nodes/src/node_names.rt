@@ -3,7 +3,7 @@
 //! A `NodeNames` says which node a name leads to. A name that leads to none may stay as a key, so that it can lead to a node
 //! later without taking memory. How a name is found, and in which order names are kept, may change.
 
-ghost use Rattle.std.specs.Prelude.{◌≡◌, [], true, None, Some, IfOk, OnOk, OnErr};
+ghost use Rattle.std.specs.Prelude.{◌≡◌, [], true, None, Some, chars, IfOk, OnOk, OnErr};
 
 use crate::HashKeys;
 use coll_lex::TextBuf;
@@ -58,7 +58,14 @@ impl NodeNames {
     pub(crate) fn find(&self, name: &TextBuf) -> Option<NodeId>
         ensures { result ≡ node_named self.now name.now }
     {
-        match self.names.get(name.get()) {
+        self.find_text(name.get())
+    }
+
+    /// The node that a name leads to, by its text.
+    pub(crate) fn find_text(&self, name: &str) -> Option<NodeId>
+        ensures { result ≡ node_named self.now (chars name.now) }
+    {
+        match self.names.get(name) {
             Some(node) => *node,
             None => None,
         }

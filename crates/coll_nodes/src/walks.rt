@@ -33,6 +33,8 @@ pub enum DeclaredItem<'a> {
     Symbol(&'a str),
     /// A collating element: its name and its string.
     Element(&'a str, &'a str),
+    /// A second name, and the own name of its symbol.
+    Equivalence(&'a str, &'a str),
 }
 
 /// A walk through the sections and entries of a table, in order.

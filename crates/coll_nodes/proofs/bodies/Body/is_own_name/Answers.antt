@@ -1,0 +1,16 @@
+-- The node that is found by a name tells whether it is an own name.
+use Rattle.std.proofs.Common.{sym, ◌∙◌}
+use Rattle.coll_syntax.specs.Identifier.{same_name}
+use Rattle.coll_nodes.specs.NodeLookUps.{node_named}
+use Rattle.coll_nodes.specs.SoundBodies.{names_in}
+use Rattle.coll_nodes.proofs.BodyReads.{own_known, no_own, found_made}
+use Rattle.coll_nodes.proofs.bodies.Body.is_own_name.Goals as goal
+
+pub content-requires : goal.content-requires
+content-requires c = found_made c.self.inside.nodes.layout c.self.invariant.shaped same_name names_in (node_named c.self.inside.keys.names) c.args.name.now c.in-Some.node c.self.invariant.found.names (sym c.find.ensures ∙ c.in-Some.is) c.check_layout.ensures
+
+pub returns-in-Some : goal.returns-in-Some
+returns-in-Some c = rw (← c.self.view_is) (c.is_own_name_node.ensures ∙ own_known c.self.inside.nodes.layout c.self.invariant.shaped (node_named c.self.inside.keys.names) c.args.name.now c.in-Some.node c.content.result.now c.self.invariant.found.names (sym c.find.ensures ∙ c.in-Some.is) c.content.ensures)
+
+pub returns-in-None : goal.returns-in-None
+returns-in-None c = rw (← c.self.view_is) (no_own c.self.inside.nodes.layout c.self.invariant.shaped (node_named c.self.inside.keys.names) c.args.name.now c.self.invariant.found.names (sym c.find.ensures ∙ c.in-None.is))
