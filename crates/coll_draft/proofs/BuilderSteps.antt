@@ -46,7 +46,7 @@ unnamed_push [] name unnamed = absurd unnamed
 unnamed_push (first ∷ later) name unnamed = (unnamed.0, names_push later name unnamed.1)
 
 -- the last section's node is in the ring of the sections
-last_in : (layout : TableLayout) (section : NodeId) (name : Option (List ℕ)) (ring : RingId) → IsLastSection layout section name ring → has_node (ring_at layout 1) section ≡ true
+pub last_in : (layout : TableLayout) (section : NodeId) (name : Option (List ℕ)) (ring : RingId) → IsLastSection layout section name ring → has_node (ring_at layout 1) section ≡ true
 last_in layout section name ring is = ap (λ nodes. has_node nodes section) is.last.1 ∙ in_back is.last.0 section
 
 -- its ring is none of the first two, and is there

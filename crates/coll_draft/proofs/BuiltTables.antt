@@ -12,15 +12,17 @@ use Rattle.coll_syntax.specs.Identifier.{same_name, same_id, has_name}
 use Rattle.coll_syntax.specs.Proper.{IsElementText, IsId}
 use Rattle.coll_syntax.specs.declared.identifiers.Id.{Id}
 use Rattle.coll_syntax.specs.declared.identifiers.Id.TheVariants.{Char, Named, Undefined}
+use Rattle.coll_nodes.proofs.OwnNames.{own_declared, meant_all}
 use Rattle.coll_nodes.proofs.Sameness.{same_name_decides, same_name_symmetric, same_id_symmetric, distinct_push, neither}
-use Rattle.coll_nodes.specs.Table.{Collation, Section, name_of, text_of, names_of, texts_of, joined_entries, ids_of, named, section_names, is_placed_in, is_declared, declares_symbol, is_symbol}
+use Rattle.coll_nodes.specs.Table.{Collation, Section, name_of, text_of, names_of, texts_of, joined_entries, ids_of, named, section_names, is_placed_in, is_declared, declares_own, declares_symbol, is_symbol}
 use Rattle.coll_nodes.specs.Table.{has_text}
+use Rattle.coll_nodes.specs.OwnNames.{means_no_symbol}
 use Rattle.coll_nodes.specs.Limits.{most_entries, most_declarations, most_sections}
 use Rattle.coll_draft.specs.Loading.{with_last, with_section}
 use Rattle.coll_draft.specs.SoundDrafts.{IsProperDeclaration}
 use Rattle.coll_nodes.specs.WellFormed.{AreDistinct, IsNamed, FirstIsUnnamed, HasWeights, IsWeighted, IsKnown, IsBuilt}
 use Rattle.coll_nodes.specs.declared.declarations.Declaration.{Declaration}
-use Rattle.coll_nodes.specs.declared.declarations.Declaration.TheVariants.{Symbol, Element}
+use Rattle.coll_nodes.specs.declared.declarations.Declaration.TheVariants.{Symbol, Element, Equivalence}
 use Rattle.coll_nodes.specs.declared.entries.Entry.{Entry}
 
 -- A declaration.
@@ -32,21 +34,25 @@ names_push declared new = map-append name_of declared (new ∷ [])
 -- the strings declared with those of one more
 pub texts_push : (declared : List Declaration) (new : Declaration) → texts_of (declared ++ new ∷ []) ≡ texts_of declared ++ text_of new
 texts_push declared (Symbol name) = flat_map-append text_of declared (Symbol name ∷ [])
+texts_push declared (Equivalence name symbol) = flat_map-append text_of declared (Equivalence name symbol ∷ [])
 texts_push declared (Element name text) = flat_map-append text_of declared (Element name text ∷ [])
 
 -- the name of a proper declaration is a name
 proper_name : (new : Declaration) → IsProperDeclaration new → IsName (name_of new)
 proper_name (Symbol name) h = h
 proper_name (Element name text) h = h.0
+proper_name (Equivalence name symbol) h = h
 
 -- its string may be that of an element
 proper_text : (new : Declaration) → IsProperDeclaration new → All IsElementText (text_of new)
 proper_text (Symbol name) h = All-nil IsElementText
+proper_text (Equivalence name symbol) h = All-nil IsElementText
 proper_text (Element name text) h = All-cons IsElementText text [] h.1 (All-nil IsElementText)
 
 -- strings stay distinct where one more is none of them
 distinct_texts_push : (texts : List (List ℕ)) (new : Declaration) → AreDistinct same_name texts → list_any (has_name texts) (text_of new) ≡ false → AreDistinct same_name (texts ++ text_of new)
 distinct_texts_push texts (Symbol name) d absent = subst (AreDistinct same_name) (sym (append-nil texts)) d
+distinct_texts_push texts (Equivalence name symbol) d absent = subst (AreDistinct same_name) (sym (append-nil texts)) d
 distinct_texts_push texts (Element name text) d absent = distinct_push same_name same_name_symmetric texts text d (neither (has_name texts text) false absent).0
 
 -- a test with one that is false behind it
@@ -60,7 +66,7 @@ or_false a b e = rw e (or_none a) where
 known_wider : (declared : List Declaration) (new : Declaration) (id : Id) → IsKnown declared id → IsKnown (declared ++ new ∷ []) id
 known_wider declared new (Char c) h = refl
 known_wider declared new (Named name) h =
-    ap (λ names. has_name names name) (names_push declared new) ∙ (list_any-append (same_name name) (names_of declared) (name_of new ∷ []) ∙ ap (λ b. b || (same_name name (name_of new) || false)) h)
+    list_any-append (declares_own name) declared (new ∷ []) ∙ ap (λ b. b || (declares_own name new || false)) h
 known_wider declared new Undefined h = refl
 
 -- a name that is declared is none that isn't
@@ -76,8 +82,9 @@ symbol_wider declared new (Char c) known absent = refl
 symbol_wider declared new (Named name) known absent =
     list_any-append (declares_symbol name) declared (new ∷ []) ∙ or_false (list_any (declares_symbol name) declared) (declares_symbol name new) (by_kind new absent) where
       by_kind : (new : Declaration) → is_declared declared (name_of new) ≡ false → declares_symbol name new ≡ false
-      by_kind (Symbol other) absent = other_name (names_of declared) name other known absent
+      by_kind (Symbol other) absent = other_name (names_of declared) name other (own_declared declared name known) absent
       by_kind (Element other text) absent = refl
+      by_kind (Equivalence other symbol) absent = refl
 symbol_wider declared new Undefined known absent = refl
 
 -- entries that have their weights still have them
@@ -89,13 +96,14 @@ weighted_wider levels declared new (entry ∷ entries) absent known weighted =
     (weighted_wider levels declared new entries absent (All-tail (IsKnown declared) entry.id (ids_of entries) known) (All-tail (IsWeighted levels declared) entry entries weighted))
 
 -- a table with one more declaration
-pub built_declared : (table : Collation) (new : Declaration) → IsBuilt table → IsProperDeclaration new → is_declared table.declared (name_of new) ≡ false → has_text table.declared (text_of new) ≡ false → length table.declared < most_declarations → IsBuilt (record table { declared = table.declared ++ new ∷ [] })
-built_declared table new built proper absent no_text room = record {
+pub built_declared : (table : Collation) (new : Declaration) → IsBuilt table → IsProperDeclaration new → is_declared table.declared (name_of new) ≡ false → means_no_symbol table.declared new ≡ false → has_text table.declared (text_of new) ≡ false → length table.declared < most_declarations → IsBuilt (record table { declared = table.declared ++ new ∷ [] })
+built_declared table new built proper absent means no_text room = record {
   few_levels = built.few_levels;
   names = subst (All IsName) (sym (names_push table.declared new)) (All-push IsName (names_of table.declared) (name_of new) built.names (proper_name new proper));
   texts = subst (All IsElementText) (sym (texts_push table.declared new)) (All-append IsElementText (texts_of table.declared) (text_of new) built.texts (proper_text new proper));
   distinct_names = subst (AreDistinct same_name) (sym (names_push table.declared new)) (distinct_push same_name same_name_symmetric (names_of table.declared) (name_of new) built.distinct_names absent);
   distinct_texts = subst (AreDistinct same_name) (sym (texts_push table.declared new)) (distinct_texts_push (texts_of table.declared) new built.distinct_texts no_text);
+  meant = meant_all table.declared new built.meant means;
   first_unnamed = built.first_unnamed;
   ids = built.ids;
   distinct_sections = built.distinct_sections;
@@ -128,6 +136,7 @@ built_with table sections built may = record {
   texts = built.texts;
   distinct_names = built.distinct_names;
   distinct_texts = built.distinct_texts;
+  meant = built.meant;
   first_unnamed = may.first_unnamed;
   ids = may.ids;
   distinct_sections = may.distinct_sections;

@@ -8,7 +8,7 @@ use Rattle.coll_syntax.specs.declared.lines.TableLine.TheVariants as line
 use Rattle.coll_nodes.specs.declared.entries.Entry.{Entry}
 use Rattle.coll_nodes.specs.Table.{Section}
 use Rattle.coll_nodes.specs.Entries.{entry_of}
-use Rattle.coll_draft.specs.Drafts.{Numbered, DraftState, declared_by, declared_in, open_after, is_open, rules_given, rules_by, rules_in, levels_of, begun_by, placed_by, Cut, cut_at, cut, sections_of, placing_number, numbers_in, draft_of}
+use Rattle.coll_draft.specs.Drafts.{Numbered, DraftState, declared_by, declared_in, open_after, is_open, rules_given, rules_by, rules_in, levels_of, begun_by, placed_by, Cut, cut_at, cut, sections_of, placing_number, numbers_in, draft_of, own_order, is_end}
 use Rattle.coll_draft.specs.Loading.{with_last, rules_after, with_section, with_section_if, draft_with, draft_after}
 
 -- The rules: those of the first line that gives any.
@@ -119,30 +119,31 @@ rules_opened : (before given : Option (List Rule)) → option_or before (Some (r
 rules_opened (Some rules) given = refl
 rules_opened None given = refl
 
--- what lines and one more say, part by part
+-- what lines and one more say, part by part, where that isn't the end of the category
 said_with : List Numbered → ℕ → TableLine → DraftState
 said_with before number l = record {
   order_open = open_after (is_open before) l;
   rules = option_or (rules_in before) (rules_by l);
-  declared = declared_in before ++ declared_by l;
+  declared = declared_in before ++ declared_by (declared_in before) l;
   sections = sections_of (cut_with (cut [] before) (begun_by l) (placed_by before l));
   numbers = numbers_in before ++ placing_number number l;
 }
 
-more_said : (before : List Numbered) (number : ℕ) (l : TableLine) → said_with before number l ≡ draft_with (draft_of before) number l
+more_said : (before : List Numbered) (number : ℕ) (l : TableLine) → is_end l ≡ false → said_with before number l ≡ draft_with (draft_of before) number l
 unfolding said_with draft_of draft_with
-more_said before number (line.Symbol name) = rw (or_none (rules_in before), sections_kept (cut [] before), append-nil (numbers_in before)) refl
-more_said before number (line.Element name text) = rw (or_none (rules_in before), sections_kept (cut [] before), append-nil (numbers_in before)) refl
-more_said before number (line.OrderStart section rules) = rw (append-nil (declared_in before), sections_begun (cut [] before) section, append-nil (numbers_in before), rules_opened (rules_in before) rules) refl
-more_said before number line.OrderEnd = rw (or_none (rules_in before), append-nil (declared_in before), sections_kept (cut [] before), append-nil (numbers_in before)) refl
-more_said before number (line.Section name) = rw (or_none (rules_in before), append-nil (declared_in before), sections_begun (cut [] before) (Some name), append-nil (numbers_in before)) refl
-more_said before number line.Script = rw (or_none (rules_in before), append-nil (declared_in before), sections_kept (cut [] before), append-nil (numbers_in before)) refl
-more_said before number line.EndCategory = rw (or_none (rules_in before), append-nil (declared_in before), sections_kept (cut [] before), append-nil (numbers_in before)) refl
-more_said before number (line.Order order) = rw (or_none (rules_in before), append-nil (declared_in before), sections_with_entry (cut [] before) (entry_of (levels_of (rules_in before)) (declared_in before) order)) refl
+more_said before number (line.Symbol name) e = rw (or_none (rules_in before), sections_kept (cut [] before), append-nil (numbers_in before)) refl
+more_said before number (line.Element name text) e = rw (or_none (rules_in before), sections_kept (cut [] before), append-nil (numbers_in before)) refl
+more_said before number (line.Equivalence name symbol) e = rw (or_none (rules_in before), sections_kept (cut [] before), append-nil (numbers_in before)) refl
+more_said before number (line.OrderStart section rules) e = rw (append-nil (declared_in before), sections_begun (cut [] before) section, append-nil (numbers_in before), rules_opened (rules_in before) rules) refl
+more_said before number line.OrderEnd e = rw (or_none (rules_in before), append-nil (declared_in before), sections_kept (cut [] before), append-nil (numbers_in before)) refl
+more_said before number (line.Section name) e = rw (or_none (rules_in before), append-nil (declared_in before), sections_begun (cut [] before) (Some name), append-nil (numbers_in before)) refl
+more_said before number line.Script e = rw (or_none (rules_in before), append-nil (declared_in before), sections_kept (cut [] before), append-nil (numbers_in before)) refl
+more_said before number line.EndCategory e = cc
+more_said before number (line.Order order) e = rw (or_none (rules_in before), append-nil (declared_in before), sections_with_entry (cut [] before) (entry_of (levels_of (rules_in before)) (declared_in before) (own_order (declared_in before) order))) refl
 
--- what lines say together with one more is what they say, with what that line adds
-pub draft_more : (before : List Numbered) (n : Numbered) → draft_of (before ++ n ∷ []) ≡ draft_after (draft_of before) n
+-- what lines say together with one more is what they say, with what that line adds; behind the end of the category there is none
+pub draft_more : (before : List Numbered) (n : Numbered) → is_end n.line ≡ false → draft_of (before ++ n ∷ []) ≡ draft_after (draft_of before) n
 unfolding said_with draft_of
-draft_more before n =
-    rw (fold-append (λ was (m : Numbered). open_after was m.line) false before (n ∷ []), rules_more before n, flat_map-append (λ (m : Numbered). declared_by m.line) before (n ∷ []), cut_more [] before n, flat_map-append (λ (m : Numbered). placing_number m.number m.line) before (n ∷ []), append-nil (declared_by n.line), append-nil (placing_number n.number n.line))
-    (more_said before n.number n.line)
+draft_more before n e =
+    rw (fold-append (λ was (m : Numbered). open_after was m.line) false before (n ∷ []), rules_more before n, fold-append (λ declared (m : Numbered). declared ++ declared_by declared m.line) [] before (n ∷ []), cut_more [] before n, flat_map-append (λ (m : Numbered). placing_number m.number m.line) before (n ∷ []), append-nil (placing_number n.number n.line))
+    (more_said before n.number n.line e)

@@ -8,8 +8,8 @@ use Rattle.coll_syntax.specs.declared.identifiers.Id.{Id}
 use Rattle.coll_syntax.specs.declared.lines.TableLine.{TableLine}
 use Rattle.coll_syntax.specs.declared.lines.TableLine.TheVariants as line
 use Rattle.coll_syntax.specs.declared.rules.Rule.{Rule}
-use Rattle.coll_draft.proofs.SoundLines.{passed, not_false}
-use Rattle.coll_draft.specs.Drafts.{DraftState, Numbered, table_of, refused_if, cause_after, weight_cause, ids_cause, at_line, entries_fault, weights_fault, fault_at_end, line_fault, is_end, given_rules}
+use Rattle.coll_draft.proofs.SoundLines.{passed, not_false, neither_found, sound_own}
+use Rattle.coll_draft.specs.Drafts.{DraftState, Numbered, table_of, with_own_weights, refused_if, cause_after, weight_cause, ids_cause, at_line, entries_fault, weights_fault, fault_at_end, line_fault, is_end, given_rules}
 use Rattle.coll_nodes.specs.Entries.{ids_named}
 use Rattle.coll_draft.specs.Loading.{draft_with}
 use Rattle.coll_draft.specs.SoundDrafts.{IsSoundDraft}
@@ -18,11 +18,6 @@ use Rattle.coll_nodes.specs.WellFormed.{HasPlacedWeights, IsWellFormed}
 use Rattle.coll_nodes.specs.declared.declarations.Declaration.{Declaration}
 use Rattle.coll_nodes.specs.declared.entries.Entry.{Entry}
 use Rattle.coll_draft.specs.declared.load_faults.LoadCause.TheVariants.{NoRules, NotDeclared, WeightNotPlaced, OutsideOrder}
-
--- of two options of which the first found is none both are none
-pub neither_found : {X : Type 0} (a b : Option X) → option_or a b ≡ None → (a ≡ None) × (b ≡ None)
-neither_found None b e = (refl, e)
-neither_found (Some x) b e = cc
 
 -- what a function makes of an option is none where the option is
 unmapped : {X Y : Type 0} (f : X → Y) (o : Option X) → option_map f o ≡ None → o ≡ None
@@ -71,27 +66,27 @@ ended_well d accepted placed sound =
       weights_placed = placed_weights d d.numbers (joined_entries d.sections) sound.numbered placed;
     }
 
--- where a line that ends the category is no fault, the table that the lines say is well formed
-pub well_formed_at_end : (d : DraftState) (n : Numbered) → line_fault d n ≡ None → is_end n.line ≡ true → IsSoundDraft d → IsWellFormed (table_of d)
+-- where a line that ends the category is no fault, the table that the lines say is well formed, with its weights by own names
+pub well_formed_at_end : (d : DraftState) (n : Numbered) → line_fault d n ≡ None → is_end n.line ≡ true → IsSoundDraft d → IsWellFormed (table_of (with_own_weights d))
 unfolding line_fault
 well_formed_at_end d n e ends sound = by_line n.line e ends where
-  by_line : (l : TableLine) → option_or (option_map (at_line n.number) (cause_after d l)) (fault_at_end d l) ≡ None → is_end l ≡ true → IsWellFormed (table_of d)
+  by_line : (l : TableLine) → option_or (option_map (at_line n.number) (cause_after d l)) (fault_at_end d l) ≡ None → is_end l ≡ true → IsWellFormed (table_of (with_own_weights d))
   by_line line.EndCategory e ends =
-      let both = neither_found (option_map (at_line n.number) (cause_after d line.EndCategory)) (weights_fault d) e in
-      ended_well d (unmapped (at_line n.number) (cause_after d line.EndCategory) both.0) both.1 sound
+      let both = neither_found (option_map (at_line n.number) (cause_after d line.EndCategory)) (weights_fault (with_own_weights d)) e in
+      ended_well (with_own_weights d) (unmapped (at_line n.number) (cause_after d line.EndCategory) both.0) both.1 (sound_own d sound)
   by_line _ e ends = absurd (false≢true ends)
 
--- a line that ends the category leaves what the lines say
-pub unchanged_at_end : (d : DraftState) (number : ℕ) (l : TableLine) → is_end l ≡ true → draft_with d number l ≡ d
+-- a line that ends the category leaves what the lines say, with the weights by own names
+pub own_at_end : (d : DraftState) (number : ℕ) (l : TableLine) → is_end l ≡ true → draft_with d number l ≡ with_own_weights d
 unfolding draft_with
-unchanged_at_end d number line.EndCategory e = refl
-unchanged_at_end d number _ e = absurd (false≢true e)
+own_at_end d number line.EndCategory e = refl
+own_at_end d number _ e = absurd (false≢true e)
 
 -- so what they say after it is well formed, too
 pub well_formed_after : (before after : DraftState) (number : ℕ) (l : TableLine) → is_end l ≡ true → cause_after before l ≡ None → after ≡ draft_with before number l → weights_fault after ≡ None → IsSoundDraft after → IsWellFormed (table_of after)
 well_formed_after before after number l ends accepted grown placed sound =
-    let same : after ≡ before = grown ∙ unchanged_at_end before number l ends in
-    ended_well after (by_end l ends (subst (λ d. cause_after d l ≡ None) (sym same) accepted)) placed sound where
-      by_end : (l : TableLine) → is_end l ≡ true → cause_after after l ≡ None → cause_after after line.EndCategory ≡ None
+    let same : after ≡ with_own_weights before = grown ∙ own_at_end before number l ends in
+    ended_well after (subst (λ d. cause_after d line.EndCategory ≡ None) (sym same) (by_end l ends accepted)) placed sound where
+      by_end : (l : TableLine) → is_end l ≡ true → cause_after before l ≡ None → cause_after before line.EndCategory ≡ None
       by_end line.EndCategory ends e = e
       by_end _ ends e = absurd (false≢true ends)

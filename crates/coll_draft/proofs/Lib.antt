@@ -6,6 +6,7 @@ pub mod EntryWeights
 pub mod FirstCauses
 pub mod LayoutEnds
 pub mod MetEntries
+pub mod OwnChanges
 pub mod RuleLists
 pub mod SoundLines
 pub mod WeightCauses

@@ -11,32 +11,51 @@ use Rattle.coll_syntax.specs.declared.identifiers.Id.{Id}
 use Rattle.coll_syntax.specs.declared.statements.OrderLine.{OrderLine}
 use Rattle.coll_syntax.specs.declared.weights.Weight.{Weight}
 use Rattle.coll_syntax.specs.declared.weights.Weight.TheVariants.{Own}
+use Rattle.std.specs.Option.{option_or}
+use Rattle.coll_nodes.proofs.OwnNames.{own_id_proper, symbol_own}
+use Rattle.coll_nodes.proofs.OwnTables.{own_built, own_joined}
 use Rattle.coll_draft.proofs.BuiltTables.{built_declared, built_section, built_entry, entries_with_section, entries_with_last}
 use Rattle.coll_nodes.specs.Table.{has_text}
-use Rattle.coll_draft.specs.Drafts.{DraftState, table_of, refused_if, declaration_cause, section_cause, order_cause, levels_of}
+use Rattle.coll_draft.specs.Drafts.{DraftState, table_of, refused_if, meaning_cause, declaration_cause, own_order, with_own_weights, section_cause, order_cause, levels_of}
 use Rattle.coll_nodes.specs.Entries.{names_only, kept_weight, kept_weights, given_weights, weights_of, entry_of}
+use Rattle.coll_nodes.specs.OwnNames.{own_entry, means_nothing, means_no_symbol}
 use Rattle.coll_nodes.specs.Limits.{most_entries, most_declarations, most_sections}
 use Rattle.coll_draft.specs.Loading.{with_section, with_declaration, with_entry}
 use Rattle.coll_draft.specs.SoundDrafts.{IsSoundDraft, IsProperDeclaration, MayBePut}
-use Rattle.coll_nodes.specs.Table.{name_of, text_of, joined_entries, section_names, is_declared, is_known, is_placed_in, is_symbol}
+use Rattle.coll_nodes.specs.Table.{name_of, text_of, joined_entries, section_names, is_declared, is_known, is_placed_in, is_symbol, is_symbol_name}
 use Rattle.coll_nodes.specs.WellFormed.{IsKeptWeight, HasWeights}
 use Rattle.coll_nodes.specs.declared.declarations.Declaration.{Declaration}
+use Rattle.coll_nodes.specs.declared.declarations.Declaration.TheVariants.{Equivalence}
 use Rattle.coll_nodes.specs.declared.entries.Entry.{Entry}
-use Rattle.coll_draft.specs.declared.load_faults.LoadCause.TheVariants.{NotDeclared, PlacedTwice, SymbolWithWeights, TooManyWeights, StringTwice, Full}
+use Rattle.coll_draft.specs.declared.load_faults.LoadCause.TheVariants.{NotDeclared, NotASymbol, PlacedTwice, SymbolWithWeights, TooManyWeights, StringTwice, Full}
 
 -- where nothing is refused the test doesn't hold, and what follows doesn't refuse either
 pub passed : {C : Type 0} (test : Bool) (cause : C) (later : Option C) → refused_if test cause later ≡ None → (test ≡ false) × (later ≡ None)
 passed true cause later e = cc
 passed false cause later e = (refl, e)
 
+-- of two options of which the first found is none both are none
+pub neither_found : {C : Type 0} (a b : Option C) → option_or a b ≡ None → (a ≡ None) × (b ≡ None)
+neither_found None b e = (refl, e)
+neither_found (Some x) b e = cc
+
+-- a symbol is what a second name may stand for
+pub symbol_means : (declared : List Declaration) (name symbol : List ℕ) → is_symbol_name declared symbol ≡ true → meaning_cause declared (Equivalence name symbol) ≡ None
+symbol_means declared name symbol is =
+    ap (λ b. refused_if (not b) NotDeclared (refused_if (not (is_symbol_name declared symbol)) NotASymbol None)) (symbol_own declared symbol is)
+    ∙ ap (λ b. refused_if (not b) NotASymbol None) is
+
 -- with one more declaration
 pub sound_declared : (d : DraftState) (new : Declaration) → IsSoundDraft d → IsProperDeclaration new → declaration_cause d.declared new ≡ None → IsSoundDraft (with_declaration d new)
 sound_declared d new sound proper accepted =
     let absent = passed (is_declared d.declared (name_of new)) _ _ accepted in
-    let no_text = passed (has_text d.declared (text_of new)) StringTwice (refused_if (nat_le most_declarations (length d.declared)) Full None) absent.1 in
+    let means = neither_found (meaning_cause d.declared new) _ absent.1 in
+    let something = passed (means_nothing d.declared new) NotDeclared _ means.0 in
+    let symbol = passed (means_no_symbol d.declared new) NotASymbol None something.1 in
+    let no_text = passed (has_text d.declared (text_of new)) StringTwice (refused_if (nat_le most_declarations (length d.declared)) Full None) means.1 in
     let room = passed (nat_le most_declarations (length d.declared)) Full None no_text.1 in
     record {
-      built = built_declared (table_of d) new sound.built proper absent.0 no_text.0 (leb-false most_declarations (length d.declared) room.0);
+      built = built_declared (table_of d) new sound.built proper absent.0 symbol.0 no_text.0 (leb-false most_declarations (length d.declared) room.0);
       started = sound.started;
       none_before = sound.none_before;
       some_levels = sound.some_levels;
@@ -102,6 +121,20 @@ weights_are levels false line proper few =
 pub not_false : (b : Bool) → not b ≡ false → b ≡ true
 not_false true e = refl
 not_false false e = cc
+
+-- an order line stays proper by its own name
+pub proper_own : (d : DraftState) (line : OrderLine) → IsSoundDraft d → IsProperLine line → IsProperLine (own_order d.declared line)
+proper_own d line sound proper = (own_id_proper d.declared line.id sound.built.meant sound.built.distinct_names sound.built.names proper.0, proper.1)
+
+-- with the weights of all entries by own names
+pub sound_own : (d : DraftState) → IsSoundDraft d → IsSoundDraft (with_own_weights d)
+sound_own d sound = record {
+  built = own_built (table_of d) sound.built;
+  started = sound.started;
+  none_before = λ none. own_joined d.declared d.sections ∙ ap (map (own_entry d.declared)) (sound.none_before none);
+  some_levels = sound.some_levels;
+  numbered = sound.numbered ∙ sym (ap length (own_joined d.declared d.sections) ∙ length-map (joined_entries d.sections) (own_entry d.declared));
+}
 
 -- the entry of a line that is accepted may be put behind all others
 pub may_be_put : (d : DraftState) (line : OrderLine) → IsSoundDraft d → IsProperLine line → order_cause d line ≡ None → MayBePut d (entry_of (levels_of d.rules) d.declared line)

@@ -13,10 +13,11 @@ use Rattle.coll_nodes.specs.declared.declarations.Declaration.TheVariants as dec
 use Rattle.coll_nodes.specs.declared.entries.Entry.{Entry}
 use Rattle.coll_nodes.specs.Table.{Collation, Section, name_of, text_of, has_text, joined_entries, section_names, is_placed_in, is_declared, is_known, is_symbol}
 use Rattle.coll_nodes.specs.Entries.{entry_of, given_weights, ids_named}
+use Rattle.coll_nodes.specs.OwnNames.{named_own, own_id, own_sections, means_nothing, means_no_symbol}
 use Rattle.coll_nodes.specs.Limits.{most_entries, most_declarations, most_sections}
 use Rattle.coll_draft.specs.declared.load_faults.LoadFault.{LoadFault}
 use Rattle.coll_draft.specs.declared.load_faults.LoadCause.{LoadCause}
-use Rattle.coll_draft.specs.declared.load_faults.LoadCause.TheVariants.{NoRules, RulesDiffer, DeclaredTwice, NotDeclared, PlacedTwice, SymbolWithWeights, TooManyWeights, WeightNotPlaced, StringTwice, SectionTwice, OutsideOrder, Full}
+use Rattle.coll_draft.specs.declared.load_faults.LoadCause.TheVariants.{NoRules, RulesDiffer, DeclaredTwice, NotDeclared, NotASymbol, PlacedTwice, SymbolWithWeights, TooManyWeights, WeightNotPlaced, StringTwice, SectionTwice, OutsideOrder, Full}
 
 -- a line of the category, with its number
 pub record Numbered : Type 0 where
@@ -25,15 +26,21 @@ pub record Numbered : Type 0 where
 
 -- What lines say together.
 
--- what a line declares
-abbrev pub declared_by : TableLine → List Declaration
-declared_by (line.Symbol name) = declaration.Symbol name ∷ []
-declared_by (line.Element name text) = declaration.Element name text ∷ []
-declared_by _ = []
+-- a second name for what a name stands for where this is declared: if the name is itself a second name, its symbol is meant (the
+-- project's own meaning of `symbol-equivalence`)
+abbrev pub second_name : List Declaration → (name symbol : List ℕ) → Declaration
+second_name declared name symbol = declaration.Equivalence name (named_own declared symbol)
 
--- what lines declare, in order
+-- what a line declares behind what is declared before it
+abbrev pub declared_by : List Declaration → TableLine → List Declaration
+declared_by declared (line.Symbol name) = declaration.Symbol name ∷ []
+declared_by declared (line.Element name text) = declaration.Element name text ∷ []
+declared_by declared (line.Equivalence name symbol) = second_name declared name symbol ∷ []
+declared_by declared _ = []
+
+-- what lines declare, in order: what a line declares may depend on what is declared before it
 abbrev pub declared_in : List Numbered → List Declaration
-declared_in lines = flat_map (λ (n : Numbered). declared_by n.line) lines
+declared_in lines = fold (λ declared (n : Numbered). declared ++ declared_by declared n.line) [] lines
 
 -- whether an order is open after a line, where it was so before
 abbrev pub open_after : Bool → TableLine → Bool
@@ -79,9 +86,14 @@ begun_by (line.OrderStart section rules) = section
 begun_by (line.Section name) = Some name
 begun_by _ = None
 
--- the entry that a line places, from the lines before it
+-- the order line that is meant where this is declared: its identifier is looked up, and a second name stands for its symbol
+abbrev pub own_order : List Declaration → OrderLine → OrderLine
+own_order declared order = record order { id = own_id declared order.id }
+
+-- the entry that a line places, from the lines before it; its weights are looked up where the category ends, since a name in them
+-- may be declared behind it
 abbrev pub placed_by : List Numbered → TableLine → List Entry
-placed_by before (line.Order order) = entry_of (levels_of (rules_in before)) (declared_in before) order ∷ []
+placed_by before (line.Order order) = entry_of (levels_of (rules_in before)) (declared_in before) (own_order (declared_in before) order) ∷ []
 placed_by before _ = []
 
 -- the entries up to the next line that begins a section, and the sections from there on
@@ -139,12 +151,17 @@ table_of d = record { rules = given_rules d.rules; declared = d.declared; sectio
 abbrev pub refused_if : {C : Type 0} → Bool → C → Option C → Option C
 refused_if test cause later = if test then Some cause else later
 
+-- why what a second name stands for is refused: it isn't declared, or it is no collating symbol
+abbrev pub meaning_cause : List Declaration → Declaration → Option LoadCause
+meaning_cause declared new = refused_if (means_nothing declared new) NotDeclared (refused_if (means_no_symbol declared new) NotASymbol None)
+
 -- why a declaration is refused behind those before it
 abbrev pub declaration_cause : List Declaration → Declaration → Option LoadCause
 declaration_cause declared new =
     refused_if (is_declared declared (name_of new)) DeclaredTwice
+    (option_or (meaning_cause declared new)
     (refused_if (has_text declared (text_of new)) StringTwice
-    (refused_if (nat_le most_declarations (length declared)) Full None))
+    (refused_if (nat_le most_declarations (length declared)) Full None)))
 
 -- two flags are the same
 abbrev pub same_flag : Bool → Bool → Bool
@@ -192,14 +209,19 @@ order_cause d order =
 abbrev pub cause_after : DraftState → TableLine → Option LoadCause
 cause_after d (line.Symbol name) = declaration_cause d.declared (declaration.Symbol name)
 cause_after d (line.Element name text) = declaration_cause d.declared (declaration.Element name text)
+cause_after d (line.Equivalence name symbol) = declaration_cause d.declared (second_name d.declared name symbol)
 cause_after d (line.OrderStart section rules) = refused_if (rules_differ d.rules rules) RulesDiffer (section_cause_if d section)
 cause_after d line.OrderEnd = refused_if (not d.order_open) OutsideOrder None
 cause_after d (line.Section name) = refused_if (not d.order_open) OutsideOrder (section_cause d name)
 cause_after d line.Script = None
 cause_after d line.EndCategory = refused_if d.order_open OutsideOrder (refused_if (is_none d.rules) NoRules None)
-cause_after d (line.Order order) = order_cause d order
+cause_after d (line.Order order) = order_cause d (own_order d.declared order)
 
 -- The weights, which are looked up where the category ends.
+
+-- what is said, with the weights of each entry by own names: a second name in them stands for its symbol
+abbrev pub with_own_weights : DraftState → DraftState
+with_own_weights d = record d { sections = own_sections d.declared d.sections }
 
 -- why an identifier in a weight is refused, where this is declared and these are the sections
 abbrev pub weight_cause : List Declaration → List Section → Id → Option LoadCause
@@ -229,7 +251,7 @@ weights_fault d = entries_fault d d.numbers (joined_entries d.sections)
 
 -- the fault of the weights, where a line ends the category
 abbrev pub fault_at_end : DraftState → TableLine → Option LoadFault
-fault_at_end d line.EndCategory = weights_fault d
+fault_at_end d line.EndCategory = weights_fault (with_own_weights d)
 fault_at_end d _ = None
 
 -- the fault of a line, from what the lines before it say: its own, or where it ends the category that of the weights

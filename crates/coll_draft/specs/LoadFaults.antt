@@ -8,7 +8,7 @@ use Rattle.coll_syntax.specs.declared.syntax_faults.SyntaxFault.{SyntaxFault}
 use Rattle.coll_syntax.specs.declared.syntax_faults.SyntaxFault.TheVariants as syntax
 use Rattle.coll_draft.specs.declared.load_faults.LoadFault.{LoadFault}
 use Rattle.coll_draft.specs.declared.load_faults.LoadCause.{LoadCause}
-use Rattle.coll_draft.specs.declared.load_faults.LoadCause.TheVariants.{Lex, Syntax, NoCategory, NoRules, RulesDiffer, DeclaredTwice, NotDeclared, PlacedTwice, SymbolWithWeights, TooManyWeights, WeightNotPlaced, StringTwice, SectionTwice, OutsideOrder, Full, NoEnd, ReadFault, OutOfMemory}
+use Rattle.coll_draft.specs.declared.load_faults.LoadCause.TheVariants.{Lex, Syntax, NoCategory, NoRules, RulesDiffer, DeclaredTwice, NotDeclared, PlacedTwice, SymbolWithWeights, TooManyWeights, WeightNotPlaced, StringTwice, SectionTwice, OutsideOrder, Full, NoEnd, ReadFault, OutOfMemory, NotASymbol}
 
 -- the cause that a fault of the lexer is: want of memory is a cause of its own, whoever met it
 abbrev pub lex_cause : LexFault → LoadCause
@@ -40,6 +40,7 @@ load_cause_number Full = 42
 load_cause_number NoEnd = 43
 load_cause_number ReadFault = 67
 load_cause_number OutOfMemory = 70
+load_cause_number NotASymbol = 73
 
 -- the name of a cause
 abbrev pub load_cause_name : LoadCause → List ℕ
@@ -61,6 +62,7 @@ load_cause_name Full = codes "Full"
 load_cause_name NoEnd = codes "NoEnd"
 load_cause_name ReadFault = codes "ReadFault"
 load_cause_name OutOfMemory = codes "OutOfMemory"
+load_cause_name NotASymbol = codes "NotASymbol"
 
 -- the number of a fault is that of its cause
 abbrev pub load_fault_number : LoadFault → ℕ

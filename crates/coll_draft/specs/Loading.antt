@@ -15,7 +15,7 @@ use Rattle.coll_nodes.specs.declared.declarations.Declaration.TheVariants as dec
 use Rattle.coll_nodes.specs.declared.entries.Entry.{Entry}
 use Rattle.coll_nodes.specs.Table.{Collation, Section}
 use Rattle.coll_nodes.specs.Entries.{entry_of}
-use Rattle.coll_draft.specs.Drafts.{Numbered, DraftState, draft_of, table_of, line_fault, at_line, is_end, levels_of, rules_given}
+use Rattle.coll_draft.specs.Drafts.{Numbered, DraftState, draft_of, table_of, second_name, own_order, with_own_weights, line_fault, at_line, is_end, levels_of, rules_given}
 use Rattle.coll_draft.specs.Reading.{reads}
 use Rattle.coll_draft.specs.declared.load_faults.LoadFault.{LoadFault}
 use Rattle.coll_draft.specs.declared.load_faults.LoadCause.TheVariants.{Lex, Syntax, NoCategory, NoEnd}
@@ -50,24 +50,25 @@ with_declaration d new = record d { declared = d.declared ++ new ∷ [] }
 abbrev pub with_entry : DraftState → ℕ → Entry → DraftState
 with_entry d number entry = record d { sections = with_last d.sections entry; numbers = d.numbers ++ number ∷ [] }
 
--- what the lines say with this one behind them
+-- what the lines say with this one behind them; behind the end of the category the weights of all entries stand by own names
 unfoldable pub draft_with : DraftState → ℕ → TableLine → DraftState
 draft_with d number (line.Symbol name) = with_declaration d (declaration.Symbol name)
 draft_with d number (line.Element name text) = with_declaration d (declaration.Element name text)
+draft_with d number (line.Equivalence name symbol) = with_declaration d (second_name d.declared name symbol)
 draft_with d number (line.OrderStart section rules) =
     record d { order_open = true; rules = rules_after d.rules rules; sections = with_section_if d.sections section }
 draft_with d number line.OrderEnd = record d { order_open = false }
 draft_with d number (line.Section name) = record d { sections = with_section d.sections name }
 draft_with d number line.Script = d
-draft_with d number line.EndCategory = d
-draft_with d number (line.Order order) = with_entry d number (entry_of (levels_of d.rules) d.declared order)
+draft_with d number line.EndCategory = with_own_weights d
+draft_with d number (line.Order order) = with_entry d number (entry_of (levels_of d.rules) d.declared (own_order d.declared order))
 
 -- what the lines say with a numbered one behind them
 abbrev pub draft_after : DraftState → Numbered → DraftState
 draft_after d n = draft_with d n.number n.line
 
--- what is stored: where the lexer stands, whether the category has begun, and has ended, what its lines say, and the first
--- fault
+-- what is stored: where the lexer stands, whether the category has begun, and has ended, what its lines say, with the weights by
+-- own names once it has ended, and the first fault
 pub record LoaderState : Type 0 where
   pub lexer : LexerState
   pub begun : Bool

@@ -9,7 +9,7 @@ use Rattle.coll_syntax.specs.declared.lines.TableLine.{TableLine}
 use Rattle.coll_syntax.specs.declared.syntax_faults.SyntaxFault.{SyntaxFault}
 use Rattle.coll_nodes.specs.Table.{Collation}
 use Rattle.coll_nodes.specs.WellFormed.{IsWellFormed}
-use Rattle.coll_draft.specs.Drafts.{Numbered, draft_of, table_of, line_fault, at_line, is_end}
+use Rattle.coll_draft.specs.Drafts.{Numbered, draft_of, table_of, with_own_weights, line_fault, at_line, is_end}
 use Rattle.coll_draft.specs.declared.load_faults.LoadFault.{LoadFault}
 use Rattle.coll_draft.specs.declared.load_faults.LoadCause.{LoadCause}
 use Rattle.coll_draft.specs.declared.load_faults.LoadCause.TheVariants.{Lex, Syntax, NoCategory, NoEnd}
@@ -23,9 +23,9 @@ pub data Outcome : Type 0 where
 abbrev pub at_fault : ℕ → LoadCause → Outcome
 at_fault number cause = Decided (Err (at_line number cause))
 
--- what an accepted line decides: the table, if it ends the category, and else what the later lines do
+-- what an accepted line decides: the table, if it ends the category, with its weights by own names, and else what the later lines do
 abbrev pub accepted : List Numbered → Numbered → Outcome → Outcome
-accepted before line later = if is_end line.line then Decided (Ok (table_of (draft_of before))) else later
+accepted before line later = if is_end line.line then Decided (Ok (table_of (with_own_weights (draft_of before)))) else later
 
 -- what a line decides that the grammar accepts, by its fault
 abbrev pub line_judged : List Numbered → Numbered → Option LoadFault → Outcome → Outcome

@@ -8,7 +8,7 @@ use Rattle.coll_nodes.specs.WellFormed.{IsBuilt, IsKnown, IsWeighted}
 use Rattle.coll_draft.specs.Drafts.{DraftState, table_of, levels_of}
 use Rattle.coll_nodes.specs.Limits.{most_entries}
 use Rattle.coll_nodes.specs.declared.declarations.Declaration.{Declaration}
-use Rattle.coll_nodes.specs.declared.declarations.Declaration.TheVariants.{Symbol, Element}
+use Rattle.coll_nodes.specs.declared.declarations.Declaration.TheVariants.{Symbol, Element, Equivalence}
 use Rattle.coll_nodes.specs.declared.entries.Entry.{Entry}
 
 -- the table that is said holds together; there are rules where an order is open, no entries where there are none, and one
@@ -20,10 +20,11 @@ pub record IsSoundDraft (d : DraftState) : Type 0 where
   pub some_levels : (rules : List Rule) → d.rules ≡ Some rules → 1 ≤ length rules
   pub numbered : length d.numbers ≡ length (joined_entries d.sections)
 
--- a declaration whose name is a name, and whose string may be that of an element
+-- a declaration whose name is a name, and whose string, if it has one, may be that of an element
 abbrev pub IsProperDeclaration : Declaration → Type 0
 IsProperDeclaration (Symbol name) = IsName name
 IsProperDeclaration (Element name text) = IsName name × IsElementText text
+IsProperDeclaration (Equivalence name symbol) = IsName name
 
 -- an entry that may be put behind all others: there are rules; its identifier is one, is placed nowhere and may be used; it
 -- has the weights that it is to have; and there is room

@@ -9,6 +9,7 @@
 ghost use Rattle.std.specs.Prelude.{◌≡◌, ◌∷◌, ◌++◌, [], ◌<◌, Some, false, IfOk, OnOk, OnErr, length};
 ghost use Rattle.coll_syntax.specs.Identifier.{has_name};
 
+use crate::own_weights::give_own_weights;
 use coll_lex::TextBuf;
 use coll_nodes::{Body, Declaration, Entry, HashKeys, Walk};
 use coll_order::Place;
@@ -42,10 +43,10 @@ impl Model for Builder {
 impl Builder {
     ghost use Rattle.coll_draft.specs.Building.{no_parts, parts_at};
     ghost use Rattle.coll_draft.specs.Loading.{with_last, with_section};
-    ghost use Rattle.coll_nodes.specs.Table.{name_of, text_of, texts_of, is_declared, is_known, is_symbol, is_placed_in, section_names, joined_entries};
+    ghost use Rattle.coll_nodes.specs.Table.{name_of, text_of, texts_of, is_declared, is_own_name, is_known, is_symbol, is_symbol_name, is_placed_in, section_names, joined_entries};
     ghost use Rattle.coll_nodes.specs.Table.{has_text};
+    ghost use Rattle.coll_nodes.specs.OwnNames.{named_own, own_id, own_sections};
     ghost use Rattle.coll_nodes.specs.Walks.{met};
-    ghost use Rattle.coll_nodes.specs.declared.declarations.Declaration.TheVariants.{Symbol, Element};
 
     /// Nothing declared, and an empty first section.
     pub(crate) fn new(alloc: Global, keys: HashKeys) -> Result<Builder, AllocError>
@@ -67,7 +68,7 @@ impl Builder {
         }
     }
 
-    /// Whether a name is declared.
+    /// Whether a name is declared in any way.
     pub(crate) fn declares(&self, name: &TextBuf) -> bool
         ensures { result ≡ is_declared self.now.declared name.now }
     {
@@ -95,7 +96,7 @@ impl Builder {
         self.body.is_placed(id)
     }
 
-    /// Whether an identifier may be used: a name has to be declared.
+    /// Whether an identifier may stand in a section: a name has to be declared as an own name.
     pub(crate) fn is_known(&self, id: &Id) -> bool
         ensures { result ≡ is_known self.now.declared id.now }
     {
@@ -107,6 +108,34 @@ impl Builder {
         ensures { result ≡ is_symbol self.now.declared id.now }
     {
         self.body.is_symbol(id)
+    }
+
+    /// Whether a name is declared as an own name.
+    pub(crate) fn is_own_name(&self, name: &TextBuf) -> bool
+        ensures { result ≡ is_own_name self.now.declared name.now }
+    {
+        self.body.is_own_name(name)
+    }
+
+    /// Whether a name is declared as a collating symbol.
+    pub(crate) fn is_symbol_name(&self, name: &TextBuf) -> bool
+        ensures { result ≡ is_symbol_name self.now.declared name.now }
+    {
+        self.body.is_symbol_name(name)
+    }
+
+    /// The own name of a declared name; a name that isn't declared stays. It takes memory for a second name.
+    pub(crate) fn own_name(&self, name: TextBuf) -> Result<TextBuf, AllocError>
+        ensures { IfOk result (λ own. own ≡ named_own self.now.declared name) }
+    {
+        self.body.own_name(name)
+    }
+
+    /// An identifier, by its own name. It takes memory for a second name.
+    pub(crate) fn own_id(&self, id: Id) -> Result<Id, AllocError>
+        ensures { IfOk result (λ own. own ≡ own_id self.now.declared id) }
+    {
+        self.body.own_id(id)
     }
 
     /// The number of entries, in all sections together.
@@ -137,33 +166,8 @@ impl Builder {
         ensures ok { OnOk result (self.new ≡ record self.old { declared = self.old.declared ++ new ∷ [] }) }
         ensures err { OnErr result (self.new ≡ self.old) }
     {
-        match new {
-            Declaration::Symbol(name) => self.declare_symbol(name),
-            Declaration::Element { name, text } => self.declare_element(name, text),
-        }
-    }
-
-    // Puts a declaration of a collating symbol behind all others.
-    fn declare_symbol(&mut self, name: TextBuf) -> Result<(), AllocError>
-        requires name { is_declared self.old.declared name ≡ false }
-        ensures ok { OnOk result (self.new ≡ record self.old { declared = self.old.declared ++ Symbol name ∷ [] }) }
-        ensures err { OnErr result (self.new ≡ self.old) }
-    {
         self.body.check_layout();
-        self.body.declare_symbol(name, self.body.declared_end())?;
-        Ok(())
-    }
-
-    // Puts a declaration of a collating element behind all others.
-    fn declare_element(&mut self, name: TextBuf, text: TextBuf) -> Result<(), AllocError>
-        requires name { is_declared self.old.declared name ≡ false }
-        requires text { has_name (texts_of self.old.declared) text ≡ false }
-        ensures ok { OnOk result (self.new ≡ record self.old { declared = self.old.declared ++ Element name text ∷ [] }) }
-        ensures err { OnErr result (self.new ≡ self.old) }
-    {
-        self.body.check_layout();
-        self.body
-            .declare_element(name, text, self.body.declared_end())?;
+        self.body.declare(new, self.body.declared_end())?;
         Ok(())
     }
 
@@ -189,6 +193,16 @@ impl Builder {
         self.body.check_layout();
         let node = self.body.place(entry, self.entries_end)?;
         self.entries_end = Place::After(node);
+        Ok(())
+    }
+
+    /// Gives each entry its weights by own names.
+    pub(crate) fn give_own_weights(&mut self) -> Result<(), AllocError>
+        ensures ok { OnOk result (self.new ≡ record self.old { sections = own_sections self.old.declared self.old.sections }) }
+        ensures err { OnErr result (self.new ≡ self.old) }
+    {
+        self.body.check_layout();
+        give_own_weights(&mut self.body)?;
         Ok(())
     }
 

@@ -11,7 +11,7 @@ ghost use Rattle.coll_lex.specs.Names.{IsName};
 ghost use Rattle.coll_syntax.specs.Proper.{IsProperTableLine, IsProperLine, IsNameIfGiven, AreRulesIfGiven};
 ghost use Rattle.coll_syntax.specs.declared.lines.TableLine.TheVariants.{OrderStart, OrderEnd, Section, EndCategory, Order};
 ghost use Rattle.coll_nodes.specs.Table.{has_text};
-ghost use Rattle.coll_draft.specs.Drafts.{is_end, levels_of};
+ghost use Rattle.coll_draft.specs.Drafts.{is_end, levels_of, meaning_cause};
 ghost use Rattle.coll_draft.specs.Loading.{rules_after};
 ghost use Rattle.coll_draft.specs.SoundDrafts.{IsSoundDraft, IsProperDeclaration, MayBePut};
 ghost use Rattle.coll_nodes.specs.Table.{name_of, text_of};
@@ -60,7 +60,7 @@ impl Model for Draft {
 
 impl Draft {
     ghost use Rattle.coll_nodes.specs.Entries.{entry_of, weight_ids};
-    ghost use Rattle.coll_draft.specs.Drafts.{draft_of, line_fault, table_of, cause_after, weights_fault, entries_fault, declaration_cause, section_cause, section_cause_if, order_cause, rules_differ, weight_cause, ids_cause};
+    ghost use Rattle.coll_draft.specs.Drafts.{draft_of, line_fault, table_of, second_name, own_order, with_own_weights, cause_after, weights_fault, entries_fault, declaration_cause, section_cause, section_cause_if, order_cause, rules_differ, weight_cause, ids_cause};
     ghost use Rattle.coll_nodes.specs.Walks.{entries_met};
     ghost use Rattle.coll_draft.specs.Loading.{draft_after, draft_with, with_declaration, with_section, with_section_if, with_entry};
 
@@ -128,6 +128,7 @@ impl Draft {
         match line {
             TableLine::Symbol(name) => self.declare(Declaration::Symbol(name)),
             TableLine::Element { name, text } => self.declare(Declaration::Element { name, text }),
+            TableLine::Equivalence { name, symbol } => self.declare_second(name, symbol),
             TableLine::OrderStart { section, rules } => self.start(section, rules),
             TableLine::OrderEnd => self.stop(),
             TableLine::Section(name) => self.section(name),
@@ -137,7 +138,18 @@ impl Draft {
         }
     }
 
-    /// `collating-symbol` and `collating-element`.
+    /// `symbol-equivalence`.
+    fn declare_second(&mut self, name: TextBuf, symbol: TextBuf) -> Result<(), LoadCause>
+        requires { IsName name }
+        ensures ok { OnOk result (declaration_cause self.old.declared (second_name self.old.declared name symbol) ≡ None) }
+        ensures after { OnOk result (self.new ≡ with_declaration self.old (second_name self.old.declared name symbol)) }
+        ensures err { IfErr result (λ cause. cause ≢ OutOfMemory → declaration_cause self.old.declared (second_name self.old.declared name symbol) ≡ Some cause) }
+    {
+        let symbol = self.builder.own_name(symbol)?;
+        self.declare(Declaration::Equivalence { name, symbol })
+    }
+
+    /// `collating-symbol`, `collating-element`, and `symbol-equivalence` with the own name of the symbol.
     fn declare(&mut self, new: Declaration) -> Result<(), LoadCause>
         requires { IsProperDeclaration new }
         ensures ok { OnOk result (declaration_cause self.old.declared new ≡ None) }
@@ -157,6 +169,9 @@ impl Draft {
     {
         if self.builder.declares(declared_name(new)) {
             return Some(LoadCause::DeclaredTwice);
+        }
+        if let Some(cause) = meaning_cause(&self.builder, new) {
+            return Some(cause);
         }
         if has_text_of(&self.builder, new) {
             return Some(LoadCause::StringTwice);
@@ -270,10 +285,11 @@ impl Draft {
         Ok(())
     }
 
-    /// `END LC_COLLATE`, the weights aside.
-    fn end(&self) -> Result<(), LoadCause>
-        ensures ok { OnOk result (cause_after self.now EndCategory ≡ None) }
-        ensures err { IfErr result (λ cause. cause_after self.now EndCategory ≡ Some cause) }
+    /// `END LC_COLLATE`, the weights not yet judged: they stand by own names from here on.
+    fn end(&mut self) -> Result<(), LoadCause>
+        ensures ok { OnOk result (cause_after self.old EndCategory ≡ None) }
+        ensures after { OnOk result (self.new ≡ with_own_weights self.old) }
+        ensures err { IfErr result (λ cause. cause ≢ OutOfMemory → cause_after self.old EndCategory ≡ Some cause) }
     {
         if self.order_open {
             return Err(LoadCause::OutsideOrder);
@@ -281,16 +297,18 @@ impl Draft {
         if self.rules.is_none() {
             return Err(LoadCause::NoRules);
         }
+        self.builder.give_own_weights()?;
         Ok(())
     }
 
     /// An order line, which has this number.
     fn place(&mut self, number: u32, line: OrderLine) -> Result<(), LoadCause>
         requires { IsProperLine line }
-        ensures ok { OnOk result (order_cause self.old line ≡ None) }
-        ensures after { OnOk result (self.new ≡ with_entry self.old number (entry_of (levels_of self.old.rules) self.old.declared line)) }
-        ensures err { IfErr result (λ cause. cause ≢ OutOfMemory → order_cause self.old line ≡ Some cause) }
+        ensures ok { OnOk result (order_cause self.old (own_order self.old.declared line) ≡ None) }
+        ensures after { OnOk result (self.new ≡ with_entry self.old number (entry_of (levels_of self.old.rules) self.old.declared (own_order self.old.declared line))) }
+        ensures err { IfErr result (λ cause. cause ≢ OutOfMemory → order_cause self.old (own_order self.old.declared line) ≡ Some cause) }
     {
+        let line = self.own_order(line)?;
         if let Some(cause) = self.order_cause(&line) {
             return Err(cause);
         }
@@ -298,6 +316,15 @@ impl Draft {
         let entry = self.entry_of(line)?;
         self.put(number, entry)?;
         Ok(())
+    }
+
+    /// An order line, with its identifier by its own name.
+    fn own_order(&self, line: OrderLine) -> Result<OrderLine, AllocError>
+        ensures { IfOk result (λ own. own ≡ own_order self.now.declared line) }
+    {
+        let OrderLine { id, weights } = line;
+        let id = self.builder.own_id(id)?;
+        Ok(OrderLine { id, weights })
     }
 
     /// What holds of every draft. It does nothing; its contract says so.
@@ -458,7 +485,24 @@ fn declared_name(new: &Declaration) -> &TextBuf
     match new {
         Declaration::Symbol(name) => name,
         Declaration::Element { name, text: _ } => name,
+        Declaration::Equivalence { name, symbol: _ } => name,
     }
+}
+
+/// Why what a second name stands for is refused, if it is.
+fn meaning_cause(builder: &Builder, new: &Declaration) -> Option<LoadCause>
+    ensures { result ≡ meaning_cause builder.now.declared new.now }
+{
+    let Declaration::Equivalence { name: _, symbol } = new else {
+        return None;
+    };
+    if builder.is_symbol_name(symbol) {
+        return None;
+    }
+    if builder.is_own_name(symbol) {
+        return Some(LoadCause::NotASymbol);
+    }
+    Some(LoadCause::NotDeclared)
 }
 
 /// Whether a declaration is of an element whose string an earlier one has.
@@ -468,6 +512,7 @@ fn has_text_of(builder: &Builder, new: &Declaration) -> bool
     match new {
         Declaration::Symbol(_) => false,
         Declaration::Element { name: _, text } => builder.has_text(text),
+        Declaration::Equivalence { .. } => false,
     }
 }
 

@@ -6,6 +6,7 @@
 //! - `load_faults`: why a table text is refused (`LoadFaults`);
 //! - `building`: a body that grows (`Building`);
 //! - `line_weights`: the weights that an entry keeps of its line;
+//! - `own_weights`: the weights of all entries by own names, where the category ends (`OwnWeights`);
 //! - `drafts`: the lines, judged (`Drafts`, `SoundDrafts`).
 //!
 //! What a whole text says is defined here as well, for all who speak of it (`Loading`, `Reading`).
@@ -15,6 +16,7 @@ mod building;
 mod drafts;
 mod line_weights;
 mod load_faults;
+mod own_weights;
 
 pub use drafts::Draft;
 pub use line_weights::{given_len, kept_weights};

@@ -58,7 +58,8 @@ pub enum LoadCause {
     RulesDiffer,
     /// A name is declared that an earlier line declares.
     DeclaredTwice,
-    /// An order line has a name that no earlier line declares, or a weight names what no line declares.
+    /// An order line has a name that no earlier line declares, a weight names what no line declares, or a second name is to stand
+    /// for what no earlier line declares.
     NotDeclared,
     /// An order line has an identifier that an earlier one has.
     PlacedTwice,
@@ -82,6 +83,8 @@ pub enum LoadCause {
     ReadFault,
     /// Memory was refused.
     OutOfMemory,
+    /// A second name is to stand for a collating element, and not for a collating symbol.
+    NotASymbol,
 }
 
 impl LoadCause {
@@ -110,6 +113,7 @@ impl LoadCause {
             LoadCause::NoEnd => 43,
             LoadCause::ReadFault => 67,
             LoadCause::OutOfMemory => 70,
+            LoadCause::NotASymbol => 73,
         }
     }
 
@@ -136,6 +140,7 @@ impl LoadCause {
             LoadCause::NoEnd => "NoEnd",
             LoadCause::ReadFault => "ReadFault",
             LoadCause::OutOfMemory => "OutOfMemory",
+            LoadCause::NotASymbol => "NotASymbol",
         }
     }
 }
