@@ -2,9 +2,11 @@
 use Rattle.std.proofs.Common.{◌≡◌, ℕ, suc, ◌+◌, ◌-◌, ◌≤◌, Bool, true, false, not, if◌then◌else◌, IsTrue, List, [], ◌∷◌, ◌++◌, length, map, replicate, Option, Some, None, sym, ap, subst, ◌∙◌, refl, arith, length-append, append_assoc, append-nil}
 use Rattle.std.specs.Prelude.{◌&&◌, All, nat_le, nat_lt, is_some}
 use Rattle.std.specs.List.{flat_map, list_any, list_all}
-use Rattle.std.proofs.lemmas.Bool.{lt-leb, le-ltb}
+use Rattle.std.specs.Option.{option_or}
+use Rattle.std.proofs.lemmas.Bool.{not-false, lt-leb, le-ltb}
 use Rattle.std.proofs.lemmas.List.{map-append, length-map}
 use Rattle.std.proofs.lemmas.Grind.{flat_map-append}
+use Rattle.std.proofs.lemmas.List.Folds.{list_any-append}
 use Rattle.std.proofs.lemmas.List.Elements.{All-nil, All-cons, All-head, All-tail}
 use Rattle.coll_lex.specs.Names.{IsName}
 use Rattle.coll_syntax.specs.Identifier.{same_name, same_id, has_name}
@@ -18,17 +20,19 @@ use Rattle.coll_syntax.specs.declared.lines.TableLine.TheVariants as line
 use Rattle.coll_nodes.specs.declared.declarations.Declaration.{Declaration}
 use Rattle.coll_nodes.specs.declared.declarations.Declaration.TheVariants as declaration
 use Rattle.coll_nodes.specs.declared.entries.Entry.{Entry}
-use Rattle.coll_nodes.specs.Table.{Collation, Section, name_of, text_of, names_of, texts_of, joined_entries, ids_of, named, section_names, is_placed_in, is_placed, is_declared, is_known, is_symbol}
+use Rattle.coll_nodes.specs.Table.{Collation, Section, name_of, text_of, names_of, texts_of, joined_entries, ids_of, named, section_names, is_placed_in, is_placed, is_declared, is_known, is_symbol, is_symbol_name}
+use Rattle.coll_nodes.specs.OwnNames.{named_own, means_no_symbol, MeanSymbols}
 use Rattle.coll_nodes.specs.Entries.{names_only, kept_weight, kept_weights, given_weights, weights_of, entry_of, ids_named}
 use Rattle.coll_nodes.specs.WellFormed.{AreDistinct, IsNamed, FirstIsUnnamed, IsKeptWeight, HasWeights, IsWeighted, IsKnown, HasPlacedWeights, IsWellFormed}
 use Rattle.coll_nodes.specs.Limits.{most_entries, most_declarations, most_sections}
 use Rattle.coll_nodes.specs.Table.{has_text}
-use Rattle.coll_draft.specs.Drafts.{DraftState, draft_of, table_of, refused_if, declaration_cause, cause_after, weight_cause, ids_cause, entries_fault, line_fault, is_end}
+use Rattle.coll_draft.specs.Drafts.{DraftState, draft_of, table_of, own_order, with_own_weights, refused_if, meaning_cause, declaration_cause, order_cause, cause_after, weight_cause, ids_cause, entries_fault, weights_fault, line_fault, is_end}
 use Rattle.coll_draft.specs.declared.load_faults.LoadCause.{LoadCause}
 use Rattle.coll_draft.specs.Loading.{with_last, with_section, draft_with}
 use Rattle.coll_nodes.specs.Walks.{Met, MetSection, MetEntry, met_name, met_in, met, entry_met}
 use Rattle.coll_print.specs.CanonicalText.{is_own}
-use Rattle.coll_nodes.proofs.Sameness.{same_id_decides, same_name_symmetric, same_id_symmetric, same_id_itself, distinct_before, found_holds}
+use Rattle.coll_nodes.proofs.Sameness.{neither, same_id_decides, same_name_symmetric, same_id_symmetric, same_id_itself, distinct_before, found_holds}
+use Rattle.coll_nodes.proofs.OwnNames.{symbol_own, named_own_same, own_id_known, own_table, meant_before, means_something}
 use Rattle.coll_draft.proofs.BuiltTables.{entries_with_section, names_with_section, unnamed_with_section, entries_with_last, names_with_last, length_with_last, unnamed_with_last}
 use Rattle.coll_draft.proofs.MetEntries.{met_all}
 use Rattle.coll_print.proofs.PrintedTokens.{own_read, weight_read, order_read, declaration_read}
@@ -45,6 +49,7 @@ faultless : (d : DraftState) (number : ℕ) (l : TableLine) → is_end l ≡ fal
 unfolding line_fault
 faultless d number (line.Symbol name) e h = rw h refl
 faultless d number (line.Element name text) e h = rw h refl
+faultless d number (line.Equivalence name symbol) e h = rw h refl
 faultless d number (line.OrderStart section rules) e h = rw h refl
 faultless d number line.OrderEnd e h = rw h refl
 faultless d number (line.Section name) e h = rw h refl
@@ -57,6 +62,11 @@ passes : (test : Bool) (cause : LoadCause) (later : Option LoadCause) → test �
 passes true cause later t h = cc
 passes false cause later t h = h
 
+-- and where nothing is refused first, what follows decides
+goes_by : (first later : Option LoadCause) → first ≡ None → later ≡ None → option_or first later ≡ None
+goes_by None later f h = h
+goes_by (Some cause) later f h = cc
+
 -- The declarations.
 
 -- what is said where only this is declared
@@ -66,32 +76,56 @@ declared_draft done = record { order_open = false; rules = None; declared = done
 -- no string of a declaration stands before it
 apart_texts : (texts later : List (List ℕ)) (new : Declaration) → AreDistinct same_name (texts ++ (text_of new ++ later)) → list_any (has_name texts) (text_of new) ≡ false
 apart_texts texts later (declaration.Symbol name) d = refl
+apart_texts texts later (declaration.Equivalence name symbol) d = refl
 apart_texts texts later (declaration.Element name text) d = rw (distinct_before same_name same_name_symmetric texts text later d) refl
 
--- a declaration is accepted where those before it and it are apart
-declaration_passes : (declared : List Declaration) (new : Declaration) (later : List Declaration) → AreDistinct same_name (names_of (declared ++ new ∷ later)) → AreDistinct same_name (texts_of (declared ++ new ∷ later)) → length (declared ++ new ∷ later) ≤ most_declarations → declaration_cause declared new ≡ None
-declaration_passes declared new later names texts few =
+-- a declaration is accepted where those before it and it are apart, and it means a symbol, if it is a second name
+declaration_passes : (declared : List Declaration) (new : Declaration) (later : List Declaration) → AreDistinct same_name (names_of (declared ++ new ∷ later)) → AreDistinct same_name (texts_of (declared ++ new ∷ later)) → means_no_symbol declared new ≡ false → length (declared ++ new ∷ later) ≤ most_declarations → declaration_cause declared new ≡ None
+declaration_passes declared new later names texts means few =
     let own : is_declared declared (name_of new) ≡ false = distinct_before same_name same_name_symmetric (names_of declared) (name_of new) (names_of later) (subst (AreDistinct same_name) (map-append name_of declared (new ∷ later)) names) in
     let text : has_text declared (text_of new) ≡ false = apart_texts (texts_of declared) (texts_of later) new (subst (AreDistinct same_name) (flat_map-append text_of declared (new ∷ later)) texts) in
     let room : nat_le most_declarations (length declared) ≡ false = lt-leb most_declarations (length declared) (omega (arith, length-append declared (new ∷ later))) in
-    passes _ _ _ own (passes _ _ _ text (passes _ _ _ room refl))
+    let meaning : meaning_cause declared new ≡ None = passes _ _ _ (means_something declared new means) (passes _ _ _ means refl) in
+    passes _ _ _ own (goes_by _ _ meaning (passes _ _ _ text (passes _ _ _ room refl)))
+
+-- what stands apart stands apart at its front
+distinct_front : {X : Type 0} (same : X → X → Bool) (xs ys : List X) → AreDistinct same (xs ++ ys) → AreDistinct same xs
+distinct_front same [] ys h = tt
+distinct_front same (x ∷ xs) ys h = ((neither _ _ (sym (list_any-append (same x) xs ys) ∙ h.0)).0, distinct_front same xs ys h.1)
+
+-- the symbol of a second name that means one stands for itself
+symbol_stays : (done : List Declaration) (name symbol : List ℕ) (later : List Declaration) → AreDistinct same_name (names_of (done ++ declaration.Equivalence name symbol ∷ later)) → means_no_symbol done (declaration.Equivalence name symbol) ≡ false → named_own done symbol ≡ symbol
+symbol_stays done name symbol later names means =
+    let apart = distinct_front same_name (names_of done) (name ∷ names_of later) (subst (AreDistinct same_name) (map-append name_of done (declaration.Equivalence name symbol ∷ later)) names) in
+    named_own_same done symbol apart (symbol_own done symbol (not-false (is_symbol_name done symbol) means))
+
+-- a declaration, accepted behind others
+declaration_leads : (done : List Declaration) (new : Declaration) (later : List Declaration) (number : ℕ) (ls : List TableLine) (Last : DraftState → Type 0)
+    → AreDistinct same_name (names_of (done ++ new ∷ later)) → means_no_symbol done new ≡ false → declaration_cause done new ≡ None
+    → Leads (declared_draft (done ++ new ∷ [])) (suc number) ls Last → Leads (declared_draft done) number (declaration_read new ∷ ls) Last
+unfolding Leads declared_draft declaration_read draft_with
+declaration_leads done (declaration.Symbol name) later number ls Last names means e more = (faultless (declared_draft done) number (line.Symbol name) refl e, refl, more)
+declaration_leads done (declaration.Element name text) later number ls Last names means e more = (faultless (declared_draft done) number (line.Element name text) refl e, refl, more)
+declaration_leads done (declaration.Equivalence name symbol) later number ls Last names means e more =
+    let same : symbol ≡ named_own done symbol = sym (symbol_stays done name symbol later names means) in (
+      faultless (declared_draft done) number (line.Equivalence name symbol) refl (subst (λ own. declaration_cause done (declaration.Equivalence name own) ≡ None) same e),
+      refl,
+      subst (λ own. Leads (declared_draft (done ++ declaration.Equivalence name own ∷ [])) (suc number) ls Last) same more,
+    )
 
 -- all declarations, accepted one after another
 declarations_lead : (done later : List Declaration) (number : ℕ) (rest : List TableLine) (Last : DraftState → Type 0)
-    → AreDistinct same_name (names_of (done ++ later)) → AreDistinct same_name (texts_of (done ++ later)) → length (done ++ later) ≤ most_declarations
+    → AreDistinct same_name (names_of (done ++ later)) → AreDistinct same_name (texts_of (done ++ later)) → MeanSymbols (done ++ later) → length (done ++ later) ≤ most_declarations
     → ((number : ℕ) → Leads (declared_draft (done ++ later)) number rest Last)
     → Leads (declared_draft done) number (map declaration_read later ++ rest) Last
-unfolding Leads declared_draft declaration_read draft_with
-declarations_lead done [] number rest Last names texts few goes_on = subst (λ ds. Leads (declared_draft ds) number rest Last) (append-nil done) (goes_on number)
-declarations_lead done (new ∷ later) number rest Last names texts few goes_on =
+declarations_lead done [] number rest Last names texts meant few goes_on = subst (λ ds. Leads (declared_draft ds) number rest Last) (append-nil done) (goes_on number)
+declarations_lead done (new ∷ later) number rest Last names texts meant few goes_on =
     let all : (done ++ new ∷ []) ++ later ≡ done ++ new ∷ later = append_assoc done (new ∷ []) later in
+    let means : means_no_symbol done new ≡ false = meant_before done new later meant in
     let more = declarations_lead (done ++ new ∷ []) later (suc number) rest Last
-    (subst (λ ds. AreDistinct same_name (names_of ds)) (sym all) names) (subst (λ ds. AreDistinct same_name (texts_of ds)) (sym all) texts)
+    (subst (λ ds. AreDistinct same_name (names_of ds)) (sym all) names) (subst (λ ds. AreDistinct same_name (texts_of ds)) (sym all) texts) (subst MeanSymbols (sym all) meant)
     (subst (λ (ds : List Declaration). length ds ≤ most_declarations) (sym all) few) (subst (λ ds. (number : ℕ) → Leads (declared_draft ds) number rest Last) (sym all) goes_on) in
-    one_leads done new number (map declaration_read later ++ rest) Last (declaration_passes done new later names texts few) more where
-      one_leads : (done : List Declaration) (new : Declaration) (number : ℕ) (ls : List TableLine) (Last : DraftState → Type 0) → declaration_cause done new ≡ None → Leads (declared_draft (done ++ new ∷ [])) (suc number) ls Last → Leads (declared_draft done) number (declaration_read new ∷ ls) Last
-      one_leads done (declaration.Symbol name) number ls Last e more = (faultless (declared_draft done) number (line.Symbol name) refl e, refl, more)
-      one_leads done (declaration.Element name text) number ls Last e more = (faultless (declared_draft done) number (line.Element name text) refl e, refl, more)
+    declaration_leads done new later number (map declaration_read later ++ rest) Last names means (declaration_passes done new later names texts means few) more
 
 -- The order lines.
 
@@ -179,6 +213,7 @@ record CanFollow (levels : ℕ) (declared : List Declaration) (sections : List S
   pub are_names : All IsName (flat_map name_met ms)
   pub distinct_names : AreDistinct same_name (section_names sections ++ flat_map name_met ms)
   pub distinct_ids : AreDistinct same_id (ids_of (joined_entries sections ++ flat_map entry_met ms))
+  pub declared_once : AreDistinct same_name (names_of declared)
   pub known : All (IsKnown declared) (ids_of (flat_map entry_met ms))
   pub weighted : All (IsWeighted levels declared) (flat_map entry_met ms)
   pub few_entries : length (joined_entries sections ++ flat_map entry_met ms) ≤ most_entries
@@ -198,6 +233,7 @@ module _ (levels : ℕ) (declared : List Declaration) where
         are_names = All-tail IsName name (flat_map name_met ms) can.are_names;
         distinct_names = subst (AreDistinct same_name) (sym names) can.distinct_names;
         distinct_ids = subst (λ es. AreDistinct same_id (ids_of (es ++ flat_map entry_met ms))) same can.distinct_ids;
+        declared_once = can.declared_once;
         known = can.known;
         weighted = can.weighted;
         few_entries = subst (λ (es : List Entry). length (es ++ flat_map entry_met ms) ≤ most_entries) same can.few_entries;
@@ -215,6 +251,7 @@ module _ (levels : ℕ) (declared : List Declaration) where
         are_names = can.are_names;
         distinct_names = subst (λ ns. AreDistinct same_name (ns ++ flat_map name_met ms)) (sym (names_with_last sections e)) can.distinct_names;
         distinct_ids = subst (λ es. AreDistinct same_id (ids_of es)) (sym more) can.distinct_ids;
+        declared_once = can.declared_once;
         known = All-tail (IsKnown declared) e.id (ids_of (flat_map entry_met ms)) can.known;
         weighted = All-tail (IsWeighted levels declared) e (flat_map entry_met ms) can.weighted;
         few_entries = subst (λ (es : List Entry). length es ≤ most_entries) (sym more) can.few_entries;
@@ -224,6 +261,12 @@ module _ (levels : ℕ) (declared : List Declaration) where
 -- what is said where an order is open, with these sections and numbers
 open_draft : List Rule → List Declaration → List Section → List ℕ → DraftState
 open_draft rules declared sections numbers = record { order_open = true; rules = Some rules; declared = declared; sections = sections; numbers = numbers }
+
+-- the identifier of an entry that may stand here stands for itself
+own_as_read : (levels : ℕ) (declared : List Declaration) (sections : List Section) (e : Entry) (ms : List Met) → CanFollow levels declared sections (MetEntry e ∷ ms) → own_order declared (order_read e.id e.weights) ≡ order_read e.id e.weights
+unfolding order_read
+own_as_read levels declared sections e ms can =
+    ap (λ id. record (order_read e.id e.weights) { id = id }) (own_id_known declared e.id can.declared_once (All-head (IsKnown declared) e.id (ids_of (flat_map entry_met ms)) can.known))
 
 module _ (rules : List Rule) (declared : List Declaration) (sections : List Section) (numbers : List ℕ) where
   -- a section is accepted
@@ -244,7 +287,8 @@ module _ (rules : List Rule) (declared : List Declaration) (sections : List Sect
       let new : is_placed_in sections e.id ≡ false = distinct_before same_id same_id_symmetric (ids_of (joined_entries sections)) e.id (ids_of (flat_map entry_met ms)) ids in
       let room : nat_le most_entries (length (joined_entries sections)) ≡ false =
       let few = can.few_entries in lt-leb most_entries (length (joined_entries sections)) (omega (arith, length-append (joined_entries sections) (e ∷ flat_map entry_met ms))) in
-      passes _ _ _ known (passes _ _ _ new (passes _ _ _ (symbol_passes (length rules) (is_symbol declared e.id) e weighted) (passes _ _ _ (count_passes (length rules) (is_symbol declared e.id) e weighted) (passes _ _ _ room refl))))
+      subst (λ order. order_cause (open_draft rules declared sections numbers) order ≡ None) (sym (own_as_read (length rules) declared sections e ms can))
+      (passes _ _ _ known (passes _ _ _ new (passes _ _ _ (symbol_passes (length rules) (is_symbol declared e.id) e weighted) (passes _ _ _ (count_passes (length rules) (is_symbol declared e.id) e weighted) (passes _ _ _ room refl)))))
 
 -- all that is met, accepted one after another
 meets_lead : (rules : List Rule) (declared : List Declaration) (sections : List Section) (numbers : List ℕ) (ms : List Met) (number : ℕ) (rest : List TableLine) (Last : DraftState → Type 0)
@@ -260,7 +304,8 @@ meets_lead rules declared sections numbers (MetSection name ∷ ms) number rest 
 )
 meets_lead rules declared sections numbers (MetEntry e ∷ ms) number rest Last can goes_on =
     let order = order_read e.id e.weights in
-    let same : e ≡ entry_of (length rules) declared order = sym (entry_as_it_was (length rules) declared e (weighted_first can)) in (
+    let same : e ≡ entry_of (length rules) declared (own_order declared order) =
+    sym (entry_as_it_was (length rules) declared e (weighted_first can)) ∙ ap (entry_of (length rules) declared) (sym (own_as_read (length rules) declared sections e ms can)) in (
       faultless (open_draft rules declared sections numbers) number (line.Order order) refl (entry_passes rules declared sections numbers e ms can),
       refl,
       subst (λ (entry : Entry). Leads (open_draft rules declared (with_last sections entry) (numbers ++ number ∷ [])) (suc number) (map met_read ms ++ rest) Last) same
@@ -341,10 +386,10 @@ names_of_first (first ∷ others) h =
 
 -- The end of the category.
 
--- what is said at the end: no weight is refused, the order is closed, and the table is this one
+-- what is said at the end: no weight is refused, the order is closed, and the table, with its weights by own names, is this one
 pub record EndsAs (table : Collation) (d : DraftState) : Type 0 where
   pub passes : (number : ℕ) → line_fault d (record { number = number; line = line.EndCategory }) ≡ None
-  pub says : table_of d ≡ table
+  pub says : table_of (with_own_weights d) ≡ table
 
 -- what is said behind the last line of the order
 closed_draft : Collation → List ℕ → DraftState
@@ -369,9 +414,17 @@ module _ (table : Collation) (w : IsWellFormed table) (numbers : List ℕ) where
   entries_pass (place ∷ places) (e ∷ entries) h =
       rw (ids_pass (ids_named e) (All-head (HasPlacedWeights table) e entries h)) (entries_pass places entries (All-tail (HasPlacedWeights table) e entries h))
 
+  -- its weights stand by own names already
+  own_as_closed : with_own_weights (closed_draft table numbers) ≡ closed_draft table numbers
+  unfolding closed_draft
+  own_as_closed = ap (λ sections. record (closed_draft table numbers) { sections = sections }) (own_table table w)
+
   ends_as : EndsAs table (closed_draft table numbers)
   unfolding line_fault closed_draft
-  ends_as = record { passes = λ number. entries_pass numbers (joined_entries table.sections) w.weights_placed; says = refl }
+  ends_as = record {
+    passes = λ number. ap weights_fault own_as_closed ∙ entries_pass numbers (joined_entries table.sections) w.weights_placed;
+    says = ap table_of own_as_closed;
+  }
 
 -- The whole table.
 
@@ -391,6 +444,7 @@ module _ (table : Collation) (w : IsWellFormed table) where
         are_names = subst (All IsName) names named.0;
         distinct_names = subst (AreDistinct same_name) names w.built.distinct_sections;
         distinct_ids = subst (λ es. AreDistinct same_id (ids_of es)) entries w.built.distinct_entries;
+        declared_once = w.built.distinct_names;
         known = subst (λ es. All (IsKnown table.declared) (ids_of es)) entries w.built.known;
         weighted = subst (All (IsWeighted (length table.rules) table.declared)) entries w.built.weighted;
         few_entries = subst (λ (es : List Entry). length es ≤ most_entries) entries w.built.few_entries;
@@ -418,4 +472,4 @@ module _ (table : Collation) (w : IsWellFormed table) where
   unfolding said declared_draft draft_of
   said_leads number =
       declarations_lead [] table.declared number (line.OrderStart None (Some table.rules) ∷ (map met_read (met table.sections) ++ line.OrderEnd ∷ [])) (EndsAs table)
-      w.built.distinct_names w.built.distinct_texts w.built.few_declarations rules_lead
+      w.built.distinct_names w.built.distinct_texts w.built.meant w.built.few_declarations rules_lead

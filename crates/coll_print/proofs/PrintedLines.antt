@@ -28,6 +28,7 @@ use Rattle.coll_syntax.specs.declared.weights.Weight.TheVariants.{Ignore, Own, N
 use Rattle.coll_nodes.specs.declared.declarations.Declaration.{Declaration}
 use Rattle.coll_nodes.specs.declared.declarations.Declaration.TheVariants as declaration
 use Rattle.coll_nodes.specs.declared.entries.Entry.{Entry}
+use Rattle.coll_nodes.specs.OwnNames.{stands_for}
 use Rattle.coll_nodes.specs.Table.{name_of, text_of}
 use Rattle.coll_nodes.specs.Walks.{MetSection}
 use Rattle.coll_print.specs.CanonicalText.{spelled_behind, spelled_joined, spelled_id, spelled_string, spelled_own, spelled_names, spelled_weight, direction_word, spelled_position, spelled_rule, declaration_line, rules_line, is_own, entry_line, met_line}
@@ -180,9 +181,10 @@ unfolding id_piece
 text_pieces [] = refl
 text_pieces (c ∷ cs) = ap (λ l. piece.Char c ∷ l) (text_pieces cs)
 
--- a name and a string of characters
+-- a name, the name that it stands for, and a string of characters
 pub record IsSpelledDeclaration (d : Declaration) : Type 0 where
   pub name : IsName (name_of d)
+  pub own : IsName (stands_for d)
   pub texts : All IsElementText (text_of d)
 
 from_spells : (text : List ℕ) → IsElementText text → Spells (λ rest. 32 ∷ (codes "from" ++ 32 ∷ spelled_string (map Char text) rest)) (token.Word (codes "from") ∷ token.Text (map piece.Char text) ∷ []) (1 + (4 + (1 + 8258)))
@@ -204,6 +206,15 @@ element_is_line name text is few =
     line_from (λ rest. codes "collating-element" ++ 32 ∷ spelled_symbol name (32 ∷ (codes "from" ++ 32 ∷ spelled_string (map Char text) rest))) (token.Word (codes "collating-element")) (token.Symbol name ∷ token.Word (codes "from") ∷ token.Text (map piece.Char text) ∷ []) (17 + (1 + (258 + (1 + (4 + (1 + 8258))))))
     (spells_begun 99 (codes "ollating-element") (λ rest. spelled_symbol name (32 ∷ (codes "from" ++ 32 ∷ spelled_string (map Char text) rest))) (token.Symbol name ∷ token.Word (codes "from") ∷ token.Text (map piece.Char text) ∷ []) (258 + (1 + (4 + (1 + 8258)))) refl
     (spells_both (spelled_symbol name) (λ rest. 32 ∷ (codes "from" ++ 32 ∷ spelled_string (map Char text) rest)) (token.Symbol name ∷ []) (token.Word (codes "from") ∷ token.Text (map piece.Char text) ∷ []) 258 (1 + (4 + (1 + 8258))) (spells_name name is) (from_spells text few) (λ rest e. space_ends (codes "from" ++ 32 ∷ spelled_string (map Char text) rest))))
+    (omega arith) (λ special. refl)
+
+equivalence_is_line : (name symbol : List ℕ) → IsName name → IsName symbol → IsLine (declaration_line (declaration.Equivalence name symbol)) (token.Word (codes "symbol-equivalence")) (token.Symbol name ∷ token.Symbol symbol ∷ [])
+unfolding is_letter is_clean directive operand_of past_blanks encode
+equivalence_is_line name symbol is own =
+    line_from (λ rest. codes "symbol-equivalence" ++ 32 ∷ spelled_symbol name (32 ∷ spelled_symbol symbol rest)) (token.Word (codes "symbol-equivalence")) (token.Symbol name ∷ token.Symbol symbol ∷ []) (18 + (1 + (258 + (1 + 258))))
+    (spells_begun 115 (codes "ymbol-equivalence") (λ rest. spelled_symbol name (32 ∷ spelled_symbol symbol rest)) (token.Symbol name ∷ token.Symbol symbol ∷ []) (258 + (1 + 258)) refl
+    (spells_both (spelled_symbol name) (λ rest. 32 ∷ spelled_symbol symbol rest) (token.Symbol name ∷ []) (token.Symbol symbol ∷ []) 258 (1 + 258) (spells_name name is)
+    (spells_apart (λ rest. 32 ∷ rest) (spelled_symbol symbol) [] (token.Symbol symbol ∷ []) 1 258 separates_space (spells_name symbol own)) (λ rest e. space_ends (spelled_symbol symbol rest))))
     (omega arith) (λ special. refl)
 
 -- The line of an entry.
@@ -247,6 +258,12 @@ declaration_says (declaration.Element name text) h = (
   token.Symbol name ∷ token.Word (codes "from") ∷ token.Text (map piece.Char text) ∷ [],
   element_is_line name text h.name (All-head IsElementText text [] h.texts),
   declaration_is_read (declaration.Element name text) h.texts,
+)
+declaration_says (declaration.Equivalence name symbol) h = (
+  token.Word (codes "symbol-equivalence"),
+  token.Symbol name ∷ token.Symbol symbol ∷ [],
+  equivalence_is_line name symbol h.name h.own,
+  declaration_is_read (declaration.Equivalence name symbol) h.texts,
 )
 
 -- the line of the rules

@@ -10,6 +10,7 @@ use Rattle.std.proofs.lemmas.Str.{encodes-append}
 use Rattle.std.proofs.lemmas.List.{drop_more}
 use Rattle.coll_devices.specs.Devices.{AppendsFront, Sends}
 use Rattle.coll_devices.specs.PhysicalLines.{line_feed}
+use Rattle.coll_lex.specs.Characters.{space}
 use Rattle.coll_lex.specs.Spelling.{spelled_symbol, spelled_code}
 use Rattle.coll_lex.proofs.SpellingLemmas.{spelled_symbol-append, spelled_code-append}
 use Rattle.coll_devices.proofs.WritingLemmas.{AppendsFront-before, AppendsFront-after, Sends-stopped, Sends-after}
@@ -22,7 +23,7 @@ use Rattle.coll_nodes.specs.declared.declarations.Declaration.TheVariants as dec
 use Rattle.coll_nodes.specs.Table.{Collation}
 use Rattle.coll_nodes.specs.Walks.{MetSection, met}
 use Rattle.coll_print.specs.CanonicalText.{spelled_all, spelled_behind, spelled_joined, spelled_id, spelled_string, spelled_own, spelled_names, spelled_weight, is_own, weights_behind, direction_word, spelled_position, spelled_rule, declaration_line, rules_line, met_line, closing_lines, canonical_lines, line_bytes, text}
-use Rattle.coll_print.specs.PrintedParts.{id_bytes, behind_bytes, char_bytes, symbol_bytes, text_bytes, element_bytes, declaration_bytes, met_bytes, sections_bytes, category_bytes}
+use Rattle.coll_print.specs.PrintedParts.{id_bytes, behind_bytes, char_bytes, symbol_bytes, text_bytes, element_bytes, equivalence_bytes, declaration_bytes, met_bytes, sections_bytes, category_bytes}
 
 -- What is written.
 
@@ -161,6 +162,13 @@ unfolding encode
 element_parts name chars =
     ap (λ l. codes "collating-element " ++ (l ++ line_feed ∷ [])) (id_before (Named name) (codes " from " ++ spelled_string (map Char chars) []))
     ∙ ap (λ l. codes "collating-element " ++ l) (append_assoc (symbol_bytes name) (encode_utf8_all (codes " from " ++ spelled_string (map Char chars) [])) (line_feed ∷ []) ∙ ap (λ l. symbol_bytes name ++ l) (from_parts chars))
+
+-- the line of a second name
+pub equivalence_parts : (name symbol : List ℕ) → declaration_bytes (declaration.Equivalence name symbol) ≡ codes "symbol-equivalence " ++ equivalence_bytes name symbol
+unfolding encode
+equivalence_parts name symbol =
+    ap (λ l. codes "symbol-equivalence " ++ (l ++ line_feed ∷ [])) (id_before (Named name) (space ∷ spelled_symbol symbol []))
+    ∙ ap (λ l. codes "symbol-equivalence " ++ l) (append_assoc (symbol_bytes name) (encode_utf8_all (space ∷ spelled_symbol symbol [])) (line_feed ∷ []))
 
 -- rules
 rule_by : (backward position : Bool) → (rest : List ℕ) → encode_utf8_all (direction_word backward ++ spelled_position position rest) ≡ encode_utf8_all (direction_word backward ++ spelled_position position []) ++ encode_utf8_all rest

@@ -2,20 +2,25 @@
 use Rattle.std.proofs.Common.{◌≡◌, ℕ, suc, ◌+◌, ◌<◌, ◌≤◌, Bool, true, false, List, [], ◌∷◌, ◌++◌, length, map, codes, Some, None, sym, ap, subst, ◌∙◌, refl, arith, append_assoc, length-append}
 use Rattle.std.specs.Prelude.{All, encode_utf8_all}
 use Rattle.std.specs.List.{flat_map}
+use Rattle.std.proofs.lemmas.Bool.{not-false}
 use Rattle.std.proofs.lemmas.List.{map-append, length-map}
 use Rattle.std.proofs.lemmas.List.Elements.{All-nil, All-cons, All-head, All-tail, All-append, All-weaker}
 use Rattle.coll_lex.specs.Limits.{most_lines}
 use Rattle.coll_lex.specs.Names.{IsName}
 use Rattle.coll_devices.specs.PhysicalLines.{IsInLine, lines_of}
+use Rattle.coll_syntax.specs.Identifier.{same_name}
 use Rattle.coll_syntax.specs.Proper.{IsId, IsElementText, IsProperWeight}
 use Rattle.coll_syntax.specs.declared.lines.TableLine.TheVariants as line
 use Rattle.coll_nodes.specs.declared.declarations.Declaration.{Declaration}
 use Rattle.coll_nodes.specs.declared.declarations.Declaration.TheVariants as declaration
 use Rattle.coll_nodes.specs.declared.entries.Entry.{Entry}
-use Rattle.coll_nodes.specs.Table.{Collation, names_of, texts_of, joined_entries, ids_of, section_names, is_symbol}
+use Rattle.coll_nodes.specs.OwnNames.{MeanSymbolsBehind}
+use Rattle.coll_nodes.specs.Table.{Collation, name_of, names_of, texts_of, joined_entries, ids_of, section_names, is_symbol, is_symbol_name}
 use Rattle.coll_nodes.specs.WellFormed.{IsKeptWeight, HasWeights, IsWeighted, IsWellFormed}
 use Rattle.coll_nodes.specs.Limits.{most_entries, most_declarations, most_sections}
 use Rattle.coll_nodes.specs.Walks.{Met, MetSection, MetEntry, met, entry_met}
+use Rattle.coll_nodes.proofs.OwnNames.{own_declared, symbol_own}
+use Rattle.coll_nodes.proofs.Sameness.{same_name_decides, found_holds}
 use Rattle.coll_draft.proofs.MetEntries.{met_all}
 use Rattle.coll_draft.specs.Reading.{answer_at_end, outcome_of, reads}
 use Rattle.coll_print.specs.CanonicalText.{declaration_line, rules_line, met_line, opening_lines, canonical_lines, line_bytes, text, PrintedTablesAreReadBack}
@@ -28,17 +33,34 @@ use Rattle.coll_print.proofs.PrintedReading.{bytes_of, SayAll, say_append, say_m
 
 -- What a well-formed table is made of.
 
--- its declarations
-declarations_spelled : (declared : List Declaration) → All IsName (names_of declared) → All IsElementText (texts_of declared) → All IsSpelledDeclaration declared
-declarations_spelled [] names texts = All-nil IsSpelledDeclaration
-declarations_spelled (declaration.Symbol name ∷ later) names texts =
+-- a name that is declared as a collating symbol is one
+symbol_is_name : (declared : List Declaration) (symbol : List ℕ) → All IsName (names_of declared) → is_symbol_name declared symbol ≡ true → IsName symbol
+symbol_is_name declared symbol names is =
+    found_holds same_name same_name_decides IsName (names_of declared) symbol names (own_declared declared symbol (symbol_own declared symbol is))
+
+-- names, and one more
+one_more : (declared : List Declaration) (new : Declaration) → All IsName (names_of declared) → IsName (name_of new) → All IsName (names_of (declared ++ new ∷ []))
+one_more declared new names is =
+    subst (All IsName) (sym (map-append name_of declared (new ∷ []))) (All-append IsName (names_of declared) (name_of new ∷ []) names (All-cons IsName (name_of new) [] is (All-nil IsName)))
+
+-- its declarations, behind others
+declarations_spelled : (before later : List Declaration) → MeanSymbolsBehind before later → All IsName (names_of before) → All IsName (names_of later) → All IsElementText (texts_of later) → All IsSpelledDeclaration later
+declarations_spelled before [] meant front names texts = All-nil IsSpelledDeclaration
+declarations_spelled before (declaration.Symbol name ∷ later) meant front names texts =
+    let is = All-head IsName name (names_of later) names in
     All-cons IsSpelledDeclaration (declaration.Symbol name) later
-    (record { name = All-head IsName name (names_of later) names; texts = All-nil IsElementText })
-    (declarations_spelled later (All-tail IsName name (names_of later) names) texts)
-declarations_spelled (declaration.Element name chars ∷ later) names texts =
+    (record { name = is; own = is; texts = All-nil IsElementText })
+    (declarations_spelled (before ++ declaration.Symbol name ∷ []) later meant.1 (one_more before (declaration.Symbol name) front is) (All-tail IsName name (names_of later) names) texts)
+declarations_spelled before (declaration.Element name chars ∷ later) meant front names texts =
+    let is = All-head IsName name (names_of later) names in
     All-cons IsSpelledDeclaration (declaration.Element name chars) later
-    (record { name = All-head IsName name (names_of later) names; texts = All-cons IsElementText chars [] (All-head IsElementText chars (texts_of later) texts) (All-nil IsElementText) })
-    (declarations_spelled later (All-tail IsName name (names_of later) names) (All-tail IsElementText chars (texts_of later) texts))
+    (record { name = is; own = is; texts = All-cons IsElementText chars [] (All-head IsElementText chars (texts_of later) texts) (All-nil IsElementText) })
+    (declarations_spelled (before ++ declaration.Element name chars ∷ []) later meant.1 (one_more before (declaration.Element name chars) front is) (All-tail IsName name (names_of later) names) (All-tail IsElementText chars (texts_of later) texts))
+declarations_spelled before (declaration.Equivalence name symbol ∷ later) meant front names texts =
+    let is = All-head IsName name (names_of later) names in
+    All-cons IsSpelledDeclaration (declaration.Equivalence name symbol) later
+    (record { name = is; own = symbol_is_name before symbol front (not-false (is_symbol_name before symbol) meant.0); texts = All-nil IsElementText })
+    (declarations_spelled (before ++ declaration.Equivalence name symbol ∷ []) later meant.1 (one_more before (declaration.Equivalence name symbol) front is) (All-tail IsName name (names_of later) names) texts)
 
 -- an entry
 entry_spelled : (levels : ℕ) (declared : List Declaration) (e : Entry) → levels ≤ 4 → IsId e.id → IsWeighted levels declared e → IsSpelledEntry e
@@ -81,7 +103,7 @@ module _ (table : Collation) (w : IsWellFormed table) where
       let spelled = entries_spelled (length table.rules) table.declared (joined_entries table.sections) w.built.few_levels w.built.ids w.built.weighted in
       let entries = subst (All IsSpelledEntry) (sym (met_all table.sections)) spelled in
       say_append (map declaration_line table.declared) (rules_line table.rules ∷ (map met_line (met table.sections) ++ codes "order_end" ∷ [])) (map declaration_read table.declared) (line.OrderStart None (Some table.rules) ∷ (map met_read (met table.sections) ++ line.OrderEnd ∷ []))
-      (say_members declaration_line declaration_read IsSpelledDeclaration declaration_says table.declared (declarations_spelled table.declared w.built.names w.built.texts))
+      (say_members declaration_line declaration_read IsSpelledDeclaration declaration_says table.declared (declarations_spelled [] table.declared w.built.meant (All-nil IsName) w.built.names w.built.texts))
       (say_append (rules_line table.rules ∷ []) (map met_line (met table.sections) ++ codes "order_end" ∷ []) (line.OrderStart None (Some table.rules) ∷ []) (map met_read (met table.sections) ++ line.OrderEnd ∷ [])
       (say_one (rules_line table.rules) (line.OrderStart None (Some table.rules)) (rules_say table.rules w.some_levels w.built.few_levels))
       (say_append (map met_line (met table.sections)) (codes "order_end" ∷ []) (map met_read (met table.sections)) (line.OrderEnd ∷ []) (met_say (met table.sections) names entries)

@@ -291,12 +291,14 @@ rules_line_is_read (r ∷ rs) some short = opened_by_rules r rs ∙ ap (read_as 
 -- the tokens of the line of a declaration
 unfoldable pub declaration_tokens : Declaration → List Token
 declaration_tokens (declaration.Symbol name) = token.Word (codes "collating-symbol") ∷ token.Symbol name ∷ []
+declaration_tokens (declaration.Equivalence name symbol) = token.Word (codes "symbol-equivalence") ∷ token.Symbol name ∷ token.Symbol symbol ∷ []
 declaration_tokens (declaration.Element name text) = token.Word (codes "collating-element") ∷ token.Symbol name ∷ token.Word (codes "from") ∷ token.Text (map piece.Char text) ∷ []
 
 -- a declaration as a line of a table
 unfoldable pub declaration_read : Declaration → TableLine
 declaration_read (declaration.Symbol name) = line.Symbol name
 declaration_read (declaration.Element name text) = line.Element name text
+declaration_read (declaration.Equivalence name symbol) = line.Equivalence name symbol
 
 -- the characters of a string give the text back
 characters_read : (text : List ℕ) → characters_of (map piece.Char text) ≡ Some text
@@ -311,6 +313,7 @@ element_is_read (c ∷ cs) h = rw (characters_read cs, le-leb 2 (length (c ∷ c
 pub declaration_is_read : (d : Declaration) → All IsElementText (text_of d) → table_line (declaration_tokens d) ≡ Ok (declaration_read d)
 unfolding table_line declaration_tokens declaration_read keyword_of
 declaration_is_read (declaration.Symbol name) h = refl
+declaration_is_read (declaration.Equivalence name symbol) h = refl
 declaration_is_read (declaration.Element name text) h =
     ap (λ t. read_as (λ (read : List ℕ × List ℕ). line.Element read.0 read.1) (read_as (λ text. (name, text)) (and_then t (λ read. ended read [])))) (element_is_read text (All-head IsElementText text [] h))
 

@@ -13,7 +13,7 @@ use Rattle.coll_syntax.specs.declared.weights.Weight.{Weight}
 use Rattle.coll_syntax.specs.declared.weights.Weight.TheVariants.{Ignore, Own, Names}
 use Rattle.coll_syntax.specs.declared.rules.Rule.{Rule}
 use Rattle.coll_nodes.specs.declared.declarations.Declaration.{Declaration}
-use Rattle.coll_nodes.specs.declared.declarations.Declaration.TheVariants.{Symbol, Element}
+use Rattle.coll_nodes.specs.declared.declarations.Declaration.TheVariants.{Symbol, Element, Equivalence}
 use Rattle.coll_nodes.specs.declared.entries.Entry.{Entry}
 use Rattle.coll_nodes.specs.Table.{Collation}
 use Rattle.coll_nodes.specs.Walks.{Met, MetSection, MetEntry, met}
@@ -83,10 +83,11 @@ spelled_rule rule rest = direction_word rule.backward ++ spelled_position rule.p
 
 -- The lines, each without its line feed.
 
--- the line of a declaration
+-- the line of a declaration; that of a second name has the own name of its symbol
 abbrev pub declaration_line : Declaration → List ℕ
 declaration_line (Symbol name) = codes "collating-symbol " ++ spelled_symbol name []
 declaration_line (Element name text) = codes "collating-element " ++ spelled_symbol name (codes " from " ++ spelled_string (map Char text) [])
+declaration_line (Equivalence name symbol) = codes "symbol-equivalence " ++ spelled_symbol name (space ∷ spelled_symbol symbol [])
 
 -- the line of the rules
 abbrev pub rules_line : List Rule → List ℕ

@@ -42,6 +42,10 @@ text_bytes chars = flat_map char_bytes chars ++ (quotation_mark ∷ line_feed �
 abbrev pub element_bytes : (name chars : List ℕ) → List ℕ
 element_bytes name chars = symbol_bytes name ++ (codes " from \"" ++ text_bytes chars)
 
+-- a second name, the own name of its symbol, and the line's end
+abbrev pub equivalence_bytes : (name symbol : List ℕ) → List ℕ
+equivalence_bytes name symbol = symbol_bytes name ++ (codes " " ++ (symbol_bytes symbol ++ line_feed ∷ []))
+
 -- the lines behind the rules
 abbrev pub sections_bytes : Collation → List ℕ
 sections_bytes table = flat_map met_bytes (met table.sections) ++ codes "order_end\nEND LC_COLLATE\n"

@@ -8,7 +8,7 @@ ghost use Rattle.std.specs.List.{flat_map};
 ghost use Rattle.coll_devices.specs.Devices.{CountsErr, Sends};
 ghost use Rattle.coll_devices.specs.PhysicalLines.{line_feed};
 ghost use Rattle.coll_print.specs.CanonicalText.{spelled_rule, spelled_joined, rules_line, line_bytes};
-ghost use Rattle.coll_print.specs.PrintedParts.{char_bytes, behind_bytes, declaration_bytes, met_bytes, symbol_bytes, element_bytes};
+ghost use Rattle.coll_print.specs.PrintedParts.{char_bytes, behind_bytes, declaration_bytes, met_bytes, symbol_bytes, element_bytes, equivalence_bytes};
 ghost use Rattle.coll_nodes.specs.WalkItems.{met_by, declared_by};
 
 use crate::spelled_entries::write_entry;
@@ -27,6 +27,7 @@ pub(crate) fn write_declaration<W: Sink>(
     match item {
         DeclaredItem::Symbol(name) => write_named(out, b"collating-symbol ", name),
         DeclaredItem::Element(name, text) => write_element(out, name, text),
+        DeclaredItem::Equivalence(name, symbol) => write_equivalence(out, name, symbol),
     }
 }
 
@@ -69,6 +70,17 @@ fn write_element<W: Sink>(out: &mut W, name: &str, text: &str) -> Result<(), Wri
     write_bytes(out, b" from \"")?;
     write_text(out, text)?;
     write_bytes(out, b"\"\n")
+}
+
+// Writes the line of a second name.
+fn write_equivalence<W: Sink>(out: &mut W, name: &str, symbol: &str) -> Result<(), WriteStop>
+    ensures sent { Sends (W.taken out.old) (W.taken out.new) (codes "symbol-equivalence " ++ equivalence_bytes (chars name.now) (chars symbol.now)) result }
+    ensures errors { CountsErr (W.failed out.old) (W.failed out.new) result }
+{
+    write_bytes(out, b"symbol-equivalence ")?;
+    write_symbol(out, name)?;
+    write_bytes(out, b" ")?;
+    write_name_ended(out, symbol)
 }
 
 /// Writes each character of a text by its code point.
