@@ -13,7 +13,7 @@ use Rattle.coll_syntax.specs.declared.statements.OrderLine.{OrderLine}
 use Rattle.coll_syntax.specs.declared.statements.Statement.{Statement}
 use Rattle.coll_syntax.specs.declared.statements.Statement.TheVariants as statement
 use Rattle.coll_table.proofs.AcceptedStatements.{block_accepted, reweight_accepted, section_accepted, unless_accepted}
-use Rattle.coll_table.proofs.DeltaTables.{delta_well_formed}
+use Rattle.coll_table.proofs.DeltaTables.{own_delta_well_formed}
 use Rattle.coll_table.proofs.ItemDeclarations.{declaration_done}
 use Rattle.coll_table.proofs.ItemLines.{block_done}
 use Rattle.coll_table.proofs.ItemSections.{section_done}
@@ -25,17 +25,17 @@ use Rattle.coll_table.proofs.GrowthLemmas.{collation_grown, extends, has_nodes, 
 use Rattle.coll_nodes.proofs.LayoutReads.{both_true}
 use Rattle.coll_table.proofs.PreparedLemmas.{as_many}
 use Rattle.coll_table.specs.Applied.{Applied, declaring}
-use Rattle.coll_table.specs.Delta.{all_moved, declaration_delta, declaration_refusal, delta, reweighted}
+use Rattle.coll_table.specs.Delta.{all_moved, declaration_delta, declaration_refusal, own_delta, reweighted}
 use Rattle.coll_table.specs.Growth.{AddsLoose}
 use Rattle.coll_nodes.specs.Bodies.{IsLooseNode}
 use Rattle.coll_nodes.specs.Linking.{end_of_declarations}
 use Rattle.coll_nodes.specs.Placement.{section_moved}
 use Rattle.coll_table.specs.Prepared.{ArePrepared, IsNodeFor, IsPreparedBlock, IsPreparedDeclaration, IsPreparedReweight, IsPreparedSection, weights_to}
-use Rattle.coll_table.specs.Record.{Extends, Fits, HasNodesOf, IsSame, KeepsLoose, added_by, added_nodes, named_nodes, statement_items, statement_steps, turn, without_nodes}
+use Rattle.coll_table.specs.Record.{Extends, Fits, HasNodesOf, IsSame, KeepsLoose, added_by, added_nodes, named_nodes, statement_items, own_steps, turn, without_nodes}
 use Rattle.coll_nodes.specs.SoundLayouts.{IsTable}
 use Rattle.coll_nodes.specs.Table.{Collation, is_placed}
 use Rattle.coll_nodes.specs.TableLayout.{TableLayout, TableValue, collation, content_of}
-use Rattle.coll_table.specs.StatementItems.{AreItemsOf}
+use Rattle.coll_table.specs.StatementItems.{AreOwnItems}
 use Rattle.coll_table.specs.Turning.{placed_items, steps_of, turned_on}
 use Rattle.coll_nodes.specs.WellFormed.{IsWellFormed}
 use Rattle.coll_nodes.specs.declared.declarations.Declaration.{Declaration}
@@ -50,8 +50,8 @@ NameTheirs layout items = (node : NodeId) → is_in layout.rings node ≡ false 
 -- a statement that a table accepts is prepared: the items can be done, and make of the table what the statement says
 pub record IsReady (table : TableValue) (s : Statement) (items : List Item) : Type 0 where
   pub after : Collation
-  pub accepted : delta (collation table) s ≡ Ok after
-  pub done : AreDone table items after (statement_steps (collation table) s)
+  pub accepted : own_delta (collation table) s ≡ Ok after
+  pub done : AreDone table items after (own_steps (collation table) s)
   pub well_formed : IsWellFormed after
   pub few : length items ≤ 4096
   pub counted : length items ≡ statement_items s
@@ -69,8 +69,8 @@ stands_apart layout node other apart linked =
 
 module _ (old table new : TableValue) (s : Statement) (items : List Item) (kept : Record) (is : IsTable table) (adds : AddsLoose old table (added_nodes items)) (ready : IsReady table s items)
     (rules : new.rules ≡ table.rules) (layout : new.layout ≡ turned_on table.layout items) (kept_is : kept ≡ record_of table.layout items) where
-  record_done : RecordDone table new items (statement_steps (collation table) s)
-  record_done = done_record records_turn table new items ready.after (statement_steps (collation table) s) is ready.done ready.well_formed ready.few rules layout
+  record_done : RecordDone table new items (own_steps (collation table) s)
+  record_done = done_record records_turn table new items ready.after (own_steps (collation table) s) is ready.done ready.well_formed ready.few rules layout
 
   same : collation table ≡ collation old
   same = collation_grown old table (added_nodes items) adds
@@ -107,16 +107,16 @@ module _ (old table new : TableValue) (s : Statement) (items : List Item) (kept 
       (subst (λ t. IsSame (without_nodes (turn new kept) (added_nodes items)) t) adds.dropped (same_without (turn new kept) table (added_nodes items) back))
 
   -- a statement that is ready is applied
-  pub applied : AreItemsOf old (turned_on table.layout items) s (record_of table.layout items).items → Applied old new s kept
+  pub applied : AreOwnItems old (turned_on table.layout items) s (record_of table.layout items).items → Applied old new s kept
   applied listed = record {
-    ok = ap (λ t. delta t s) (sym same) ∙ (ready.accepted ∙ ap Ok (sym table_is));
+    ok = ap (λ t. own_delta t s) (sym same) ∙ (ready.accepted ∙ ap Ok (sym table_is));
     in_force = ap (λ (k : Record). k.undone) kept_is;
     fits = subst (λ k. Fits new k) (sym kept_is) record_done.fits;
     back = turns_back;
     added = adds_theirs;
     items = ap (λ (k : Record). length k.items) kept_is ∙ (length_on table.layout (placed_items table.layout items) ∙ (length_placed table.layout items ∙ ready.counted));
-    listed = subst (λ l. AreItemsOf old l s kept.items) (sym layout) (subst (λ (k : Record). AreItemsOf old (turned_on table.layout items) s k.items) (sym kept_is) listed);
-    steps = ap (λ (k : Record). steps_of k.items) kept_is ∙ (record_done.steps ∙ ap (λ t. statement_steps t s) same);
+    listed = subst (λ l. AreOwnItems old l s kept.items) (sym layout) (subst (λ (k : Record). AreOwnItems old (turned_on table.layout items) s k.items) (sym kept_is) listed);
+    steps = ap (λ (k : Record). steps_of k.items) kept_is ∙ (record_done.steps ∙ ap (λ t. own_steps t s) same);
     loose = keeps_loose;
   }
 
@@ -138,43 +138,46 @@ block_theirs table layout before (line ∷ lines) (item ∷ items) prepared node
 
 -- a block that is accepted, and prepared, is ready
 pub block_ready : (old table : TableValue) (target : Id) (lines : List OrderLine) (items : List Item) → IsTable table → AddsLoose old table (added_nodes items)
-    → IsProper (statement.Block target lines) → IsOk (delta (collation old) (statement.Block target lines)) → IsPreparedBlock (collation old) table.layout target lines items → IsReady table (statement.Block target lines) items
-unfolding delta statement_items statement_steps
+    → IsProper (statement.Block target lines) → IsOk (own_delta (collation old) (statement.Block target lines)) → IsPreparedBlock (collation old) table.layout target lines items → IsReady table (statement.Block target lines) items
+unfolding own_delta statement_items own_steps
 block_ready old table target lines items is adds proper ok prepared_old =
     let same : collation old ≡ collation table = sym (collation_grown old table (added_nodes items) adds) in
     let prepared : IsPreparedBlock (collation table) table.layout target lines items = subst (λ t. IsPreparedBlock t table.layout target lines items) same prepared_old in
-    let accepted = block_accepted (collation table) target lines (subst (λ t. IsOk (delta t (statement.Block target lines))) same ok) in
+    let accepted = block_accepted (collation table) target lines (subst (λ t. IsOk (own_delta t (statement.Block target lines))) same ok) in
     record {
       after = all_moved (collation table) target lines;
       accepted = accepted.result;
       done = block_done table target prepared.0 lines items is.sound prepared.1 accepted.passes prepared.2;
-      well_formed = delta_well_formed (collation table) (all_moved (collation table) target lines) (statement.Block target lines) is.well_formed proper accepted.result;
+      well_formed = own_delta_well_formed (collation table) (all_moved (collation table) target lines) (statement.Block target lines) is.well_formed proper accepted.result;
       few = subst (λ n. n ≤ 4096) (sym (as_many (collation table) table.layout prepared.0 lines items prepared.2)) proper.1;
       counted = as_many (collation table) table.layout prepared.0 lines items prepared.2;
       theirs = block_theirs (collation table) table.layout prepared.0 lines items prepared.2;
     }
 
 -- what a statement that declares makes of a table
-declares : (table : Collation) (new : Declaration) → delta table (declaring new) ≡ declaration_delta table new
-unfolding delta
+declares : (table : Collation) (new : Declaration) → own_delta table (declaring new) ≡ declaration_delta table new
+unfolding own_delta
 declares table (declaration.Symbol name) = refl
 declares table (declaration.Element name text) = refl
+declares table (declaration.Equivalence name symbol) = refl
 
 -- it takes one step
-takes_one : (table : Collation) (new : Declaration) → statement_steps table (declaring new) ≡ 1
-unfolding statement_steps
+takes_one : (table : Collation) (new : Declaration) → own_steps table (declaring new) ≡ 1
+unfolding own_steps
 takes_one table (declaration.Symbol name) = refl
 takes_one table (declaration.Element name text) = refl
+takes_one table (declaration.Equivalence name symbol) = refl
 
 -- and has one item
 has_one : (new : Declaration) → statement_items (declaring new) ≡ 1
 unfolding statement_items
 has_one (declaration.Symbol name) = refl
 has_one (declaration.Element name text) = refl
+has_one (declaration.Equivalence name symbol) = refl
 
 -- a declaration that is accepted, and prepared, is ready
 pub declaration_ready : (old table : TableValue) (new : Declaration) (items : List Item) → IsTable table → AddsLoose old table (added_nodes items)
-    → IsProper (declaring new) → IsOk (delta (collation old) (declaring new)) → IsPreparedDeclaration table.layout new items → IsReady table (declaring new) items
+    → IsProper (declaring new) → IsOk (own_delta (collation old) (declaring new)) → IsPreparedDeclaration table.layout new items → IsReady table (declaring new) items
 unfolding added_nodes
 declaration_ready old table new items is adds_all proper ok prepared =
     let s : Statement = declaring new in
@@ -182,14 +185,14 @@ declaration_ready old table new items is adds_all proper ok prepared =
     let item : Item = record { node = prepared.0; old = None; new = Some (end_of_declarations table.layout); weights = None } in
     let adds : AddsLoose old table (prepared.0 ∷ []) = subst (λ (is : List Item). AddsLoose old table (added_nodes is)) prepared.2 adds_all in
     let after : Collation = record (collation table) { declared = (collation table).declared ++ new ∷ [] } in
-    let accepted = unless_accepted (declaration_refusal (collation table) new) after (subst IsOk (ap (λ t. delta t s) same ∙ declares (collation table) new) ok) in
-    let result : delta (collation table) s ≡ Ok after = declares (collation table) new ∙ accepted.1 in
+    let accepted = unless_accepted (declaration_refusal (collation table) new) after (subst IsOk (ap (λ t. own_delta t s) same ∙ declares (collation table) new) ok) in
+    let result : own_delta (collation table) s ≡ Ok after = declares (collation table) new ∙ accepted.1 in
     let loose : IsLooseNode table.layout prepared.0 = adds.loose.loose prepared.0 (or_first (same_node prepared.0 prepared.0) false (same_node_itself prepared.0)) in
     subst (λ is. IsReady table s is) (sym prepared.2) (record {
       after = after;
       accepted = result;
       done = subst (λ n. AreDone table (item ∷ []) after n) (sym (takes_one (collation table) new)) (declaration_done table new item is.sound loose prepared.1 refl refl refl accepted.0);
-      well_formed = delta_well_formed (collation table) after s is.well_formed proper result;
+      well_formed = own_delta_well_formed (collation table) after s is.well_formed proper result;
       few = omega arith;
       counted = sym (has_one new);
       theirs = λ node apart added. added;
@@ -197,8 +200,8 @@ declaration_ready old table new items is adds_all proper ok prepared =
 
 -- a section move that is accepted, and prepared, is ready
 pub section_ready : (table : TableValue) (name after : List ℕ) (items : List Item) → IsTable table
-    → IsProper (statement.SectionAfter name after) → IsOk (delta (collation table) (statement.SectionAfter name after)) → IsPreparedSection table.layout name after items → IsReady table (statement.SectionAfter name after) items
-unfolding delta statement_items statement_steps
+    → IsProper (statement.SectionAfter name after) → IsOk (own_delta (collation table) (statement.SectionAfter name after)) → IsPreparedSection table.layout name after items → IsReady table (statement.SectionAfter name after) items
+unfolding own_delta statement_items own_steps
 section_ready table name after items is proper ok prepared =
     let item : Item = record { node = prepared.0; old = Some (After prepared.1); new = Some (After prepared.1); weights = None } in
     let moved : Collation = record (collation table) { sections = section_moved (collation table).sections name after } in
@@ -207,7 +210,7 @@ section_ready table name after items is proper ok prepared =
       after = moved;
       accepted = accepted.result;
       done = section_done table name after item prepared.1 is.sound prepared.2 prepared.3 refl refl refl accepted.apart;
-      well_formed = delta_well_formed (collation table) moved (statement.SectionAfter name after) is.well_formed proper accepted.result;
+      well_formed = own_delta_well_formed (collation table) moved (statement.SectionAfter name after) is.well_formed proper accepted.result;
       few = omega arith;
       counted = refl;
       theirs = λ node apart added. nor (same_node node prepared.0) false (stands_apart table.layout node prepared.0 apart (both_true _ _ prepared.2).0) refl;
@@ -225,8 +228,8 @@ rules_are table = refl
 
 -- an order line outside a block that is accepted, and prepared, is ready
 pub reweight_ready : (table : TableValue) (line : OrderLine) (items : List Item) → IsTable table
-    → IsProper (statement.Reweight line) → IsOk (delta (collation table) (statement.Reweight line)) → IsPreparedReweight (collation table) table.layout line items → IsReady table (statement.Reweight line) items
-unfolding delta statement_items statement_steps
+    → IsProper (statement.Reweight line) → IsOk (own_delta (collation table) (statement.Reweight line)) → IsPreparedReweight (collation table) table.layout line items → IsReady table (statement.Reweight line) items
+unfolding own_delta statement_items own_steps
 reweight_ready table line items is proper ok prepared =
     let item : Item = record { node = prepared.0; old = None; new = None; weights = weights_to (length table.rules) line.id line.weights } in
     let accepted = reweight_accepted (collation table) line ok in
@@ -234,7 +237,7 @@ reweight_ready table line items is proper ok prepared =
       after = reweighted (collation table) line;
       accepted = accepted.result;
       done = reweight_done table line item is.sound prepared.1 refl refl refl accepted.passes;
-      well_formed = delta_well_formed (collation table) (reweighted (collation table) line) (statement.Reweight line) is.well_formed proper accepted.result;
+      well_formed = own_delta_well_formed (collation table) (reweighted (collation table) line) (statement.Reweight line) is.well_formed proper accepted.result;
       few = omega arith;
       counted = refl;
       theirs = λ node apart added. nor (same_node node prepared.0) false (stands_apart table.layout node prepared.0 apart (both_true _ _ prepared.1).0) refl;

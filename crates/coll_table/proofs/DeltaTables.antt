@@ -22,12 +22,13 @@ use Rattle.coll_nodes.proofs.LayoutReads.{both_true}
 use Rattle.coll_nodes.proofs.Sameness.{same_id_decides, same_id_itself}
 use Rattle.coll_nodes.proofs.SectionLemmas.{names_stay, as_many, first_stays}
 use Rattle.coll_draft.proofs.SoundLines.{passed, not_false, weights_are}
-use Rattle.coll_table.specs.Delta.{delta, or_refused, declaration_delta, declaration_refusal, section_delta, section_refusal, block_delta, block_result, looked_up, all_moved, lines_refusal, ids_given, weight_ids_refusal, reweight_delta, reweight_refusal, reweighted, weights_refusal}
+use Rattle.coll_table.specs.Delta.{own_delta, or_refused, declaration_delta, declaration_refusal, section_delta, section_refusal, block_delta, block_result, looked_up, all_moved, lines_refusal, ids_given, weight_ids_refusal, reweight_delta, reweight_refusal, reweighted, weights_refusal}
 use Rattle.coll_nodes.specs.Table.{has_text}
 use Rattle.coll_draft.specs.Drafts.{refused_if}
 use Rattle.coll_nodes.specs.Entries.{ids_named, weight_ids, given_weights, entry_of}
 use Rattle.coll_table.specs.Judging.{line_ids}
 use Rattle.coll_nodes.specs.Limits.{most_entries, most_declarations, most_sections}
+use Rattle.coll_nodes.specs.OwnNames.{means_nothing, means_no_symbol}
 use Rattle.coll_nodes.specs.Placement.{with_entry, section_moved}
 use Rattle.coll_draft.specs.SoundDrafts.{IsProperDeclaration}
 use Rattle.coll_nodes.specs.Table.{Collation, Section, name_of, text_of, entries_of, ids_of, joined_entries, section_names, is_declared, is_known, is_placed, is_symbol}
@@ -35,7 +36,7 @@ use Rattle.coll_nodes.specs.WellFormed.{AreDistinct, IsKnown, IsWeighted, HasPla
 use Rattle.coll_nodes.specs.declared.declarations.Declaration.{Declaration}
 use Rattle.coll_nodes.specs.declared.declarations.Declaration.TheVariants as declaration
 use Rattle.coll_nodes.specs.declared.entries.Entry.{Entry}
-use Rattle.coll_table.specs.declared.refusals.Refusal.TheVariants.{DeclaredTwice, NotDeclared, StringTwice, Full, TargetNotPlaced, NoSuchSection, SectionAfterItself, NotPlaced, NoWeights}
+use Rattle.coll_table.specs.declared.refusals.Refusal.TheVariants.{DeclaredTwice, NotDeclared, StringTwice, Full, TargetNotPlaced, NoSuchSection, SectionAfterItself, NotPlaced, NoWeights, NotASymbol}
 
 -- Declarations.
 
@@ -45,11 +46,15 @@ declared_well_formed table after new well proper e =
     let with_new : Collation = record table { declared = table.declared ++ new ∷ [] } in
     let h = unrefused (declaration_refusal table new) with_new after e in
     let full = refused_if (nat_le most_declarations (length table.declared)) Full None in
-    let absent = passed (is_declared table.declared (name_of new)) DeclaredTwice (refused_if (has_text table.declared (text_of new)) StringTwice full) h.0 in
-    let no_text = passed (has_text table.declared (text_of new)) StringTwice full absent.1 in
+    let texts = refused_if (has_text table.declared (text_of new)) StringTwice full in
+    let symbols = refused_if (means_no_symbol table.declared new) NotASymbol texts in
+    let absent = passed (is_declared table.declared (name_of new)) DeclaredTwice (refused_if (means_nothing table.declared new) NotDeclared symbols) h.0 in
+    let some = passed (means_nothing table.declared new) NotDeclared symbols absent.1 in
+    let means = passed (means_no_symbol table.declared new) NotASymbol texts some.1 in
+    let no_text = passed (has_text table.declared (text_of new)) StringTwice full means.1 in
     let room = passed (nat_le most_declarations (length table.declared)) Full None no_text.1 in
     subst IsWellFormed h.1 (record {
-      built = built_declared table new well.built proper absent.0 no_text.0 (leb-false most_declarations (length table.declared) room.0);
+      built = built_declared table new well.built proper absent.0 means.0 no_text.0 (leb-false most_declarations (length table.declared) room.0);
       some_levels = well.some_levels;
       weights_placed = well.weights_placed;
     })
@@ -209,10 +214,11 @@ reweight_well_formed table after line well proper e =
     })
 
 -- a table that a proper statement results in is well formed
-pub delta_well_formed : (table after : Collation) (s : Statement) → IsWellFormed table → IsProper s → delta table s ≡ Ok after → IsWellFormed after
-unfolding delta
-delta_well_formed table after (statement.Symbol name) well proper e = declared_well_formed table after (declaration.Symbol name) well proper e
-delta_well_formed table after (statement.Element name text) well proper e = declared_well_formed table after (declaration.Element name text) well proper e
-delta_well_formed table after (statement.Block target lines) well proper e = block_well_formed table after target lines well proper.2 e
-delta_well_formed table after (statement.SectionAfter name behind) well proper e = section_well_formed table after name behind well e
-delta_well_formed table after (statement.Reweight line) well proper e = reweight_well_formed table after line well proper e
+pub own_delta_well_formed : (table after : Collation) (s : Statement) → IsWellFormed table → IsProper s → own_delta table s ≡ Ok after → IsWellFormed after
+unfolding own_delta
+own_delta_well_formed table after (statement.Symbol name) well proper e = declared_well_formed table after (declaration.Symbol name) well proper e
+own_delta_well_formed table after (statement.Element name text) well proper e = declared_well_formed table after (declaration.Element name text) well proper e
+own_delta_well_formed table after (statement.Equivalence name symbol) well proper e = declared_well_formed table after (declaration.Equivalence name symbol) well proper.0 e
+own_delta_well_formed table after (statement.Block target lines) well proper e = block_well_formed table after target lines well proper.2 e
+own_delta_well_formed table after (statement.SectionAfter name behind) well proper e = section_well_formed table after name behind well e
+own_delta_well_formed table after (statement.Reweight line) well proper e = reweight_well_formed table after line well proper e

@@ -25,6 +25,7 @@ use Rattle.coll_nodes.specs.Bodies.{IsLooseNode, with_link, without_link}
 use Rattle.coll_table.specs.Delta.{declaration_refusal}
 use Rattle.coll_nodes.specs.Table.{has_text}
 use Rattle.coll_nodes.specs.Linking.{end_of_declarations}
+use Rattle.coll_nodes.specs.OwnNames.{means_nothing, means_no_symbol}
 use Rattle.coll_nodes.specs.SoundBodies.{Finds, has_key, is_place_of, names_in, read_at, ring_at, texts_in}
 use Rattle.coll_nodes.specs.SoundLayouts.{IsSoundLayout}
 use Rattle.coll_nodes.specs.Table.{Section, is_declared, name_of, text_of, texts_of}
@@ -34,9 +35,9 @@ use Rattle.coll_table.specs.Turning.{CanTurnOn, ItemGoes, placed_at, placed_item
 use Rattle.coll_nodes.specs.declared.contents.Content.{Content}
 use Rattle.coll_nodes.specs.declared.contents.Content.TheVariants as content
 use Rattle.coll_nodes.specs.declared.declarations.Declaration.{Declaration}
-use Rattle.coll_nodes.specs.declared.declarations.Declaration.TheVariants.{Element, Symbol}
+use Rattle.coll_nodes.specs.declared.declarations.Declaration.TheVariants.{Element, Equivalence, Symbol}
 use Rattle.coll_table.specs.declared.records.Item.{Item}
-use Rattle.coll_table.specs.declared.refusals.Refusal.TheVariants.{DeclaredTwice, StringTwice}
+use Rattle.coll_table.specs.declared.refusals.Refusal.TheVariants.{DeclaredTwice, NotDeclared, NotASymbol, StringTwice}
 
 -- a key that isn't found is that of no node
 unfound : {Key : Type 0} (same : Key → Key → Bool) (keys : Content → List Key) (layout : TableLayout) (find : Key → Option NodeId) (key : Key) → Finds same keys layout find → is_some (find key) ≡ false
@@ -61,6 +62,7 @@ module _ (layout : TableLayout) (sound : IsSoundLayout layout) where
   -- nor a string that isn't
   new_texts : (new : Declaration) → has_text (declared_at layout) (text_of new) ≡ false → AreNew same_name texts_in layout (content.Declared new)
   new_texts (Symbol name) off key other has = not_both has refl
+  new_texts (Equivalence name symbol) off key other has = not_both has refl
   new_texts (Element name text) off key other has =
       let find = node_by same_name texts_in layout in
       let finds = finds_once same_name texts_in layout sound.texts in
@@ -140,7 +142,9 @@ unfolding collation CanTurnOn placed_items turned_on steps_of
 declaration_done table new item sound loose is had gets plain judged =
     let layout = table.layout in
     let name = passed (is_declared (collation table).declared (name_of new)) DeclaredTwice _ judged in
-    let text = passed (has_text (collation table).declared (text_of new)) StringTwice _ name.1 in
+    let some = passed (means_nothing (collation table).declared new) NotDeclared _ name.1 in
+    let means = passed (means_no_symbol (collation table).declared new) NotASymbol _ some.1 in
+    let text = passed (has_text (collation table).declared (text_of new)) StringTwice _ means.1 in
     let from : placed_at item.old layout item.node ≡ None = ap (λ old. placed_at old layout item.node) had in
     let can = declaration_goes layout sound item.node new loose is name.0 text.0 in
     let on = linked_anew layout item (end_of_declarations layout) plain gets in

@@ -15,14 +15,13 @@ use Rattle.coll_syntax.specs.declared.weights.Weight.{Weight}
 use Rattle.coll_nodes.proofs.BodyReads.{entry_known, id_found}
 use Rattle.coll_table.proofs.DeltaPlacing.{apart_when_new, lines_stay}
 use Rattle.coll_table.proofs.DeltaRefusals.{has_last, has_still, passes}
-use Rattle.coll_draft.proofs.EndedDrafts.{neither_found}
 use Rattle.coll_nodes.proofs.EntryLemmas.{entry_there}
 use Rattle.coll_table.proofs.ItemEntries.{IsEntryOf, entries_apart, entry_with, entry_with_id, item_puts, loose_entry, placed_entry, put_declared, put_key, put_keys, put_others, put_sections}
 use Rattle.coll_table.proofs.ItemPlaces.{entry_goes, finds_once, loose_suits, new_out, node_by, once_new, placed_standing, standing_suits, stands as stands_at}
 use Rattle.coll_table.proofs.ItemsDone.{AreDone, with_layout}
 use Rattle.coll_nodes.proofs.LayoutReads.{both_true}
 use Rattle.coll_nodes.proofs.Sameness.{same_id_decides, same_id_itself}
-use Rattle.coll_draft.proofs.SoundLines.{passed}
+use Rattle.coll_draft.proofs.SoundLines.{neither_found, passed}
 use Rattle.coll_table.proofs.TurningSound.{item_on_sound}
 use Rattle.coll_nodes.specs.Bodies.{without_link}
 use Rattle.coll_table.specs.Delta.{all_moved, block_entry, line_refusal, lines_refusal, moved, standing, weights_refusal}

@@ -23,9 +23,8 @@ pub mod LineNumbers
 pub mod LinesRead
 pub mod LoadEnds
 pub mod LoadSteps
-pub mod LookUps
-pub mod PlaceLookUps
 pub mod OwnRefusals
+pub mod OwnStatements
 pub mod PreparedLemmas
 pub mod ReadTables
 pub mod RecordExtends

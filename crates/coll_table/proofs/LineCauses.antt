@@ -10,7 +10,7 @@ use Rattle.coll_nodes.specs.declared.declarations.Declaration.TheVariants as dec
 use Rattle.coll_nodes.specs.declared.entries.Entry.{Entry}
 use Rattle.coll_nodes.specs.Table.{Section, joined_entries}
 use Rattle.coll_nodes.specs.Entries.{ids_named}
-use Rattle.coll_draft.specs.Drafts.{Numbered, DraftState, refused_if, declaration_cause, section_cause, section_cause_if, order_cause, cause_after, weight_cause, ids_cause, at_line, entries_fault, fault_at_end, line_fault}
+use Rattle.coll_draft.specs.Drafts.{Numbered, DraftState, refused_if, second_name, own_order, with_own_weights, meaning_cause, declaration_cause, section_cause, section_cause_if, order_cause, cause_after, weight_cause, ids_cause, at_line, entries_fault, fault_at_end, line_fault}
 use Rattle.coll_table.specs.SoundLoaders.{IsLineCause}
 use Rattle.coll_draft.specs.declared.load_faults.LoadFault.{LoadFault}
 use Rattle.coll_draft.specs.declared.load_faults.LoadCause.{LoadCause}
@@ -33,8 +33,15 @@ section_if_own : (d : DraftState) (name : Option (List ℕ)) → OwnCause (secti
 section_if_own d None = tt
 section_if_own d (Some name) = section_own d name
 
+either_cause : (a b : Option LoadCause) → OwnCause a → OwnCause b → OwnCause (option_or a b)
+either_cause (Some cause) b h k = h
+either_cause None b h k = k
+
+meaning_own : (declared : List Declaration) (new : Declaration) → OwnCause (meaning_cause declared new)
+meaning_own declared new = search (tested)
+
 declaration_own : (declared : List Declaration) (new : Declaration) → OwnCause (declaration_cause declared new)
-declaration_own declared new = search (tested)
+declaration_own declared new = search (tested, either_cause, meaning_own) depth 8
 
 order_own : (d : DraftState) (order : OrderLine) → OwnCause (order_cause d order)
 order_own d order = search (tested) depth 8
@@ -42,16 +49,13 @@ order_own d order = search (tested) depth 8
 after_own : (d : DraftState) (l : TableLine) → OwnCause (cause_after d l)
 after_own d (line.Symbol name) = declaration_own d.declared (declaration.Symbol name)
 after_own d (line.Element name text) = declaration_own d.declared (declaration.Element name text)
+after_own d (line.Equivalence name symbol) = declaration_own d.declared (second_name d.declared name symbol)
 after_own d (line.OrderStart section rules) = search (tested, section_if_own)
 after_own d line.OrderEnd = search (tested)
 after_own d (line.Section name) = search (tested, section_own)
 after_own d line.Script = tt
 after_own d line.EndCategory = search (tested)
-after_own d (line.Order order) = order_own d order
-
-either_cause : (a b : Option LoadCause) → OwnCause a → OwnCause b → OwnCause (option_or a b)
-either_cause (Some cause) b h k = h
-either_cause None b h k = k
+after_own d (line.Order order) = order_own d (own_order d.declared order)
 
 module _ (declared : List Declaration) (sections : List Section) where
   weight_own : (id : Id) → OwnCause (weight_cause declared sections id)
@@ -71,7 +75,7 @@ entries_own d (number ∷ numbers) [] = tt
 entries_own d (number ∷ numbers) (entry ∷ entries) = either_fault number (ids_cause d.declared d.sections (ids_named entry)) (entries_fault d numbers entries) (ids_own d.declared d.sections (ids_named entry)) (entries_own d numbers entries)
 
 end_own : (d : DraftState) (l : TableLine) → OwnFault (fault_at_end d l)
-end_own d line.EndCategory = entries_own d d.numbers (joined_entries d.sections)
+end_own d line.EndCategory = let own = with_own_weights d in entries_own own own.numbers (joined_entries own.sections)
 end_own d _ = tt
 
 line_own : (d : DraftState) (n : Numbered) → OwnFault (line_fault d n)

@@ -12,7 +12,7 @@ use Rattle.coll_syntax.specs.declared.identifiers.Id.{Id}
 use Rattle.coll_syntax.specs.declared.statements.OrderLine.{OrderLine}
 use Rattle.coll_syntax.specs.declared.statements.Statement.TheVariants as statement
 use Rattle.coll_syntax.specs.declared.weights.Weight.{Weight}
-use Rattle.coll_draft.proofs.EndedDrafts.{neither_found}
+use Rattle.coll_draft.proofs.SoundLines.{neither_found}
 use Rattle.coll_nodes.proofs.LayoutReads.{both_true}
 use Rattle.coll_nodes.proofs.Sameness.{same_id_itself, same_id_symmetric}
 use Rattle.coll_nodes.specs.Linking.{end_of_declarations}
@@ -36,11 +36,11 @@ use Rattle.coll_table.proofs.ItemPlaces.{placed_standing, stands}
 use Rattle.coll_table.proofs.ItemsDone.{record_of}
 use Rattle.coll_table.proofs.KeyReads.{key_placed}
 use Rattle.coll_table.specs.Applied.{declaring}
-use Rattle.coll_table.specs.Delta.{block_entry, delta, line_refusal, lines_refusal, moved}
+use Rattle.coll_table.specs.Delta.{block_entry, own_delta, line_refusal, lines_refusal, moved}
 use Rattle.coll_table.specs.Growth.{AddsLoose}
 use Rattle.coll_table.specs.Prepared.{ArePrepared, IsNodeFor, IsPreparedBlock, IsPreparedDeclaration, IsPreparedReweight, IsPreparedSection, weights_to}
 use Rattle.coll_table.specs.Record.{added_nodes}
-use Rattle.coll_table.specs.StatementItems.{AreItemsOf, AreLineItems, IsDeclarationItem, weights_before, without_weights}
+use Rattle.coll_table.specs.StatementItems.{AreOwnItems, AreLineItems, IsDeclarationItem, weights_before, without_weights}
 use Rattle.coll_table.specs.Turning.{item_on, items_on, placed_at, placed_items, turned_on}
 use Rattle.coll_table.specs.declared.records.Item.{Item}
 
@@ -107,13 +107,13 @@ lines_listed old table target before ids (line ∷ lines) (item ∷ items) sound
 
 -- the items of a block that is accepted are listed
 pub block_listed : (old table : TableValue) (target : Id) (lines : List OrderLine) (items : List Item) → IsTable table → AddsLoose old table (added_nodes items)
-    → IsOk (delta (collation old) (statement.Block target lines)) → IsPreparedBlock (collation old) table.layout target lines items
-    → AreItemsOf old (turned_on table.layout items) (statement.Block target lines) (record_of table.layout items).items
-unfolding AreItemsOf delta
+    → IsOk (own_delta (collation old) (statement.Block target lines)) → IsPreparedBlock (collation old) table.layout target lines items
+    → AreOwnItems old (turned_on table.layout items) (statement.Block target lines) (record_of table.layout items).items
+unfolding AreOwnItems own_delta
 block_listed old table target lines items is adds ok prepared_old =
     let same : collation table ≡ collation old = collation_grown old table (added_nodes items) adds in
     let prepared : IsPreparedBlock (collation table) table.layout target lines items = subst (λ t. IsPreparedBlock t table.layout target lines items) (sym same) prepared_old in
-    let accepted = block_accepted (collation table) target lines (subst (λ t. IsOk (delta t (statement.Block target lines))) (sym same) ok) in
+    let accepted = block_accepted (collation table) target lines (subst (λ t. IsOk (own_delta t (statement.Block target lines))) (sym same) ok) in
     let here : has_id (target ∷ []) target ≡ true = ap (λ b. b || false) (same_id_itself target) in
     let all = lines_listed (collation old) table target prepared.0 (target ∷ []) lines items is.sound prepared.1 here accepted.passes prepared.2 (λ id absent. ap (λ t. block_entry t (without_weights id)) same) in (
       prepared.0,
@@ -125,9 +125,9 @@ block_listed old table target lines items is adds ok prepared_old =
 
 -- the item of a declaration is listed
 pub declaration_listed : (old table : TableValue) (new : Declaration) (items : List Item) → AddsLoose old table (added_nodes items) → IsPreparedDeclaration table.layout new items
-    → AreItemsOf old (turned_on table.layout items) (declaring new) (record_of table.layout items).items
-unfolding AreItemsOf turned_on items_on placed_items
-declaration_listed old table new items adds prepared = subst (λ is. AreItemsOf old (turned_on table.layout is) (declaring new) (record_of table.layout is).items) (sym prepared.2) (by new refl) where
+    → AreOwnItems old (turned_on table.layout items) (declaring new) (record_of table.layout items).items
+unfolding AreOwnItems turned_on items_on placed_items
+declaration_listed old table new items adds prepared = subst (λ is. AreOwnItems old (turned_on table.layout is) (declaring new) (record_of table.layout is).items) (sym prepared.2) (by new refl) where
   item : Item
   item = record { node = prepared.0; old = None; new = Some (end_of_declarations table.layout); weights = None }
 
@@ -138,21 +138,22 @@ declaration_listed old table new items adds prepared = subst (λ is. AreItemsOf 
     ap (λ rings. record { node = prepared.0; old = None; new = Some (end_of_declarations (record { rings = rings; nodes = [] })); weights = None } ∷ []) (same_rings old table (added_nodes items) adds),
   )
 
-  by : (other : Declaration) → new ≡ other → AreItemsOf old (turned_on table.layout (item ∷ [])) (declaring other) (record_of table.layout (item ∷ [])).items
+  by : (other : Declaration) → new ≡ other → AreOwnItems old (turned_on table.layout (item ∷ [])) (declaring other) (record_of table.layout (item ∷ [])).items
   by (declaration.Symbol name) same = subst (λ d. IsDeclarationItem old.layout (turned_on table.layout (item ∷ [])) d (record_of table.layout (item ∷ [])).items) same it
   by (declaration.Element name text) same = subst (λ d. IsDeclarationItem old.layout (turned_on table.layout (item ∷ [])) d (record_of table.layout (item ∷ [])).items) same it
+  by (declaration.Equivalence name symbol) same = subst (λ d. IsDeclarationItem old.layout (turned_on table.layout (item ∷ [])) d (record_of table.layout (item ∷ [])).items) same it
 
 -- that of a section is
 pub section_listed : (table : TableValue) (name after : List ℕ) (items : List Item) → IsPreparedSection table.layout name after items
-    → AreItemsOf table (turned_on table.layout items) (statement.SectionAfter name after) (record_of table.layout items).items
-unfolding AreItemsOf items_on placed_items
+    → AreOwnItems table (turned_on table.layout items) (statement.SectionAfter name after) (record_of table.layout items).items
+unfolding AreOwnItems items_on placed_items
 section_listed table name after items prepared =
     let layout = table.layout in
     let to = Some (After prepared.1) in
     let item : Item = record { node = prepared.0; old = to; new = to; weights = None } in
     let place = stands 0 layout.rings prepared.0 (both_true _ _ prepared.2).0 in
     let at : placed_at to layout prepared.0 ≡ place_from 0 layout.rings prepared.0 = placed_standing layout prepared.0 to place.0 refl place.1 ∙ sym place.1 in
-    subst (λ is. AreItemsOf table (turned_on layout is) (statement.SectionAfter name after) (record_of layout is).items) (sym prepared.4)
+    subst (λ is. AreOwnItems table (turned_on layout is) (statement.SectionAfter name after) (record_of layout is).items) (sym prepared.4)
     (prepared.0, prepared.1, prepared.2, prepared.3, ap (λ had. record { node = prepared.0; old = had; new = to; weights = None } ∷ []) at)
 
 -- an identifier is placed whose node stands
@@ -162,15 +163,15 @@ placed_by table id node is has = key_placed table.layout is.sound.shaped id node
 
 -- that of an order line outside a block is
 pub reweight_listed : (table : TableValue) (line : OrderLine) (items : List Item) → IsTable table → IsPreparedReweight (collation table) table.layout line items
-    → AreItemsOf table (turned_on table.layout items) (statement.Reweight line) (record_of table.layout items).items
-unfolding AreItemsOf items_on placed_items
+    → AreOwnItems table (turned_on table.layout items) (statement.Reweight line) (record_of table.layout items).items
+unfolding AreOwnItems items_on placed_items
 reweight_listed table line items is prepared =
     let layout = table.layout in
     let levels = length (collation table).rules in
     let weights = weights_to levels line.id line.weights in
     let stays : Item = record { node = prepared.0; old = Some (After prepared.0); new = None; weights = weights } in
     let bare = ready table (without_weights line.id) stays is.sound (subst (λ b. IsNodeFor b (collation table) layout line.id stays) (sym (placed_by table line.id prepared.0 is prepared.1)) (refl, prepared.1)) in
-    subst (λ is. AreItemsOf table (turned_on layout is) (statement.Reweight line) (record_of layout is).items) (sym prepared.2) (
+    subst (λ is. AreOwnItems table (turned_on layout is) (statement.Reweight line) (record_of layout is).items) (sym prepared.2) (
       prepared.0,
       prepared.1,
       ap (λ ws. record { node = prepared.0; old = None; new = None; weights = ws } ∷ []) (gave (collation table) levels line.id line.weights weights (content_of layout prepared.0) bare.entry refl bare.own.is (bare.kept refl)),

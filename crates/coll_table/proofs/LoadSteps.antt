@@ -12,13 +12,13 @@ use Rattle.coll_lex.proofs.OutsideLines.{outside-one, outside-closed}
 use Rattle.coll_syntax.specs.TableLines.{table_line}
 use Rattle.coll_syntax.specs.declared.lines.TableLine.{TableLine}
 use Rattle.coll_syntax.specs.declared.syntax_faults.SyntaxFault.{SyntaxFault}
-use Rattle.coll_draft.specs.Drafts.{Numbered, draft_of, table_of, line_fault, is_end}
+use Rattle.coll_draft.specs.Drafts.{Numbered, draft_of, table_of, with_own_weights, line_fault, is_end}
 use Rattle.coll_draft.specs.Loading.{LoaderState, first_loader, draft_after, by_outside, by_fed, by_read, taken_line, by_where, unless_faulty, loaded_line}
 use Rattle.coll_draft.specs.Reading.{Outcome, Decided, Undecided, at_fault, accepted, line_judged, by_grammar, by_tokens, outcome_within, outcome_before}
 use Rattle.coll_draft.specs.declared.load_faults.LoadFault.{LoadFault}
 use Rattle.coll_draft.specs.declared.load_faults.LoadCause.TheVariants.{Lex, NoCategory, NoEnd}
 use Rattle.coll_draft.proofs.DraftSteps.{draft_more}
-use Rattle.coll_draft.proofs.EndedDrafts.{unchanged_at_end}
+use Rattle.coll_draft.proofs.EndedDrafts.{own_at_end}
 use Rattle.coll_table.proofs.LineNumbers.{IsOpenWithin, none_open, fed_within}
 
 -- The definition of reading, one line on.
@@ -62,10 +62,10 @@ outcome_from ends before s lines =
     else (if s.begun then outcome_within before (logical_lines [] ends s.lexer lines)
     else outcome_before ends s.lexer lines)
 
--- these lines were accepted, what they say is stored, and no fault is; before the category there are none, and no logical
+-- these lines were accepted, what they say is stored, until the category ends, and no fault is; before the category there are none, and no logical
 -- line is open; one that is open is one of the lines handed in
 pub record StandsAfter (before : List Numbered) (s : LoaderState) : Type 0 where
-  pub said : s.draft ≡ draft_of before
+  pub said : s.ended ≡ false → s.draft ≡ draft_of before
   pub faultless : s.fault ≡ None
   pub none_before : s.begun ≡ false → before ≡ []
   pub closed : s.begun ≡ false → s.lexer.line ≡ None
@@ -87,7 +87,7 @@ Judged before s taken (Err fault) = (ends : Bool) (lines : List (List ℕ)) → 
 
 -- the first line of a text has all of it before it
 pub stands_first : StandsAfter [] first_loader
-stands_first = record { said = refl; faultless = refl; none_before = λ _. refl; closed = λ _. refl; few = omega arith; opens = none_open first_loader.lexer refl }
+stands_first = record { said = λ _. refl; faultless = refl; none_before = λ _. refl; closed = λ _. refl; few = omega arith; opens = none_open first_loader.lexer refl }
 
 pub from_ended : (ends : Bool) (before : List Numbered) (s : LoaderState) (lines : List (List ℕ)) → s.ended ≡ true → outcome_from ends before s lines ≡ Decided (Ok (table_of s.draft))
 from_ended ends before s lines e = rw e refl
@@ -179,9 +179,9 @@ module _ (before : List Numbered) (s : LoaderState) (taken : List ℕ) (stands :
         by_judgement n fault same f g ends lines =
             by_said (Ok n.line) f ends lines
             ∙ (ap (λ number. by_grammar number before (Ok n.line) (λ m. outcome_within (before ++ m ∷ []) (logical_lines [] ends after lines))) (sym same)
-            ∙ ap (λ c. line_judged before n c (outcome_within (before ++ n ∷ []) (logical_lines [] ends after lines))) (ap (λ d. line_fault d n) (sym stands.said) ∙ g))
+            ∙ ap (λ c. line_judged before n c (outcome_within (before ++ n ∷ []) (logical_lines [] ends after lines))) (ap (λ d. line_fault d n) (sym (stands.said going)) ∙ g))
 
-        accepted_by : (n : Numbered) (ended : Bool) (later : Outcome) → is_end n.line ≡ ended → accepted before n later ≡ (if ended then Decided (Ok (table_of (draft_of before))) else later)
+        accepted_by : (n : Numbered) (ended : Bool) (later : Outcome) → is_end n.line ≡ ended → accepted before n later ≡ (if ended then Decided (Ok (table_of (with_own_weights (draft_of before)))) else later)
         accepted_by n ended later is = rw is refl
 
         -- a line that is accepted
@@ -190,13 +190,13 @@ module _ (before : List Numbered) (s : LoaderState) (taken : List ℕ) (stands :
             let counts = fed-one s.lexer taken (Some given) after e stands.few in
             record {
               next = before ++ n ∷ [];
-              stands = record { said = ap (λ d. draft_after d n) stands.said ∙ sym (draft_more before n); faultless = stands.faultless; none_before = λ none. absurd (false≢true (sym none ∙ within)); closed = λ none. absurd (false≢true (sym none ∙ within)); few = omega (arith, counts.0, counts.1); opens = fed_within s.lexer after taken (Some given) stands.opens stands.few e };
+              stands = record { said = λ none. ap (λ d. draft_after d n) (stands.said going) ∙ sym (draft_more before n (is ∙ none)); faultless = stands.faultless; none_before = λ none. absurd (false≢true (sym none ∙ within)); closed = λ none. absurd (false≢true (sym none ∙ within)); few = omega (arith, counts.0, counts.1); opens = fed_within s.lexer after taken (Some given) stands.opens stands.few e };
               went_on = λ none. going;
               counts = λ none. counts;
               decides = λ ends lines. by_judgement n None same f g ends lines ∙ (accepted_by n ended _ is ∙ decides ended is ends lines);
             } where
-              decides : (ended : Bool) → is_end n.line ≡ ended → (ends : Bool) (lines : List (List ℕ)) → (if ended then Decided (Ok (table_of (draft_of before))) else outcome_within (before ++ n ∷ []) (logical_lines [] ends after lines)) ≡ outcome_from ends (before ++ n ∷ []) (record s { lexer = after; draft = draft_after s.draft n; ended = ended }) lines
-              decides true is ends lines = ap (λ d. Decided (Ok (table_of d))) (sym stands.said ∙ sym (unchanged_at_end s.draft n.number n.line is))
+              decides : (ended : Bool) → is_end n.line ≡ ended → (ends : Bool) (lines : List (List ℕ)) → (if ended then Decided (Ok (table_of (with_own_weights (draft_of before)))) else outcome_within (before ++ n ∷ []) (logical_lines [] ends after lines)) ≡ outcome_from ends (before ++ n ∷ []) (record s { lexer = after; draft = draft_after s.draft n; ended = ended }) lines
+              decides true is ends lines = ap (λ d. Decided (Ok (table_of d))) (ap with_own_weights (sym (stands.said going)) ∙ sym (own_at_end s.draft n.number n.line is))
               decides false is ends lines = sym (from_within ends (before ++ n ∷ []) (record s { lexer = after; draft = draft_after s.draft n; ended = false }) lines refl within)
 
         judged_line : (n : Numbered) (fault : Option LoadFault) → n.number ≡ given.number → table_line given.tokens ≡ Ok n.line → line_fault s.draft n ≡ fault → Judged before s taken (taken_line (record s { lexer = after }) n fault)

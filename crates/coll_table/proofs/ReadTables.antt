@@ -19,7 +19,7 @@ use Rattle.coll_syntax.specs.declared.lines.TableLine.TheVariants as line
 use Rattle.coll_syntax.specs.declared.rules.Rule.{Rule}
 use Rattle.coll_syntax.specs.declared.syntax_faults.SyntaxFault.{SyntaxFault}
 use Rattle.coll_syntax.proofs.ProperLines.{table_row-proper}
-use Rattle.coll_draft.specs.Drafts.{Numbered, DraftState, draft_of, table_of, rules_given, rules_differ, section_cause, section_cause_if, cause_after, at_line, fault_at_end, line_fault}
+use Rattle.coll_draft.specs.Drafts.{Numbered, DraftState, draft_of, table_of, second_name, own_order, rules_given, rules_differ, section_cause, section_cause_if, cause_after, at_line, fault_at_end, line_fault}
 use Rattle.coll_draft.specs.Loading.{LoaderState, first_loader, rules_after, with_section_if, draft_with, by_outside, by_fed, by_read, taken_line, by_where, unless_faulty, loaded_line, early_end, loaded, past_line, answer_to}
 use Rattle.coll_draft.specs.Reading.{TextsAreWellFormed}
 use Rattle.coll_draft.specs.SoundDrafts.{IsSoundDraft}
@@ -29,8 +29,9 @@ use Rattle.coll_nodes.specs.declared.declarations.Declaration.TheVariants as dec
 use Rattle.coll_draft.specs.declared.load_faults.LoadCause.{LoadCause}
 use Rattle.coll_draft.specs.declared.load_faults.LoadCause.TheVariants.{RulesDiffer, OutsideOrder}
 use Rattle.coll_draft.specs.declared.load_faults.LoadFault.{LoadFault}
-use Rattle.coll_draft.proofs.EndedDrafts.{unchanged_at_end, well_formed_at_end}
-use Rattle.coll_draft.proofs.SoundLines.{passed, sound_declared, sound_section, sound_entry, may_be_put}
+use Rattle.coll_nodes.proofs.OwnNames.{own_id_proper}
+use Rattle.coll_draft.proofs.EndedDrafts.{own_at_end, well_formed_at_end}
+use Rattle.coll_draft.proofs.SoundLines.{passed, sound_declared, sound_own, sound_section, sound_entry, may_be_put}
 use Rattle.coll_table.proofs.LinesRead.{lines_read}
 
 -- Each accepted line keeps what the lines say together sound.
@@ -54,6 +55,7 @@ opened d None given e sound proper =
         texts = sound.built.texts;
         distinct_names = sound.built.distinct_names;
         distinct_texts = sound.built.distinct_texts;
+        meant = sound.built.meant;
         first_unnamed = sound.built.first_unnamed;
         ids = sound.built.ids;
         distinct_sections = sound.built.distinct_sections;
@@ -86,14 +88,16 @@ sound_line : (d : DraftState) (number : ℕ) (l : TableLine) → IsSoundDraft d 
 unfolding draft_with
 sound_line d number (line.Symbol name) sound proper e = sound_declared d (declaration.Symbol name) sound proper e
 sound_line d number (line.Element name text) sound proper e = sound_declared d (declaration.Element name text) sound proper e
+sound_line d number (line.Equivalence name symbol) sound proper e = sound_declared d (second_name d.declared name symbol) sound proper.0 e
 sound_line d number (line.OrderStart section rules) sound proper e =
     let begins = begun d section sound proper.0 (passed (rules_differ d.rules rules) RulesDiffer (section_cause_if d section) e).1 in
     opened (record d { sections = with_section_if d.sections section }) d.rules rules refl begins proper.1
 sound_line d number line.OrderEnd sound proper e = record { built = sound.built; started = λ n. absurd (false≢true n); none_before = sound.none_before; some_levels = sound.some_levels; numbered = sound.numbered }
 sound_line d number (line.Section name) sound proper e = sound_section d name sound proper (passed (not d.order_open) OutsideOrder (section_cause d name) e).1
 sound_line d number line.Script sound proper e = sound
-sound_line d number line.EndCategory sound proper e = sound
-sound_line d number (line.Order order) sound proper e = sound_entry d number _ sound (may_be_put d order sound proper e)
+sound_line d number line.EndCategory sound proper e = sound_own d sound
+sound_line d number (line.Order order) sound proper e =
+    sound_entry d number _ sound (may_be_put d (own_order d.declared order) sound (own_id_proper d.declared order.id sound.built.meant sound.built.distinct_names sound.built.names proper.0, proper.1) e)
 
 -- a line that isn't at fault isn't refused by those before it
 not_refused : (number : ℕ) (cause : Option LoadCause) (later : Option LoadFault) → option_or (option_map (at_line number) cause) later ≡ None → cause ≡ None
@@ -126,7 +130,7 @@ module _ (s : LoaderState) (sound : IsSoundState s) where
       record {
         text = sound.text;
         draft = after;
-        ended = λ ends. subst (λ d. IsWellFormed (table_of d)) (sym (unchanged_at_end s.draft n.number n.line ends)) (well_formed_at_end s.draft n e ends sound.draft);
+        ended = λ ends. subst (λ d. IsWellFormed (table_of d)) (sym (own_at_end s.draft n.number n.line ends)) (well_formed_at_end s.draft n e ends sound.draft);
       }
 
   read_sound : (number : ℕ) (said : Result TableLine SyntaxFault) → IfOk said IsProperTableLine → StaysSound (by_read s number said)

@@ -12,13 +12,15 @@ use Rattle.coll_nodes.specs.Table.{has_text}
 use Rattle.coll_draft.specs.Drafts.{refused_if}
 use Rattle.coll_nodes.specs.Entries.{entry_of, given_weights, weight_ids}
 use Rattle.coll_nodes.specs.Limits.{most_declarations, most_entries}
+use Rattle.coll_nodes.specs.OwnNames.{means_nothing, means_no_symbol}
 use Rattle.coll_nodes.specs.Placement.{without, placed_after, entry_at, with_entry, section_moved}
 use Rattle.coll_nodes.specs.Table.{Collation, entries_of, section_names, name_of, text_of, is_declared, is_known, is_placed, is_symbol}
 use Rattle.coll_nodes.specs.declared.declarations.Declaration.{Declaration}
 use Rattle.coll_nodes.specs.declared.declarations.Declaration.TheVariants as declaration
 use Rattle.coll_nodes.specs.declared.entries.Entry.{Entry}
+use Rattle.coll_table.specs.OwnStatements.{own_statement}
 use Rattle.coll_table.specs.declared.refusals.Refusal.{Refusal}
-use Rattle.coll_table.specs.declared.refusals.Refusal.TheVariants.{DeclaredTwice, NotDeclared, SymbolWithWeights, TooManyWeights, WeightNotPlaced, StringTwice, Full, TargetNotPlaced, TwiceInBlock, NoSuchSection, SectionAfterItself, NotPlaced, NoWeights}
+use Rattle.coll_table.specs.declared.refusals.Refusal.TheVariants.{DeclaredTwice, NotDeclared, SymbolWithWeights, TooManyWeights, WeightNotPlaced, StringTwice, Full, TargetNotPlaced, TwiceInBlock, NoSuchSection, SectionAfterItself, NotPlaced, NoWeights, NotASymbol}
 
 -- a table that results, unless a refusal stands before it
 abbrev pub unless_refused : Option Refusal → Collation → Result Collation Refusal
@@ -111,8 +113,10 @@ block_delta table target lines =
 abbrev pub declaration_refusal : Collation → Declaration → Option Refusal
 declaration_refusal table new =
     refused_if (is_declared table.declared (name_of new)) DeclaredTwice
+    (refused_if (means_nothing table.declared new) NotDeclared
+    (refused_if (means_no_symbol table.declared new) NotASymbol
     (refused_if (has_text table.declared (text_of new)) StringTwice
-    (refused_if (nat_le most_declarations (length table.declared)) Full None))
+    (refused_if (nat_le most_declarations (length table.declared)) Full None))))
 
 -- the delta of a declaration: it stands behind all others
 abbrev pub declaration_delta : Collation → Declaration → Result Collation Refusal
@@ -150,10 +154,15 @@ reweighted table line = record table { sections = with_entry table.sections (ent
 abbrev pub reweight_delta : Collation → OrderLine → Result Collation Refusal
 reweight_delta table line = or_refused (reweight_refusal table line) (looked_up (reweighted table line) (line ∷ []))
 
--- the table rewritten by a statement, or the refusal
+-- the table rewritten by a statement of own names, or the refusal
+unfoldable pub own_delta : Collation → Statement → Result Collation Refusal
+own_delta table (statement.Symbol name) = declaration_delta table (declaration.Symbol name)
+own_delta table (statement.Element name text) = declaration_delta table (declaration.Element name text)
+own_delta table (statement.Equivalence name symbol) = declaration_delta table (declaration.Equivalence name symbol)
+own_delta table (statement.Block target lines) = block_delta table target lines
+own_delta table (statement.SectionAfter name after) = section_delta table name after
+own_delta table (statement.Reweight line) = reweight_delta table line
+
+-- the table rewritten by a statement, or the refusal: what it states by own names
 unfoldable pub delta : Collation → Statement → Result Collation Refusal
-delta table (statement.Symbol name) = declaration_delta table (declaration.Symbol name)
-delta table (statement.Element name text) = declaration_delta table (declaration.Element name text)
-delta table (statement.Block target lines) = block_delta table target lines
-delta table (statement.SectionAfter name after) = section_delta table name after
-delta table (statement.Reweight line) = reweight_delta table line
+delta table s = own_delta table (own_statement table s)

@@ -9,6 +9,8 @@ use Rattle.coll_syntax.specs.declared.statements.Statement.{Statement}
 use Rattle.coll_syntax.specs.declared.statements.Statement.TheVariants as statement
 use Rattle.coll_draft.specs.Drafts.{refused_if}
 use Rattle.coll_nodes.specs.Table.{Collation, is_known, is_placed}
+use Rattle.coll_statements.specs.OwnStatements.{uses_second}
+use Rattle.coll_table.specs.OwnStatements.{own_statement}
 use Rattle.coll_table.specs.declared.refusals.Refusal.{Refusal}
 use Rattle.coll_table.specs.declared.refusals.Refusal.TheVariants.{NotDeclared, WeightNotPlaced}
 
@@ -35,10 +37,15 @@ abbrev pub ids_refusal : Collation → (more : List Id) → List Id → Option R
 ids_refusal table more [] = None
 ids_refusal table more (id ∷ ids) = option_or (id_refusal table more id) (ids_refusal table more ids)
 
--- memory may be taken to judge a statement: that of a block whose target is placed, for the identifiers of its lines, and no other
+-- memory may be taken to judge a statement of own names: that of a block whose target is placed, for the identifiers of its lines, and no other
+abbrev pub own_judging_takes_memory : Collation → Statement → Bool
+own_judging_takes_memory table (statement.Symbol name) = false
+own_judging_takes_memory table (statement.Element name text) = false
+own_judging_takes_memory table (statement.Equivalence name symbol) = false
+own_judging_takes_memory table (statement.Block target lines) = is_placed table target
+own_judging_takes_memory table (statement.SectionAfter name after) = false
+own_judging_takes_memory table (statement.Reweight line) = false
+
+-- memory may be taken to judge a statement: where it uses a second name, for a copy by own names, and for what it states by these
 abbrev pub judging_takes_memory : Collation → Statement → Bool
-judging_takes_memory table (statement.Symbol name) = false
-judging_takes_memory table (statement.Element name text) = false
-judging_takes_memory table (statement.Block target lines) = is_placed table target
-judging_takes_memory table (statement.SectionAfter name after) = false
-judging_takes_memory table (statement.Reweight line) = false
+judging_takes_memory table s = uses_second table.declared s || own_judging_takes_memory table (own_statement table s)

@@ -3,6 +3,7 @@ pub mod Delta
 pub mod Growth
 pub mod Judging
 pub mod Loads
+pub mod OwnStatements
 pub mod Prepared
 pub mod Record
 pub mod RecordLaws

@@ -12,6 +12,7 @@ use Rattle.coll_nodes.specs.Bodies.{IsLooseNode}
 use Rattle.coll_nodes.specs.Linking.{nodes_without}
 use Rattle.coll_nodes.specs.Table.{Collation, is_placed}
 use Rattle.coll_nodes.specs.TableLayout.{TableLayout, TableValue, collation, content_of}
+use Rattle.coll_table.specs.OwnStatements.{own_statement}
 use Rattle.coll_table.specs.Turning.{turned_back, turned_on, items_back, items_on, CanTurnBack, CanTurnOn}
 use Rattle.coll_nodes.specs.WellFormed.{IsWellFormed}
 use Rattle.coll_nodes.specs.declared.contents.Content.{Content}
@@ -118,18 +119,24 @@ abbrev pub lines_steps : Collation → List OrderLine → ℕ
 lines_steps table [] = 0
 lines_steps table (line ∷ lines) = line_steps table line + lines_steps table lines
 
--- those of a statement
+-- those of a statement of own names
+unfoldable pub own_steps : Collation → Statement → ℕ
+own_steps table (statement.Symbol name) = 1
+own_steps table (statement.Element name text) = 1
+own_steps table (statement.Equivalence name symbol) = 1
+own_steps table (statement.Block target lines) = lines_steps table lines
+own_steps table (statement.SectionAfter name after) = 2
+own_steps table (statement.Reweight line) = 0
+
+-- those of a statement: of what it states by own names
 unfoldable pub statement_steps : Collation → Statement → ℕ
-statement_steps table (statement.Symbol name) = 1
-statement_steps table (statement.Element name text) = 1
-statement_steps table (statement.Block target lines) = lines_steps table lines
-statement_steps table (statement.SectionAfter name after) = 2
-statement_steps table (statement.Reweight line) = 0
+statement_steps table s = own_steps table (own_statement table s)
 
 -- the items of a record of a statement: one for each line of a block, and one for every other statement
 unfoldable pub statement_items : Statement → ℕ
 statement_items (statement.Symbol name) = 1
 statement_items (statement.Element name text) = 1
+statement_items (statement.Equivalence name symbol) = 1
 statement_items (statement.Block target lines) = length lines
 statement_items (statement.SectionAfter name after) = 1
 statement_items (statement.Reweight line) = 1

@@ -1,7 +1,7 @@
 -- The numbers and the names of the refusals of a table, as replies and messages show them.
 use Rattle.std.specs.Prelude.{ℕ, List, codes}
 use Rattle.coll_table.specs.declared.refusals.Refusal.{Refusal}
-use Rattle.coll_table.specs.declared.refusals.Refusal.TheVariants.{DeclaredTwice, NotDeclared, SymbolWithWeights, TooManyWeights, WeightNotPlaced, StringTwice, Full, TargetNotPlaced, TwiceInBlock, NoSuchSection, SectionAfterItself, NotPlaced, NoWeights, OutOfMemory}
+use Rattle.coll_table.specs.declared.refusals.Refusal.TheVariants.{DeclaredTwice, NotDeclared, SymbolWithWeights, TooManyWeights, WeightNotPlaced, StringTwice, Full, TargetNotPlaced, TwiceInBlock, NoSuchSection, SectionAfterItself, NotPlaced, NoWeights, OutOfMemory, NotASymbol}
 
 -- the number of a refusal
 abbrev pub refusal_number : Refusal → ℕ
@@ -19,6 +19,7 @@ refusal_number SectionAfterItself = 53
 refusal_number NotPlaced = 54
 refusal_number NoWeights = 55
 refusal_number OutOfMemory = 70
+refusal_number NotASymbol = 73
 
 -- the name of a refusal
 abbrev pub refusal_name : Refusal → List ℕ
@@ -36,3 +37,4 @@ refusal_name SectionAfterItself = codes "SectionAfterItself"
 refusal_name NotPlaced = codes "NotPlaced"
 refusal_name NoWeights = codes "NoWeights"
 refusal_name OutOfMemory = codes "OutOfMemory"
+refusal_name NotASymbol = codes "NotASymbol"

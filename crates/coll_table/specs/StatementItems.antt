@@ -18,6 +18,7 @@ use Rattle.coll_nodes.specs.declared.contents.Content.TheVariants.{Declared}
 use Rattle.coll_nodes.specs.declared.declarations.Declaration.{Declaration}
 use Rattle.coll_nodes.specs.declared.declarations.Declaration.TheVariants as declaration
 use Rattle.coll_table.specs.Delta.{block_entry}
+use Rattle.coll_table.specs.OwnStatements.{own_statement}
 use Rattle.coll_table.specs.declared.records.Item.{Item}
 
 -- a node stands in a ring, and is the entry of an identifier
@@ -72,11 +73,16 @@ IsReweightItem old line items =
     (node : NodeId) × IsEntryNode old.layout line.id node
     × (items ≡ record { node = node; old = None; new = None; weights = weights_before (collation old) line.id line.weights } ∷ [])
 
--- the items of the record of a statement, from the table before it and the layout after it
-unfoldable pub AreItemsOf : (old : TableValue) → (after : TableLayout) → Statement → List Item → Type 0
-AreItemsOf old after (statement.Symbol name) items = IsDeclarationItem old.layout after (declaration.Symbol name) items
-AreItemsOf old after (statement.Element name text) items = IsDeclarationItem old.layout after (declaration.Element name text) items
-AreItemsOf old after (statement.Block target lines) items =
+-- the items of the record of a statement of own names, from the table before it and the layout after it
+unfoldable pub AreOwnItems : (old : TableValue) → (after : TableLayout) → Statement → List Item → Type 0
+AreOwnItems old after (statement.Symbol name) items = IsDeclarationItem old.layout after (declaration.Symbol name) items
+AreOwnItems old after (statement.Element name text) items = IsDeclarationItem old.layout after (declaration.Element name text) items
+AreOwnItems old after (statement.Equivalence name symbol) items = IsDeclarationItem old.layout after (declaration.Equivalence name symbol) items
+AreOwnItems old after (statement.Block target lines) items =
     (node : NodeId) × IsEntryNode after target node × AreLineItems (collation old) after old.layout.rings node lines items
-AreItemsOf old after (statement.SectionAfter name target) items = IsSectionItem old.layout name target items
-AreItemsOf old after (statement.Reweight line) items = IsReweightItem old line items
+AreOwnItems old after (statement.SectionAfter name target) items = IsSectionItem old.layout name target items
+AreOwnItems old after (statement.Reweight line) items = IsReweightItem old line items
+
+-- the items of the record of a statement, from the table before it and the layout after it: those of what it states by own names
+unfoldable pub AreItemsOf : (old : TableValue) → (after : TableLayout) → Statement → List Item → Type 0
+AreItemsOf old after s items = AreOwnItems old after (own_statement (collation old) s) items

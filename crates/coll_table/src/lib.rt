@@ -2,22 +2,20 @@
 //!
 //! A `Table` is read by `load`, or by a `Loader` line by line, and rewritten by `apply`, which gives a `Record` that `flip` turns
 //! back. It stands on `coll_nodes`, which keeps what a table is made of, on `coll_draft`, which judges the lines of a table text,
-//! and on `coll_print`, which spells the canonical text; what a user of tables needs of them is handed on here. A way through the
+//! on `coll_print`, which spells the canonical text, and on `coll_statements`, which takes a statement by own names; what a user of tables needs of them is handed on here. A way through the
 //! crate, each file with its definitions in `specs/`:
 //!
 //! - `tables`: a table, read;
 //! - `loaders` and `loading`: a text, read line by line (`SoundLoaders`, `Loads`);
 //! - `printing`: the canonical text of a table, written;
-//! - `deltas`, with `deltas/judging` and `deltas/preparing`, `names`, `places` and `refusals`: a statement, judged, prepared and
-//!   applied (`Delta`, `Judging`, `Prepared`, `Growth`, `StatementItems`, `Applied`, `Refusals`);
+//! - `deltas`, with `deltas/judging` and `deltas/preparing`, and `refusals`: a statement, judged, prepared and
+//!   applied (`OwnStatements`, `Delta`, `Judging`, `Prepared`, `Growth`, `StatementItems`, `Applied`, `Refusals`);
 //! - `records`, `turning` and `record_laws`: a statement, taken back and done again (`Turning`, `Record`, `RecordLaws`).
 #![tactic(auto)]
 
 mod deltas;
 mod loaders;
 mod loading;
-mod names;
-mod places;
 mod printing;
 mod record_laws;
 mod records;

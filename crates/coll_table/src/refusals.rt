@@ -16,7 +16,7 @@ use thiserror::Error;
 pub enum Refusal {
     /// A name is declared already.
     DeclaredTwice,
-    /// A line or a weight names what the table doesn't declare.
+    /// A line or a weight names what the table doesn't declare, or a second name is to be declared for that.
     NotDeclared,
     /// A line gives weights to a collating symbol, which has none.
     SymbolWithWeights,
@@ -42,6 +42,8 @@ pub enum Refusal {
     NoWeights,
     /// Memory was refused.
     OutOfMemory,
+    /// A second name is to be declared for what is no collating symbol.
+    NotASymbol,
 }
 
 impl Refusal {
@@ -64,6 +66,7 @@ impl Refusal {
             Refusal::NotPlaced => 54,
             Refusal::NoWeights => 55,
             Refusal::OutOfMemory => 70,
+            Refusal::NotASymbol => 73,
         }
     }
 
@@ -86,6 +89,7 @@ impl Refusal {
             Refusal::NotPlaced => "NotPlaced",
             Refusal::NoWeights => "NoWeights",
             Refusal::OutOfMemory => "OutOfMemory",
+            Refusal::NotASymbol => "NotASymbol",
         }
     }
 }

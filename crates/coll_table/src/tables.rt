@@ -4,7 +4,7 @@
 //! read it through `collation`, which is the table that the layout stands for; every table is well formed (`WellFormed` there).
 //! What is read here takes no memory. How a body holds its nodes may change without a clause here.
 
-ghost use Rattle.std.specs.Prelude.{◌≡◌, length, option_copied, IfOk};
+ghost use Rattle.std.specs.Prelude.{◌≡◌, chars, length, option_copied, option_map, IfOk};
 
 use coll_nodes::{Body, Declared, Entry, HashKeys, Walk};
 use coll_syntax::{Id, Rule, Rules};
@@ -39,6 +39,7 @@ impl Model for Table {
 }
 
 impl Table {
+    ghost use Rattle.coll_nodes.specs.OwnNames.{own_name};
     ghost use Rattle.coll_nodes.specs.Placement.{entry_at};
     ghost use Rattle.coll_nodes.specs.SoundLayouts.{IsTable};
     ghost use Rattle.coll_nodes.specs.Table.{entries_of, is_known, is_placed, is_symbol};
@@ -84,6 +85,14 @@ impl Table {
         ensures { option_copied result ≡ entry_at (entries_of (collation self.now)) id.now }
     {
         self.body.entry(id)
+    }
+
+    /// The own name of a declared name: for a second name that of its symbol. It takes no memory.
+    #[tactic(auto, unfolding(coll_nodes::specs::TableLayout::collation))]
+    pub fn resolve(&self, name: &str) -> Option<&str>
+        ensures { option_map (λ own. chars own.now) result ≡ own_name (collation self.now).declared (chars name.now) }
+    {
+        self.body.resolve(name)
     }
 
     /// A walk through the sections and entries, in order. It takes no memory.

@@ -1,29 +1,29 @@
 //! Statements are judged, before anything is changed.
 //!
 //! `check` is `delta` of `specs/Delta.antt` without its table: the refusals of a statement in their order, each asked of the table
-//! as it stands. The weights of a block are looked up in the table that results: an identifier is placed there where it is placed
-//! now, or has a line in the block (`specs/Judging.antt`). What only judges gives a refusal or none; what may want memory, and this
-//! is a block alone, gives an `AllocError` beside it; and `check` joins the two. A new statement, or a new refusal of one, is a
-//! case of `delta` first.
+//! as it stands, once the statement is taken by own names. The weights of a block are looked up in the table that results: an
+//! identifier is placed there where it is placed now, or has a line in the block (`specs/Judging.antt`). What only judges gives a
+//! refusal or none; what may want memory, and this is a block alone, gives an `AllocError` beside it; and `check` joins the two.
+//! A new statement, or a new refusal of one, is a case of `own_delta` first.
 
 ghost use Rattle.std.specs.Prelude.{◌≡◌, ◌≢◌, ◌∷◌, [], true, IsOk, Ok, Err, Some, None, IfOk, IfErr, OnOk, OnErr, length, nat_le};
 ghost use Rattle.std.specs.List.{flat_map};
 ghost use Rattle.coll_syntax.specs.Proper.{IsProper};
-ghost use Rattle.coll_table.specs.Delta.{all_moved, block_delta, declaration_refusal, delta, ids_given, line_refusal, lines_refusal, reweight_delta, reweight_refusal, reweighted, section_refusal, unless_refused, weights_refusal};
+ghost use Rattle.coll_table.specs.Delta.{all_moved, block_delta, declaration_refusal, delta, ids_given, line_refusal, lines_refusal, own_delta, reweight_delta, reweight_refusal, reweighted, section_refusal, unless_refused, weights_refusal};
 ghost use Rattle.coll_draft.specs.Drafts.{refused_if};
 ghost use Rattle.coll_nodes.specs.Entries.{given_weights, weight_ids};
-ghost use Rattle.coll_table.specs.Judging.{entries_added, HaveSame, id_refusal, ids_refusal, judging_takes_memory, line_ids};
+ghost use Rattle.coll_table.specs.Judging.{entries_added, HaveSame, id_refusal, ids_refusal, judging_takes_memory, line_ids, own_judging_takes_memory};
 ghost use Rattle.coll_nodes.specs.Limits.{most_declarations};
 ghost use Rattle.coll_nodes.specs.Table.{is_placed};
 ghost use Rattle.coll_nodes.specs.TableLayout.{collation};
 ghost use Rattle.coll_nodes.specs.declared.declarations.Declaration.TheVariants as declaration;
 ghost use Rattle.coll_table.specs.declared.refusals.Refusal.TheVariants.{Full, OutOfMemory};
 
-use crate::places::Places;
 use crate::{Refusal, Table};
 use coll_draft::given_len;
 use coll_lex::TextBuf;
 use coll_nodes::{MOST_DECLARATIONS, MOST_ENTRIES};
+use coll_statements::Places;
 use coll_syntax::{Id, OrderLine, Statement, Weight};
 use std::alloc::AllocError;
 
@@ -31,7 +31,8 @@ impl Table {
     /// Judges a statement as `apply` would, and changes nothing.
     ///
     /// The answer is the first refusal of the statement, if it has one. It takes memory for a block alone whose target is placed,
-    /// for the identifiers of its lines, and where that is wanting `OutOfMemory` may stand in place of any other answer.
+    /// for the identifiers of its lines, and for a statement that uses a second name, for a copy by own names; where that is
+    /// wanting `OutOfMemory` may stand in place of any other answer.
     #[tactic(auto, unfolding(crate::specs::Delta::delta))]
     pub fn check(&self, statement: &Statement) -> Result<(), Refusal>
         requires proper { IsProper statement.now }
@@ -39,9 +40,26 @@ impl Table {
         ensures err { IfErr result (λ refusal. refusal ≢ OutOfMemory → delta (collation self.now) statement.now ≡ Err refusal) }
         ensures memory { IfErr result (λ refusal. refusal ≡ OutOfMemory → judging_takes_memory (collation self.now) statement.now ≡ true) }
     {
+        match self.own_statement(statement)? {
+            Some(own) => self.check_own(&own),
+            None => self.check_own(statement),
+        }
+    }
+
+    // Judges a statement of own names, as `check` does.
+    #[tactic(auto, unfolding(crate::specs::Delta::own_delta))]
+    pub(super) fn check_own(&self, statement: &Statement) -> Result<(), Refusal>
+        requires proper { IsProper statement.now }
+        ensures ok { OnOk result (IsOk (own_delta (collation self.now) statement.now)) }
+        ensures err { IfErr result (λ refusal. refusal ≢ OutOfMemory → own_delta (collation self.now) statement.now ≡ Err refusal) }
+        ensures memory { IfErr result (λ refusal. refusal ≡ OutOfMemory → own_judging_takes_memory (collation self.now) statement.now ≡ true) }
+    {
         match statement {
             Statement::Symbol(name) => or_refused(self.symbol_refusal(name)),
             Statement::Element { name, text } => or_refused(self.element_refusal(name, text)),
+            Statement::Equivalence { name, symbol } => {
+                or_refused(self.equivalence_refusal(name, symbol))
+            }
             Statement::Block { target, lines } => {
                 let refusal = self.block_refusal(target, lines.get())?;
                 or_refused(refusal)
@@ -74,6 +92,23 @@ impl Table {
         }
         if self.body.has_text(text) {
             return Some(Refusal::StringTwice);
+        }
+        self.room_refusal()
+    }
+
+    /// Why the declaration of a second name is refused, if it is.
+    #[tactic(auto, unfolding(coll_nodes::specs::TableLayout::collation))]
+    fn equivalence_refusal(&self, name: &TextBuf, symbol: &TextBuf) -> Option<Refusal>
+        ensures { result ≡ declaration_refusal (collation self.now) (declaration.Equivalence name.now symbol.now) }
+    {
+        if self.body.declares(name) {
+            return Some(Refusal::DeclaredTwice);
+        }
+        if !self.body.is_own_name(symbol) {
+            return Some(Refusal::NotDeclared);
+        }
+        if !self.body.is_symbol_name(symbol) {
+            return Some(Refusal::NotASymbol);
         }
         self.room_refusal()
     }

@@ -1,6 +1,6 @@
 -- A block is prepared, and carried out.
 use Rattle.coll_syntax.specs.declared.statements.Statement.TheVariants as statement
-use Rattle.coll_table.specs.Delta.{delta}
+use Rattle.coll_table.specs.Delta.{own_delta}
 use Rattle.coll_nodes.specs.TableLayout.{collation}
 use Rattle.coll_table.proofs.AcceptedStatements.{block_accepted}
 use Rattle.coll_table.proofs.AppliedStatements.{IsReady, applied, block_ready, ready_well_formed}
@@ -8,7 +8,7 @@ use Rattle.coll_table.proofs.ListedItems.{block_listed}
 use Rattle.coll_table.proofs.tables.Table.apply_block.Goals as goal
 
 pub prepare_block-requires : goal.prepare_block-requires
-unfolding delta
+unfolding own_delta
 prepare_block-requires c = record { placed = (block_accepted (collation c.args.self.now) c.args.target.now c.args.lines.now c.requires.accepted).placed }
 
 ready : (c : goal.After-carry_out-arg-1) → IsReady c.prepare_block.new.self (statement.Block c.args.target.now c.args.lines.now) c.in_ok-items.items.items

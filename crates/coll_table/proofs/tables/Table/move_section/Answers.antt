@@ -1,6 +1,6 @@
 -- A section move is prepared, and carried out.
 use Rattle.coll_syntax.specs.declared.statements.Statement.TheVariants as statement
-use Rattle.coll_table.specs.Delta.{delta}
+use Rattle.coll_table.specs.Delta.{own_delta}
 use Rattle.coll_nodes.specs.TableLayout.{collation}
 use Rattle.coll_table.proofs.AcceptedStatements.{section_accepted}
 use Rattle.coll_table.proofs.AppliedStatements.{IsReady, applied, ready_well_formed, section_adds, section_ready}
@@ -8,11 +8,11 @@ use Rattle.coll_table.proofs.ListedItems.{section_listed}
 use Rattle.coll_table.proofs.tables.Table.move_section.Goals as goal
 
 pub prepare_section-requires-clause-moved : goal.prepare_section-requires-clause-moved
-unfolding delta
+unfolding own_delta
 prepare_section-requires-clause-moved c = (section_accepted (collation c.args.self.now) c.args.moved.now c.args.after.now c.requires.accepted).moved
 
 pub prepare_section-requires-clause-after : goal.prepare_section-requires-clause-after
-unfolding delta
+unfolding own_delta
 prepare_section-requires-clause-after c = (section_accepted (collation c.args.self.now) c.args.moved.now c.args.after.now c.requires.accepted).target
 
 ready : (c : goal.After-carry_out-arg-1) → IsReady c.args.self.now (statement.SectionAfter c.args.moved.now c.args.after.now) c.in_ok-items.items.items

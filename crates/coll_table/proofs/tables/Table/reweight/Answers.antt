@@ -1,6 +1,6 @@
 -- An order line outside a block is prepared, and carried out.
 use Rattle.coll_syntax.specs.declared.statements.Statement.TheVariants as statement
-use Rattle.coll_table.specs.Delta.{delta}
+use Rattle.coll_table.specs.Delta.{own_delta}
 use Rattle.coll_nodes.specs.TableLayout.{collation}
 use Rattle.coll_table.proofs.AcceptedStatements.{reweight_accepted}
 use Rattle.coll_table.proofs.AppliedStatements.{IsReady, applied, ready_well_formed, reweight_adds, reweight_ready}
@@ -8,7 +8,7 @@ use Rattle.coll_table.proofs.ListedItems.{reweight_listed}
 use Rattle.coll_table.proofs.tables.Table.reweight.Goals as goal
 
 pub prepare_reweight-requires : goal.prepare_reweight-requires
-unfolding delta
+unfolding own_delta
 prepare_reweight-requires c = record { placed = (reweight_accepted (collation c.args.self.now) c.args.line.now c.requires.accepted).placed }
 
 ready : (c : goal.After-carry_out-arg-1) → IsReady c.args.self.now (statement.Reweight c.args.line.now) c.in_ok-items.items.items

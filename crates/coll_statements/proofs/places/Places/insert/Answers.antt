@@ -1,6 +1,6 @@
 -- One identifier more is found.
-use Rattle.coll_table.proofs.PlaceLookUps.{adds_name, adds_char}
-use Rattle.coll_table.proofs.places.Places.insert.Goals as goal
+use Rattle.coll_statements.proofs.PlaceLookUps.{adds_name, adds_char}
+use Rattle.coll_statements.proofs.places.Places.insert.Goals as goal
 
 pub returns-in_ok-insert-in-Char-clause-ok : goal.returns-in_ok-insert-in-Char-clause-ok
 returns-in_ok-insert-in-Char-clause-ok c =

@@ -1,0 +1,3 @@
+pub mod LookUps
+pub mod OwnStatements
+pub mod PlaceLookUps
