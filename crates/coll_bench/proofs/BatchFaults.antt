@@ -83,6 +83,7 @@ refusal_kind refusal.NoSuchSection ample = refl
 refusal_kind refusal.SectionAfterItself ample = refl
 refusal_kind refusal.NotPlaced ample = refl
 refusal_kind refusal.NoWeights ample = refl
+refusal_kind refusal.NotASymbol ample = refl
 refusal_kind refusal.OutOfMemory ample = absurd (ample refl)
 
 -- a fault of a delta file is what is answered, unless memory was refused

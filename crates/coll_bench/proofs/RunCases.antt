@@ -85,6 +85,7 @@ module _ (table_text : List ℕ) (delta_texts : List (List ℕ)) (left_after : O
   by_cause load.OutsideOrder line h = at_fault load.OutsideOrder line h
   by_cause load.Full line h = at_fault load.Full line h
   by_cause load.NoEnd line h = at_fault load.NoEnd line h
+  by_cause load.NotASymbol line h = at_fault load.NotASymbol line h
   by_cause load.ReadFault line h = h
   by_cause load.OutOfMemory line h = h
 

@@ -92,6 +92,10 @@ no_string table (declaration.Symbol other ∷ declared) name h =
     by_test (λ b. (b || list_any (same_name name) (names_of declared)) ≡ false → last_string (map (ranked_in table) (flat_map (element_placed table) declared)) name ≡ None) (same_name name other)
     (λ on e. absurd (false≢true (sym e)))
     (λ off e. no_string table declared name e) h
+no_string table (declaration.Equivalence other symbol ∷ declared) name h =
+    by_test (λ b. (b || list_any (same_name name) (names_of declared)) ≡ false → last_string (map (ranked_in table) (flat_map (element_placed table) declared)) name ≡ None) (same_name name other)
+    (λ on e. absurd (false≢true (sym e)))
+    (λ off e. no_string table declared name e) h
 no_string table (declaration.Element other text ∷ declared) name h =
     by_test (λ b. same_name name other ≡ b → (b || list_any (same_name name) (names_of declared)) ≡ false → last_string (map (ranked_in table) (cond (is_placed table (Named other)) (record { name = other; text = text } ∷ []) [] ++ flat_map (element_placed table) declared)) name ≡ None) (same_name name other)
     (λ on is e. absurd (false≢true (sym e)))
@@ -103,6 +107,7 @@ no_string table (declaration.Element other text ∷ declared) name h =
 string_of_placed : (table : Collation) (declared : List Declaration) (name : List ℕ) → AreDistinct same_name (names_of declared) → is_placed table (Named name) ≡ true → unwrap_or (last_string (map (ranked_in table) (flat_map (element_placed table) declared)) name) [] ≡ string_named declared name
 string_of_placed table [] name distinct placed = refl
 string_of_placed table (declaration.Symbol other ∷ declared) name distinct placed = string_of_placed table declared name distinct.1 placed
+string_of_placed table (declaration.Equivalence other symbol ∷ declared) name distinct placed = string_of_placed table declared name distinct.1 placed
 string_of_placed table (declaration.Element other text ∷ declared) name distinct placed =
     by_test (λ b. same_name name other ≡ b → unwrap_or (last_string (map (ranked_in table) (cond (is_placed table (Named other)) (record { name = other; text = text } ∷ []) [] ++ flat_map (element_placed table) declared)) name) [] ≡ cond b text (string_named declared name)) (same_name name other)
     (λ on is.

@@ -22,6 +22,7 @@ use Rattle.coll_key.specs.WrittenKey.{joined_by_spaces, level_end}
 abbrev pub string_named : List Declaration → List ℕ → List ℕ
 string_named [] name = []
 string_named (declaration.Symbol declared ∷ declarations) name = string_named declarations name
+string_named (declaration.Equivalence declared symbol ∷ declarations) name = string_named declarations name
 string_named (declaration.Element declared text ∷ declarations) name = if same_name name declared then text else string_named declarations name
 
 -- the spelling of an identifier in a listing: a character by its code point, an element by those of its string, or UNDEFINED

@@ -118,6 +118,7 @@ has_place (entry ∷ entries) id = ap (λ b. same_id id entry.id || b) (has_plac
 pub elements_ranked : (table : Collation) (ids : RanksById) (declared : List Declaration) → AreIdRanksOf ids table → flat_map (ranked_declared ids) declared ≡ map (ranked_in table) (flat_map (element_placed table) declared)
 elements_ranked table ids [] are = refl
 elements_ranked table ids (declaration.Symbol name ∷ declared) are = elements_ranked table ids declared are
+elements_ranked table ids (declaration.Equivalence name symbol ∷ declared) are = elements_ranked table ids declared are
 elements_ranked table ids (declaration.Element name text ∷ declared) are =
     ap₂ (λ (r : Option ℕ) (later : List RankedElement). ranked_if_any name text r ++ later) (are (Named name) ∙ or_none (place_among (entries_of table) (Named name))) (elements_ranked table ids declared are)
     ∙ (by (place_among (entries_of table) (Named name)) refl ∙ ap (λ b. map (ranked_in table) (cond b (record { name = name; text = text } ∷ []) [] ++ flat_map (element_placed table) declared)) (sym (has_place (entries_of table) (Named name)))) where
@@ -136,6 +137,7 @@ put_more all with whole ids left later item first put is =
 -- a declaration is at most one element
 one_at_most : (ids : RanksById) (item : Declaration) → length (ranked_declared ids item) ≤ 1
 one_at_most ids (declaration.Symbol name) = omega arith
+one_at_most ids (declaration.Equivalence name symbol) = omega arith
 one_at_most ids (declaration.Element name text) = by (rank_with ids (Named name)) where
   by : (r : Option ℕ) → length (ranked_if_any name text r) ≤ 1
   by None = omega arith
@@ -152,6 +154,7 @@ few_more all with ids left later item first put few =
 pub have_strings : (declared : List Declaration) → All IsElementText (texts_of declared) → All HasString declared
 have_strings [] h = All-nil HasString
 have_strings (declaration.Symbol name ∷ declared) h = All-cons HasString (declaration.Symbol name) declared tt (have_strings declared h)
+have_strings (declaration.Equivalence name symbol ∷ declared) h = All-cons HasString (declaration.Equivalence name symbol) declared tt (have_strings declared h)
 have_strings (declaration.Element name text ∷ declared) h =
     let two : 2 ≤ length text = (All-head IsElementText text (texts_of declared) h).0 in
     let some : 0 < length text = omega arith in

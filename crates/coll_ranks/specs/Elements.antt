@@ -15,6 +15,7 @@ pub record Element : Type 0 where
 -- the collating element of a declaration, if it is placed
 abbrev pub element_placed : Collation → Declaration → List Element
 element_placed table (declaration.Symbol name) = []
+element_placed table (declaration.Equivalence name symbol) = []
 element_placed table (declaration.Element name text) = if is_placed table (Named name) then record { name = name; text = text } ∷ [] else []
 
 -- the collating elements of a table that are placed, in the order of their declarations

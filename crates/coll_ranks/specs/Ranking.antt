@@ -29,9 +29,11 @@ ranked_if_any name text (Some rank) = ranked_element name text rank ∷ []
 -- the element of a declaration with its rank, if it has one
 abbrev pub ranked_declared : RanksById → Declaration → List RankedElement
 ranked_declared ids (declaration.Symbol name) = []
+ranked_declared ids (declaration.Equivalence name symbol) = []
 ranked_declared ids (declaration.Element name text) = ranked_if_any name text (rank_with ids (Named name))
 
 -- the string of a declaration, where there is one, has a character
 abbrev pub HasString : Declaration → Type 0
 HasString (declaration.Symbol name) = Unit {0}
+HasString (declaration.Equivalence name symbol) = Unit {0}
 HasString (declaration.Element name text) = 0 < length text

@@ -142,6 +142,7 @@ fn put_declared(
 {
     match item {
         DeclaredItem::Symbol(_) => Ok(elements),
+        DeclaredItem::Equivalence(_, _) => Ok(elements),
         DeclaredItem::Element(name, text) => match ids.rank_of_name(name) {
             Some(rank) => elements.push(name, text, rank),
             None => Ok(elements),

@@ -110,10 +110,11 @@ count_reply word (Err f) = refused_line (fault.Bench f)
 abbrev pub spaced : List ℕ → List ℕ → List ℕ
 spaced first second = (first ++ 32 ∷ []) ++ second
 
--- what a statement is, for a history: a block by its target and the number of its lines
+-- what a statement is, for a history, by the names that it was given with: a block by its target and the number of its lines
 abbrev pub statement_words : Statement → List ℕ
 statement_words (statement.Symbol name) = spaced (codes "symbol") (name_bytes name)
 statement_words (statement.Element name text) = spaced (codes "element") (name_bytes name)
+statement_words (statement.Equivalence name symbol) = spaced (codes "equivalence") (spaced (name_bytes name) (name_bytes symbol))
 statement_words (statement.Block target lines) = spaced (codes "block") (spaced (id_bytes target) (decimal (length lines)))
 statement_words (statement.SectionAfter name after) = spaced (codes "section") (spaced (name_bytes name) (name_bytes after))
 statement_words (statement.Reweight line) = spaced (codes "reweight") (id_bytes line.id)

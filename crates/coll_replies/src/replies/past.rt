@@ -75,8 +75,9 @@ fn write_statement<W: Sink>(out: &mut W, statement: &Statement) -> Result<(), Wr
     match statement {
         Statement::Symbol(name) => write_name(out, b"symbol", name),
         Statement::Element { name, .. } => write_name(out, b"element", name),
+        Statement::Equivalence { name, symbol } => write_two(out, b"equivalence", name, symbol),
         Statement::Block { target, lines } => write_block(out, target, lines.get().len()),
-        Statement::SectionAfter { moved, after } => write_move(out, moved, after),
+        Statement::SectionAfter { moved, after } => write_two(out, b"section", moved, after),
         Statement::Reweight(line) => write_reweight(out, &line.id),
     }
 }
@@ -118,13 +119,18 @@ fn write_id_spaced<W: Sink>(out: &mut W, id: &Id) -> Result<(), WriteStop>
     write_bytes(out, b" ")
 }
 
-// Writes which section is moved, and after which.
-fn write_move<W: Sink>(out: &mut W, moved: &TextBuf, after: &TextBuf) -> Result<(), WriteStop>
-    ensures sent { Sends (W.taken out.old) (W.taken out.new) (spaced (codes "section") (spaced (name_bytes moved.now) (name_bytes after.now))) result }
+// Writes a word and two names behind it.
+fn write_two<W: Sink>(
+    out: &mut W,
+    word: &[u8],
+    first: &TextBuf,
+    second: &TextBuf,
+) -> Result<(), WriteStop>
+    ensures sent { Sends (W.taken out.old) (W.taken out.new) (spaced word.now (spaced (name_bytes first.now) (name_bytes second.now))) result }
     ensures errors { CountsErr (W.failed out.old) (W.failed out.new) result }
 {
-    write_spaced(out, b"section")?;
-    write_names(out, moved, after)
+    write_spaced(out, word)?;
+    write_names(out, first, second)
 }
 
 // Writes two names with a space between them.
