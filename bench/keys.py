@@ -36,6 +36,7 @@ CRATES = (
     "coll_nodes",
     "coll_draft",
     "coll_print",
+    "coll_statements",
     "coll_table",
     "coll_ranks",
     "coll_key",

@@ -31,6 +31,7 @@ CRATES = (
     "coll_nodes",
     "coll_draft",
     "coll_print",
+    "coll_statements",
     "coll_table",
 )
 DECLARATIONS = 82_000

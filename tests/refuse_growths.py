@@ -48,7 +48,7 @@ REFUSED = b"refused 70 OutOfMemory\n"
 FAULT = re.compile(rb"(-|[^:]+\.txt):(\d+): 70 OutOfMemory\n")
 # Each test, and how many of its growths can be spared.
 SPARED = {
-    "growths::a_table_is_loaded_with_no_growth_refused": 3,
+    "growths::a_table_is_loaded_with_no_growth_refused": 5,
     "keys::a_comparison_at_a_backward_level_takes_memory": 0,
     "keys::a_comparison_at_forward_levels_takes_no_memory": 0,
     "keys::keys_and_orders_are_those_of_the_weights": 1,

@@ -68,6 +68,7 @@ const LOAD_CAUSES: &[(LoadCause, &str)] = &[
     (LoadCause::NoEnd, "43 NoEnd"),
     (LoadCause::ReadFault, "67 ReadFault"),
     (LoadCause::OutOfMemory, "70 OutOfMemory"),
+    (LoadCause::NotASymbol, "73 NotASymbol"),
 ];
 
 const REFUSALS: &[(Refusal, &str)] = &[
@@ -85,6 +86,7 @@ const REFUSALS: &[(Refusal, &str)] = &[
     (Refusal::NotPlaced, "54 NotPlaced"),
     (Refusal::NoWeights, "55 NoWeights"),
     (Refusal::OutOfMemory, "70 OutOfMemory"),
+    (Refusal::NotASymbol, "73 NotASymbol"),
 ];
 
 const KEY_FAULTS: &[(KeyFault, &str)] = &[

@@ -65,6 +65,12 @@ fn past_element<'a>(rt: &impl Abort, wanted: &'a str, name: &TextBuf, text: &Tex
     past(rt, past(rt, rest, " "), text.get())
 }
 
+// .. behind a second name and the name of its symbol.
+fn past_second<'a>(rt: &impl Abort, wanted: &'a str, name: &TextBuf, symbol: &TextBuf) -> &'a str {
+    let rest = past_named(rt, wanted, "second ", name);
+    past_name(rt, past(rt, rest, " "), symbol.get())
+}
+
 /// What is left of a wanted text behind an identifier: a character as it is, a name between its brackets, or `UNDEFINED`.
 pub fn past_id<'a>(rt: &impl Abort, wanted: &'a str, id: &Id) -> &'a str {
     match id {

@@ -5,7 +5,10 @@
 //! looks whether all stands as it did, and makes the call again, which then has to answer. Tests of `sessions::histories`, of `keys`
 //! and of `ordered_rings` do so as well.
 
-use crate::tables::examples::{BASE_TABLE, TWO_SECTIONS, assert_printed, loaded, text_of};
+use crate::tables::examples::{
+    BASE_TABLE, SECOND_NAMES, SECOND_NAMES_PRINTED, TWO_SECTIONS, TWO_SECTIONS_PRINTED,
+    assert_printed, loaded, text_of,
+};
 use coll_table::{LoadCause, LoadFault, Table};
 use std::alloc::Global;
 use std::process::Abort;
@@ -57,24 +60,9 @@ fn assert_loads<R: Abort + Print>(rt: &R, alloc: Global, lines: &[&str], printed
     drop(table);
 }
 
-// The canonical text of the table with two sections.
-const PRINTED: &[&str] = &[
-    "comment_char %",
-    "escape_char /",
-    "LC_COLLATE",
-    "collating-element <ch> from \"<U0063><U0068>\"",
-    "order_start forward;forward,position",
-    "section <L>",
-    "<U0061>",
-    "section <M>",
-    "<ch>",
-    "UNDEFINED IGNORE;",
-    "order_end",
-    "END LC_COLLATE",
-];
-
 #[test]
 fn a_table_is_loaded_with_no_growth_refused(rt: HostRuntime) {
     assert_loads(&rt, rt.alloc(), BASE_TABLE, BASE_TABLE);
-    assert_loads(&rt, rt.alloc(), TWO_SECTIONS, PRINTED);
+    assert_loads(&rt, rt.alloc(), TWO_SECTIONS, TWO_SECTIONS_PRINTED);
+    assert_loads(&rt, rt.alloc(), SECOND_NAMES, SECOND_NAMES_PRINTED);
 }

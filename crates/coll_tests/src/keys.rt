@@ -7,7 +7,9 @@ ghost use Rattle.coll_nodes.specs.TableLayout.{collation};
 
 use crate::assertions::assert_same;
 use crate::growths::{count_growths, count_no_growths, tell_refused};
-use crate::tables::examples::{BASE_TABLE, BOTH_FORWARD, FRENCH_TABLE, id, loaded_lines};
+use crate::tables::examples::{
+    BASE_TABLE, BOTH_FORWARD, FRENCH_TABLE, SECOND_NAMES, id, loaded_lines,
+};
 use coll_key::{KeyFault, Ranks, compare, key};
 use coll_syntax::Id;
 use coll_table::Table;
@@ -140,13 +142,21 @@ const RANKS: &[(&str, Option<u32>)] = &[
     ("PUNCT", None),
 ];
 
+// An identifier, and its rank in the table of second names: a symbol has one under its own name alone.
+const OWN_RANKS: &[(&str, Option<u32>)] = &[
+    ("MIN", Some(1)),
+    ("ch", Some(3)),
+    ("LOW", None),
+    ("LATE", None),
+];
+
 fn assert_rank(rt: &impl Abort, ranks: &Ranks, id: Id, rank: Option<u32>) {
     assert_same(rt, "a rank", ranks.rank(&id), rank);
     drop(id);
 }
 
-fn assert_ranks(rt: &impl Abort, alloc: Global, ranks: &Ranks) {
-    for (text, rank) in RANKS {
+fn assert_ranks(rt: &impl Abort, alloc: Global, ranks: &Ranks, wanted: &[(&str, Option<u32>)]) {
+    for (text, rank) in wanted {
         assert_rank(rt, ranks, id(alloc, text).expect(rt, text), *rank);
     }
 }
@@ -201,7 +211,7 @@ fn assert_keys_and_orders<R: Abort + Print>(rt: &R, alloc: Global, table: &Table
 
 fn assert_ranked<R: Abort + Print>(rt: &R, alloc: Global, table: &Table) {
     let ranks = ranks_of(rt, alloc, table);
-    assert_ranks(rt, alloc, &ranks);
+    assert_ranks(rt, alloc, &ranks, RANKS);
     assert_keys_and_orders(rt, alloc, table, &ranks);
     drop(ranks);
 }
@@ -210,5 +220,18 @@ fn assert_ranked<R: Abort + Print>(rt: &R, alloc: Global, table: &Table) {
 fn keys_and_orders_are_those_of_the_weights(rt: HostRuntime) {
     let table = loaded_lines(rt.alloc(), BASE_TABLE).expect(&rt, "a table");
     assert_ranked(&rt, rt.alloc(), &table);
+    drop(table);
+}
+
+fn assert_own_ranks(rt: &impl Abort, alloc: Global, table: &Table) {
+    let ranks = Ranks::new(alloc, table).expect(rt, "the ranks");
+    assert_ranks(rt, alloc, &ranks, OWN_RANKS);
+    drop(ranks);
+}
+
+#[test]
+fn a_second_name_has_no_rank(rt: HostRuntime) {
+    let table = loaded_lines(rt.alloc(), SECOND_NAMES).expect(&rt, "a table");
+    assert_own_ranks(&rt, rt.alloc(), &table);
     drop(table);
 }

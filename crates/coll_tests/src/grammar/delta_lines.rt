@@ -2,7 +2,7 @@
 
 ghost use Rattle.coll_lex.specs.Names.{AreTokens};
 
-use super::{Place, assert_rows, past_element, past_id, past_named, past_order};
+use super::{Place, assert_rows, past_element, past_id, past_named, past_order, past_second};
 use crate::assertions::{past, past_name};
 use coll_lex::{Line, TextBuf};
 use coll_syntax::{DeltaLine, parse_delta_line};
@@ -26,6 +26,7 @@ fn past_read<'a>(rt: &impl Abort, wanted: &'a str, line: &DeltaLine) -> &'a str 
     match line {
         DeltaLine::Symbol(name) => past_named(rt, wanted, "symbol ", name),
         DeltaLine::Element { name, text } => past_element(rt, wanted, name, text),
+        DeltaLine::Equivalence { name, symbol } => past_second(rt, wanted, name, symbol),
         DeltaLine::Script => past(rt, wanted, "script"),
         DeltaLine::Category => past(rt, wanted, "LC_COLLATE"),
         DeltaLine::EndCategory => past(rt, wanted, "END"),
@@ -47,6 +48,10 @@ collating-symbol <X> => symbol <X>
 collating-symbol <X> <X> => ExtraOperand
 collating-element <ch> from "ch" => element <ch> ch
 collating-element <ch> from "c" => ElementLength
+symbol-equivalence <A> <B> => second <A> <B>
+symbol-equivalence <A> => MissingOperand
+symbol-equivalence <A> B => BadOperand
+symbol-equivalence <A> <B> <C> => ExtraOperand
 script <N> => script
 script N => BadOperand
 LC_COLLATE => LC_COLLATE
@@ -97,7 +102,6 @@ bogus => UnknownStatement
 order_start forward => UnknownStatement
 order_end => UnknownStatement
 section <N> => UnknownStatement
-symbol-equivalence <A> <B> => UnknownStatement
 ; => UnknownStatement
 "a" => UnknownStatement
 :undo => UnknownStatement"#;

@@ -2,7 +2,7 @@
 
 ghost use Rattle.coll_lex.specs.Names.{AreTokens};
 
-use super::{Place, assert_rows, past_element, past_named, past_order, past_rules};
+use super::{Place, assert_rows, past_element, past_named, past_order, past_rules, past_second};
 use crate::assertions::{past, past_name};
 use coll_lex::{Line, TextBuf};
 use coll_syntax::{Rules, TableLine, parse_table_line};
@@ -26,6 +26,7 @@ fn past_read<'a>(rt: &impl Abort, wanted: &'a str, line: &TableLine) -> &'a str 
     match line {
         TableLine::Symbol(name) => past_named(rt, wanted, "symbol ", name),
         TableLine::Element { name, text } => past_element(rt, wanted, name, text),
+        TableLine::Equivalence { name, symbol } => past_second(rt, wanted, name, symbol),
         TableLine::OrderStart { section, rules } => past_start(rt, wanted, section, rules),
         TableLine::OrderEnd => past(rt, wanted, "order_end"),
         TableLine::Section(name) => past_named(rt, wanted, "section ", name),
@@ -62,6 +63,21 @@ collating-symbol "X" => BadOperand
 collating-symbol ; => BadOperand
 collating-symbol <X> <Y> => ExtraOperand
 collating-symbol <X>; => ExtraOperand
+symbol-equivalence <A> <B> => second <A> <B>
+symbol-equivalence<A><B># note => second <A> <B>
+symbol-equivalence <A> <A> => second <A> <A>
+symbol\-equivalence <A> <B> => second <A> <B>
+symbol-equivalence => MissingOperand
+symbol-equivalence <A> => MissingOperand
+symbol-equivalence A <B> => BadOperand
+symbol-equivalence <A> B => BadOperand
+symbol-equivalence <U0041> <B> => BadOperand
+symbol-equivalence <A> <U0042> => BadOperand
+symbol-equivalence <A>;<B> => BadOperand
+symbol-equivalence <A> "B" => BadOperand
+symbol-equivalence <A> <B> <C> => ExtraOperand
+symbol-equivalence <A> <B>; => ExtraOperand
+symbol-equivalences <A> <B> => UnknownStatement
 collating-element <ch> from "<U0063><U0068>" => element <ch> ch
 collating-element <ch> from "c\h" => element <ch> ch
 collating-element => MissingOperand
@@ -159,7 +175,6 @@ copy "x" => UnknownStatement
 reorder-after a => UnknownStatement
 reorder-end => UnknownStatement
 reorder-section-after <S> <T> => UnknownStatement
-symbol-equivalence <A> <B> => UnknownStatement
 -- Weights of order lines.
 <U0061> <U0061>;<BASE>;"<S>a";IGNORE => order a with (a) (<BASE>) (<S>a) I
 a ; => order a with - -

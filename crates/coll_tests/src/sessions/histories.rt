@@ -108,6 +108,46 @@ const SESSIONS: &[(Lines, &[Call])] = &[
         BASE_TABLE,
         &[States(&["<U0062> <U0063>"], Ok(1)), Undo(Ok(0))],
     ),
+    (
+        BASE_TABLE,
+        &[
+            States(&["symbol-equivalence <LOW> <MIN>"], Ok(1)),
+            States(&["symbol-equivalence <SMALL> <LOW>"], Ok(2)),
+            States(
+                &["symbol-equivalence <LOW> <CAP>"],
+                Err(BenchFault::Table(Refusal::DeclaredTwice)),
+            ),
+            States(
+                &["symbol-equivalence <Z> <Q>"],
+                Err(BenchFault::Table(Refusal::NotDeclared)),
+            ),
+            States(
+                &["reorder-after <CAP>", "<LOW>", "<MIN>"],
+                Err(BenchFault::Table(Refusal::TwiceInBlock)),
+            ),
+            States(
+                &["<LOW> IGNORE"],
+                Err(BenchFault::Table(Refusal::SymbolWithWeights)),
+            ),
+            States(&["reorder-after <CAP>", "<SMALL>"], Ok(3)),
+            States(&["<U0062> <U0062>;<LOW>"], Ok(4)),
+            Undo(Ok(3)),
+            Undo(Ok(2)),
+            Undo(Ok(1)),
+            Undo(Ok(0)),
+            Redo(Ok(1)),
+        ],
+    ),
+    (
+        BASE_TABLE,
+        &[
+            States(&["collating-element <ch> from \"ch\""], Ok(1)),
+            States(
+                &["symbol-equivalence <Z> <ch>"],
+                Err(BenchFault::Table(Refusal::NotASymbol)),
+            ),
+        ],
+    ),
 ];
 
 // The refusal of a table, if a session answers one.

@@ -119,6 +119,41 @@ pub const ON_BASE: &[Worked] = &[
         text: "reorder-after <CAP>\nUNDEFINED ;IGNORE;IGNORE;IGNORE\nreorder-end\n:key \"e\"\n:compare \"e\" \"f\"\n:compare \"e\" \"a\"\n",
         replies: &[Told("ok 1\n4+101 | | | |\nless\nless\n")],
     },
+    // A second name stands for its symbol, wherever it is given.
+    Worked {
+        text: "symbol-equivalence <LOW> <MIN>\nsymbol-equivalence <SMALL> <LOW>\nsymbol-equivalence <LOW> <CAP>\nsymbol-equivalence <Z> <Q>\nreorder-after <CAP>\n<LOW>\n<MIN>\nreorder-end\n<LOW> IGNORE\nreorder-after <CAP>\n<SMALL>\nreorder-end\n<U0062> <U0062>;<LOW>\n:key \"b\"\n:check\n:history\n:undo\n:undo\n:undo\n:undo\n:print\n",
+        replies: &[
+            Told(
+                "ok 1\nok 2\nrefused 33 DeclaredTwice\nrefused 34 NotDeclared\nrefused 51 TwiceInBlock\nrefused 36 SymbolWithWeights\nok 3\nok 4\n6 | 3 | 6 | @1 6 |\ntable entries 9 declared 5 sections 2 levels 4\n1 equivalence <LOW> <MIN>\n2 equivalence <SMALL> <LOW>\n3 block <CAP> 1\n4 reweight <U0062>\nhistory 4 0\nundone 3\nundone 2\nundone 1\nundone 0\n",
+            ),
+            Base,
+        ],
+    },
+    Worked {
+        text: "symbol-equivalence <LOW> <MIN>\nsymbol-equivalence <SMALL> <LOW>\nreorder-after <CAP>\n<SMALL>\nreorder-end\n<U0062> <U0062>;<LOW>\n:print\n",
+        replies: &[
+            Told("ok 1\nok 2\nok 3\nok 4\n"),
+            Printed(Change {
+                first: 7,
+                last: 13,
+                others: &[
+                    "symbol-equivalence <LOW> <MIN>",
+                    "symbol-equivalence <SMALL> <MIN>",
+                    "order_start forward;backward;forward;forward,position",
+                    "<BASE>",
+                    "<CAP>",
+                    "<MIN>",
+                    "<U0061> <U0061>;<BASE>;<MIN>;IGNORE",
+                    "<U0041> <U0061>;<BASE>;<CAP>;IGNORE",
+                    "<U0062> <U0062>;<MIN>;<U0062>;<U0062>",
+                ],
+            }),
+        ],
+    },
+    Worked {
+        text: "collating-element <ch> from \"ch\"\nsymbol-equivalence <Z> <ch>\n",
+        replies: &[Told("ok 1\nrefused 73 NotASymbol\n")],
+    },
     // The order changes with each statement, and with each that is taken back or put again.
     Worked {
         text: ":compare \"b\" \"c\"\nreorder-after <U0061>\n<U0063>\nreorder-end\n:compare \"b\" \"c\"\nreorder-after <U0061>\n<X>\nreorder-end\n:compare \"b\" \"c\"\n:undo\n:compare \"b\" \"c\"\n:redo\n:compare \"b\" \"c\"\n",

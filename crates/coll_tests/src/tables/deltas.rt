@@ -68,6 +68,19 @@ const TURNED: &[Turned] = &[
         steps: 1,
     },
     Turned {
+        table: BASE_TABLE,
+        before: &[],
+        statement: &["symbol-equivalence <LOW> <MIN>"],
+        steps: 1,
+    },
+    // Whatever name an entry is given by, it is the one that stood there.
+    Turned {
+        table: BASE_TABLE,
+        before: &[&["symbol-equivalence <LOW> <MIN>"]],
+        statement: &["reorder-after <CAP>", "<LOW>"],
+        steps: 2,
+    },
+    Turned {
         table: SECTIONS_TABLE,
         before: &[],
         statement: &["reorder-section-after <S2> <S1>"],

@@ -109,6 +109,56 @@ pub const TWO_SECTIONS: &[&str] = &[
     "END LC_COLLATE",
 ];
 
+/// That table, printed.
+pub const TWO_SECTIONS_PRINTED: &[&str] = &[
+    "comment_char %",
+    "escape_char /",
+    "LC_COLLATE",
+    "collating-element <ch> from \"<U0063><U0068>\"",
+    "order_start forward;forward,position",
+    "section <L>",
+    "<U0061>",
+    "section <M>",
+    "<ch>",
+    "UNDEFINED IGNORE;",
+    "order_end",
+    "END LC_COLLATE",
+];
+
+/// Second names of a symbol: one of the symbol, one of that second name, and one that is declared behind the weight that has it.
+pub const SECOND_NAMES: &[&str] = &[
+    "LC_COLLATE",
+    "collating-symbol <MIN>",
+    "symbol-equivalence <LOW> <MIN>",
+    "symbol-equivalence <SMALL> <LOW>",
+    "collating-element <ch> from \"ch\"",
+    "order_start forward;forward",
+    "<SMALL>",
+    "a ;<LATE>",
+    "<ch> \"<LOW>a\";<LOW>",
+    "order_end",
+    "symbol-equivalence <LATE> <SMALL>",
+    "END LC_COLLATE",
+];
+
+/// That table, printed.
+pub const SECOND_NAMES_PRINTED: &[&str] = &[
+    "comment_char %",
+    "escape_char /",
+    "LC_COLLATE",
+    "collating-symbol <MIN>",
+    "symbol-equivalence <LOW> <MIN>",
+    "symbol-equivalence <SMALL> <MIN>",
+    "collating-element <ch> from \"<U0063><U0068>\"",
+    "symbol-equivalence <LATE> <MIN>",
+    "order_start forward;forward",
+    "<MIN>",
+    "<U0061> <U0061>;<MIN>",
+    "<ch> \"<MIN><U0061>\";<MIN>",
+    "order_end",
+    "END LC_COLLATE",
+];
+
 /// A text that spells what it may in other ways than the canonical ones.
 pub const SPELLED_OTHERWISE: &[&str] = &[
     "LC_COLLATE            # the defaults stand",

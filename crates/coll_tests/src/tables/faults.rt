@@ -272,6 +272,22 @@ const CHANGES: &[Changed] = &[
             cause: LoadCause::StringTwice,
         },
     },
+    // A second name stands for a symbol, and for no element.
+    Changed {
+        lines: BASE_TABLE,
+        change: Change {
+            first: 6,
+            last: 6,
+            others: &[
+                "collating-element <p> from \"xy\"",
+                "symbol-equivalence <q> <p>",
+            ],
+        },
+        fault: LoadFault {
+            line: 7,
+            cause: LoadCause::NotASymbol,
+        },
+    },
     // An escaped digit makes a name of a code point or none, by the escape character.
     Changed {
         lines: SPELLED_OTHERWISE,

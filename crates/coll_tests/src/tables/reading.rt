@@ -1,10 +1,11 @@
-//! Tables as they are read: rules, declarations, sections, entries and weights, their canonical texts, their copies, and each
-//! entry by its identifier.
+//! Tables as they are read: rules, declarations, sections, entries and weights, their canonical texts, their copies, each entry by
+//! its identifier, and the own name of each name.
 
 use crate::assertions::assert_same;
 use crate::statements::Lines;
 use crate::tables::examples::{
-    BASE_TABLE, SPELLED_OTHERWISE, TWO_SECTIONS, assert_printed, id, loaded, loaded_lines, text_of,
+    BASE_TABLE, SECOND_NAMES, SECOND_NAMES_PRINTED, SPELLED_OTHERWISE, TWO_SECTIONS,
+    TWO_SECTIONS_PRINTED, assert_printed, id, loaded, loaded_lines, text_of,
 };
 use crate::tables::shown::{past_entry, past_table};
 use coll_table::Table;
@@ -35,6 +36,16 @@ const READ: &[Read] = &[
         printed: TWO_SECTIONS_PRINTED,
     },
     Read {
+        lines: SECOND_NAMES,
+        shown: SECOND_NAMES_SHOWN,
+        printed: SECOND_NAMES_PRINTED,
+    },
+    Read {
+        lines: SECOND_NAMES_PRINTED,
+        shown: SECOND_NAMES_SHOWN,
+        printed: SECOND_NAMES_PRINTED,
+    },
+    Read {
         lines: SPELLED_OTHERWISE,
         shown: SPELLINGS_SHOWN,
         printed: SPELLINGS_PRINTED,
@@ -52,21 +63,8 @@ const BASE_SHOWN: &str =
 const TWO_SECTIONS_SHOWN: &str =
     "rules forward forward,position\nelement <ch> ch\nsection <L>\na - -\nsection <M>\n<ch> - -\nUNDEFINED I -\n";
 
-// The table of two sections, printed.
-const TWO_SECTIONS_PRINTED: Lines = &[
-    "comment_char %",
-    "escape_char /",
-    "LC_COLLATE",
-    "collating-element <ch> from \"<U0063><U0068>\"",
-    "order_start forward;forward,position",
-    "section <L>",
-    "<U0061>",
-    "section <M>",
-    "<ch>",
-    "UNDEFINED IGNORE;",
-    "order_end",
-    "END LC_COLLATE",
-];
+const SECOND_NAMES_SHOWN: &str =
+    "rules forward forward\nsymbol <MIN>\nequivalence <LOW> <MIN>\nequivalence <SMALL> <MIN>\nelement <ch> ch\nequivalence <LATE> <MIN>\n<MIN>\na - (<MIN>)\n<ch> (<MIN>a) (<MIN>)\n";
 
 // The text of other spellings with a carriage return before each line feed.
 const SPELLED_WITH_RETURNS: Lines = &[
@@ -165,9 +163,18 @@ fn assert_entry(rt: &impl Abort, alloc: Global, table: &Table, text: &str, want:
     drop(id);
 }
 
-fn assert_entries(rt: &impl Abort, alloc: Global, table: &mut Table) {
+// An identifier, and its entry in the table of second names, none of which has an entry of its own.
+const OWN_ENTRIES: &[(&str, &str)] = &[
+    ("MIN", "<MIN>\n"),
+    ("LOW", ""),
+    ("LATE", ""),
+    ("ch", "<ch> (<MIN>a) (<MIN>)\n"),
+];
+
+// Asserts what a table of three entries has for identifiers.
+fn assert_entries(rt: &impl Abort, alloc: Global, table: &mut Table, entries: &[(&str, &str)]) {
     assert_same(rt, "the entries", table.len(), 3);
-    for (text, want) in ENTRIES {
+    for (text, want) in entries {
         assert_entry(rt, alloc, table, text, want);
     }
 }
@@ -175,6 +182,37 @@ fn assert_entries(rt: &impl Abort, alloc: Global, table: &mut Table) {
 #[test]
 fn an_entry_is_found_by_its_identifier(rt: HostRuntime) {
     let mut table = loaded_lines(rt.alloc(), TWO_SECTIONS).expect(&rt, "a table");
-    assert_entries(&rt, rt.alloc(), &mut table);
+    assert_entries(&rt, rt.alloc(), &mut table, ENTRIES);
+    drop(table);
+}
+
+#[test]
+fn no_entry_is_found_by_a_second_name(rt: HostRuntime) {
+    let mut table = loaded_lines(rt.alloc(), SECOND_NAMES).expect(&rt, "a table");
+    assert_entries(&rt, rt.alloc(), &mut table, OWN_ENTRIES);
+    drop(table);
+}
+
+// A name, and its own name in the table of second names, if it is declared there.
+const OWN_NAMES: &[(&str, Option<&str>)] = &[
+    ("MIN", Some("MIN")),
+    ("ch", Some("ch")),
+    ("LOW", Some("MIN")),
+    ("SMALL", Some("MIN")),
+    ("LATE", Some("MIN")),
+    ("X", None),
+    ("a", None),
+];
+
+fn assert_own_names(rt: &impl Abort, table: &mut Table) {
+    for (name, own) in OWN_NAMES {
+        assert_same(rt, *name, table.resolve(name), *own);
+    }
+}
+
+#[test]
+fn a_second_name_stands_for_the_own_name_of_its_symbol(rt: HostRuntime) {
+    let mut table = loaded_lines(rt.alloc(), SECOND_NAMES).expect(&rt, "a table");
+    assert_own_names(&rt, &mut table);
     drop(table);
 }

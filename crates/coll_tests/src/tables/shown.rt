@@ -26,9 +26,15 @@ fn past_declarations<'a>(rt: &impl Abort, wanted: &'a str, table: &Table) -> &'a
 fn past_declared<'a>(rt: &impl Abort, wanted: &'a str, item: &DeclaredItem<'_>) -> &'a str {
     let rest = match item {
         DeclaredItem::Symbol(name) => past_name(rt, past(rt, wanted, "symbol "), name),
+        DeclaredItem::Equivalence(name, symbol) => past_equivalence(rt, wanted, name, symbol),
         DeclaredItem::Element(name, text) => past_element(rt, wanted, name, text),
     };
     past(rt, rest, "\n")
+}
+
+fn past_equivalence<'a>(rt: &impl Abort, wanted: &'a str, name: &str, symbol: &str) -> &'a str {
+    let rest = past_name(rt, past(rt, wanted, "equivalence "), name);
+    past_name(rt, past(rt, rest, " "), symbol)
 }
 
 fn past_element<'a>(rt: &impl Abort, wanted: &'a str, name: &str, text: &str) -> &'a str {
