@@ -4,6 +4,8 @@ use Rattle.std.specs.List.{list_any}
 use Rattle.coll_order.specs.Layout.{is_in}
 use Rattle.coll_order.specs.Lists.{same_node, has_node}
 use Rattle.coll_order.specs.declared.places.NodeId.{NodeId}
+use Rattle.coll_order.specs.Sound.{AreDistinct}
+use Rattle.coll_order.proofs.RingLemmas.{distinct_ring}
 use Rattle.coll_order.proofs.Sameness.{by_test, not_both, same_node_itself}
 use Rattle.coll_order.proofs.ListLemmas.{or_first, or_second}
 use Rattle.std.proofs.lemmas.List.{append-nil}
@@ -11,9 +13,11 @@ use Rattle.coll_syntax.specs.Identifier.{same_name, same_id, has_name, has_id}
 use Rattle.coll_syntax.specs.declared.identifiers.Id.{Id}
 use Rattle.coll_nodes.specs.Placement.{entry_at}
 use Rattle.coll_nodes.specs.Bodies.{IsLaidOut}
-use Rattle.coll_nodes.specs.SoundBodies.{declares_a_symbol, declares_an_own_name, declares_a_second_name, own_name_in, entry_if, read_at, ring_at, ids_in, names_in, texts_in, section_names_in, IsShaped, Finds}
-use Rattle.coll_nodes.specs.Table.{is_declared, is_own_name, is_placed_in, name_of, texts_of, section_names, ids_of, joined_entries, declares_own, declares_symbol}
-use Rattle.coll_nodes.specs.OwnNames.{declares_second, own_name, stands_for}
+use Rattle.coll_nodes.specs.SoundBodies.{declaration_if, entry_if, read_at, ring_at, ids_in, names_in, texts_in, section_names_in, IsShaped, Finds}
+use Rattle.coll_nodes.specs.Table.{is_declared, is_placed_in, name_of, names_of, texts_of, section_names, ids_of, joined_entries}
+use Rattle.coll_nodes.specs.OwnNames.{declaration_of}
+use Rattle.coll_nodes.specs.SoundLayouts.{AreOnce}
+use Rattle.coll_nodes.specs.WellFormed as are
 use Rattle.coll_nodes.specs.TableLayout.{TableLayout, content_of, if_any, declaration_in, entry_in, declared_at, sections_at}
 use Rattle.coll_nodes.specs.declared.contents.Content.{Content}
 use Rattle.coll_nodes.specs.declared.contents.Content.TheVariants as content
@@ -21,7 +25,7 @@ use Rattle.coll_nodes.specs.declared.declarations.Declaration.{Declaration}
 use Rattle.coll_nodes.specs.declared.declarations.Declaration.TheVariants.{Symbol, Element, Equivalence}
 use Rattle.coll_nodes.specs.declared.entries.Entry.{Entry}
 use Rattle.coll_nodes.proofs.LayoutReads.{read_known, both_true, and_true, in_rings, names_read, texts_read, section_names_read, declared_read, declared_covers, begun_covers, found_in, joined_at, joined_read, joined_known, entries_read, section_at, placed_from, placed_to}
-use Rattle.coll_nodes.proofs.OwnNames.{gives_own, own_is_given, undeclared, no_own_of}
+use Rattle.coll_nodes.proofs.OwnNames.{declaration_is}
 use Rattle.coll_nodes.proofs.Sameness.{same_name_decides}
 use Rattle.coll_nodes.proofs.NodeLists.{any_map, any_from, any_to}
 
@@ -33,6 +37,27 @@ one false e = e
 -- equal answers are of one node
 pub some_same : {a b : NodeId} → Some a ≡ Some b → a ≡ b
 some_same e = cc
+
+-- where no two nodes in rings have one name, no name is declared twice
+pub names_once : (layout : TableLayout) → IsLaidOut layout → AreOnce same_name names_in layout → are.AreDistinct same_name (names_of (declared_at layout))
+names_once layout laid once = subst (are.AreDistinct same_name) (sym (names_read layout)) (each (ring_at layout 0) (distinct_ring layout.rings 0 laid.once) (in_rings layout 0)) where
+  with_names : (node : Option Content) (rest : List (List ℕ)) → ((name : List ℕ) → list_any (same_name name) (flat_map names_in (if_any node)) ≡ true → list_any (same_name name) rest ≡ false)
+      → are.AreDistinct same_name rest → are.AreDistinct same_name (flat_map names_in (if_any node) ++ rest)
+  with_names None rest apart distinct = distinct
+  with_names (Some (content.Declared declaration)) rest apart distinct = (apart (name_of declaration) (or_first _ _ ((same_name_decides (name_of declaration) (name_of declaration)).1 refl)), distinct)
+  with_names (Some (content.Begun section ring)) rest apart distinct = distinct
+  with_names (Some (content.Placed entry)) rest apart distinct = distinct
+
+  each : (nodes : List NodeId) → AreDistinct nodes → ((node : NodeId) → has_node nodes node ≡ true → is_in layout.rings node ≡ true) → are.AreDistinct same_name (flat_map (read_at names_in layout) nodes)
+  each [] distinct linked = tt
+  each (node ∷ nodes) distinct linked =
+      with_names (content_of layout node) (flat_map (read_at names_in layout) nodes)
+      (λ name mine. by_test (λ b. list_any (same_name name) (flat_map (read_at names_in layout) nodes) ≡ b → b ≡ false) (list_any (same_name name) (flat_map (read_at names_in layout) nodes))
+      (λ on e. let other = any_from (same_name name) (read_at names_in layout) nodes e in
+      let same : node ≡ other.0 = once name node other.0 (and_true (linked node (or_first (same_node node node) _ (same_node_itself node))) mine)
+          (and_true (linked other.0 (or_second (same_node other.0 node) _ other.1)) other.2) in
+      not_both (ap (has_node nodes) same ∙ other.1) distinct.0) (λ off e. refl) refl)
+      (each nodes distinct.1 (λ other there. linked other (or_second (same_node other node) _ there)))
 
 module _ (layout : TableLayout) (shaped : IsShaped layout) where
   -- a name is declared where it is found
@@ -70,50 +95,63 @@ module _ (layout : TableLayout) (shaped : IsShaped layout) where
         | Some node ↦ λ is. let has = both_true _ _ (sound.leads id node is) in placed_to layout shaped test node has.0 (sym (ids_of_node id (content_of layout node)) ∙ has.1)
       ] refl
 
-  module _ (name : List ℕ) (test : Declaration → Bool) (named : (declaration : Declaration) → test declaration ≡ true → same_name name (name_of declaration) ≡ true) where
-    -- a node's declaration that passes a test of those with a name has the name
-    test_named : (found : Option Content) → list_any test (flat_map declaration_in (if_any found)) ≡ true → list_any (same_name name) (flat_map names_in (if_any found)) ≡ true
-    test_named None there = not_both there refl
-    test_named (Some (content.Declared declaration)) there = or_first (same_name name (name_of declaration)) false (named declaration (one (test declaration) there))
-    test_named (Some (content.Begun section ring)) there = not_both there refl
-    test_named (Some (content.Placed entry)) there = not_both there refl
-
-    -- whether a declaration with a name passes a test is read of the node that is found
-    test_found : (find : List ℕ → Option NodeId) → Finds same_name names_in layout find
-        → list_any test (declared_at layout) ≡ list_any test (flat_map (read_at declaration_in layout) (if_any (find name)))
-    test_found find sound =
-        let covers = declared_covers layout same_name names_in shaped (λ _ _. refl) (λ _. refl) in
-        let found_at = λ (node : NodeId) (there : has_node (ring_at layout 0) node ≡ true) (has : list_any test (read_at declaration_in layout node) ≡ true).
-        sound.finds name node (and_true (in_rings layout 0 node there) (test_named (content_of layout node) has)) in
-        ap (list_any test) (declared_read layout) ∙ elim (find name) as (λ found. find name ≡ found → list_any test (flat_map (read_at declaration_in layout) (ring_at layout 0)) ≡ list_any test (flat_map (read_at declaration_in layout) (if_any found))) [
-          | None ↦ λ none. by_test (λ b. list_any test (flat_map (read_at declaration_in layout) (ring_at layout 0)) ≡ b → b ≡ false) (list_any test (flat_map (read_at declaration_in layout) (ring_at layout 0)))
-              (λ on e. let at = any_from test (read_at declaration_in layout) (ring_at layout 0) e in let found = found_at at.0 at.1 at.2 in cc) (λ off e. refl) refl
-          | Some node ↦ λ is.
-              let there = covers name node (sound.leads name node is) in
-              by_test (λ b. list_any test (read_at declaration_in layout node) ≡ b → list_any test (flat_map (read_at declaration_in layout) (ring_at layout 0)) ≡ b) (list_any test (read_at declaration_in layout node))
-              (λ on e. any_to test (read_at declaration_in layout) (ring_at layout 0) node there e)
-              (λ off e. by_test (λ b. list_any test (flat_map (read_at declaration_in layout) (ring_at layout 0)) ≡ b → b ≡ false) (list_any test (flat_map (read_at declaration_in layout) (ring_at layout 0)))
-              (λ on t. let at = any_from test (read_at declaration_in layout) (ring_at layout 0) t in
-              let it : node ≡ at.0 = some_same (sym is ∙ found_at at.0 at.1 at.2) in
-              not_both (subst (λ n. list_any test (read_at declaration_in layout n) ≡ true) (sym it) at.2) e) (λ no t. refl) refl) refl
-              ∙ ap (list_any test) (sym (append-nil (read_at declaration_in layout node)))
-        ] refl
-
-    -- a node that is found by a name is that of the only declaration that may pass
-    test_known : (find : List ℕ → Option NodeId) (node : NodeId) (known : Content) → Finds same_name names_in layout find
-        → find name ≡ Some node → content_of layout node ≡ Some known → list_any test (declaration_in known) ≡ list_any test (declared_at layout)
-    test_known find node known sound found is =
-        sym (test_found find sound ∙ (ap (λ nodes. list_any test (flat_map (read_at declaration_in layout) (if_any nodes))) found
-        ∙ ap (list_any test) (append-nil (read_at declaration_in layout node) ∙ read_known declaration_in layout node known is)))
-
-    -- where a name isn't found, no declaration passes
-    no_test : (find : List ℕ → Option NodeId) → Finds same_name names_in layout find → find name ≡ None → false ≡ list_any test (declared_at layout)
-    no_test find sound none = sym (test_found find sound ∙ ap (λ nodes. list_any test (flat_map (read_at declaration_in layout) (if_any nodes))) none)
-
   -- a node that is found by a name has the name
   has_the_name : (find : List ℕ → Option NodeId) (name : List ℕ) (node : NodeId) (known : Content) → Finds same_name names_in layout find
       → find name ≡ Some node → content_of layout node ≡ Some known → list_any (same_name name) (names_in known) ≡ true
   has_the_name find name node known sound found is = sym (ap (list_any (same_name name)) (read_known names_in layout node known is)) ∙ (both_true _ _ (sound.leads name node found)).1
+
+  -- the declaration of a name in two lists
+  declaration_append : (xs ys : List Declaration) (name : List ℕ) → declaration_of (xs ++ ys) name ≡ cond (is_declared xs name) (declaration_of xs name) (declaration_of ys name)
+  declaration_append [] ys name = refl
+  declaration_append (x ∷ xs) ys name = by_test (λ b. cond b (Some x) (declaration_of (xs ++ ys) name) ≡ cond (b || is_declared xs name) (cond b (Some x) (declaration_of xs name)) (declaration_of ys name)) (same_name name (name_of x))
+      (λ on. refl) (λ off. declaration_append xs ys name)
+
+  -- the declaration of a name is read of one of the nodes
+  declaration_from : (f : NodeId → List Declaration) (nodes : List NodeId) (name : List ℕ) (found : Declaration) → declaration_of (flat_map f nodes) name ≡ Some found
+      → (node : NodeId) × (has_node nodes node ≡ true) × (declaration_of (f node) name ≡ Some found)
+  declaration_from f [] name found there = cc
+  declaration_from f (node ∷ nodes) name found there =
+      by_test (λ b. cond b (declaration_of (f node) name) (declaration_of (flat_map f nodes) name) ≡ Some found → (n : NodeId) × (has_node (node ∷ nodes) n ≡ true) × (declaration_of (f n) name ≡ Some found)) (is_declared (f node) name)
+      (λ on e. (node, or_first (same_node node node) _ (same_node_itself node), e))
+      (λ off e. let later = declaration_from f nodes name found e in (later.0, or_second (same_node later.0 node) _ later.1, later.2))
+      (sym (declaration_append (f node) (flat_map f nodes) name) ∙ there)
+
+  -- a node that declares a name has it as its key
+  declares_the_name : (name : List ℕ) (node : Option Content) (found : Declaration) → declaration_of (flat_map declaration_in (if_any node)) name ≡ Some found → list_any (same_name name) (flat_map names_in (if_any node)) ≡ true
+  declares_the_name name None found e = cc
+  declares_the_name name (Some (content.Declared declaration)) found e = sym (declaration_is (declaration ∷ []) name) ∙ ap is_some e
+  declares_the_name name (Some (content.Begun section ring)) found e = cc
+  declares_the_name name (Some (content.Placed entry)) found e = cc
+
+  -- the declaration of a name is read of the node that is found
+  declaration_found : (find : List ℕ → Option NodeId) (name : List ℕ) → Finds same_name names_in layout find
+      → declaration_of (declared_at layout) name ≡ declaration_of (flat_map (read_at declaration_in layout) (if_any (find name))) name
+  declaration_found find name sound = by_answer (declaration_of (declared_at layout) name) refl where
+    by_find : (found : Option NodeId) → is_some found ≡ false → None ≡ declaration_of (flat_map (read_at declaration_in layout) (if_any found)) name
+    by_find None e = refl
+    by_find (Some node) e = not_both refl e
+
+    by_answer : (answer : Option Declaration) → declaration_of (declared_at layout) name ≡ answer → answer ≡ declaration_of (flat_map (read_at declaration_in layout) (if_any (find name))) name
+    by_answer None none = by_find (find name) (sym (name_found find name sound) ∙ (sym (declaration_is (declared_at layout) name) ∙ ap is_some none))
+    by_answer (Some found) is =
+        let at = declaration_from (read_at declaration_in layout) (ring_at layout 0) name found (sym (ap (λ all. declaration_of all name) (declared_read layout)) ∙ is) in
+        let leads = sound.finds name at.0 (and_true (in_rings layout 0 at.0 at.1) (declares_the_name name (content_of layout at.0) found at.2)) in
+        sym (ap (λ nodes. declaration_of (flat_map (read_at declaration_in layout) (if_any nodes)) name) leads ∙ (ap (λ all. declaration_of all name) (append-nil (read_at declaration_in layout at.0)) ∙ at.2))
+
+  -- a node that is found by a name is its declaration
+  pub declaration_known : (find : List ℕ → Option NodeId) (name : List ℕ) (node : NodeId) (known : Content) → Finds same_name names_in layout find
+      → find name ≡ Some node → content_of layout node ≡ Some known → declaration_if known ≡ declaration_of (declared_at layout) name
+  declaration_known find name node known sound found is =
+      sym (declaration_found find name sound ∙ (ap (λ nodes. declaration_of (flat_map (read_at declaration_in layout) (if_any nodes)) name) found
+      ∙ (ap (λ all. declaration_of all name) (append-nil (read_at declaration_in layout node) ∙ read_known declaration_in layout node known is) ∙ by_kind known (has_the_name find name node known sound found is)))) where
+        by_kind : (known : Content) → list_any (same_name name) (names_in known) ≡ true → declaration_of (declaration_in known) name ≡ declaration_if known
+        by_kind (content.Declared declaration) has = by_test (λ b. (b || false) ≡ true → cond b (Some declaration) None ≡ Some declaration) (same_name name (name_of declaration)) (λ on e. refl) (λ off e. not_both e refl) has
+        by_kind (content.Begun section ring) has = not_both has refl
+        by_kind (content.Placed entry) has = not_both has refl
+
+  -- a name that isn't found has no declaration
+  pub no_declaration : (find : List ℕ → Option NodeId) (name : List ℕ) → Finds same_name names_in layout find → find name ≡ None → None ≡ declaration_of (declared_at layout) name
+  no_declaration find name sound none = sym (declaration_found find name sound ∙ ap (λ nodes. declaration_of (flat_map (read_at declaration_in layout) (if_any nodes)) name) none)
 
   -- the entry of an identifier in two lists
   entry_append : (xs ys : List Entry) (id : Id) → entry_at (xs ++ ys) id ≡ cond (list_any (λ (entry : Entry). same_id id entry.id) xs) (entry_at xs id) (entry_at ys id)
@@ -164,91 +202,6 @@ module _ (layout : TableLayout) (shaped : IsShaped layout) where
             let at = entry_from (read_at entry_in layout) (ring_at layout known.1.index) id entry (sym (ap (λ es. entry_at es id) (joined_known layout section.0 known.0 known.1 known.2 ∙ entries_read layout known.1)) ∙ section.2) in
             entry_by find id at.0 entry sound (in_rings layout known.1.index at.0 at.1) at.2
       ] refl
-
-  -- a declaration that declares a symbol of a name has the name, and so has one that declares it as an own name, or as a second name
-  symbol_named : (name : List ℕ) (declaration : Declaration) → declares_symbol name declaration ≡ true → same_name name (name_of declaration) ≡ true
-  symbol_named name (Symbol declared) e = e
-  symbol_named name (Element declared text) e = not_both e refl
-  symbol_named name (Equivalence declared symbol) e = not_both e refl
-
-  own_named : (name : List ℕ) (declaration : Declaration) → declares_own name declaration ≡ true → same_name name (name_of declaration) ≡ true
-  own_named name (Symbol declared) e = e
-  own_named name (Element declared text) e = e
-  own_named name (Equivalence declared symbol) e = not_both e refl
-
-  second_named : (name : List ℕ) (declaration : Declaration) → declares_second name declaration ≡ true → same_name name (name_of declaration) ≡ true
-  second_named name (Symbol declared) e = not_both e refl
-  second_named name (Element declared text) e = not_both e refl
-  second_named name (Equivalence declared symbol) e = e
-
-  -- a node that is found by a name and declares a symbol declares the symbol of the name
-  pub symbol_known : (find : List ℕ → Option NodeId) (name : List ℕ) (node : NodeId) (known : Content) → Finds same_name names_in layout find
-      → find name ≡ Some node → content_of layout node ≡ Some known → declares_a_symbol known ≡ list_any (declares_symbol name) (declared_at layout)
-  symbol_known find name node known sound found is =
-      sym (by_kind known (has_the_name find name node known sound found is)) ∙ test_known name (declares_symbol name) (symbol_named name) find node known sound found is where
-        by_kind : (known : Content) → list_any (same_name name) (names_in known) ≡ true → list_any (declares_symbol name) (declaration_in known) ≡ declares_a_symbol known
-        by_kind (content.Declared (Symbol declared)) has = has
-        by_kind (content.Declared (Element declared text)) has = refl
-        by_kind (content.Declared (Equivalence declared symbol)) has = refl
-        by_kind (content.Begun section ring) has = refl
-        by_kind (content.Placed entry) has = refl
-
-  -- a name that isn't found is that of no symbol
-  pub no_symbol : (find : List ℕ → Option NodeId) (name : List ℕ) → Finds same_name names_in layout find → find name ≡ None → false ≡ list_any (declares_symbol name) (declared_at layout)
-  no_symbol find name sound none = no_test name (declares_symbol name) (symbol_named name) find sound none
-
-  -- a node that is found by a name and declares an own name declares this one
-  pub own_known : (find : List ℕ → Option NodeId) (name : List ℕ) (node : NodeId) (known : Content) → Finds same_name names_in layout find
-      → find name ≡ Some node → content_of layout node ≡ Some known → declares_an_own_name known ≡ is_own_name (declared_at layout) name
-  own_known find name node known sound found is =
-      sym (by_kind known (has_the_name find name node known sound found is)) ∙ test_known name (declares_own name) (own_named name) find node known sound found is where
-        by_kind : (known : Content) → list_any (same_name name) (names_in known) ≡ true → list_any (declares_own name) (declaration_in known) ≡ declares_an_own_name known
-        by_kind (content.Declared (Symbol declared)) has = has
-        by_kind (content.Declared (Element declared text)) has = has
-        by_kind (content.Declared (Equivalence declared symbol)) has = refl
-        by_kind (content.Begun section ring) has = not_both has refl
-        by_kind (content.Placed entry) has = not_both has refl
-
-  -- a name that isn't found is no own name
-  pub no_own : (find : List ℕ → Option NodeId) (name : List ℕ) → Finds same_name names_in layout find → find name ≡ None → false ≡ is_own_name (declared_at layout) name
-  no_own find name sound none = no_test name (declares_own name) (own_named name) find sound none
-
-  -- a node that is found by a name and declares a second name declares this one
-  pub second_known : (find : List ℕ → Option NodeId) (name : List ℕ) (node : NodeId) (known : Content) → Finds same_name names_in layout find
-      → find name ≡ Some node → content_of layout node ≡ Some known → declares_a_second_name known ≡ list_any (declares_second name) (declared_at layout)
-  second_known find name node known sound found is =
-      sym (by_kind known (has_the_name find name node known sound found is)) ∙ test_known name (declares_second name) (second_named name) find node known sound found is where
-        by_kind : (known : Content) → list_any (same_name name) (names_in known) ≡ true → list_any (declares_second name) (declaration_in known) ≡ declares_a_second_name known
-        by_kind (content.Declared (Symbol declared)) has = refl
-        by_kind (content.Declared (Element declared text)) has = refl
-        by_kind (content.Declared (Equivalence declared symbol)) has = has
-        by_kind (content.Begun section ring) has = refl
-        by_kind (content.Placed entry) has = refl
-
-  -- a name that isn't found is no second name
-  pub no_second : (find : List ℕ → Option NodeId) (name : List ℕ) → Finds same_name names_in layout find → find name ≡ None → false ≡ list_any (declares_second name) (declared_at layout)
-  no_second find name sound none = no_test name (declares_second name) (second_named name) find sound none
-
-  -- a declaration that gives a name an own name has the name
-  gives_named : (name own : List ℕ) (declaration : Declaration) → gives_own name own declaration ≡ true → same_name name (name_of declaration) ≡ true
-  gives_named name own declaration e = (both_true _ _ e).0
-
-  -- a node that is found by a name gives it its own name
-  pub own_name_known : (find : List ℕ → Option NodeId) (name : List ℕ) (node : NodeId) (known : Content) → Finds same_name names_in layout find
-      → find name ≡ Some node → content_of layout node ≡ Some known → own_name_in known ≡ own_name (declared_at layout) name
-  own_name_known find name node known sound found is = by_answer (own_name (declared_at layout) name) refl where
-    by_kind : (own : List ℕ) (known : Content) → list_any (gives_own name own) (declaration_in known) ≡ true → own_name_in known ≡ Some own
-    by_kind own (content.Declared declaration) given = ap Some (sym ((same_name_decides own (stands_for declaration)).0 (both_true _ _ (one (gives_own name own declaration) given)).1))
-    by_kind own (content.Begun section ring) given = not_both given refl
-    by_kind own (content.Placed entry) given = not_both given refl
-
-    by_answer : (answer : Option (List ℕ)) → own_name (declared_at layout) name ≡ answer → own_name_in known ≡ answer
-    by_answer None none = not_both (name_found find name sound ∙ ap is_some found) (undeclared (declared_at layout) name none)
-    by_answer (Some own) given = by_kind own known (test_known name (gives_own name own) (gives_named name own) find node known sound found is ∙ own_is_given (declared_at layout) name own given)
-
-  -- a name that isn't found has no own name
-  pub no_own_name : (find : List ℕ → Option NodeId) (name : List ℕ) → Finds same_name names_in layout find → find name ≡ None → None ≡ own_name (declared_at layout) name
-  no_own_name find name sound none = sym (no_own_of (declared_at layout) name (name_found find name sound ∙ ap is_some none))
 
   -- a node that is found by an identifier is its entry
   pub entry_known : (find : Id → Option NodeId) (id : Id) (node : NodeId) (known : Content) → Finds same_id ids_in layout find

@@ -1,7 +1,7 @@
 -- What second names stand for: names that are declared once, and the symbols that they mean.
-use Rattle.std.proofs.Common.{◌≡◌, ℕ, Bool, true, false, ◌&&◌, ◌||◌, cond, not, IsTrue, List, [], ◌∷◌, ◌++◌, Option, Some, None, All, map, flat_map, sym, ap, subst, ◌∙◌, refl, arith, append_assoc, append-nil}
+use Rattle.std.proofs.Common.{◌≡◌, ℕ, Bool, true, false, ◌&&◌, ◌||◌, cond, not, is_some, IsTrue, List, [], ◌∷◌, ◌++◌, Option, Some, None, All, map, flat_map, sym, ap, subst, ◌∙◌, refl, arith, append_assoc, append-nil}
 use Rattle.std.specs.List.{list_any}
-use Rattle.std.specs.Option.{option_or}
+use Rattle.std.specs.Option.{option_map}
 use Rattle.std.specs.Prelude.{unwrap_or}
 use Rattle.std.proofs.lemmas.Bool.{not-false}
 use Rattle.std.proofs.lemmas.List.{length-map}
@@ -17,36 +17,30 @@ use Rattle.coll_syntax.specs.declared.identifiers.Id.TheVariants.{Char, Named, U
 use Rattle.coll_syntax.specs.declared.weights.Weight.{Weight}
 use Rattle.coll_syntax.specs.declared.weights.Weight.TheVariants.{Ignore, Own, Names}
 use Rattle.coll_nodes.specs.Entries.{names_only, weight_ids, ids_named}
-use Rattle.coll_nodes.specs.OwnNames.{stands_for, own_name, named_own, own_id, own_weight, own_weights, own_entry, own_sections, declares_second, is_second, names_second, means_nothing, means_no_symbol, MeanSymbolsBehind, MeanSymbols}
+use Rattle.coll_nodes.specs.OwnNames.{stands_for, declaration_of, own_name, named_own, own_id, own_weight, own_weights, own_entry, own_sections, declares_second, is_second, names_second, means_nothing, means_no_symbol, MeanSymbolsBehind, MeanSymbols}
 use Rattle.coll_nodes.specs.Table.{Collation, Section, name_of, names_of, entries_of, ids_of, joined_entries, is_declared, is_own_name, is_symbol_name, is_symbol, is_known, is_placed, declares_own, declares_symbol}
+use Rattle.coll_nodes.specs.TableLayout.{if_any}
 use Rattle.coll_nodes.specs.WellFormed.{AreDistinct, IsKnown, HasWeights, IsWeighted, IsKeptWeight, HasPlacedWeights, IsWellFormed}
 use Rattle.coll_nodes.specs.declared.declarations.Declaration.{Declaration}
 use Rattle.coll_nodes.specs.declared.declarations.Declaration.TheVariants.{Symbol, Element, Equivalence}
 use Rattle.coll_nodes.specs.declared.entries.Entry.{Entry}
 use Rattle.coll_nodes.proofs.Sameness.{same_name_decides, same_id_decides, neither, nor, found_holds}
 
--- a declaration gives a name this own name
-abbrev pub gives_own : (name own : List ℕ) → Declaration → Bool
-gives_own name own declaration = same_name name (name_of declaration) && same_name own (stands_for declaration)
+-- a name that is declared has a declaration, and no other has one
+pub declaration_is : (declared : List Declaration) (name : List ℕ) → is_some (declaration_of declared name) ≡ is_declared declared name
+declaration_is [] name = refl
+declaration_is (first ∷ later) name = by_test (λ b. is_some (cond b (Some first) (declaration_of later name)) ≡ (b || is_declared later name)) (same_name name (name_of first)) (λ on. refl) (λ off. declaration_is later name)
 
--- the own name of a name is given by a declaration
-pub own_is_given : (declared : List Declaration) (name own : List ℕ) → own_name declared name ≡ Some own → list_any (gives_own name own) declared ≡ true
-own_is_given [] name own e = cc
-own_is_given (first ∷ later) name own e = by_test (λ b. option_or (cond b (Some (stands_for first)) None) (own_name later name) ≡ Some own → ((b && same_name own (stands_for first)) || list_any (gives_own name own) later) ≡ true) (same_name name (name_of first))
-    (λ on e. ap (λ b. b || list_any (gives_own name own) later) (itself own (stands_for first) e)) (λ off e. own_is_given later name own e) e where
-      itself : (own other : List ℕ) → Some other ≡ Some own → same_name own other ≡ true
-      itself own other e = (same_name_decides own other).1 cc
-
--- a name without an own name isn't declared
-pub undeclared : (declared : List Declaration) (name : List ℕ) → own_name declared name ≡ None → is_declared declared name ≡ false
-undeclared [] name e = refl
-undeclared (first ∷ later) name e = by_test (λ b. option_or (cond b (Some (stands_for first)) None) (own_name later name) ≡ None → (b || has_name (names_of later) name) ≡ false) (same_name name (name_of first))
-    (λ on e. cc) (λ off e. undeclared later name e) e
+-- the declaration of a name declares it
+pub declaration_named : (declared : List Declaration) (name : List ℕ) (found : Declaration) → declaration_of declared name ≡ Some found → same_name name (name_of found) ≡ true
+declaration_named [] name found e = cc
+declaration_named (first ∷ later) name found e = by_test (λ b. same_name name (name_of first) ≡ b → cond b (Some first) (declaration_of later name) ≡ Some found → same_name name (name_of found) ≡ true) (same_name name (name_of first))
+    (λ on is e. let it : first ≡ found = cc in ap (λ d. same_name name (name_of d)) (sym it) ∙ is) (λ off is e. declaration_named later name found e) refl e
 
 -- a name that isn't declared has no own name
 pub no_own_of : (declared : List Declaration) (name : List ℕ) → is_declared declared name ≡ false → own_name declared name ≡ None
 no_own_of [] name e = refl
-no_own_of (first ∷ later) name e = by_test (λ b. (b || has_name (names_of later) name) ≡ false → option_or (cond b (Some (stands_for first)) None) (own_name later name) ≡ None) (same_name name (name_of first))
+no_own_of (first ∷ later) name e = by_test (λ b. (b || has_name (names_of later) name) ≡ false → option_map stands_for (cond b (Some first) (declaration_of later name)) ≡ None) (same_name name (name_of first))
     (λ on e. not_both refl e) (λ off e. no_own_of later name e) e
 
 -- a name that isn't a second name is its own
@@ -54,7 +48,7 @@ pub not_second_own : (declared : List Declaration) (name : List ℕ) → list_an
 not_second_own declared name absent = by_answer (own_name declared name) refl where
   first_own : (declared : List Declaration) (own : List ℕ) → list_any (declares_second name) declared ≡ false → own_name declared name ≡ Some own → own ≡ name
   first_own [] own absent e = cc
-  first_own (first ∷ later) own absent e = by_test (λ b. same_name name (name_of first) ≡ b → option_or (cond b (Some (stands_for first)) None) (own_name later name) ≡ Some own → own ≡ name) (same_name name (name_of first))
+  first_own (first ∷ later) own absent e = by_test (λ b. same_name name (name_of first) ≡ b → option_map stands_for (cond b (Some first) (declaration_of later name)) ≡ Some own → own ≡ name) (same_name name (name_of first))
       (λ on is e. by_kind first (neither _ _ absent).0 is e) (λ off is e. first_own later own (neither _ _ absent).1 e) refl e where
         by_kind : (first : Declaration) → declares_second name first ≡ false → same_name name (name_of first) ≡ true → Some (stands_for first) ≡ Some own → own ≡ name
         by_kind (Symbol declared) apart is e = let it : name ≡ declared = (same_name_decides name declared).0 is in cc
@@ -144,6 +138,82 @@ own_not_second (first ∷ later) name distinct own = by_test (λ b. same_name na
       not_own (Symbol declared) e = e
       not_own (Element declared text) e = e
       not_own (Equivalence declared symbol) e = refl
+
+-- where no name is declared twice, what a test of those that declare a name says of all declarations, it says of that of the name
+test_told : (name : List ℕ) (test : Declaration → Bool) → ((first : Declaration) → test first ≡ true → same_name name (name_of first) ≡ true)
+    → (declared : List Declaration) → AreDistinct same_name (names_of declared) → list_any test declared ≡ list_any test (if_any (declaration_of declared name))
+test_told name test named [] distinct = refl
+test_told name test named (first ∷ later) distinct = by_test (λ b. same_name name (name_of first) ≡ b → list_any test (first ∷ later) ≡ list_any test (if_any (cond b (Some first) (declaration_of later name)))) (same_name name (name_of first))
+    (λ on is. ap (λ b. test first || b) (passes_none later (other_name later name (name_of first) is distinct.0)))
+    (λ off is. ap (λ b. b || list_any test later) (by_test (λ b. test first ≡ b → b ≡ false) (test first) (λ _ e. not_both (named first e) is) (λ _ e. refl) refl) ∙ test_told name test named later distinct.1) refl where
+      passes_none : (later : List Declaration) → is_declared later name ≡ false → list_any test later ≡ false
+      passes_none [] apart = refl
+      passes_none (first ∷ later) apart = let h = neither _ _ apart in
+          nor _ _ (by_test (λ b. test first ≡ b → b ≡ false) (test first) (λ _ e. not_both (named first e) h.0) (λ _ e. refl) refl) (passes_none later h.1)
+
+-- a declaration is of a collating symbol
+abbrev pub is_a_symbol : Option Declaration → Bool
+is_a_symbol None = false
+is_a_symbol (Some (Symbol name)) = true
+is_a_symbol (Some (Element name text)) = false
+is_a_symbol (Some (Equivalence name symbol)) = false
+
+-- a declaration is of an own name
+abbrev pub is_an_own_name : Option Declaration → Bool
+is_an_own_name None = false
+is_an_own_name (Some (Symbol name)) = true
+is_an_own_name (Some (Element name text)) = true
+is_an_own_name (Some (Equivalence name symbol)) = false
+
+-- a declaration is of a second name
+abbrev pub is_a_second_name : Option Declaration → Bool
+is_a_second_name None = false
+is_a_second_name (Some (Symbol name)) = false
+is_a_second_name (Some (Element name text)) = false
+is_a_second_name (Some (Equivalence name symbol)) = true
+
+module _ (declared : List Declaration) (name : List ℕ) (distinct : AreDistinct same_name (names_of declared)) where
+  -- the declaration of a name tells whether the name is that of a collating symbol
+  pub symbol_told : (found : Option Declaration) → declaration_of declared name ≡ found → is_symbol_name declared name ≡ is_a_symbol found
+  symbol_told found is = test_told name (declares_symbol name) named declared distinct ∙ (ap (λ found. list_any (declares_symbol name) (if_any found)) is ∙ by_kind found is) where
+    named : (first : Declaration) → declares_symbol name first ≡ true → same_name name (name_of first) ≡ true
+    named (Symbol declared) e = e
+    named (Element declared text) e = not_both e refl
+    named (Equivalence declared symbol) e = not_both e refl
+
+    by_kind : (found : Option Declaration) → declaration_of declared name ≡ found → list_any (declares_symbol name) (if_any found) ≡ is_a_symbol found
+    by_kind None is = refl
+    by_kind (Some (Symbol other)) is = or_first _ _ (declaration_named declared name (Symbol other) is)
+    by_kind (Some (Element other text)) is = refl
+    by_kind (Some (Equivalence other symbol)) is = refl
+
+  -- whether it is an own name
+  pub own_told : (found : Option Declaration) → declaration_of declared name ≡ found → is_own_name declared name ≡ is_an_own_name found
+  own_told found is = test_told name (declares_own name) named declared distinct ∙ (ap (λ found. list_any (declares_own name) (if_any found)) is ∙ by_kind found is) where
+    named : (first : Declaration) → declares_own name first ≡ true → same_name name (name_of first) ≡ true
+    named (Symbol declared) e = e
+    named (Element declared text) e = e
+    named (Equivalence declared symbol) e = not_both e refl
+
+    by_kind : (found : Option Declaration) → declaration_of declared name ≡ found → list_any (declares_own name) (if_any found) ≡ is_an_own_name found
+    by_kind None is = refl
+    by_kind (Some (Symbol other)) is = or_first _ _ (declaration_named declared name (Symbol other) is)
+    by_kind (Some (Element other text)) is = or_first _ _ (declaration_named declared name (Element other text) is)
+    by_kind (Some (Equivalence other symbol)) is = refl
+
+  -- and whether it is a second name
+  pub second_told : (found : Option Declaration) → declaration_of declared name ≡ found → list_any (declares_second name) declared ≡ is_a_second_name found
+  second_told found is = test_told name (declares_second name) named declared distinct ∙ (ap (λ found. list_any (declares_second name) (if_any found)) is ∙ by_kind found is) where
+    named : (first : Declaration) → declares_second name first ≡ true → same_name name (name_of first) ≡ true
+    named (Symbol declared) e = not_both e refl
+    named (Element declared text) e = not_both e refl
+    named (Equivalence declared symbol) e = e
+
+    by_kind : (found : Option Declaration) → declaration_of declared name ≡ found → list_any (declares_second name) (if_any found) ≡ is_a_second_name found
+    by_kind None is = refl
+    by_kind (Some (Symbol other)) is = refl
+    by_kind (Some (Element other text)) is = refl
+    by_kind (Some (Equivalence other symbol)) is = or_first _ _ (declaration_named declared name (Equivalence other symbol) is)
 
 -- an own name is its own
 pub named_own_same : (declared : List Declaration) (name : List ℕ) → AreDistinct same_name (names_of declared) → is_own_name declared name ≡ true → named_own declared name ≡ name
@@ -269,7 +339,7 @@ second_is_symbol declared name meant distinct second = behind [] declared meant 
   behind : (before later : List Declaration) → MeanSymbolsBehind before later → AreDistinct same_name (names_of later) → list_any (declares_second name) later ≡ true → is_symbol_name (before ++ later) (named_own later name) ≡ true
   behind before [] meant distinct second = not_both second refl
   behind before (first ∷ later) meant distinct second =
-      by_test (λ b. same_name name (name_of first) ≡ b → is_symbol_name (before ++ first ∷ later) (unwrap_or (option_or (cond b (Some (stands_for first)) None) (own_name later name)) name) ≡ true) (same_name name (name_of first))
+      by_test (λ b. same_name name (name_of first) ≡ b → is_symbol_name (before ++ first ∷ later) (unwrap_or (option_map stands_for (cond b (Some first) (declaration_of later name))) name) ≡ true) (same_name name (name_of first))
       (λ on is. by_kind before later first meant.0 second (by_test (λ b. list_any (declares_second name) later ≡ b → b ≡ false) (list_any (declares_second name) later)
       (λ _ e. not_both (second_declared later name e) (other_name later name (name_of first) is distinct.0)) (λ _ e. refl) refl))
       (λ off is. ap (λ all. is_symbol_name all (named_own later name)) (sym (append_assoc before (first ∷ []) later))
@@ -301,7 +371,7 @@ second_id_is_symbol declared Undefined meant distinct second = not_both second r
 -- the own name of a declared name stays behind other declarations
 pub own_name_stays : (declared later : List Declaration) (name : List ℕ) → is_declared declared name ≡ true → own_name (declared ++ later) name ≡ own_name declared name
 own_name_stays [] later name there = not_both there refl
-own_name_stays (first ∷ declared) later name there = by_test (λ b. (b || is_declared declared name) ≡ true → option_or (cond b (Some (stands_for first)) None) (own_name (declared ++ later) name) ≡ option_or (cond b (Some (stands_for first)) None) (own_name declared name)) (same_name name (name_of first))
+own_name_stays (first ∷ declared) later name there = by_test (λ b. (b || is_declared declared name) ≡ true → option_map stands_for (cond b (Some first) (declaration_of (declared ++ later) name)) ≡ option_map stands_for (cond b (Some first) (declaration_of declared name))) (same_name name (name_of first))
     (λ on _. refl) (λ off there. own_name_stays declared later name there) there
 
 pub named_own_stays : (declared later : List Declaration) (name : List ℕ) → is_declared declared name ≡ true → named_own (declared ++ later) name ≡ named_own declared name

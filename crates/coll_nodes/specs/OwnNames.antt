@@ -1,8 +1,7 @@
 -- What second names stand for, a name that `symbol-equivalence <new> <old>` gives a collating symbol (the project's own meaning of
 -- that line): the own name of the symbol.
-use Rattle.std.specs.Prelude.{◌≡◌, ℕ, Bool, false, if◌then◌else◌, not, List, [], ◌∷◌, ◌++◌, Option, Some, None, map, unwrap_or}
+use Rattle.std.specs.Prelude.{◌≡◌, ℕ, Bool, false, if◌then◌else◌, not, List, [], ◌∷◌, ◌++◌, Option, Some, None, map, option_map, unwrap_or}
 use Rattle.std.specs.List.{list_any}
-use Rattle.std.specs.Option.{option_or}
 use Rattle.coll_syntax.specs.Identifier.{same_name}
 use Rattle.coll_syntax.specs.declared.identifiers.Id.{Id}
 use Rattle.coll_syntax.specs.declared.identifiers.Id.TheVariants.{Char, Named, Undefined}
@@ -21,14 +20,14 @@ stands_for (Symbol name) = name
 stands_for (Element name text) = name
 stands_for (Equivalence name symbol) = symbol
 
--- the own name that a declaration gives a name, if it declares the name
-abbrev pub own_of : List ℕ → Declaration → Option (List ℕ)
-own_of name declaration = if same_name name (name_of declaration) then Some (stands_for declaration) else None
+-- the declaration of a name: the first that declares it
+abbrev pub declaration_of : List Declaration → List ℕ → Option Declaration
+declaration_of [] name = None
+declaration_of (first ∷ later) name = if same_name name (name_of first) then Some first else declaration_of later name
 
--- the own name of a declared name: by the first declaration that declares it
+-- the own name of a declared name: that of its declaration
 abbrev pub own_name : List Declaration → List ℕ → Option (List ℕ)
-own_name [] name = None
-own_name (first ∷ later) name = option_or (own_of name first) (own_name later name)
+own_name declared name = option_map stands_for (declaration_of declared name)
 
 -- the own name of a declared name; a name that isn't declared stays
 abbrev pub named_own : List Declaration → List ℕ → List ℕ

@@ -9,12 +9,11 @@ use Rattle.coll_order.specs.declared.places.Place.{Place}
 use Rattle.coll_order.specs.declared.places.Place.TheVariants.{After}
 use Rattle.coll_syntax.specs.declared.identifiers.Id.{Id}
 use Rattle.coll_nodes.specs.Bodies.{Makes}
-use Rattle.coll_nodes.specs.OwnNames.{stands_for}
 use Rattle.coll_nodes.specs.Table.{Section, name_of, text_of, named, ids_of}
 use Rattle.coll_nodes.specs.TableLayout.{TableLayout, content_of, if_any, declaration_in, entry_in, sections_at}
 use Rattle.coll_nodes.specs.declared.contents.Content.{Content}
 use Rattle.coll_nodes.specs.declared.contents.Content.TheVariants as content
-use Rattle.coll_nodes.specs.declared.declarations.Declaration.TheVariants.{Symbol, Element, Equivalence}
+use Rattle.coll_nodes.specs.declared.declarations.Declaration.{Declaration}
 use Rattle.coll_nodes.specs.declared.entries.Entry.{Entry}
 
 -- the name that a node declares
@@ -41,35 +40,11 @@ rings_in (content.Placed entry) = []
 abbrev pub ids_in : Content → List Id
 ids_in node = ids_of (entry_in node)
 
--- a node declares a collating symbol
-abbrev pub declares_a_symbol : Content → Bool
-declares_a_symbol (content.Declared (Symbol name)) = true
-declares_a_symbol (content.Declared (Element name text)) = false
-declares_a_symbol (content.Declared (Equivalence name symbol)) = false
-declares_a_symbol (content.Begun name ring) = false
-declares_a_symbol (content.Placed entry) = false
-
--- a node declares an own name
-abbrev pub declares_an_own_name : Content → Bool
-declares_an_own_name (content.Declared (Symbol name)) = true
-declares_an_own_name (content.Declared (Element name text)) = true
-declares_an_own_name (content.Declared (Equivalence name symbol)) = false
-declares_an_own_name (content.Begun name ring) = false
-declares_an_own_name (content.Placed entry) = false
-
--- a node declares a second name
-abbrev pub declares_a_second_name : Content → Bool
-declares_a_second_name (content.Declared (Symbol name)) = false
-declares_a_second_name (content.Declared (Element name text)) = false
-declares_a_second_name (content.Declared (Equivalence name symbol)) = true
-declares_a_second_name (content.Begun name ring) = false
-declares_a_second_name (content.Placed entry) = false
-
--- the own name that the name which a node declares stands for, if it is a declaration
-abbrev pub own_name_in : Content → Option (List ℕ)
-own_name_in (content.Declared declaration) = Some (stands_for declaration)
-own_name_in (content.Begun name ring) = None
-own_name_in (content.Placed entry) = None
+-- the declaration that a node is, if it is one
+abbrev pub declaration_if : Content → Option Declaration
+declaration_if (content.Declared declaration) = Some declaration
+declaration_if (content.Begun name ring) = None
+declaration_if (content.Placed entry) = None
 
 -- the entry that a node is, if it is one
 abbrev pub entry_if : Content → Option Entry

@@ -7,7 +7,7 @@
 //! `linking`. A new kind of node is a new ring, and a look-up where it has a key.
 
 ghost use Rattle.std.specs.Prelude.{◌≡◌, ◌∷◌, ◌++◌, [], Some, None, false, length, ◌+◌, IfOk, OnOk, OnErr, option_copied};
-ghost use Rattle.coll_syntax.specs.Identifier.{has_name};
+ghost use Rattle.coll_syntax.specs.Identifier.{has_name, same_name};
 ghost use Rattle.coll_nodes.specs.SoundBodies.{entry_if};
 
 mod linking;
@@ -65,8 +65,9 @@ impl Body {
     ghost use Rattle.coll_nodes.specs.Placement.{entry_at};
     ghost use Rattle.coll_nodes.specs.SoundLayouts.{IsSoundLayout};
     ghost use Rattle.coll_nodes.specs.SoundBodies.{IsShaped, IsPlaceIn, IsEntryPlace, Adds, with_empty_ring};
-    ghost use Rattle.coll_nodes.specs.Table.{name_of, text_of, texts_of, is_declared, is_known, is_symbol, is_placed_in, section_names, joined_entries};
+    ghost use Rattle.coll_nodes.specs.Table.{name_of, names_of, text_of, texts_of, is_declared, is_known, is_symbol, is_placed_in, section_names, joined_entries};
     ghost use Rattle.coll_nodes.specs.TableLayout.{declared_at, sections_at, declarations_ring, sections_ring};
+    ghost use Rattle.coll_nodes.specs.WellFormed.{AreDistinct};
     ghost use Rattle.coll_nodes.specs.declared.contents.Content.TheVariants as content;
 
     /// Nothing declared, and no section. What a text names is looked up under these keys.
@@ -151,6 +152,7 @@ impl Body {
         ensures laid { IsLaidOut self.now.layout }
         ensures shaped { IsShaped self.now.layout }
         ensures sound { IsSoundLayout self.now.layout }
+        ensures distinct { AreDistinct same_name (names_of (declared_at self.now.layout)) }
     {
         self.nodes.check_named();
         self.nodes.check_layout();

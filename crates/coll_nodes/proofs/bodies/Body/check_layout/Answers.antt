@@ -7,7 +7,7 @@ use Rattle.coll_nodes.specs.SoundBodies.{Finds, ids_in, names_in, section_names_
 use Rattle.coll_nodes.specs.SoundLayouts.{AreOnce}
 use Rattle.coll_nodes.specs.TableLayout.{TableLayout}
 use Rattle.coll_nodes.specs.declared.contents.Content.{Content}
-use Rattle.coll_nodes.proofs.BodyReads.{some_same}
+use Rattle.coll_nodes.proofs.BodyReads.{some_same, names_once}
 use Rattle.coll_nodes.proofs.bodies.Body.check_layout.Goals as goal
 
 -- no two nodes have a key by which one is found
@@ -27,3 +27,7 @@ returns-clause-sound c =
       sections = found_once same_name section_names_in layout (node_named c.self.inside.keys.sections) found.sections;
       ids = found_once same_id ids_in layout (node_with c.self.inside.keys.placed) found.ids;
     })
+
+pub returns-clause-distinct : goal.returns-clause-distinct
+returns-clause-distinct c = rw (← c.self.view_is) (names_once c.self.inside.nodes.layout c.check_layout.ensures
+    (found_once same_name names_in c.self.inside.nodes.layout (node_named c.self.inside.keys.names) c.self.invariant.found.names))

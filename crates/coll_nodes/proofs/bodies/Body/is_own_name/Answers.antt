@@ -1,16 +1,24 @@
--- The node that is found by a name tells whether it is an own name.
-use Rattle.std.proofs.Common.{sym, ◌∙◌}
-use Rattle.coll_syntax.specs.Identifier.{same_name}
-use Rattle.coll_nodes.specs.NodeLookUps.{node_named}
-use Rattle.coll_nodes.specs.SoundBodies.{names_in}
-use Rattle.coll_nodes.proofs.BodyReads.{own_known, no_own, found_made}
+-- The declaration of a name tells whether it is that of an own name.
+use Rattle.std.proofs.Common.{Option, Some, None, ap, sym, ◌∙◌}
+use Rattle.std.specs.Prelude.{option_copied}
+use Rattle.coll_nodes.specs.OwnNames.{declaration_of}
+use Rattle.coll_nodes.specs.TableLayout.{declared_at}
+use Rattle.coll_nodes.specs.declared.declarations.Declaration.{Declaration}
+use Rattle.coll_nodes.proofs.OwnNames.{own_told}
 use Rattle.coll_nodes.proofs.bodies.Body.is_own_name.Goals as goal
 
-pub content-requires : goal.content-requires
-content-requires c = found_made c.self.inside.nodes.layout c.self.invariant.shaped same_name names_in (node_named c.self.inside.keys.names) c.args.name.now c.in-Some.node c.self.invariant.found.names (sym c.find.ensures ∙ c.in-Some.is) c.check_layout.ensures
+pub returns-in-Some-Symbol : goal.returns-in-Some-Symbol
+returns-in-Some-Symbol c = sym (own_told (declared_at c.args.self.now.layout) c.args.name.now c.check_layout.ensures.distinct _
+    (sym (ap option_copied (sym c.in-Some-Symbol.is) ∙ c.declaration.ensures ∙ ap (declaration_of (declared_at c.args.self.now.layout)) c.get.ensures.characters) ∙ ap Some c.in-Some-Symbol.field-0-is))
 
-pub returns-in-Some : goal.returns-in-Some
-returns-in-Some c = rw (← c.self.view_is) (c.is_own_name_node.ensures ∙ own_known c.self.inside.nodes.layout c.self.invariant.shaped (node_named c.self.inside.keys.names) c.args.name.now c.in-Some.node c.content.result.now c.self.invariant.found.names (sym c.find.ensures ∙ c.in-Some.is) c.content.ensures)
+pub returns-in-Some-Element : goal.returns-in-Some-Element
+returns-in-Some-Element c = sym (own_told (declared_at c.args.self.now.layout) c.args.name.now c.check_layout.ensures.distinct _
+    (sym (ap option_copied (sym c.in-Some-Element.is) ∙ c.declaration.ensures ∙ ap (declaration_of (declared_at c.args.self.now.layout)) c.get.ensures.characters) ∙ ap Some c.in-Some-Element.field-0-is))
+
+pub returns-in-Some-Equivalence : goal.returns-in-Some-Equivalence
+returns-in-Some-Equivalence c = sym (own_told (declared_at c.args.self.now.layout) c.args.name.now c.check_layout.ensures.distinct _
+    (sym (ap option_copied (sym c.in-Some-Equivalence.is) ∙ c.declaration.ensures ∙ ap (declaration_of (declared_at c.args.self.now.layout)) c.get.ensures.characters) ∙ ap Some c.in-Some-Equivalence.field-0-is))
 
 pub returns-in-None : goal.returns-in-None
-returns-in-None c = rw (← c.self.view_is) (no_own c.self.inside.nodes.layout c.self.invariant.shaped (node_named c.self.inside.keys.names) c.args.name.now c.self.invariant.found.names (sym c.find.ensures ∙ c.in-None.is))
+returns-in-None c = sym (own_told (declared_at c.args.self.now.layout) c.args.name.now c.check_layout.ensures.distinct None
+    (sym (ap option_copied (sym c.in-None.is) ∙ c.declaration.ensures ∙ ap (declaration_of (declared_at c.args.self.now.layout)) c.get.ensures.characters)))

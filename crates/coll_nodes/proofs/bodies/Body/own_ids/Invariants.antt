@@ -1,8 +1,0 @@
--- What is put on the list are the identifiers taken, by their own names.
-use Rattle.std.proofs.Common.{◌≡◌, map}
-use Rattle.coll_nodes.specs.OwnNames.{own_id}
-use Rattle.coll_nodes.specs.TableLayout.{declared_at}
-use Rattle.coll_nodes.proofs.bodies.Body.own_ids.Given as goal
-
-abbrev pub invariant-loop-id : goal.invariant-loop-id
-invariant-loop-id l = l.own.items ≡ map (own_id (declared_at l.self.layout)) l.yielded
