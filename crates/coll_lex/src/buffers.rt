@@ -13,6 +13,9 @@ ghost use Rattle.coll_lex.specs.Buffers.{LendsMembers};
 use std::alloc::{AllocError, Global};
 use std::marker::Model;
 
+// The room that a text takes for its first character: all keywords and most names fit in it, and don't grow again.
+const FIRST_ROOM: usize = 24;
+
 /// A text, which contracts see as the list of its characters.
 #[derive(Debug, Drop)]
 pub struct TextBuf {
@@ -72,7 +75,18 @@ impl TextBuf {
         ensures ok { OnOk result (self.new ≡ self.old ++ c ∷ []) }
         ensures err { OnErr result (self.new ≡ self.old) }
     {
+        self.begin()?;
         self.text.push(c)?;
+        Ok(())
+    }
+
+    // Takes room for the first characters of a text that has none yet.
+    fn begin(&mut self) -> Result<(), AllocError>
+        ensures { self.new ≡ self.old }
+    {
+        if self.text.is_empty() {
+            self.text.reserve(FIRST_ROOM)?;
+        }
         Ok(())
     }
 }
