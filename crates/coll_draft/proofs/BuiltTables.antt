@@ -62,7 +62,7 @@ or_false a b e = rw e (or_none a) where
   or_none true = refl
   or_none false = refl
 
--- what may be used may still be used
+-- what may stand in a table may still stand there where more is declared
 known_wider : (declared : List Declaration) (new : Declaration) (id : Id) → IsKnown declared id → IsKnown (declared ++ new ∷ []) id
 known_wider declared new (Char c) h = refl
 known_wider declared new (Named name) h =

@@ -79,8 +79,8 @@ change_found layout change entry once stands found own =
 
 -- The changes that are gathered on a walk.
 
--- what is left of the walk are entries that stand; each change is one; and an entry that was met and has no change has its weights by
--- own names
+-- what is left of the walk are entries that stand; each change is one; and an entry that was met and has no change has its
+-- weights by own names
 pub record IsGathered (layout : TableLayout) (changes : List Change) (left : List Met) : Type 0 where
   pub stand : All (StandsIn layout) (entries_met left)
   pub each : All (IsChange layout) changes

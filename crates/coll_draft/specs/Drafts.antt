@@ -155,7 +155,8 @@ refused_if test cause later = if test then Some cause else later
 abbrev pub meaning_cause : List Declaration → Declaration → Option LoadCause
 meaning_cause declared new = refused_if (means_nothing declared new) NotDeclared (refused_if (means_no_symbol declared new) NotASymbol None)
 
--- why a declaration is refused behind those before it
+-- why a declaration is refused behind those before it; the declaration of a second name has the own name of its symbol already, so
+-- it means nothing where that name isn't declared
 abbrev pub declaration_cause : List Declaration → Declaration → Option LoadCause
 declaration_cause declared new =
     refused_if (is_declared declared (name_of new)) DeclaredTwice

@@ -20,7 +20,8 @@ is_equivalence (Symbol name) = false
 is_equivalence (Element name text) = false
 is_equivalence (Equivalence name symbol) = true
 
--- the same stands where it stood and is declared, and the sections are what they were, with the weights of their entries by own names
+-- the same stands where it stood and is declared, and the sections are what they were, with the weights of their entries by
+-- own names
 pub record HasOwnWeights (old new : TableLayout) : Type 0 where
   pub rings : new.rings ≡ old.rings
   pub begun : (node : NodeId) (name : Option (List ℕ)) (ring : RingId) → is_in old.rings node ≡ true → content_of old node ≡ Some (content.Begun name ring) → content_of new node ≡ Some (content.Begun name ring)

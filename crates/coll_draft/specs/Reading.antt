@@ -23,7 +23,8 @@ pub data Outcome : Type 0 where
 abbrev pub at_fault : ℕ → LoadCause → Outcome
 at_fault number cause = Decided (Err (at_line number cause))
 
--- what an accepted line decides: the table, if it ends the category, with its weights by own names, and else what the later lines do
+-- what an accepted line decides: the table, if it ends the category, with its weights by own names, and else what the later
+-- lines do
 abbrev pub accepted : List Numbered → Numbered → Outcome → Outcome
 accepted before line later = if is_end line.line then Decided (Ok (table_of (with_own_weights (draft_of before)))) else later
 

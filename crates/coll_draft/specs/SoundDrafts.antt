@@ -26,8 +26,8 @@ IsProperDeclaration (Symbol name) = IsName name
 IsProperDeclaration (Element name text) = IsName name × IsElementText text
 IsProperDeclaration (Equivalence name symbol) = IsName name
 
--- an entry that may be put behind all others: there are rules; its identifier is one, is placed nowhere and may be used; it
--- has the weights that it is to have; and there is room
+-- an entry that may be put behind all others: there are rules; its identifier is one, is placed nowhere and, if it is a name, is
+-- declared as an own name; it has the weights that it is to have; and there is room
 pub record MayBePut (d : DraftState) (entry : Entry) : Type 0 where
   pub rules : IsSome d.rules
   pub id : IsId entry.id

@@ -83,7 +83,7 @@ pub enum LoadCause {
     ReadFault,
     /// Memory was refused.
     OutOfMemory,
-    /// A second name is to stand for a collating element, and not for a collating symbol.
+    /// What is to get a second name is a collating element, and no collating symbol.
     NotASymbol,
 }
 

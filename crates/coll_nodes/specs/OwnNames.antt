@@ -1,5 +1,5 @@
--- What second names stand for, a name that `symbol-equivalence <new> <old>` gives a collating symbol (the project's own meaning of
--- that line): the own name of the symbol.
+-- What second names stand for. A second name is one that `symbol-equivalence <new> <old>` gives a collating symbol (the project's
+-- own meaning of that line), and it stands for the own name of that symbol.
 use Rattle.std.specs.Prelude.{◌≡◌, ℕ, Bool, false, if◌then◌else◌, not, List, [], ◌∷◌, ◌++◌, Option, Some, None, map, option_map, unwrap_or}
 use Rattle.std.specs.List.{list_any}
 use Rattle.coll_syntax.specs.Identifier.{same_name}

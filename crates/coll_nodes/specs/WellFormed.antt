@@ -44,7 +44,7 @@ HasWeights levels false entry = (length entry.weights ≡ levels) × All (IsKept
 abbrev pub IsWeighted : (levels : ℕ) → List Declaration → Entry → Type 0
 IsWeighted levels declared entry = HasWeights levels (is_symbol declared entry.id) entry
 
--- an identifier may be used
+-- an identifier may stand in a table where this is declared: a name has to be declared as an own name
 abbrev pub IsKnown : List Declaration → Id → Type 0
 IsKnown declared id = IsTrue (is_known declared id)
 

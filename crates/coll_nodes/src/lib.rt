@@ -8,10 +8,10 @@
 //! - `contents` and `nodes`: rings of nodes, and what each node is (`TableLayout`, `Bodies`, `Moving`);
 //! - `node_names`, `node_ids` and `node_keys`: which node has a name, and which an identifier (`NodeLookUps`, `NodeMaps`,
 //!   `KeyedNodes`), under keys, `hash_keys`;
-//! - `bodies`, `bodies/own_names` and `bodies/linking`: the whole, with its look-ups and `counts`, what names stand for, and what is
-//!   put in, moved and taken out (`SoundBodies`, `SoundLayouts`, `BodyInvariant`, `Counting`, `OwnNames`, `Linking`);
+//! - `bodies`, `bodies/own_names` and `bodies/linking`: the whole, with its look-ups and `counts`, what names stand for, and what
+//!   is put in, moved and taken out (`SoundBodies`, `SoundLayouts`, `BodyInvariant`, `Counting`, `OwnNames`, `Linking`);
 //! - `walks` and `met_nodes`: a body, read in order (`Walks`, `WalkStates`, `WalkItems`);
-//! - and, for the look-ups of blocks in `coll_table`, `LookUps`.
+//! - and, for the look-ups of blocks in `coll_statements`, `LookUps`.
 #![tactic(auto)]
 
 mod bodies;

@@ -62,8 +62,8 @@ outcome_from ends before s lines =
     else (if s.begun then outcome_within before (logical_lines [] ends s.lexer lines)
     else outcome_before ends s.lexer lines)
 
--- these lines were accepted, what they say is stored, until the category ends, and no fault is; before the category there are none, and no logical
--- line is open; one that is open is one of the lines handed in
+-- these lines were accepted, what they say is stored, until the category ends, and no fault is; before the category there are
+-- none, and no logical line is open; one that is open is one of the lines handed in
 pub record StandsAfter (before : List Numbered) (s : LoaderState) : Type 0 where
   pub said : s.ended ≡ false → s.draft ≡ draft_of before
   pub faultless : s.fault ≡ None

@@ -11,9 +11,9 @@ use Rattle.coll_nodes.specs.declared.declarations.Declaration.{Declaration}
 use Rattle.coll_nodes.specs.declared.declarations.Declaration.TheVariants.{Symbol, Element, Equivalence}
 use Rattle.coll_table.specs.declared.records.Record.{Record}
 
--- a table was rewritten by a statement of own names: it is the statement's delta; the record is in force, fits, and turns it back, but for
--- loose nodes that were added, which are those that its items added; its items are those of the statement, as many, and it takes
--- the statement's steps; and what was loose stays so
+-- a table was rewritten by a statement of own names: it is the statement's delta; the record is in force, fits, and turns it
+-- back, but for loose nodes that were added, which are those that its items added; its items are those of the statement, as
+-- many, and it takes the statement's steps; and what was loose stays so
 pub record Applied (old new : TableValue) (statement : Statement) (kept : Record) : Type 0 where
   pub ok : own_delta (collation old) statement ≡ Ok (collation new)
   pub in_force : kept.undone ≡ false

@@ -39,7 +39,7 @@ weights_refusal table line later =
 abbrev pub ids_given : List OrderLine → List Id
 ids_given lines = flat_map (λ (line : OrderLine). flat_map weight_ids (given_weights line.weights)) lines
 
--- why an identifier may not stand in a weight: it has to be declared, if it is a name, and placed
+-- why an identifier may not stand in a weight: it has to be declared as an own name, if it is a name, and placed
 abbrev pub weight_id_refusal : Collation → Id → Option Refusal
 weight_id_refusal table id =
     refused_if (not (is_known table.declared id)) NotDeclared
@@ -109,7 +109,8 @@ block_delta table target lines =
 
 -- Declarations.
 
--- why a declaration is refused
+-- why a declaration is refused; the declaration of a second name has the own name of its symbol already, so it means nothing where
+-- that name isn't declared
 abbrev pub declaration_refusal : Collation → Declaration → Option Refusal
 declaration_refusal table new =
     refused_if (is_declared table.declared (name_of new)) DeclaredTwice

@@ -37,7 +37,8 @@ abbrev pub ids_refusal : Collation → (more : List Id) → List Id → Option R
 ids_refusal table more [] = None
 ids_refusal table more (id ∷ ids) = option_or (id_refusal table more id) (ids_refusal table more ids)
 
--- memory may be taken to judge a statement of own names: that of a block whose target is placed, for the identifiers of its lines, and no other
+-- memory may be taken to judge a statement of own names: that of a block whose target is placed, for the identifiers of its
+-- lines, and no other
 abbrev pub own_judging_takes_memory : Collation → Statement → Bool
 own_judging_takes_memory table (statement.Symbol name) = false
 own_judging_takes_memory table (statement.Element name text) = false

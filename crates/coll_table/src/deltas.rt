@@ -2,7 +2,8 @@
 //!
 //! `apply` is `delta` of `specs/Delta.antt`: a statement is taken by own names (`specs/OwnStatements.antt`) and judged first
 //! (`judging`), then all that it needs is grown (`preparing`), and then its nodes are linked, where no growth comes. So a refusal,
-//! want of memory included, changes nothing, and what was done is a record that takes it back. A new statement, or a new refusal of one, is a case of `delta` first.
+//! want of memory included, changes nothing, and what was done is a record that takes it back. A new statement, or a new refusal
+//! of one, is a case of `delta` first.
 
 ghost use Rattle.std.specs.Prelude.{◌≡◌, ◌≢◌, ◌≤◌, length, true, false, unwrap_or, IsOk, Ok, Err, IfOk, IfErr, OnOk, OnErr};
 ghost use Rattle.coll_syntax.specs.Proper.{IsProper};
@@ -33,9 +34,9 @@ use std::alloc::AllocError;
 impl Table {
     /// Rewrites the table by a statement. The answer is the record that undoes it.
     ///
-    /// A statement is accepted whole or refused whole: after a refusal the table is as it was. `OutOfMemory` stands in place of
-    /// another refusal for a block alone whose target is placed, and for a statement that uses a second name; else it is answered
-    /// only where the statement would be accepted.
+    /// A statement is accepted whole or refused whole: after a refusal the table is as it was. `OutOfMemory` may stand in place of
+    /// another refusal for a block whose target is placed, and for a statement that uses a second name, and for no other: any other
+    /// statement is answered with it only where it would be accepted.
     #[tactic(auto, unfolding(crate::specs::Delta::delta, crate::specs::Record::statement_steps, crate::specs::StatementItems::AreItemsOf))]
     pub fn apply(&mut self, statement: &Statement) -> Result<Record, Refusal>
         requires proper { IsProper statement.now }

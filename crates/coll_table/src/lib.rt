@@ -2,8 +2,8 @@
 //!
 //! A `Table` is read by `load`, or by a `Loader` line by line, and rewritten by `apply`, which gives a `Record` that `flip` turns
 //! back. It stands on `coll_nodes`, which keeps what a table is made of, on `coll_draft`, which judges the lines of a table text,
-//! on `coll_print`, which spells the canonical text, and on `coll_statements`, which takes a statement by own names; what a user of tables needs of them is handed on here. A way through the
-//! crate, each file with its definitions in `specs/`:
+//! on `coll_print`, which spells the canonical text, and on `coll_statements`, which takes a statement by own names; what a user
+//! of tables needs of them is handed on here. A way through the crate, each file with its definitions in `specs/`:
 //!
 //! - `tables`: a table, read;
 //! - `loaders` and `loading`: a text, read line by line (`SoundLoaders`, `Loads`);

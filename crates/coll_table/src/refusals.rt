@@ -42,7 +42,7 @@ pub enum Refusal {
     NoWeights,
     /// Memory was refused.
     OutOfMemory,
-    /// A second name is to be declared for what is no collating symbol.
+    /// What is to get a second name is a collating element, and no collating symbol.
     NotASymbol,
 }
 

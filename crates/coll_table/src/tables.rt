@@ -156,7 +156,7 @@ impl Table {
         self.body.is_placed(id)
     }
 
-    /// Whether an identifier may be used: a name has to be declared.
+    /// Whether an identifier may stand in the table, as an entry or in a weight: a name has to be declared as an own name.
     #[tactic(auto, unfolding(coll_nodes::specs::TableLayout::collation))]
     pub(crate) fn is_known(&self, id: &Id) -> bool
         ensures { result ≡ is_known (collation self.now).declared id.now }

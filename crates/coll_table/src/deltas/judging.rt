@@ -3,8 +3,9 @@
 //! `check` is `delta` of `specs/Delta.antt` without its table: the refusals of a statement in their order, each asked of the table
 //! as it stands, once the statement is taken by own names. The weights of a block are looked up in the table that results: an
 //! identifier is placed there where it is placed now, or has a line in the block (`specs/Judging.antt`). What only judges gives a
-//! refusal or none; what may want memory, and this is a block alone, gives an `AllocError` beside it; and `check` joins the two.
-//! A new statement, or a new refusal of one, is a case of `own_delta` first.
+//! refusal or none. Memory is taken for a statement that uses a second name, which is copied, and for a block whose target is
+//! placed, and for no other: what may want it gives an `AllocError` beside the refusal, and `check` joins the two. A new statement,
+//! or a new refusal of one, is a case of `own_delta` first.
 
 ghost use Rattle.std.specs.Prelude.{◌≡◌, ◌≢◌, ◌∷◌, [], true, IsOk, Ok, Err, Some, None, IfOk, IfErr, OnOk, OnErr, length, nat_le};
 ghost use Rattle.std.specs.List.{flat_map};
@@ -30,9 +31,9 @@ use std::alloc::AllocError;
 impl Table {
     /// Judges a statement as `apply` would, and changes nothing.
     ///
-    /// The answer is the first refusal of the statement, if it has one. It takes memory for a block alone whose target is placed,
-    /// for the identifiers of its lines, and for a statement that uses a second name, for a copy by own names; where that is
-    /// wanting `OutOfMemory` may stand in place of any other answer.
+    /// The answer is the first refusal of the statement, if it has one. It takes memory for a block whose target is placed, for the
+    /// identifiers of its lines, and for a statement that uses a second name, for a copy by own names, and for no other; where that
+    /// is wanting `OutOfMemory` may stand in place of any other answer.
     #[tactic(auto, unfolding(crate::specs::Delta::delta))]
     pub fn check(&self, statement: &Statement) -> Result<(), Refusal>
         requires proper { IsProper statement.now }
