@@ -1,7 +1,7 @@
 -- A draft stays sound with each line that is accepted.
-use Rattle.std.proofs.Common.{◌≡◌, ℕ, ◌+◌, ◌≤◌, ◌-◌, Bool, true, false, ◌&&◌, not, if◌then◌else◌, List, [], ◌∷◌, ◌++◌, length, map, replicate, Option, Some, None, sym, ap, subst, ◌∙◌, refl, arith, length-append}
+use Rattle.std.proofs.Common.{◌≡◌, ℕ, ◌+◌, ◌≤◌, ◌<◌, ◌-◌, Bool, true, false, ◌&&◌, not, if◌then◌else◌, List, [], ◌∷◌, ◌++◌, length, map, replicate, Option, Some, None, sym, ap, subst, ◌∙◌, refl, arith, length-append}
 use Rattle.std.specs.Prelude.{All, IsSome, is_some, nat_le, nat_lt}
-use Rattle.std.proofs.lemmas.Bool.{false≢true, leb-false, ltb-false}
+use Rattle.std.proofs.lemmas.Bool.{false≢true, le-leb, leb-false, lt-leb, ltb-false}
 use Rattle.std.proofs.lemmas.List.{length-map, length-replicate}
 use Rattle.std.proofs.lemmas.List.Elements.{All-nil, All-append, All-map, All-replicate, All-weaker}
 use Rattle.coll_lex.specs.Names.{IsName}
@@ -12,22 +12,23 @@ use Rattle.coll_syntax.specs.declared.statements.OrderLine.{OrderLine}
 use Rattle.coll_syntax.specs.declared.weights.Weight.{Weight}
 use Rattle.coll_syntax.specs.declared.weights.Weight.TheVariants.{Own}
 use Rattle.std.specs.Option.{option_or}
-use Rattle.coll_nodes.proofs.OwnNames.{own_id_proper, symbol_own}
+use Rattle.coll_nodes.proofs.OwnNames.{own_id_proper, means_something}
 use Rattle.coll_nodes.proofs.OwnTables.{own_built, own_joined}
 use Rattle.coll_draft.proofs.BuiltTables.{built_declared, built_section, built_entry, entries_with_section, entries_with_last}
 use Rattle.coll_nodes.specs.Table.{has_text}
-use Rattle.coll_draft.specs.Drafts.{DraftState, table_of, refused_if, meaning_cause, declaration_cause, own_order, with_own_weights, section_cause, order_cause, levels_of}
+use Rattle.coll_draft.specs.Drafts.{DraftState, table_of, refused_if, meaning_cause, second_name, declaration_cause, own_order, with_own_weights, section_cause, order_cause, levels_of}
 use Rattle.coll_nodes.specs.Entries.{names_only, kept_weight, kept_weights, given_weights, weights_of, entry_of}
-use Rattle.coll_nodes.specs.OwnNames.{own_entry, means_nothing, means_no_symbol}
+use Rattle.coll_nodes.specs.OwnNames.{own_entry, named_own, means_nothing, means_no_symbol}
 use Rattle.coll_nodes.specs.Limits.{most_entries, most_declarations, most_sections}
 use Rattle.coll_draft.specs.Loading.{with_section, with_declaration, with_entry}
 use Rattle.coll_draft.specs.SoundDrafts.{IsSoundDraft, IsProperDeclaration, MayBePut}
-use Rattle.coll_nodes.specs.Table.{name_of, text_of, joined_entries, section_names, is_declared, is_known, is_placed_in, is_symbol, is_symbol_name}
+use Rattle.coll_nodes.specs.Table.{name_of, text_of, joined_entries, section_names, is_declared, is_known, is_own_name, is_placed_in, is_symbol, is_symbol_name}
 use Rattle.coll_nodes.specs.WellFormed.{IsKeptWeight, HasWeights}
 use Rattle.coll_nodes.specs.declared.declarations.Declaration.{Declaration}
 use Rattle.coll_nodes.specs.declared.declarations.Declaration.TheVariants.{Equivalence}
 use Rattle.coll_nodes.specs.declared.entries.Entry.{Entry}
-use Rattle.coll_draft.specs.declared.load_faults.LoadCause.TheVariants.{NotDeclared, NotASymbol, PlacedTwice, SymbolWithWeights, TooManyWeights, StringTwice, Full}
+use Rattle.coll_draft.specs.declared.load_faults.LoadCause.{LoadCause}
+use Rattle.coll_draft.specs.declared.load_faults.LoadCause.TheVariants.{DeclaredTwice, NotDeclared, NotASymbol, PlacedTwice, SymbolWithWeights, TooManyWeights, StringTwice, Full}
 
 -- where nothing is refused the test doesn't hold, and what follows doesn't refuse either
 pub passed : {C : Type 0} (test : Bool) (cause : C) (later : Option C) → refused_if test cause later ≡ None → (test ≡ false) × (later ≡ None)
@@ -39,11 +40,36 @@ pub neither_found : {C : Type 0} (a b : Option C) → option_or a b ≡ None →
 neither_found None b e = (refl, e)
 neither_found (Some x) b e = cc
 
--- a symbol is what a second name may stand for
-pub symbol_means : (declared : List Declaration) (name symbol : List ℕ) → is_symbol_name declared symbol ≡ true → meaning_cause declared (Equivalence name symbol) ≡ None
-symbol_means declared name symbol is =
-    ap (λ b. refused_if (not b) NotDeclared (refused_if (not (is_symbol_name declared symbol)) NotASymbol None)) (symbol_own declared symbol is)
-    ∙ ap (λ b. refused_if (not b) NotASymbol None) is
+-- why what a second name stands for is refused, where its symbol is given by its own name or isn't declared
+pub meaning_told : (declared : List Declaration) (name symbol : List ℕ) (own is : Bool) → named_own declared symbol ≡ symbol → is_own_name declared symbol ≡ own → is_symbol_name declared symbol ≡ is
+    → meaning_cause declared (second_name declared name symbol) ≡ refused_if (not own) NotDeclared (refused_if (not is) NotASymbol None)
+meaning_told declared name symbol own is same known told =
+    ap (λ it. meaning_cause declared (Equivalence name it)) same
+    ∙ (ap (λ b. refused_if (not b) NotDeclared (refused_if (not (is_symbol_name declared symbol)) NotASymbol None)) known
+    ∙ ap (λ b. refused_if (not own) NotDeclared (refused_if (not b) NotASymbol None)) told)
+
+-- a declaration of a name and a string that are new, and of what means a symbol if it is a second name, is refused only where there
+-- is no room
+declaration_told : (declared : List Declaration) (new : Declaration) → is_declared declared (name_of new) ≡ false → means_no_symbol declared new ≡ false → has_text declared (text_of new) ≡ false
+    → declaration_cause declared new ≡ refused_if (nat_le most_declarations (length declared)) Full None
+declaration_told declared new absent means no_text =
+    let full = refused_if (nat_le most_declarations (length declared)) Full None in
+    let texts = refused_if (has_text declared (text_of new)) StringTwice full in
+    let meant = ap (λ b. refused_if b NotDeclared (refused_if (means_no_symbol declared new) NotASymbol None)) (means_something declared new means) ∙ ap (λ b. refused_if b NotASymbol None) means in
+    ap (λ b. refused_if b DeclaredTwice (option_or (meaning_cause declared new) texts)) absent ∙ (ap (λ cause. option_or cause texts) meant ∙ ap (λ b. refused_if b StringTwice full) no_text)
+
+-- where there is room it isn't refused, and else for want of room
+pub declaration_fits : (declared : List Declaration) (new : Declaration) → is_declared declared (name_of new) ≡ false → means_no_symbol declared new ≡ false → has_text declared (text_of new) ≡ false → length declared < most_declarations → declaration_cause declared new ≡ None
+declaration_fits declared new absent means no_text room = declaration_told declared new absent means no_text ∙ ap (λ b. refused_if b Full None) (lt-leb most_declarations (length declared) room)
+
+pub declaration_full : (declared : List Declaration) (new : Declaration) → is_declared declared (name_of new) ≡ false → means_no_symbol declared new ≡ false → has_text declared (text_of new) ≡ false → most_declarations ≤ length declared → declaration_cause declared new ≡ Some Full
+declaration_full declared new absent means no_text full = declaration_told declared new absent means no_text ∙ ap (λ b. refused_if b Full None) (le-leb most_declarations (length declared) full)
+
+-- one of a new name is refused for what it means
+pub declaration_means : (declared : List Declaration) (new : Declaration) (cause : LoadCause) → is_declared declared (name_of new) ≡ false → meaning_cause declared new ≡ Some cause → declaration_cause declared new ≡ Some cause
+declaration_means declared new cause absent means =
+    let texts = refused_if (has_text declared (text_of new)) StringTwice (refused_if (nat_le most_declarations (length declared)) Full None) in
+    ap (λ b. refused_if b DeclaredTwice (option_or (meaning_cause declared new) texts)) absent ∙ ap (λ cause. option_or cause texts) means
 
 -- with one more declaration
 pub sound_declared : (d : DraftState) (new : Declaration) → IsSoundDraft d → IsProperDeclaration new → declaration_cause d.declared new ≡ None → IsSoundDraft (with_declaration d new)

@@ -6,13 +6,14 @@
 //! places where the sections and the last of them end (`IsSoundBuilder` of coll_nodes, `specs/SoundBodies.antt`), so that no call
 //! walks.
 
-ghost use Rattle.std.specs.Prelude.{◌≡◌, ◌∷◌, ◌++◌, [], ◌<◌, Some, false, IfOk, OnOk, OnErr, length};
+ghost use Rattle.std.specs.Prelude.{◌≡◌, ◌∷◌, ◌++◌, [], ◌<◌, Some, true, false, IfOk, OnOk, OnErr, length, option_copied};
 ghost use Rattle.coll_syntax.specs.Identifier.{has_name};
 
 use crate::own_weights::give_own_weights;
 use coll_lex::TextBuf;
 use coll_nodes::{Body, Declaration, Entry, HashKeys, Walk};
 use coll_order::Place;
+use coll_statements::own_id;
 use coll_syntax::Id;
 use std::alloc::{AllocError, Global};
 use std::marker::Model;
@@ -41,11 +42,13 @@ impl Model for Builder {
 }
 
 impl Builder {
+    ghost use Rattle.std.specs.List.{list_any};
     ghost use Rattle.coll_draft.specs.Building.{no_parts, parts_at};
+    ghost use Rattle.coll_draft.specs.OwnWeights.{is_equivalence};
     ghost use Rattle.coll_draft.specs.Loading.{with_last, with_section};
-    ghost use Rattle.coll_nodes.specs.Table.{name_of, text_of, texts_of, is_declared, is_own_name, is_known, is_symbol, is_symbol_name, is_placed_in, section_names, joined_entries};
+    ghost use Rattle.coll_nodes.specs.Table.{name_of, text_of, texts_of, is_declared, is_known, is_symbol, is_placed_in, section_names, joined_entries};
     ghost use Rattle.coll_nodes.specs.Table.{has_text};
-    ghost use Rattle.coll_nodes.specs.OwnNames.{named_own, own_id, own_sections};
+    ghost use Rattle.coll_nodes.specs.OwnNames.{declaration_of, own_id, own_sections, is_second};
     ghost use Rattle.coll_nodes.specs.Walks.{met};
 
     /// Nothing declared, and an empty first section.
@@ -110,32 +113,19 @@ impl Builder {
         self.body.is_symbol(id)
     }
 
-    /// Whether a name is declared as an own name.
-    pub(crate) fn is_own_name(&self, name: &TextBuf) -> bool
-        ensures { result ≡ is_own_name self.now.declared name.now }
+    /// The declaration of a name, if it is declared.
+    pub(crate) fn declaration(&self, name: &TextBuf) -> Option<&Declaration>
+        ensures { option_copied result ≡ declaration_of self.now.declared name.now }
     {
-        self.body.is_own_name(name)
-    }
-
-    /// Whether a name is declared as a collating symbol.
-    pub(crate) fn is_symbol_name(&self, name: &TextBuf) -> bool
-        ensures { result ≡ is_symbol_name self.now.declared name.now }
-    {
-        self.body.is_symbol_name(name)
-    }
-
-    /// The own name of a declared name; a name that isn't declared stays. It takes memory for a second name.
-    pub(crate) fn own_name(&self, name: TextBuf) -> Result<TextBuf, AllocError>
-        ensures { IfOk result (λ own. own ≡ named_own self.now.declared name) }
-    {
-        self.body.own_name(name)
+        self.body.declaration(name.get())
     }
 
     /// An identifier, by its own name. It takes memory for a second name.
     pub(crate) fn own_id(&self, id: Id) -> Result<Id, AllocError>
-        ensures { IfOk result (λ own. own ≡ own_id self.now.declared id) }
+        ensures own { IfOk result (λ own. own ≡ own_id self.now.declared id) }
+        ensures memory { OnErr result (is_second self.now.declared id ≡ true) }
     {
-        self.body.own_id(id)
+        own_id(&self.body, id)
     }
 
     /// The number of entries, in all sections together.
@@ -196,10 +186,11 @@ impl Builder {
         Ok(())
     }
 
-    /// Gives each entry its weights by own names.
+    /// Gives each entry its weights by own names. It takes memory only where a second name is declared.
     pub(crate) fn give_own_weights(&mut self) -> Result<(), AllocError>
         ensures ok { OnOk result (self.new ≡ record self.old { sections = own_sections self.old.declared self.old.sections }) }
         ensures err { OnErr result (self.new ≡ self.old) }
+        ensures memory { OnErr result (list_any is_equivalence self.old.declared ≡ true) }
     {
         self.body.check_layout();
         give_own_weights(&mut self.body)?;

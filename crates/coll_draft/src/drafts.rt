@@ -5,16 +5,18 @@
 //! of line, as `cause_after` does. After a refusal the draft is given up. What may stand where is changed in
 //! `specs/Drafts.antt` first.
 
-ghost use Rattle.std.specs.Prelude.{◌≡◌, ◌≢◌, true, false, [], length, Some, None, IfOk, IfErr, IfSome, OnOk};
+ghost use Rattle.std.specs.Prelude.{◌≡◌, ◌≢◌, ℕ, List, true, false, [], length, Some, None, IfOk, IfErr, IfSome, OnOk};
 ghost use Rattle.std.specs.List.{flat_map};
 ghost use Rattle.coll_lex.specs.Names.{IsName};
-ghost use Rattle.coll_syntax.specs.Proper.{IsProperTableLine, IsProperLine, IsNameIfGiven, AreRulesIfGiven};
+ghost use Rattle.coll_syntax.specs.Proper.{IsElementText, IsProperTableLine, IsProperLine, IsNameIfGiven, AreRulesIfGiven};
 ghost use Rattle.coll_syntax.specs.declared.lines.TableLine.TheVariants.{OrderStart, OrderEnd, Section, EndCategory, Order};
 ghost use Rattle.coll_nodes.specs.Table.{has_text};
 ghost use Rattle.coll_draft.specs.Drafts.{is_end, levels_of, meaning_cause};
 ghost use Rattle.coll_draft.specs.Loading.{rules_after};
 ghost use Rattle.coll_draft.specs.SoundDrafts.{IsSoundDraft, IsProperDeclaration, MayBePut};
-ghost use Rattle.coll_nodes.specs.Table.{name_of, text_of};
+ghost use Rattle.coll_nodes.specs.Table.{name_of, text_of, is_declared, is_symbol_name};
+ghost use Rattle.coll_nodes.specs.OwnNames.{named_own, means_no_symbol};
+ghost use Rattle.coll_nodes.specs.declared.declarations.Declaration.TheVariants as declaration;
 ghost use Rattle.coll_nodes.specs.WellFormed.{IsWellFormed};
 ghost use Rattle.coll_nodes.specs.Bodies.{value_of};
 ghost use Rattle.coll_nodes.specs.TableLayout.{collation};
@@ -126,8 +128,8 @@ impl Draft {
         ensures err { IfErr result (λ cause. cause ≢ OutOfMemory → cause_after self.old line ≡ Some cause) }
     {
         match line {
-            TableLine::Symbol(name) => self.declare(Declaration::Symbol(name)),
-            TableLine::Element { name, text } => self.declare(Declaration::Element { name, text }),
+            TableLine::Symbol(name) => self.declare_symbol(name),
+            TableLine::Element { name, text } => self.declare_element(name, text),
             TableLine::Equivalence { name, symbol } => self.declare_second(name, symbol),
             TableLine::OrderStart { section, rules } => self.start(section, rules),
             TableLine::OrderEnd => self.stop(),
@@ -138,6 +140,36 @@ impl Draft {
         }
     }
 
+    /// `collating-symbol`.
+    fn declare_symbol(&mut self, name: TextBuf) -> Result<(), LoadCause>
+        requires { IsName name }
+        ensures ok { OnOk result (declaration_cause self.old.declared (declaration.Symbol name) ≡ None) }
+        ensures after { OnOk result (self.new ≡ with_declaration self.old (declaration.Symbol name)) }
+        ensures err { IfErr result (λ cause. cause ≢ OutOfMemory → declaration_cause self.old.declared (declaration.Symbol name) ≡ Some cause) }
+    {
+        if self.builder.declares(&name) {
+            return Err(LoadCause::DeclaredTwice);
+        }
+        self.declare(Declaration::Symbol(name))
+    }
+
+    /// `collating-element`.
+    fn declare_element(&mut self, name: TextBuf, text: TextBuf) -> Result<(), LoadCause>
+        requires name { IsName name }
+        requires text { IsElementText text }
+        ensures ok { OnOk result (declaration_cause self.old.declared (declaration.Element name text) ≡ None) }
+        ensures after { OnOk result (self.new ≡ with_declaration self.old (declaration.Element name text)) }
+        ensures err { IfErr result (λ cause. cause ≢ OutOfMemory → declaration_cause self.old.declared (declaration.Element name text) ≡ Some cause) }
+    {
+        if self.builder.declares(&name) {
+            return Err(LoadCause::DeclaredTwice);
+        }
+        if self.builder.has_text(&text) {
+            return Err(LoadCause::StringTwice);
+        }
+        self.declare(Declaration::Element { name, text })
+    }
+
     /// `symbol-equivalence`.
     fn declare_second(&mut self, name: TextBuf, symbol: TextBuf) -> Result<(), LoadCause>
         requires { IsName name }
@@ -145,41 +177,48 @@ impl Draft {
         ensures after { OnOk result (self.new ≡ with_declaration self.old (second_name self.old.declared name symbol)) }
         ensures err { IfErr result (λ cause. cause ≢ OutOfMemory → declaration_cause self.old.declared (second_name self.old.declared name symbol) ≡ Some cause) }
     {
-        let symbol = self.builder.own_name(symbol)?;
-        self.declare(Declaration::Equivalence { name, symbol })
+        if self.builder.declares(&name) {
+            return Err(LoadCause::DeclaredTwice);
+        }
+        match self.own_symbol(symbol) {
+            Ok(symbol) => self.declare(Declaration::Equivalence { name, symbol }),
+            Err(cause) => Err(cause),
+        }
     }
 
-    /// `collating-symbol`, `collating-element`, and `symbol-equivalence` with the own name of the symbol.
+    /// The own name of what a second name is for, which has to be a collating symbol. It takes memory for a second name.
+    fn own_symbol(&self, symbol: TextBuf) -> Result<TextBuf, LoadCause>
+        ensures own { IfOk result (λ own. own ≡ named_own self.now.declared symbol) }
+        ensures symbol { IfOk result (λ own. is_symbol_name self.now.declared own ≡ true) }
+        ensures err { IfErr result (λ cause. cause ≢ OutOfMemory → (name : List ℕ) → meaning_cause self.now.declared (second_name self.now.declared name symbol) ≡ Some cause) }
+    {
+        self.check();
+        match self.builder.declaration(&symbol) {
+            Some(Declaration::Symbol(_)) => Ok(symbol),
+            Some(Declaration::Element { .. }) => Err(LoadCause::NotASymbol),
+            Some(Declaration::Equivalence { symbol: own, .. }) => {
+                let own = own.try_copy()?;
+                Ok(own)
+            }
+            None => Err(LoadCause::NotDeclared),
+        }
+    }
+
+    /// Puts a declaration behind all others, where there is room for one more.
     fn declare(&mut self, new: Declaration) -> Result<(), LoadCause>
-        requires { IsProperDeclaration new }
+        requires proper { IsProperDeclaration new }
+        requires name { is_declared self.old.declared (name_of new) ≡ false }
+        requires meaning { means_no_symbol self.old.declared new ≡ false }
+        requires text { has_text self.old.declared (text_of new) ≡ false }
         ensures ok { OnOk result (declaration_cause self.old.declared new ≡ None) }
         ensures after { OnOk result (self.new ≡ with_declaration self.old new) }
         ensures err { IfErr result (λ cause. cause ≢ OutOfMemory → declaration_cause self.old.declared new ≡ Some cause) }
     {
-        if let Some(cause) = self.declaration_cause(&new) {
-            return Err(cause);
+        if self.builder.declared_len() >= MOST_DECLARATIONS {
+            return Err(LoadCause::Full);
         }
         self.builder.declare(new)?;
         Ok(())
-    }
-
-    /// Why a declaration is refused, if it is.
-    fn declaration_cause(&self, new: &Declaration) -> Option<LoadCause>
-        ensures { result ≡ declaration_cause self.now.declared new.now }
-    {
-        if self.builder.declares(declared_name(new)) {
-            return Some(LoadCause::DeclaredTwice);
-        }
-        if let Some(cause) = meaning_cause(&self.builder, new) {
-            return Some(cause);
-        }
-        if has_text_of(&self.builder, new) {
-            return Some(LoadCause::StringTwice);
-        }
-        if self.builder.declared_len() >= MOST_DECLARATIONS {
-            return Some(LoadCause::Full);
-        }
-        None
     }
 
     /// `order_start`: a section may begin, and the rules stand from the first one on.
@@ -347,7 +386,7 @@ impl Draft {
         if self.builder.is_placed(&line.id) {
             return Some(LoadCause::PlacedTwice);
         }
-        if self.builder.is_symbol(&line.id) && line.weights.is_some() {
+        if line.weights.is_some() && self.builder.is_symbol(&line.id) {
             return Some(LoadCause::SymbolWithWeights);
         }
         if given_len(&line.weights) > levels(&self.rules) {
@@ -476,44 +515,6 @@ fn ends_category(line: &TableLine) -> bool
     ensures { result ≡ is_end line.now }
 {
     matches!(line, TableLine::EndCategory)
-}
-
-/// The name that a declaration declares.
-fn declared_name(new: &Declaration) -> &TextBuf
-    ensures { result.now ≡ name_of new.now }
-{
-    match new {
-        Declaration::Symbol(name) => name,
-        Declaration::Element { name, text: _ } => name,
-        Declaration::Equivalence { name, symbol: _ } => name,
-    }
-}
-
-/// Why what a second name stands for is refused, if it is.
-fn meaning_cause(builder: &Builder, new: &Declaration) -> Option<LoadCause>
-    ensures { result ≡ meaning_cause builder.now.declared new.now }
-{
-    let Declaration::Equivalence { name: _, symbol } = new else {
-        return None;
-    };
-    if builder.is_symbol_name(symbol) {
-        return None;
-    }
-    if builder.is_own_name(symbol) {
-        return Some(LoadCause::NotASymbol);
-    }
-    Some(LoadCause::NotDeclared)
-}
-
-/// Whether a declaration is of an element whose string an earlier one has.
-fn has_text_of(builder: &Builder, new: &Declaration) -> bool
-    ensures { result ≡ has_text builder.now.declared (text_of new.now) }
-{
-    match new {
-        Declaration::Symbol(_) => false,
-        Declaration::Element { name: _, text } => builder.has_text(text),
-        Declaration::Equivalence { .. } => false,
-    }
 }
 
 /// The rules that stand, or else those given; one level, compared forward, where none are given.

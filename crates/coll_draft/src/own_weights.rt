@@ -9,7 +9,7 @@ ghost use Rattle.std.specs.Prelude.{◌≡◌, All, IfOk, OnOk, OnErr, IsTrue, t
 ghost use Rattle.std.specs.List.{list_any};
 ghost use Rattle.coll_order.specs.Layout.{is_in};
 ghost use Rattle.coll_nodes.specs.Moving.{weighed_nodes};
-ghost use Rattle.coll_nodes.specs.OwnNames.{names_second};
+ghost use Rattle.coll_nodes.specs.OwnNames.{names_second as uses_second};
 ghost use Rattle.coll_nodes.specs.SoundBodies.{FirstAloneUnnamed};
 ghost use Rattle.coll_nodes.specs.TableLayout.{declared_at, sections_at};
 ghost use Rattle.coll_nodes.specs.WalkItems.{declared_by};
@@ -19,6 +19,7 @@ ghost use Rattle.std.specs.Prelude.{Some};
 use coll_lex::ListBuf;
 use coll_nodes::{Body, DeclaredItem, Entry, WalkItem};
 use coll_order::NodeId;
+use coll_statements::{names_second, own_weights};
 use coll_syntax::Weight;
 use std::alloc::AllocError;
 
@@ -29,11 +30,12 @@ pub(crate) struct Change {
     weights: ListBuf<Weight>,
 }
 
-/// Gives each entry its weights by own names.
+/// Gives each entry its weights by own names. It takes memory only where a second name is declared.
 pub(crate) fn give_own_weights(body: &mut Body) -> Result<(), AllocError>
     requires { FirstAloneUnnamed (sections_at body.old.layout) }
     ensures ok { OnOk result (HasOwnWeights body.old.layout body.new.layout) }
     ensures err { OnErr result (body.new ≡ body.old) }
+    ensures memory { OnErr result (list_any is_equivalence (declared_at body.old.layout) ≡ true) }
 {
     if !has_second_names(body) {
         return Ok(());
@@ -85,9 +87,9 @@ fn changes_of(body: &Body) -> Result<Vec<Change>, AllocError>
 
 /// Whether weights name something by a second name.
 fn have_second_names(body: &Body, weights: &[Weight]) -> bool
-    ensures { result ≡ list_any (names_second (declared_at body.now.layout)) weights.now }
+    ensures { result ≡ list_any (uses_second (declared_at body.now.layout)) weights.now }
 {
-    weights.iter().any(|weight| body.names_second(weight))
+    weights.iter().any(|weight| names_second(body, weight))
 }
 
 /// The node of an entry, and its weights by own names.
@@ -99,8 +101,7 @@ fn change_of(body: &Body, entry: &Entry) -> Result<Change, AllocError>
     let Some(node) = body.entry_node(entry.id()) else {
         unreachable!();
     };
-    let weights = ListBuf::new(entry.weights().to_vec(body.alloc())?);
-    let weights = body.own_weights(weights)?;
+    let weights = own_weights(body, entry.weights())?;
     Ok(Change { node, weights })
 }
 

@@ -11,7 +11,6 @@ use Rattle.coll_draft.proofs.own_weights.change_of.Goals as goal
 pub returns : goal.returns
 returns c =
     let layout = c.args.body.now.layout in
-    let copied : c.in_ok-to_vec.field-0.items ≡ c.args.entry.now.weights = c.in_ok-to_vec.ensures.items_if_clones_equal (λ x y e. e) ∙ c.weights.ensures in
     change_found layout (record { node = c.in-Some.node; weights = c.in_ok-weights.weights }) c.args.entry.now c.check_layout.ensures.sound.ids c.requires
     (ap (λ id. has_key same_id ids_in layout id c.in-Some.node) (sym c.id.ensures) ∙ subst (IsFoundBy same_id ids_in layout c.id.result.now) c.in-Some.is c.entry_node.ensures)
-    (c.in_ok-weights.ensures ∙ ap (own_weights (declared_at layout)) (c.new-weights.ensures ∙ copied))
+    (c.in_ok-weights.ensures ∙ ap (own_weights (declared_at layout)) c.weights.ensures)
