@@ -1,3 +1,4 @@
 pub mod LookUps
 pub mod OwnStatements
 pub mod PlaceLookUps
+pub mod SecondNames

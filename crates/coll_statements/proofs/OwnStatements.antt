@@ -1,10 +1,9 @@
 -- Statements by own names: which stay as they are, and that proper ones stay proper.
-use Rattle.std.proofs.Common.{◌≡◌, ◌≤◌, ℕ, Bool, true, false, List, [], ◌∷◌, Option, Some, None, All, sym, ap, subst, refl}
+use Rattle.std.proofs.Common.{◌≡◌, ◌≤◌, false, List, [], ◌∷◌, Option, Some, None, All, sym, ap, subst, refl}
 use Rattle.std.specs.Prelude.{option_map}
 use Rattle.std.specs.List.{list_any}
 use Rattle.std.proofs.lemmas.List.{length-map}
 use Rattle.std.proofs.lemmas.List.Elements.{All-nil, All-cons, All-head, All-tail}
-use Rattle.coll_order.proofs.Sameness.{by_test, not_both}
 use Rattle.coll_lex.specs.Names.{IsName}
 use Rattle.coll_syntax.specs.Identifier.{same_name}
 use Rattle.coll_syntax.specs.Proper.{AreProperWeights, IsProper, IsProperLine, IsProperWeight}
@@ -12,11 +11,11 @@ use Rattle.coll_syntax.specs.declared.statements.OrderLine.{OrderLine}
 use Rattle.coll_syntax.specs.declared.statements.Statement.{Statement}
 use Rattle.coll_syntax.specs.declared.statements.Statement.TheVariants as statement
 use Rattle.coll_syntax.specs.declared.weights.Weight.{Weight}
-use Rattle.coll_nodes.specs.OwnNames.{MeanSymbols, own_name, own_weight, own_weights, declares_second}
-use Rattle.coll_nodes.specs.Table.{is_declared, is_own_name, names_of}
+use Rattle.coll_nodes.specs.OwnNames.{MeanSymbols, own_weight, own_weights}
+use Rattle.coll_nodes.specs.Table.{names_of}
 use Rattle.coll_nodes.specs.WellFormed.{AreDistinct}
 use Rattle.coll_nodes.specs.declared.declarations.Declaration.{Declaration}
-use Rattle.coll_nodes.proofs.OwnNames.{named_own_name, own_id_proper, own_weight_proper, no_own_of, not_second_own, own_id_same, own_or_second, own_weights_same}
+use Rattle.coll_nodes.proofs.OwnNames.{named_own_name, own_id_proper, own_weight_proper, not_second_own, own_id_same, own_weights_same}
 use Rattle.coll_nodes.proofs.Sameness.{neither}
 use Rattle.coll_statements.specs.OwnStatements.{by_own_names, line_uses_second, own_line, own_lines, uses_second}
 
@@ -46,14 +45,6 @@ statement_same declared (statement.Equivalence name symbol) absent = ap (stateme
 statement_same declared (statement.Block target lines) absent = let h = neither _ _ absent in λ i. statement.Block (own_id_same declared target h.0 i) (lines_same declared lines h.1 i)
 statement_same declared (statement.SectionAfter name after) absent = refl
 statement_same declared (statement.Reweight line) absent = ap statement.Reweight (line_same declared line absent)
-
--- a name that has an own name, and is none itself, is a second name
-pub second_if_not_own : (declared : List Declaration) (name own : List ℕ) → own_name declared name ≡ Some own → is_own_name declared name ≡ false → list_any (declares_second name) declared ≡ true
-second_if_not_own declared name own e off = by_test (λ b. list_any (declares_second name) declared ≡ b → b ≡ true) (list_any (declares_second name) declared) (λ _ _. refl)
-    (λ _ absent. not_both (own_or_second declared name (there (is_declared declared name) refl) absent) off) refl where
-      there : (b : Bool) → is_declared declared name ≡ b → b ≡ true
-      there true e = refl
-      there false none = let it = no_own_of declared name none in cc
 
 -- What is proper stays so.
 

@@ -1,1 +1,2 @@
 pub mod OwnStatements
+pub mod SecondNames

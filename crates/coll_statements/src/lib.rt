@@ -3,13 +3,16 @@
 //! A statement may name a symbol by a second name. A table judges and keeps own names alone, so a statement is made one of own
 //! names first, by what a body of nodes declares. A way through the crate:
 //!
+//! - `own_names`: identifiers and weights by own names (`OwnNames` of coll_nodes, `SecondNames`);
 //! - `own_statements`: a statement by own names (`OwnStatements`);
 //! - `places`, with `names`: the identifiers of a block (`LookUps` of coll_nodes).
 #![tactic(auto)]
 
 mod names;
+mod own_names;
 mod own_statements;
 mod places;
 
+pub use own_names::{is_second, names_second, own_id, own_weights};
 pub use own_statements::by_own_names;
 pub use places::Places;

@@ -4,29 +4,26 @@
 //! stay as they are: only one that does is copied. A new statement that names what is declared is a case of `by_own_names` and of
 //! `uses_second` first.
 
-ghost use Rattle.std.specs.Prelude.{◌≡◌, true, false, unwrap_or, option_map, IfOk, OnOk, OnErr};
+ghost use Rattle.std.specs.Prelude.{◌≡◌, None, true, false, unwrap_or, option_map, IfOk, OnErr};
 ghost use Rattle.std.specs.List.{list_any};
-ghost use Rattle.coll_syntax.specs.Identifier.{same_name};
 ghost use Rattle.coll_syntax.specs.declared.statements.Statement.TheVariants as statement;
 ghost use Rattle.coll_nodes.specs.Entries.{given_weights};
 ghost use Rattle.coll_nodes.specs.OwnNames.{names_second, own_weights};
-ghost use Rattle.coll_nodes.specs.Table.{names_of};
 ghost use Rattle.coll_nodes.specs.TableLayout.{declared_at};
-ghost use Rattle.coll_nodes.specs.WellFormed.{AreDistinct};
 ghost use Rattle.coll_statements.specs.OwnStatements.{by_own_names as stated_own, line_uses_second, own_line, own_lines, uses_second};
 
+use crate::own_names::{copied_own_id, is_second, names_second, own_weights, symbol_meant};
 use coll_lex::{ListBuf, TextBuf};
 use coll_nodes::Body;
 use coll_syntax::{Id, OrderLine, Statement, Weight};
 use std::alloc::AllocError;
 
-/// A statement by own names, where it uses a second name; one that uses none stays, and none is answered. No name may be declared
-/// twice.
+/// A statement by own names, where it uses a second name; one that uses none stays, and none is answered.
 ///
 /// It takes memory for a statement alone that uses a second name.
 pub fn by_own_names(body: &Body, statement: &Statement) -> Result<Option<Statement>, AllocError>
-    requires distinct { AreDistinct same_name (names_of (declared_at body.now.layout)) }
     ensures own { IfOk result (λ own. unwrap_or own statement.now ≡ stated_own (declared_at body.now.layout) statement.now) }
+    ensures kept { IfOk result (λ own. uses_second (declared_at body.now.layout) statement.now ≡ false → own ≡ None) }
     ensures memory { OnErr result (uses_second (declared_at body.now.layout) statement.now ≡ true) }
 {
     match statement {
@@ -43,30 +40,30 @@ fn own_equivalence(
     name: &TextBuf,
     symbol: &TextBuf,
 ) -> Result<Option<Statement>, AllocError>
-    requires distinct { AreDistinct same_name (names_of (declared_at body.now.layout)) }
     ensures own { IfOk result (λ own. unwrap_or own (statement.Equivalence name.now symbol.now) ≡ stated_own (declared_at body.now.layout) (statement.Equivalence name.now symbol.now)) }
+    ensures kept { IfOk result (λ own. uses_second (declared_at body.now.layout) (statement.Equivalence name.now symbol.now) ≡ false → own ≡ None) }
     ensures memory { OnErr result (uses_second (declared_at body.now.layout) (statement.Equivalence name.now symbol.now) ≡ true) }
 {
-    if body.is_own_name(symbol) {
-        return Ok(None);
+    match symbol_meant(body, symbol.get()) {
+        Some(own) => {
+            let symbol = own.try_copy()?;
+            let name = name.try_copy()?;
+            Ok(Some(Statement::Equivalence { name, symbol }))
+        }
+        None => Ok(None),
     }
-    let Some(own) = body.resolve(symbol.get()) else {
-        return Ok(None);
-    };
-    let symbol = TextBuf::new(String::from_str(body.alloc(), own)?);
-    let name = name.try_copy()?;
-    Ok(Some(Statement::Equivalence { name, symbol }))
 }
 
 // The same of a block.
 fn own_block(body: &Body, target: &Id, lines: &[OrderLine]) -> Result<Option<Statement>, AllocError>
     ensures own { IfOk result (λ own. unwrap_or own (statement.Block target.now lines.now) ≡ stated_own (declared_at body.now.layout) (statement.Block target.now lines.now)) }
+    ensures kept { IfOk result (λ own. uses_second (declared_at body.now.layout) (statement.Block target.now lines.now) ≡ false → own ≡ None) }
     ensures memory { OnErr result (uses_second (declared_at body.now.layout) (statement.Block target.now lines.now) ≡ true) }
 {
     if !block_uses_second(body, target, lines) {
         return Ok(None);
     }
-    let target = body.own_id(target.clone()?)?;
+    let target = copied_own_id(body, target)?;
     let lines = own_lines(body, lines)?;
     Ok(Some(Statement::Block { target, lines }))
 }
@@ -74,6 +71,7 @@ fn own_block(body: &Body, target: &Id, lines: &[OrderLine]) -> Result<Option<Sta
 // The same of an order line outside a block.
 fn own_reweight(body: &Body, line: &OrderLine) -> Result<Option<Statement>, AllocError>
     ensures own { IfOk result (λ own. unwrap_or own (statement.Reweight line.now) ≡ stated_own (declared_at body.now.layout) (statement.Reweight line.now)) }
+    ensures kept { IfOk result (λ own. uses_second (declared_at body.now.layout) (statement.Reweight line.now) ≡ false → own ≡ None) }
     ensures memory { OnErr result (uses_second (declared_at body.now.layout) (statement.Reweight line.now) ≡ true) }
 {
     if !line_uses_second(body, line) {
@@ -87,7 +85,7 @@ fn own_reweight(body: &Body, line: &OrderLine) -> Result<Option<Statement>, Allo
 fn own_lines(body: &Body, lines: &[OrderLine]) -> Result<ListBuf<OrderLine>, AllocError>
     ensures { IfOk result (λ own. own ≡ own_lines (declared_at body.now.layout) lines.now) }
 {
-    let mut own = Vec::new(body.alloc());
+    let mut own = Vec::with_capacity(body.alloc(), lines.len())?;
     for line in lines {
         own.push(own_line(body, line)?)?;
     }
@@ -98,7 +96,7 @@ fn own_lines(body: &Body, lines: &[OrderLine]) -> Result<ListBuf<OrderLine>, All
 fn own_line(body: &Body, line: &OrderLine) -> Result<OrderLine, AllocError>
     ensures { IfOk result (λ own. own ≡ own_line (declared_at body.now.layout) line.now) }
 {
-    let id = body.own_id(line.id.clone()?)?;
+    let id = copied_own_id(body, &line.id)?;
     let weights = own_given(body, &line.weights)?;
     Ok(OrderLine { id, weights })
 }
@@ -113,7 +111,7 @@ fn own_given(
     let Some(given) = given else {
         return Ok(None);
     };
-    let own = body.own_weights(given.clone()?)?;
+    let own = own_weights(body, given.get())?;
     Ok(Some(own))
 }
 
@@ -121,7 +119,7 @@ fn own_given(
 fn block_uses_second(body: &Body, target: &Id, lines: &[OrderLine]) -> bool
     ensures { result ≡ uses_second (declared_at body.now.layout) (statement.Block target.now lines.now) }
 {
-    body.is_second(target) || lines_use_second(body, lines)
+    is_second(body, target) || lines_use_second(body, lines)
 }
 
 // Whether one of these order lines uses a second name.
@@ -135,7 +133,7 @@ fn lines_use_second(body: &Body, lines: &[OrderLine]) -> bool
 fn line_uses_second(body: &Body, line: &OrderLine) -> bool
     ensures { result ≡ line_uses_second (declared_at body.now.layout) line.now }
 {
-    body.is_second(&line.id) || given_uses_second(body, &line.weights)
+    is_second(body, &line.id) || given_uses_second(body, &line.weights)
 }
 
 // Whether one of the weights that a line gives names something by a second name.
@@ -143,7 +141,10 @@ fn given_uses_second(body: &Body, given: &Option<ListBuf<Weight>>) -> bool
     ensures { result ≡ list_any (names_second (declared_at body.now.layout)) (given_weights given.now) }
 {
     match given {
-        Some(weights) => weights.get().iter().any(|weight| body.names_second(weight)),
+        Some(weights) => weights
+            .get()
+            .iter()
+            .any(|weight| names_second(body, weight)),
         None => false,
     }
 }

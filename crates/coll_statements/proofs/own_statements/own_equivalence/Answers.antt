@@ -1,24 +1,28 @@
--- An own name stays, and a name that has an own name, and is none itself, is a second name.
-use Rattle.std.proofs.Common.{sym, ap, ◌∙◌, chars}
-use Rattle.std.specs.Prelude.{option_map, Result, Ok, Err, OnErr}
+-- A name that means a symbol is a second name, and one that means none is its own.
+use Rattle.std.proofs.Common.{ap, sym, ◌∙◌}
+use Rattle.std.specs.Prelude.{option_copied}
+use Rattle.coll_order.proofs.Sameness.{not_both}
 use Rattle.coll_syntax.specs.declared.statements.Statement.TheVariants as statement
-use Rattle.coll_nodes.specs.OwnNames.{own_name}
 use Rattle.coll_nodes.specs.TableLayout.{declared_at}
-use Rattle.coll_nodes.proofs.OwnNames.{named_own_same}
-use Rattle.coll_statements.proofs.OwnStatements.{second_if_not_own}
+use Rattle.coll_statements.proofs.SecondNames.{told, meant_second, not_meant_own, on_err}
 use Rattle.coll_statements.proofs.own_statements.own_equivalence.Goals as goal
 
--- what holds anyway holds of an error
-on_err : {X Y : Type 0} (P : Type 0) (r : Result X Y) → P → OnErr r P
-on_err P (Ok x) p = tt
-on_err P (Err e) p = p
+pub returns-in_err-symbol-in-Some-clause-memory : goal.returns-in_err-symbol-in-Some-clause-memory
+returns-in_err-symbol-in-Some-clause-memory c =
+    let declared = declared_at c.args.body.now.layout in
+    on_err _ _ (meant_second declared c.args.symbol.now c.in-Some.own.now (told declared c.args.symbol.now _ _ c.get.ensures.characters c.symbol_meant.ensures ∙ ap option_copied c.in-Some.is))
 
-pub returns-then-is_own_name-clause-own : goal.returns-then-is_own_name-clause-own
-returns-then-is_own_name-clause-own c =
-    sym (ap (statement.Equivalence c.args.name.now) (named_own_same (declared_at c.args.body.now.layout) c.args.symbol.now c.requires.distinct (sym c.is_own_name.ensures ∙ c.if-is_own_name.true)))
+pub returns-in_err-name-in-Some-clause-memory : goal.returns-in_err-name-in-Some-clause-memory
+returns-in_err-name-in-Some-clause-memory c =
+    let declared = declared_at c.args.body.now.layout in
+    on_err _ _ (meant_second declared c.args.symbol.now c.in-Some.own.now (told declared c.args.symbol.now _ _ c.get.ensures.characters c.symbol_meant.ensures ∙ ap option_copied c.in-Some.is))
 
-pub returns-in_err-from_str-clause-memory : goal.returns-in_err-from_str-clause-memory
-returns-in_err-from_str-clause-memory c = on_err _ _ (second_if_not_own (declared_at c.args.body.now.layout) c.args.symbol.now (chars c.in-Some.own.now) (sym (ap (own_name (declared_at c.args.body.now.layout)) c.get.ensures.characters) ∙ (sym c.resolve.ensures ∙ ap (option_map (λ own. chars own.now)) c.in-Some.is)) (sym c.is_own_name.ensures ∙ c.if-is_own_name.false))
+pub returns-in_ok-name-in-Some-clause-kept : goal.returns-in_ok-name-in-Some-clause-kept
+returns-in_ok-name-in-Some-clause-kept c =
+    let declared = declared_at c.args.body.now.layout in
+    λ absent. not_both (meant_second declared c.args.symbol.now c.in-Some.own.now (told declared c.args.symbol.now _ _ c.get.ensures.characters c.symbol_meant.ensures ∙ ap option_copied c.in-Some.is)) absent
 
-pub returns-in_err-name-clause-memory : goal.returns-in_err-name-clause-memory
-returns-in_err-name-clause-memory c = on_err _ _ (second_if_not_own (declared_at c.args.body.now.layout) c.args.symbol.now (chars c.in-Some.own.now) (sym (ap (own_name (declared_at c.args.body.now.layout)) c.get.ensures.characters) ∙ (sym c.resolve.ensures ∙ ap (option_map (λ own. chars own.now)) c.in-Some.is)) (sym c.is_own_name.ensures ∙ c.if-is_own_name.false))
+pub returns-in-None-clause-own : goal.returns-in-None-clause-own
+returns-in-None-clause-own c =
+    let declared = declared_at c.args.body.now.layout in
+    sym (ap (statement.Equivalence c.args.name.now) (not_meant_own declared c.args.symbol.now (told declared c.args.symbol.now _ _ c.get.ensures.characters c.symbol_meant.ensures ∙ ap option_copied c.in-None.is)))
