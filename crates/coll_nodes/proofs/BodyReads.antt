@@ -22,12 +22,11 @@ use Rattle.coll_nodes.specs.TableLayout.{TableLayout, content_of, if_any, declar
 use Rattle.coll_nodes.specs.declared.contents.Content.{Content}
 use Rattle.coll_nodes.specs.declared.contents.Content.TheVariants as content
 use Rattle.coll_nodes.specs.declared.declarations.Declaration.{Declaration}
-use Rattle.coll_nodes.specs.declared.declarations.Declaration.TheVariants.{Symbol, Element, Equivalence}
 use Rattle.coll_nodes.specs.declared.entries.Entry.{Entry}
 use Rattle.coll_nodes.proofs.LayoutReads.{read_known, both_true, and_true, in_rings, names_read, texts_read, section_names_read, declared_read, declared_covers, begun_covers, found_in, joined_at, joined_read, joined_known, entries_read, section_at, placed_from, placed_to}
 use Rattle.coll_nodes.proofs.OwnNames.{declaration_is}
 use Rattle.coll_nodes.proofs.Sameness.{same_name_decides}
-use Rattle.coll_nodes.proofs.NodeLists.{any_map, any_from, any_to}
+use Rattle.coll_nodes.proofs.NodeLists.{any_map, any_from}
 
 -- what is the same as one of a list of one is it
 pub one : (b : Bool) → (b || false) ≡ true → b ≡ true
@@ -55,7 +54,7 @@ names_once layout laid once = subst (are.AreDistinct same_name) (sym (names_read
       (λ name mine. by_test (λ b. list_any (same_name name) (flat_map (read_at names_in layout) nodes) ≡ b → b ≡ false) (list_any (same_name name) (flat_map (read_at names_in layout) nodes))
       (λ on e. let other = any_from (same_name name) (read_at names_in layout) nodes e in
       let same : node ≡ other.0 = once name node other.0 (and_true (linked node (or_first (same_node node node) _ (same_node_itself node))) mine)
-          (and_true (linked other.0 (or_second (same_node other.0 node) _ other.1)) other.2) in
+      (and_true (linked other.0 (or_second (same_node other.0 node) _ other.1)) other.2) in
       not_both (ap (has_node nodes) same ∙ other.1) distinct.0) (λ off e. refl) refl)
       (each nodes distinct.1 (λ other there. linked other (or_second (same_node other node) _ there)))
 

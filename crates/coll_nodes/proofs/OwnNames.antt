@@ -1,5 +1,5 @@
 -- What second names stand for: names that are declared once, and the symbols that they mean.
-use Rattle.std.proofs.Common.{◌≡◌, ℕ, Bool, true, false, ◌&&◌, ◌||◌, cond, not, is_some, IsTrue, List, [], ◌∷◌, ◌++◌, Option, Some, None, All, map, flat_map, sym, ap, subst, ◌∙◌, refl, arith, append_assoc, append-nil}
+use Rattle.std.proofs.Common.{◌≡◌, ℕ, Bool, true, false, ◌||◌, cond, not, is_some, IsTrue, List, [], ◌∷◌, ◌++◌, Option, Some, None, All, map, flat_map, sym, ap, subst, ◌∙◌, refl, arith, append_assoc, append-nil}
 use Rattle.std.specs.List.{list_any}
 use Rattle.std.specs.Option.{option_map}
 use Rattle.std.specs.Prelude.{unwrap_or}

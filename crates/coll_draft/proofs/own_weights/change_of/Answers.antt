@@ -1,5 +1,5 @@
 -- The node that is found is that of the entry.
-use Rattle.std.proofs.Common.{◌≡◌, ap, sym, subst, ◌∙◌}
+use Rattle.std.proofs.Common.{ap, sym, subst, ◌∙◌}
 use Rattle.coll_syntax.specs.Identifier.{same_id}
 use Rattle.coll_nodes.specs.Linking.{IsFoundBy}
 use Rattle.coll_nodes.specs.OwnNames.{own_weights}

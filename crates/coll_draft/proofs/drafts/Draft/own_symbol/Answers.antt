@@ -1,5 +1,5 @@
 -- The declaration of a name tells whether it is a symbol's, or what symbol it stands for.
-use Rattle.std.proofs.Common.{◌≡◌, true, false, Option, Some, None, ap, sym, ◌∙◌}
+use Rattle.std.proofs.Common.{true, false, Option, Some, ap, sym, ◌∙◌}
 use Rattle.std.specs.Prelude.{option_copied, option_map, unwrap_or}
 use Rattle.coll_draft.specs.Drafts.{DraftState}
 use Rattle.coll_nodes.specs.OwnNames.{declaration_of, stands_for}
@@ -43,4 +43,4 @@ returns-in-None-clause-err c =
     let distinct = c.check.ensures.built.distinct_names in
     let found = sym (c.declaration.ensures ∙ ap (λ (it : DraftState). declaration_of it.declared c.args.symbol) c.self.view_is) ∙ ap option_copied c.in-None.is in
     λ _ name. meaning_told d.declared name c.args.symbol false false (ap (λ (it : Option Declaration). unwrap_or (option_map stands_for it) c.args.symbol) found)
-        (own_told d.declared c.args.symbol distinct _ found) (symbol_told d.declared c.args.symbol distinct _ found)
+    (own_told d.declared c.args.symbol distinct _ found) (symbol_told d.declared c.args.symbol distinct _ found)

@@ -1,9 +1,8 @@
 -- The declaration of a name tells whether it is that of a second name.
-use Rattle.std.proofs.Common.{Option, Some, None, ap, sym, ◌∙◌}
+use Rattle.std.proofs.Common.{Some, None, ap, sym, ◌∙◌}
 use Rattle.std.specs.Prelude.{option_copied}
 use Rattle.coll_nodes.specs.OwnNames.{declaration_of}
 use Rattle.coll_nodes.specs.TableLayout.{declared_at}
-use Rattle.coll_nodes.specs.declared.declarations.Declaration.{Declaration}
 use Rattle.coll_nodes.proofs.OwnNames.{second_told}
 use Rattle.coll_nodes.proofs.bodies.Body.is_second_name.Goals as goal
 
