@@ -6,13 +6,14 @@
 //! `specs/Drafts.antt` first.
 
 ghost use Rattle.std.specs.Prelude.{◌≡◌, ◌≢◌, ℕ, List, true, false, [], length, Some, None, IfOk, IfErr, IfSome, OnOk};
-ghost use Rattle.std.specs.List.{flat_map};
+ghost use Rattle.std.specs.List.{flat_map, list_any};
 ghost use Rattle.coll_lex.specs.Names.{IsName};
 ghost use Rattle.coll_syntax.specs.Proper.{IsElementText, IsProperTableLine, IsProperLine, IsNameIfGiven, AreRulesIfGiven};
 ghost use Rattle.coll_syntax.specs.declared.lines.TableLine.TheVariants.{OrderStart, OrderEnd, Section, EndCategory, Order};
 ghost use Rattle.coll_nodes.specs.Table.{has_text};
 ghost use Rattle.coll_draft.specs.Drafts.{is_end, levels_of, meaning_cause};
 ghost use Rattle.coll_draft.specs.Loading.{rules_after};
+ghost use Rattle.coll_draft.specs.OwnWeights.{is_equivalence};
 ghost use Rattle.coll_draft.specs.SoundDrafts.{IsSoundDraft, IsProperDeclaration, MayBePut};
 ghost use Rattle.coll_nodes.specs.Table.{name_of, text_of, is_declared, is_symbol_name};
 ghost use Rattle.coll_nodes.specs.OwnNames.{named_own, means_no_symbol};
@@ -324,11 +325,13 @@ impl Draft {
         Ok(())
     }
 
-    /// `END LC_COLLATE`, the weights not yet judged: they stand by own names from here on.
+    /// `END LC_COLLATE`, the weights not yet judged: they stand by own names from here on. It takes memory only where a second name
+    /// is declared.
     fn end(&mut self) -> Result<(), LoadCause>
         ensures ok { OnOk result (cause_after self.old EndCategory ≡ None) }
         ensures after { OnOk result (self.new ≡ with_own_weights self.old) }
         ensures err { IfErr result (λ cause. cause ≢ OutOfMemory → cause_after self.old EndCategory ≡ Some cause) }
+        ensures memory { IfErr result (λ cause. cause ≡ OutOfMemory → list_any is_equivalence self.old.declared ≡ true) }
     {
         if self.order_open {
             return Err(LoadCause::OutsideOrder);

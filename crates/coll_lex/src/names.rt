@@ -3,9 +3,10 @@
 //! The scan of symbols decides by these tests what a symbol stands for; `is_name` is for names that come from
 //! elsewhere. A change here is a change of `symbol_of` in `specs/Tokens.antt`.
 
-ghost use Rattle.std.specs.Prelude.{◌≡◌, ℕ, ◌||◌, not, chars, min, option_map, if◌then◌else◌};
+ghost use Rattle.std.specs.Prelude.{◌≡◌, ℕ, ◌||◌, not, nat_lt, length, chars, min, option_map, if◌then◌else◌};
 ghost use Rattle.std.specs.List.{list_all};
 ghost use Rattle.coll_lex.specs.Blanks.{is_blank};
+ghost use Rattle.coll_lex.specs.Limits.{most_name_chars};
 ghost use Rattle.coll_lex.specs.Names.{is_proper_name};
 ghost use Rattle.coll_lex.specs.Tokens.{is_name as has_only_name_chars, code_point_of, hex_number, is_hex_digit, is_control};
 
@@ -40,10 +41,17 @@ fn is_barred(c: char) -> bool
 pub(crate) fn has_name_chars(text: &str) -> bool
     ensures { result ≡ has_only_name_chars (chars text.now) }
 {
-    if text.chars().count() > MOST_NAME_CHARS {
+    if is_long(text) {
         return false;
     }
     text.chars().all(|c| !is_barred(c))
+}
+
+// Whether a text has too many characters for a name. They are counted only where its bytes are more than that.
+fn is_long(text: &str) -> bool
+    ensures { result ≡ nat_lt most_name_chars (length (chars text.now)) }
+{
+    text.len() > MOST_NAME_CHARS && text.chars().count() > MOST_NAME_CHARS
 }
 
 // The number that hexadecimal digits spell, but no more than the first number past the code points. None where
