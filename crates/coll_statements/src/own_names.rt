@@ -8,7 +8,7 @@
 ghost use Rattle.std.specs.Prelude.{◌≡◌, true, chars, map, option_copied, IfOk, OnErr};
 ghost use Rattle.coll_nodes.specs.OwnNames.{declaration_of, is_second, names_second, named_own, own_id, own_weight, own_weights};
 ghost use Rattle.coll_nodes.specs.TableLayout.{declared_at};
-ghost use Rattle.coll_statements.specs.SecondNames.{symbol_meant};
+ghost use Rattle.coll_statements.specs.SecondNames.{SecondNamesAreNotPlaced, symbol_meant};
 
 use coll_lex::{ListBuf, TextBuf};
 use coll_nodes::{Body, Declaration};
@@ -123,3 +123,10 @@ fn own_ids(body: &Body, ids: &[Id]) -> Result<ListBuf<Id>, AllocError>
     }
     Ok(ListBuf::new(own))
 }
+
+/// The law of second names: in a well-formed table none of them stands in a section, so that none has an entry or a rank.
+///
+/// It does nothing; its contract is the law.
+pub fn second_names_are_not_placed()
+    ensures { SecondNamesAreNotPlaced }
+{}

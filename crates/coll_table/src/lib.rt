@@ -29,6 +29,7 @@ pub use coll_nodes::{
     MOST_SECTIONS, Walk, WalkItem, limits_are_stated,
 };
 pub use coll_print::{printed_tables_are_read_back, write_id};
+pub use coll_statements::second_names_are_not_placed;
 pub use loaders::{Loader, lines_are_read};
 pub use loading::{load, load_keyed, texts_are_well_formed};
 pub use record_laws::{
