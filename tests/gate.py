@@ -1,6 +1,6 @@
 #!/usr/bin/env python3
 """The merge gate: whether each edit of crates/*/more-edits/ can still be applied, `rt ci`, and then the runs of the programs that it
-built. What the prover says of those edits, `make edits` tells.
+built, withdrawals from random histories among them. What the prover says of those edits, `make edits` tells.
 
 usage: tests/gate.py
 
@@ -12,6 +12,7 @@ import subprocess
 import sys
 
 import edits
+import random_withdrawals
 import refuse_growths
 import run_program
 
@@ -45,9 +46,11 @@ def main():
     proved = proofs_and_tests()
     ran = run_program.run_all(run_program.PROGRAM)
     print(f"runs of the program: {ran[0]} passed, {ran[1]} failed")
+    withdrawn = random_withdrawals.run_all(run_program.PROGRAM)
+    print(f"withdrawals from random histories: {withdrawn[0]} passed, {withdrawn[1]} failed")
     refused = refuse_growths.run_all()
     print(f"runs with refused growths: {refused[0]} passed, {refused[1]} failed")
-    passed, failed = (sum(counts) for counts in zip(can_be_applied, proved, ran, refused))
+    passed, failed = (sum(counts) for counts in zip(can_be_applied, proved, ran, withdrawn, refused))
     print(f"{passed} passed, {failed} failed")
     return 1 if failed or not ran[0] else 0
 
