@@ -1,6 +1,7 @@
 -- An undo, a redo and an accepted statement, by the records that a session keeps.
 use Rattle.std.proofs.Common.{◌≡◌, Bool, true, false, not, List, [], ◌∷◌, ◌++◌, reverse, Ok, refl, sym, ap, ◌∙◌, subst}
 use Rattle.std.proofs.lemmas.List.{reverse-append}
+use Rattle.coll_syntax.specs.Proper.{IsProper}
 use Rattle.coll_syntax.specs.declared.statements.Statement.{Statement}
 use Rattle.coll_history.proofs.HistoryLemmas.{undone_by-push, statements_of-push, Leads-push, Leads-last, SameCollation, taken_back_push, leads_wider, leads_narrower, replayed, stepped_back_push}
 use Rattle.coll_table.specs.Delta.{delta}
@@ -80,6 +81,7 @@ undone_turns table k k1 e b was = ap (λ r. r.undone) e ∙ ap not was
 -- a change, by a record that was turned
 turned_change : (table table1 : TableValue) (k k1 : Kept) → IsTurned table k k1 table1 → (before after : TableValue) → IsChange before after k → IsChange before after k1
 turned_change table table1 k k1 t before after it = record {
+  proper = subst IsProper (sym t.statement) it.proper;
   accepted = ap (delta (collation before)) t.statement ∙ it.accepted;
   steps = t.steps ∙ it.steps ∙ sym (ap (statement_steps (collation before)) t.statement);
 }
@@ -203,6 +205,7 @@ pub record Accepts (old after new : TableValue) (k : Kept) : Type 0 where
   pub old_is : IsTable old
   pub after_is : IsTable after
   pub new_is : IsTable new
+  pub proper : IsProper k.statement
   pub accepted : delta (collation old) k.statement ≡ Ok (collation after)
   pub in_force : k.change.undone ≡ false
   pub fits : Fits after k.change
@@ -223,6 +226,7 @@ module _ (turns : RecordsTurnBack) (wider : RecordsFitWider) (narrower : Records
       let alike = leads_wider turns wider narrower same (turn after k.change) old turned_is a.old_is a.back kept leads in
       let e : collation (turn after k.change) ≡ collation old = same (turn after k.change) old a.old_is a.back in
       let change : IsChange (turn after k.change) after k = record {
+        proper = a.proper;
         accepted = ap (λ (c : Collation). delta c k.statement) e ∙ a.accepted;
         steps = a.steps ∙ sym (ap (λ (c : Collation). statement_steps c k.statement) e);
       } in
@@ -243,12 +247,13 @@ module _ (turns : RecordsTurnBack) (wider : RecordsFitWider) (narrower : Records
       }
 
 -- what a table's calls ensure of a statement that was accepted, without the counts
-pub accepts : (old after new : TableValue) (k : Kept) → IsTable old → IsTable after → IsTable new → delta (collation old) k.statement ≡ Ok (collation after) → k.change.undone ≡ false → Fits after k.change
+pub accepts : (old after new : TableValue) (k : Kept) → IsTable old → IsTable after → IsTable new → IsProper k.statement → delta (collation old) k.statement ≡ Ok (collation after) → k.change.undone ≡ false → Fits after k.change
     → Extends (turn after k.change) old → steps_of k.change.items ≡ statement_steps (collation old) k.statement → Extends after new → Accepts (uncounted old) (uncounted after) (uncounted new) k
-accepts old after new k o a n accepted in_force fits back steps given_up = record {
+accepts old after new k o a n proper accepted in_force fits back steps given_up = record {
   old_is = table_uncounted old o;
   after_is = table_uncounted after a;
   new_is = table_uncounted new n;
+  proper = proper;
   accepted = ap (λ (c : Collation). delta c k.statement) (collation_uncounted old) ∙ accepted ∙ ap Ok (sym (collation_uncounted after));
   in_force = in_force;
   fits = fits_uncounted after k fits;
