@@ -13,6 +13,7 @@ use Rattle.coll_nodes.specs.SoundLayouts.{IsTable}
 use Rattle.coll_nodes.specs.Table.{Collation}
 use Rattle.coll_nodes.specs.TableLayout.{TableValue, collation}
 use Rattle.coll_table.specs.Turning.{steps_of}
+use Rattle.coll_history.specs.Withdrawing.{IsTurned}
 use Rattle.coll_history.specs.declared.histories.Kept.{Kept}
 
 -- A table without its count of steps.
@@ -44,19 +45,11 @@ turned_uncounted t k = refl
 pub extends_uncounted : (wide table : TableValue) → Extends wide table → Extends (uncounted wide) (uncounted table)
 extends_uncounted wide table e = record { rules = e.rules; rings = e.rings; nodes = e.nodes }
 
-same_parts : (a b : TableValue) → a.rules ≡ b.rules → a.layout ≡ b.layout → uncounted a ≡ uncounted b
+pub same_parts : (a b : TableValue) → a.rules ≡ b.rules → a.layout ≡ b.layout → uncounted a ≡ uncounted b
 same_parts a b r l =
     ap (λ rules. record { rules = rules; layout = a.layout; steps = 0 }) r ∙ ap (λ layout. record { rules = b.rules; layout = layout; steps = 0 }) l
 
 -- A record that was turned on a table.
-
-pub record IsTurned (table : TableValue) (k k1 : Kept) (table1 : TableValue) : Type 0 where
-  pub statement : k1.statement ≡ k.statement
-  pub table_is : table1 ≡ turn table k.change
-  pub change_is : k1.change ≡ turned table k.change
-  pub fits : Fits table1 k1.change
-  pub back : turn table1 k1.change ≡ table
-  pub steps : steps_of k1.change.items ≡ steps_of k.change.items
 
 -- what turning a record ensures, without the counts
 pub is_turned : RecordsTurnBack → (t t1 : TableValue) (k k1 : Kept) → IsTable t → Fits (uncounted t) k.change → k1.statement ≡ k.statement → IsSame t1 (turn t k.change) → k1.change ≡ turned t k.change
@@ -100,19 +93,19 @@ leads_on_longer table table1 kept undone k k1 t leads leads_on =
     subst (LeadsOn table1) (sym (reverse-append undone (k1 ∷ [])))
     (change, undone_turns table k k1 t.change_is false last.in_force, t.fits, subst (λ (x : TableValue). LeadsOn x (reverse undone)) (sym t.back) leads_on)
 
-abbrev made : Collation → List Statement → List Statement → History
+abbrev pub made : Collation → List Statement → List Statement → History
 made start remaining undone = record { start = start; remaining = remaining; undone = undone }
 
-made_same : (s t : Collation) (a b u v : List Statement) → s ≡ t → a ≡ b → u ≡ v → made s a u ≡ made t b v
+pub made_same : (s t : Collation) (a b u v : List Statement) → s ≡ t → a ≡ b → u ≡ v → made s a u ≡ made t b v
 made_same s t a b u v p q r = ap (λ (x : Collation). made x a u) p ∙ ap (λ (x : List Statement). made t x u) q ∙ ap (λ (x : List Statement). made t b x) r
 
 -- the history of which the last statement is set apart
-before_undo : (table table1 : TableValue) (kept undone : List Kept) (k k1 : Kept) → IsTurned table k k1 table1
+pub before_undo : (table table1 : TableValue) (kept undone : List Kept) (k k1 : Kept) → IsTurned table k k1 table1
     → history_of table (kept ++ k ∷ []) undone ≡ made (collation (undone_by table1 kept)) (statements_of kept ++ k.statement ∷ []) (reverse (statements_of undone))
 before_undo table table1 kept undone k k1 t =
     made_same _ _ _ _ _ _ (ap collation (undone_by-push table kept k ∙ ap (λ (x : TableValue). undone_by x kept) (sym t.table_is))) (statements_of-push kept k) refl
 
-after_undo : (table1 : TableValue) (kept undone : List Kept) (k k1 : Kept) → k1.statement ≡ k.statement
+pub after_undo : (table1 : TableValue) (kept undone : List Kept) (k k1 : Kept) → k1.statement ≡ k.statement
     → made (collation (undone_by table1 kept)) (statements_of kept) (k.statement ∷ reverse (statements_of undone)) ≡ history_of table1 kept (undone ++ k1 ∷ [])
 after_undo table1 kept undone k k1 same =
     made_same _ _ _ _ _ _ refl refl
@@ -169,12 +162,12 @@ leads_longer table table1 kept undone k k1 t leads_on leads =
 pub leads_on_shorter : (table table1 : TableValue) (undone : List Kept) (k k1 : Kept) → IsTurned table k k1 table1 → LeadsOn table (reverse (undone ++ k ∷ [])) → LeadsOn table1 (reverse undone)
 leads_on_shorter table table1 undone k k1 t leads_on = subst (λ (x : TableValue). LeadsOn x (reverse undone)) (sym t.table_is) (leads_next table undone k leads_on).later
 
-before_redo : (table : TableValue) (kept undone : List Kept) (k : Kept)
+pub before_redo : (table : TableValue) (kept undone : List Kept) (k : Kept)
     → history_of table kept (undone ++ k ∷ []) ≡ made (collation (undone_by table kept)) (statements_of kept) (k.statement ∷ reverse (statements_of undone))
 before_redo table kept undone k =
     made_same _ _ _ _ _ _ refl refl (ap reverse (statements_of-push undone k) ∙ reverse-append (statements_of undone) (k.statement ∷ []))
 
-after_redo : (table table1 : TableValue) (kept undone : List Kept) (k k1 : Kept) → IsTurned table k k1 table1
+pub after_redo : (table table1 : TableValue) (kept undone : List Kept) (k k1 : Kept) → IsTurned table k k1 table1
     → made (collation (undone_by table kept)) (statements_of kept ++ k.statement ∷ []) (reverse (statements_of undone)) ≡ history_of table1 (kept ++ k1 ∷ []) undone
 after_redo table table1 kept undone k k1 t =
     sym (made_same _ _ _ _ _ _
@@ -220,7 +213,7 @@ module _ (turns : RecordsTurnBack) (wider : RecordsFitWider) (narrower : Records
     pub start : collation (undone_by now longer) ≡ collation (undone_by old kept)
     pub now_is : IsTable (undone_by now longer)
 
-  leads_after : (old after new : TableValue) (kept : List Kept) (k : Kept) → Accepts old after new k → Leads old kept → LeadsWith old after kept (kept ++ k ∷ [])
+  pub leads_after : (old after new : TableValue) (kept : List Kept) (k : Kept) → Accepts old after new k → Leads old kept → LeadsWith old after kept (kept ++ k ∷ [])
   leads_after old after new kept k a leads =
       let turned_is : IsTable (turn after k.change) = (turns after k.change a.after_is a.fits).stands in
       let alike = leads_wider turns wider narrower same (turn after k.change) old turned_is a.old_is a.back kept leads in

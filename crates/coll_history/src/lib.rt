@@ -12,6 +12,7 @@ mod histories;
 mod history_faults;
 mod laws;
 mod limits;
+mod withdrawing;
 
 pub use histories::Session;
 pub use history_faults::BenchFault;
