@@ -5,3 +5,4 @@ pub mod LawLemmas
 pub mod LoweredHistories
 pub mod RebuiltTables
 pub mod PairedStatements
+pub mod WithdrawnStatements

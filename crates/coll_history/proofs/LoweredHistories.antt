@@ -1,14 +1,13 @@
 -- Statements taken back one after another, and put up again: one relation on histories, read both ways, and of their records that
 -- they lead up to the very table.
-use Rattle.std.proofs.Common.{◌≡◌, ℕ, ◌+◌, ◌-◌, ◌<◌, ◌≤◌, List, [], ◌∷◌, ◌++◌, length, reverse, refl, sym, ap, ◌∙◌, subst, arith, suc, add-one}
+use Rattle.std.proofs.Common.{◌≡◌, ℕ, ◌+◌, List, [], ◌∷◌, ◌++◌, length, reverse, refl, sym, ap, ◌∙◌, subst, arith, suc, add-one}
 use Rattle.std.proofs.lemmas.List.{append-nil, append_assoc}
 use Rattle.coll_syntax.specs.declared.statements.Statement.{Statement}
 use Rattle.coll_nodes.specs.Table.{Collation}
 use Rattle.coll_nodes.specs.TableLayout.{TableValue, collation}
-use Rattle.coll_table.specs.Record.{turn}
 use Rattle.coll_history.specs.Histories.{History}
 use Rattle.coll_history.specs.Kept.{statements_of, undone_by, Leads, LeadsOn, history_of}
-use Rattle.coll_history.specs.Withdrawing.{IsLowered, IsTurned, LastFits, TurnsLast, raised}
+use Rattle.coll_history.specs.Withdrawing.{IsLowered, LastFits, TurnsLast, raised}
 use Rattle.coll_history.specs.declared.histories.Kept.{Kept}
 use Rattle.coll_history.proofs.HistoryLemmas.{Leads-last}
 use Rattle.coll_history.proofs.HistorySteps.{made, made_same, before_undo, after_undo, before_redo, after_redo, leads_shorter, leads_on_longer, leads_longer, leads_on_shorter, leads_next, reversed}

@@ -1,16 +1,14 @@
 -- Statements that are put to a table anew, with their new records: what they make of it, and how they are given back.
-use Rattle.std.proofs.Common.{◌≡◌, ℕ, ◌+◌, ◌-◌, ◌<◌, ◌≤◌, Bool, true, false, not, List, [], ◌∷◌, ◌++◌, length, reverse, Result, Ok, Err, refl, sym, ap, ◌∙◌, subst, arith, suc, cond, eqb, add-one}
+use Rattle.std.proofs.Common.{◌≡◌, ℕ, ◌+◌, ◌<◌, Bool, true, false, not, List, [], ◌∷◌, ◌++◌, length, reverse, Result, Ok, Err, refl, sym, ap, ◌∙◌, subst, arith, suc, cond, add-one}
 use Rattle.std.specs.Prelude.{if◌then◌else◌}
 use Rattle.std.proofs.lemmas.Bool.{ne_eqb}
 use Rattle.std.proofs.lemmas.List.{append-nil, append_assoc, reverse-append}
-use Rattle.coll_order.specs.Layout.{is_in}
 use Rattle.coll_order.specs.declared.places.NodeId.{NodeId}
 use Rattle.coll_syntax.specs.Proper.{IsProper}
 use Rattle.coll_syntax.specs.declared.statements.Statement.{Statement}
 use Rattle.coll_nodes.specs.SoundLayouts.{IsTable}
 use Rattle.coll_nodes.specs.Table.{Collation}
-use Rattle.coll_nodes.specs.TableLayout.{TableLayout, TableValue, collation, content_of}
-use Rattle.coll_nodes.specs.declared.contents.Content.{Content}
+use Rattle.coll_nodes.specs.TableLayout.{TableLayout, TableValue, collation}
 use Rattle.coll_table.specs.Delta.{delta}
 use Rattle.coll_table.specs.Record.{AreLoose, Fits, IsSame, KeepsLoose, added_nodes, dropped_nodes, turn, turned, without_nodes}
 use Rattle.coll_table.specs.RecordLaws.{RecordsAddAlike, RecordsTurnBack, RecordsFitWider, RecordsFitNarrower, UndonePutIn}
@@ -20,7 +18,6 @@ use Rattle.coll_history.specs.Kept.{statements_of, undone_by, uncounted, Leads}
 use Rattle.coll_history.specs.Withdrawal.{going_on, withdrawn_from}
 use Rattle.coll_history.specs.Withdrawing.{AreProper, CanGiveBack, IsRebuilt, given_back, paired, with_record}
 use Rattle.coll_history.specs.declared.histories.Kept.{Kept}
-use Rattle.coll_history.specs.declared.history_faults.BenchFault.{BenchFault}
 use Rattle.coll_history.specs.declared.history_faults.BenchFault.TheVariants.{StillNeeded}
 use Rattle.coll_history.proofs.HistoryLemmas.{SameCollation}
 use Rattle.coll_history.proofs.HistorySteps.{leads_after, same_parts, Accepts}

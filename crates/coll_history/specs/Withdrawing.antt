@@ -8,7 +8,7 @@ use Rattle.coll_table.specs.Record.{Fits, KeepsLoose, added_nodes, turn, turned,
 use Rattle.coll_table.specs.Turning.{steps_of}
 use Rattle.coll_table.specs.declared.records.Record.{Record}
 use Rattle.coll_history.specs.Histories.{History}
-use Rattle.coll_history.specs.Kept.{Leads, uncounted, undone_by}
+use Rattle.coll_history.specs.Kept.{Leads, undone_by}
 use Rattle.coll_history.specs.declared.histories.Kept.{Kept}
 
 -- Taken down and put up.

@@ -6,12 +6,13 @@
 //! copied, and nothing on the way back takes memory. A change of the way keeps to the definition, `specs/Withdrawal.antt`, and to the
 //! order in which undone records are given up: the one that was taken back last comes first.
 
-ghost use Rattle.std.specs.Prelude.{◌≡◌, ◌≢◌, ◌<◌, ◌≤◌, ◌+◌, ◌^◌, ◌∷◌, ◌++◌, ℕ, List, [], length, reverse, true, false, vec_len, vec_capacity, Ok, Err, IfOk, IfErr, OnOk, OnErr};
+ghost use Rattle.std.specs.Prelude.{◌&&◌, nat_le, is_some, IfSome, ◌≡◌, ◌≢◌, ◌<◌, ◌≤◌, ◌+◌, ◌^◌, ◌∷◌, ◌++◌, ℕ, List, [], length, reverse, true, false, vec_len, vec_capacity, Ok, Err, IfOk, IfErr, OnOk, OnErr};
 ghost use Rattle.coll_nodes.specs.TableLayout.{TableValue, collation};
 ghost use Rattle.coll_table.specs.Record.{AreLoose, Extends, Fits, KeepsLoose, added_nodes, dropped_nodes, turn, without_nodes};
 ghost use Rattle.coll_table.specs.declared.refusals.Refusal.TheVariants.{OutOfMemory};
 ghost use Rattle.coll_history.specs.Histories.{History};
 ghost use Rattle.coll_history.specs.Kept.{Leads, LeadsOn, added_by_all, history_of, statements_of, uncounted};
+ghost use Rattle.coll_history.specs.Limits.{most_remaining};
 ghost use Rattle.coll_history.specs.Withdrawal.{is_numbered, withdrawn, withdrawn_from};
 ghost use Rattle.coll_history.specs.Withdrawing.{AreProper, CanGiveBack, IsLowered, IsRebuilt, LastFits, StandsBeforeLast, TurnsLast, given_back, paired, raised, with_record};
 ghost use Rattle.coll_history.specs.declared.histories.Kept.{Kept};
@@ -254,4 +255,105 @@ fn before_last(kept: &[Kept], count: usize) -> &[Kept]
     let (front, _) = kept.split_at(kept.len() - 1);
     let (_, later) = front.split_at(front.len() - count);
     later
+}
+
+// Withdraws a statement behind which so many others remain, in the parts of a session.
+fn withdraw_from(
+    table: &mut Table,
+    remaining: &mut Vec<Kept>,
+    undone: &mut Vec<Kept>,
+    number: u32,
+    later: usize,
+    fresh: &mut Vec<Record>,
+) -> Result<(), BenchFault>
+    requires leads { Leads (uncounted table.old) remaining.old.items }
+    requires leads_on { LeadsOn (uncounted table.old) (reverse undone.old.items) }
+    requires number { 0 < number }
+    requires later { number + later ≡ vec_len remaining.old }
+    requires few { vec_len remaining.old ≤ most_remaining }
+    requires undo_room { vec_len remaining.old + vec_len undone.old ≤ vec_capacity undone.old }
+    requires redo_room { vec_len remaining.old + vec_len undone.old ≤ vec_capacity remaining.old }
+    requires none { fresh.old.items ≡ [] }
+    requires room { later ≤ vec_capacity fresh.old }
+    ensures leads { Leads (uncounted table.new) remaining.new.items }
+    ensures leads_on { LeadsOn (uncounted table.new) (reverse undone.new.items) }
+    ensures withdrawn { OnOk result (withdrawn (history_of (uncounted table.old) remaining.old.items undone.old.items) number ≡ Ok (history_of (uncounted table.new) remaining.new.items undone.new.items)) }
+    ensures refused { IfErr result (λ fault. fault ≢ bench.Table OutOfMemory → withdrawn (history_of (uncounted table.old) remaining.old.items undone.old.items) number ≡ Err fault) }
+    ensures unchanged { OnErr result (history_of (uncounted table.new) remaining.new.items undone.new.items ≡ history_of (uncounted table.old) remaining.old.items undone.old.items) }
+    ensures layout { OnErr result (table.new.layout ≡ table.old.layout) }
+    ensures fewer { vec_len remaining.new + vec_len undone.new ≤ vec_len remaining.old + vec_len undone.old }
+    ensures remaining_room { vec_capacity remaining.new ≡ vec_capacity remaining.old }
+    ensures undone_room { vec_capacity undone.new ≡ vec_capacity undone.old }
+{
+    records_turn_back();
+    records_fit_wider();
+    records_fit_narrower();
+    wider_tables_read_alike();
+    undone_records_put_in();
+    take_down(table, remaining, undone, later + 1);
+    table.check_table();
+    if let Err(fault) = rebuild(table, before_last(undone, later), number + 1, fresh) {
+        put_up(table, remaining, undone, later + 1);
+        return Err(fault);
+    }
+    table.check_table();
+    settle(table, remaining, undone, fresh);
+    table.check_table();
+    Ok(())
+}
+
+// How many statements stand behind the one with a number, if there is one.
+fn later_than(number: u32, len: usize) -> Option<usize>
+    ensures numbered { (nat_le 1 number && nat_le number len) ≡ is_some result }
+    ensures first { IfSome result (λ _. 0 < number) }
+    ensures later { IfSome result (λ later. number + later ≡ len) }
+{
+    if number == 0 {
+        return None;
+    }
+    if number as usize > len {
+        return None;
+    }
+    Some(len - number as usize)
+}
+
+impl Session {
+    /// Withdraws the statement with a number, counted from 1 among those that remain, and answers how many then remain.
+    ///
+    /// The table is then the one at first, rewritten by all others that remain, and nothing is left to be put again. It is
+    /// refused with `NoSuchStatement` exactly where no statement has the number, and takes no memory then; with `StillNeeded`
+    /// where one of the later statements would be refused, of which the first is named. A refusal, want of memory included,
+    /// leaves what remains, what was taken back and the table with all its nodes as they were; the count of ring steps stays
+    /// where no statement has the number, and may rise otherwise.
+    pub fn withdraw(&mut self, number: u32) -> Result<u32, BenchFault>
+        ensures withdrawn { IfOk result (λ _. withdrawn self.old.history number ≡ Ok self.new.history) }
+        ensures count { IfOk result (λ n. n ≡ length self.new.history.remaining) }
+        ensures refused { IfErr result (λ fault. fault ≢ bench.Table OutOfMemory → withdrawn self.old.history number ≡ Err fault) }
+        ensures memory { IfErr result (λ fault. fault ≡ bench.Table OutOfMemory → is_numbered self.old.history number ≡ true) }
+        ensures missing { withdrawn self.old.history number ≡ Err bench.NoSuchStatement → result ≡ Err bench.NoSuchStatement }
+        ensures missing_changes_nothing { withdrawn self.old.history number ≡ Err bench.NoSuchStatement → self.new ≡ self.old }
+        ensures unchanged { OnErr result (self.new.history ≡ self.old.history) }
+        ensures layout { OnErr result (self.new.layout ≡ self.old.layout) }
+    {
+        let Some(later) = later_than(number, self.remaining.len()) else {
+            return Err(BenchFault::NoSuchStatement);
+        };
+        let mut fresh = match Vec::with_capacity(*self.remaining.allocator(), later) {
+            Ok(fresh) => fresh,
+            Err(refused) => return Err(BenchFault::from(refused)),
+        };
+        let refused = withdraw_from(
+            &mut self.table,
+            &mut self.remaining,
+            &mut self.undone,
+            number,
+            later,
+            &mut fresh,
+        );
+        drop(fresh);
+        match refused {
+            Ok(()) => Ok(self.remaining.len() as u32),
+            Err(fault) => Err(fault),
+        }
+    }
 }

@@ -1,5 +1,5 @@
 -- The newest record is the next to be given back.
-use Rattle.std.proofs.Common.{sym, ap, ◌∙◌, subst, reverse, refl, arith}
+use Rattle.std.proofs.Common.{sym, ap, ◌∙◌, subst, reverse, arith}
 use Rattle.coll_nodes.specs.TableLayout.{TableValue}
 use Rattle.coll_history.specs.Kept.{uncounted}
 use Rattle.coll_history.specs.Withdrawing.{CanGiveBack, given_back}

@@ -1,5 +1,5 @@
 -- The next statement gets its new record, and its old one's nodes are none of the others'.
-use Rattle.std.proofs.Common.{sym, ap, ◌∙◌, subst, refl, reverse, arith}
+use Rattle.std.proofs.Common.{sym, ◌∙◌, subst, reverse, arith}
 use Rattle.coll_history.specs.Kept.{added_by_all}
 use Rattle.coll_table.specs.Record.{AreLoose, Extends, dropped_nodes}
 use Rattle.coll_nodes.specs.TableLayout.{TableValue}

@@ -1,5 +1,5 @@
 -- The statement that is left last is put to the table: its record joins the new ones, or it is the first that is refused.
-use Rattle.std.proofs.Common.{◌≡◌, ◌≢◌, ◌<◌, ◌∷◌, ◌∙◌, Ok, Err, List, length, reverse, refl, sym, ap, subst, arith, ℕ}
+use Rattle.std.proofs.Common.{◌≡◌, ◌≢◌, ◌<◌, ◌∷◌, ◌∙◌, Err, List, length, reverse, refl, sym, ap, subst, arith}
 use Rattle.coll_nodes.specs.Table.{Collation}
 use Rattle.coll_nodes.specs.TableLayout.{collation}
 use Rattle.coll_table.specs.Delta.{delta}
@@ -7,7 +7,6 @@ use Rattle.coll_table.specs.declared.records.Record.{Record}
 use Rattle.coll_table.specs.declared.refusals.Refusal.TheVariants.{OutOfMemory}
 use Rattle.coll_history.specs.Kept.{uncounted}
 use Rattle.coll_history.specs.Withdrawing.{CanGiveBack, IsRebuilt, given_back, paired, with_record}
-use Rattle.coll_history.specs.declared.histories.Kept.{Kept}
 use Rattle.coll_history.proofs.GivenUp.{extends_self}
 use Rattle.coll_history.proofs.HistorySteps.{accepts, collation_uncounted, Accepts}
 use Rattle.coll_history.proofs.RebuiltTables.{back_more, back_none, can_more, can_none, comes_first, first_proper, goes_on_with, is_made, none_left, paired_more, paired_none, rebuilt_more, rebuilt_none, stops_at, unpaired, unpaired_all, unpaired_less}

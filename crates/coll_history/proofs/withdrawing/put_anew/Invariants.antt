@@ -1,5 +1,5 @@
 -- What is left of the statements makes of the table now what all make of the one at first, and the new records lead back to that.
-use Rattle.std.proofs.Common.{◌≡◌, ◌+◌, ◌≤◌, ◌<◌, ℕ, length, vec_len, reverse}
+use Rattle.std.proofs.Common.{◌≡◌, ◌+◌, ◌<◌, ℕ, length, vec_len, reverse}
 use Rattle.std.specs.Vec.{vec_capacity}
 use Rattle.coll_nodes.specs.TableLayout.{collation}
 use Rattle.coll_history.specs.Kept.{statements_of, uncounted}

@@ -1,6 +1,5 @@
 -- One statement less is left to be put up.
-use Rattle.std.proofs.Common.{◌≡◌, ◌-◌, suc, refl, sym, ap, subst, ◌∙◌, arith, reverse, ℕ}
-use Rattle.coll_history.specs.Histories.{History}
+use Rattle.std.proofs.Common.{◌≡◌, ◌-◌, suc, sym, ap, subst, ◌∙◌, arith, reverse, ℕ}
 use Rattle.coll_history.specs.Kept.{history_of, uncounted}
 use Rattle.coll_history.specs.Withdrawing.{IsLowered, raised}
 use Rattle.coll_history.proofs.LoweredHistories.{as_high, next_fits, raised_none, up_leads, up_leads_on, up_lowered, up_raised}
