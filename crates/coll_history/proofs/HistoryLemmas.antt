@@ -83,6 +83,7 @@ SameCollation = (wide table : TableValue) → IsTable table → Extends wide tab
 module _ (turns : RecordsTurnBack) (wider : RecordsFitWider) (narrower : RecordsFitNarrower) (same : SameCollation) where
   changed : (before before2 after after2 : TableValue) (k : Kept) → collation before ≡ collation before2 → collation after ≡ collation after2 → IsChange before after k → IsChange before2 after2 k
   changed before before2 after after2 k p q it = record {
+    proper = it.proper;
     accepted = ap (λ (t : Collation). delta t k.statement) (sym p) ∙ it.accepted ∙ ap Ok q;
     steps = it.steps ∙ ap (λ (t : Collation). statement_steps t k.statement) p;
   }

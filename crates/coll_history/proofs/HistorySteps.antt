@@ -1,6 +1,7 @@
 -- An undo, a redo and an accepted statement, by the records that a session keeps.
 use Rattle.std.proofs.Common.{◌≡◌, Bool, true, false, not, List, [], ◌∷◌, ◌++◌, reverse, Ok, refl, sym, ap, ◌∙◌, subst}
 use Rattle.std.proofs.lemmas.List.{reverse-append}
+use Rattle.coll_syntax.specs.Proper.{IsProper}
 use Rattle.coll_syntax.specs.declared.statements.Statement.{Statement}
 use Rattle.coll_history.proofs.HistoryLemmas.{undone_by-push, statements_of-push, Leads-push, Leads-last, SameCollation, taken_back_push, leads_wider, leads_narrower, replayed, stepped_back_push}
 use Rattle.coll_table.specs.Delta.{delta}
@@ -12,6 +13,7 @@ use Rattle.coll_nodes.specs.SoundLayouts.{IsTable}
 use Rattle.coll_nodes.specs.Table.{Collation}
 use Rattle.coll_nodes.specs.TableLayout.{TableValue, collation}
 use Rattle.coll_table.specs.Turning.{steps_of}
+use Rattle.coll_history.specs.Withdrawing.{IsTurned}
 use Rattle.coll_history.specs.declared.histories.Kept.{Kept}
 
 -- A table without its count of steps.
@@ -43,19 +45,11 @@ turned_uncounted t k = refl
 pub extends_uncounted : (wide table : TableValue) → Extends wide table → Extends (uncounted wide) (uncounted table)
 extends_uncounted wide table e = record { rules = e.rules; rings = e.rings; nodes = e.nodes }
 
-same_parts : (a b : TableValue) → a.rules ≡ b.rules → a.layout ≡ b.layout → uncounted a ≡ uncounted b
+pub same_parts : (a b : TableValue) → a.rules ≡ b.rules → a.layout ≡ b.layout → uncounted a ≡ uncounted b
 same_parts a b r l =
     ap (λ rules. record { rules = rules; layout = a.layout; steps = 0 }) r ∙ ap (λ layout. record { rules = b.rules; layout = layout; steps = 0 }) l
 
 -- A record that was turned on a table.
-
-pub record IsTurned (table : TableValue) (k k1 : Kept) (table1 : TableValue) : Type 0 where
-  pub statement : k1.statement ≡ k.statement
-  pub table_is : table1 ≡ turn table k.change
-  pub change_is : k1.change ≡ turned table k.change
-  pub fits : Fits table1 k1.change
-  pub back : turn table1 k1.change ≡ table
-  pub steps : steps_of k1.change.items ≡ steps_of k.change.items
 
 -- what turning a record ensures, without the counts
 pub is_turned : RecordsTurnBack → (t t1 : TableValue) (k k1 : Kept) → IsTable t → Fits (uncounted t) k.change → k1.statement ≡ k.statement → IsSame t1 (turn t k.change) → k1.change ≡ turned t k.change
@@ -80,6 +74,7 @@ undone_turns table k k1 e b was = ap (λ r. r.undone) e ∙ ap not was
 -- a change, by a record that was turned
 turned_change : (table table1 : TableValue) (k k1 : Kept) → IsTurned table k k1 table1 → (before after : TableValue) → IsChange before after k → IsChange before after k1
 turned_change table table1 k k1 t before after it = record {
+  proper = subst IsProper (sym t.statement) it.proper;
   accepted = ap (delta (collation before)) t.statement ∙ it.accepted;
   steps = t.steps ∙ it.steps ∙ sym (ap (statement_steps (collation before)) t.statement);
 }
@@ -98,19 +93,19 @@ leads_on_longer table table1 kept undone k k1 t leads leads_on =
     subst (LeadsOn table1) (sym (reverse-append undone (k1 ∷ [])))
     (change, undone_turns table k k1 t.change_is false last.in_force, t.fits, subst (λ (x : TableValue). LeadsOn x (reverse undone)) (sym t.back) leads_on)
 
-abbrev made : Collation → List Statement → List Statement → History
+abbrev pub made : Collation → List Statement → List Statement → History
 made start remaining undone = record { start = start; remaining = remaining; undone = undone }
 
-made_same : (s t : Collation) (a b u v : List Statement) → s ≡ t → a ≡ b → u ≡ v → made s a u ≡ made t b v
+pub made_same : (s t : Collation) (a b u v : List Statement) → s ≡ t → a ≡ b → u ≡ v → made s a u ≡ made t b v
 made_same s t a b u v p q r = ap (λ (x : Collation). made x a u) p ∙ ap (λ (x : List Statement). made t x u) q ∙ ap (λ (x : List Statement). made t b x) r
 
 -- the history of which the last statement is set apart
-before_undo : (table table1 : TableValue) (kept undone : List Kept) (k k1 : Kept) → IsTurned table k k1 table1
+pub before_undo : (table table1 : TableValue) (kept undone : List Kept) (k k1 : Kept) → IsTurned table k k1 table1
     → history_of table (kept ++ k ∷ []) undone ≡ made (collation (undone_by table1 kept)) (statements_of kept ++ k.statement ∷ []) (reverse (statements_of undone))
 before_undo table table1 kept undone k k1 t =
     made_same _ _ _ _ _ _ (ap collation (undone_by-push table kept k ∙ ap (λ (x : TableValue). undone_by x kept) (sym t.table_is))) (statements_of-push kept k) refl
 
-after_undo : (table1 : TableValue) (kept undone : List Kept) (k k1 : Kept) → k1.statement ≡ k.statement
+pub after_undo : (table1 : TableValue) (kept undone : List Kept) (k k1 : Kept) → k1.statement ≡ k.statement
     → made (collation (undone_by table1 kept)) (statements_of kept) (k.statement ∷ reverse (statements_of undone)) ≡ history_of table1 kept (undone ++ k1 ∷ [])
 after_undo table1 kept undone k k1 same =
     made_same _ _ _ _ _ _ refl refl
@@ -167,12 +162,12 @@ leads_longer table table1 kept undone k k1 t leads_on leads =
 pub leads_on_shorter : (table table1 : TableValue) (undone : List Kept) (k k1 : Kept) → IsTurned table k k1 table1 → LeadsOn table (reverse (undone ++ k ∷ [])) → LeadsOn table1 (reverse undone)
 leads_on_shorter table table1 undone k k1 t leads_on = subst (λ (x : TableValue). LeadsOn x (reverse undone)) (sym t.table_is) (leads_next table undone k leads_on).later
 
-before_redo : (table : TableValue) (kept undone : List Kept) (k : Kept)
+pub before_redo : (table : TableValue) (kept undone : List Kept) (k : Kept)
     → history_of table kept (undone ++ k ∷ []) ≡ made (collation (undone_by table kept)) (statements_of kept) (k.statement ∷ reverse (statements_of undone))
 before_redo table kept undone k =
     made_same _ _ _ _ _ _ refl refl (ap reverse (statements_of-push undone k) ∙ reverse-append (statements_of undone) (k.statement ∷ []))
 
-after_redo : (table table1 : TableValue) (kept undone : List Kept) (k k1 : Kept) → IsTurned table k k1 table1
+pub after_redo : (table table1 : TableValue) (kept undone : List Kept) (k k1 : Kept) → IsTurned table k k1 table1
     → made (collation (undone_by table kept)) (statements_of kept ++ k.statement ∷ []) (reverse (statements_of undone)) ≡ history_of table1 (kept ++ k1 ∷ []) undone
 after_redo table table1 kept undone k k1 t =
     sym (made_same _ _ _ _ _ _
@@ -203,6 +198,7 @@ pub record Accepts (old after new : TableValue) (k : Kept) : Type 0 where
   pub old_is : IsTable old
   pub after_is : IsTable after
   pub new_is : IsTable new
+  pub proper : IsProper k.statement
   pub accepted : delta (collation old) k.statement ≡ Ok (collation after)
   pub in_force : k.change.undone ≡ false
   pub fits : Fits after k.change
@@ -217,12 +213,13 @@ module _ (turns : RecordsTurnBack) (wider : RecordsFitWider) (narrower : Records
     pub start : collation (undone_by now longer) ≡ collation (undone_by old kept)
     pub now_is : IsTable (undone_by now longer)
 
-  leads_after : (old after new : TableValue) (kept : List Kept) (k : Kept) → Accepts old after new k → Leads old kept → LeadsWith old after kept (kept ++ k ∷ [])
+  pub leads_after : (old after new : TableValue) (kept : List Kept) (k : Kept) → Accepts old after new k → Leads old kept → LeadsWith old after kept (kept ++ k ∷ [])
   leads_after old after new kept k a leads =
       let turned_is : IsTable (turn after k.change) = (turns after k.change a.after_is a.fits).stands in
       let alike = leads_wider turns wider narrower same (turn after k.change) old turned_is a.old_is a.back kept leads in
       let e : collation (turn after k.change) ≡ collation old = same (turn after k.change) old a.old_is a.back in
       let change : IsChange (turn after k.change) after k = record {
+        proper = a.proper;
         accepted = ap (λ (c : Collation). delta c k.statement) e ∙ a.accepted;
         steps = a.steps ∙ sym (ap (λ (c : Collation). statement_steps c k.statement) e);
       } in
@@ -243,12 +240,13 @@ module _ (turns : RecordsTurnBack) (wider : RecordsFitWider) (narrower : Records
       }
 
 -- what a table's calls ensure of a statement that was accepted, without the counts
-pub accepts : (old after new : TableValue) (k : Kept) → IsTable old → IsTable after → IsTable new → delta (collation old) k.statement ≡ Ok (collation after) → k.change.undone ≡ false → Fits after k.change
+pub accepts : (old after new : TableValue) (k : Kept) → IsTable old → IsTable after → IsTable new → IsProper k.statement → delta (collation old) k.statement ≡ Ok (collation after) → k.change.undone ≡ false → Fits after k.change
     → Extends (turn after k.change) old → steps_of k.change.items ≡ statement_steps (collation old) k.statement → Extends after new → Accepts (uncounted old) (uncounted after) (uncounted new) k
-accepts old after new k o a n accepted in_force fits back steps given_up = record {
+accepts old after new k o a n proper accepted in_force fits back steps given_up = record {
   old_is = table_uncounted old o;
   after_is = table_uncounted after a;
   new_is = table_uncounted new n;
+  proper = proper;
   accepted = ap (λ (c : Collation). delta c k.statement) (collation_uncounted old) ∙ accepted ∙ ap Ok (sym (collation_uncounted after));
   in_force = in_force;
   fits = fits_uncounted after k fits;

@@ -10,6 +10,8 @@ bench_fault_number (bench.Table refusal) = refusal_number refusal
 bench_fault_number bench.NothingToUndo = 60
 bench_fault_number bench.NothingToRedo = 61
 bench_fault_number bench.HistoryFull = 66
+bench_fault_number (bench.StillNeeded statement refusal) = 71
+bench_fault_number bench.NoSuchStatement = 72
 
 -- the name of a refusal by the history
 abbrev pub bench_fault_name : BenchFault → List ℕ
@@ -17,3 +19,5 @@ bench_fault_name (bench.Table refusal) = refusal_name refusal
 bench_fault_name bench.NothingToUndo = codes "NothingToUndo"
 bench_fault_name bench.NothingToRedo = codes "NothingToRedo"
 bench_fault_name bench.HistoryFull = codes "HistoryFull"
+bench_fault_name (bench.StillNeeded statement refusal) = codes "StillNeeded"
+bench_fault_name bench.NoSuchStatement = codes "NoSuchStatement"

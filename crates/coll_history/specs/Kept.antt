@@ -2,6 +2,7 @@
 use Rattle.std.specs.Prelude.{◌≡◌, ◌+◌, ◌≤◌, true, false, List, [], ◌∷◌, map, reverse, vec_len, vec_capacity, Ok}
 use Rattle.std.specs.List.{flat_map}
 use Rattle.coll_order.specs.declared.places.NodeId.{NodeId}
+use Rattle.coll_syntax.specs.Proper.{IsProper}
 use Rattle.coll_syntax.specs.declared.statements.Statement.{Statement}
 use Rattle.coll_table.specs.Delta.{delta}
 use Rattle.coll_history.specs.Limits.{most_remaining}
@@ -25,8 +26,9 @@ unfoldable pub undone_by : TableValue → List Kept → TableValue
 undone_by table [] = table
 undone_by table (k ∷ later) = turn (undone_by table later) k.change
 
--- a record is that of a statement, between the tables before it and after it
+-- a record is that of a proper statement, between the tables before it and after it
 pub record IsChange (before after : TableValue) (k : Kept) : Type 0 where
+  pub proper : IsProper k.statement
   pub accepted : delta (collation before) k.statement ≡ Ok (collation after)
   pub steps : steps_of k.change.items ≡ statement_steps (collation before) k.statement
 

@@ -4,3 +4,5 @@ pub mod Kept
 pub mod Laws
 pub mod Limits
 pub mod Replay
+pub mod Withdrawal
+pub mod Withdrawing

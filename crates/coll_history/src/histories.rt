@@ -28,19 +28,19 @@ use std::marker::Model;
 /// An accepted statement, with the record that takes it back, or, once it is undone, puts it again.
 #[derive(Drop)]
 pub struct Kept {
-    statement: Statement,
-    change: Record,
+    pub(crate) statement: Statement,
+    pub(crate) change: Record,
 }
 
 /// A table, the statements that remain, and those that were taken back.
 #[derive(Drop)]
 pub struct Session {
     /// The table as the remaining statements have made it.
-    table: Table,
+    pub(crate) table: Table,
     /// The statements that remain, from the first.
-    remaining: Vec<Kept>,
+    pub(crate) remaining: Vec<Kept>,
     /// The statements taken back; the last one here is the next to be put again.
-    undone: Vec<Kept>,
+    pub(crate) undone: Vec<Kept>,
 }
 
 impl Model for Session {
@@ -234,7 +234,7 @@ fn make_room(remaining: &mut Vec<Kept>, undone: &mut Vec<Kept>) -> Result<(), Al
 }
 
 // Gives up the records of statements that will not be put again. The table stays, without the nodes that they would put in.
-fn give_up(table: &mut Table, undone: &mut Vec<Kept>)
+pub(crate) fn give_up(table: &mut Table, undone: &mut Vec<Kept>)
     requires loose { AreLoose table.old.layout (added_by_all (reverse undone.old.items)) }
     ensures table { Extends table.old table.new }
     ensures steps { table.new.steps ≡ table.old.steps }
@@ -248,7 +248,7 @@ fn give_up(table: &mut Table, undone: &mut Vec<Kept>)
 }
 
 // Gives up the record of a statement. The table stays, without the nodes that an undone one would put in.
-fn give_up_one(table: &mut Table, kept: Kept)
+pub(crate) fn give_up_one(table: &mut Table, kept: Kept)
     requires loose { AreLoose table.old.layout (dropped_nodes kept.change) }
     ensures { table.new ≡ without_nodes table.old (dropped_nodes kept.change) }
 {

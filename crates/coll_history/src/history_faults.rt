@@ -13,7 +13,7 @@ use std::alloc::AllocError;
 use std::fmt;
 use thiserror::Error;
 
-/// Why a history refused a statement, or had nothing to take back or to put again.
+/// Why a history refused a statement or a withdrawal, or had nothing to take back or to put again.
 #[derive(Clone, Copy, Debug, PartialEq, Eq, Error)]
 pub enum BenchFault {
     /// The table refused the statement.
@@ -24,6 +24,15 @@ pub enum BenchFault {
     NothingToRedo,
     /// 65,535 statements remain, which is the most.
     HistoryFull,
+    /// A statement can't be withdrawn, since without it a later one is refused.
+    StillNeeded {
+        /// The number of the first one that is refused, counted from 1 among those that remain.
+        statement: u32,
+        /// Why it is refused.
+        refusal: Refusal,
+    },
+    /// No statement with this number remains.
+    NoSuchStatement,
 }
 
 impl BenchFault {
@@ -36,6 +45,8 @@ impl BenchFault {
             BenchFault::NothingToUndo => 60,
             BenchFault::NothingToRedo => 61,
             BenchFault::HistoryFull => 66,
+            BenchFault::StillNeeded { .. } => 71,
+            BenchFault::NoSuchStatement => 72,
         }
     }
 
@@ -48,6 +59,8 @@ impl BenchFault {
             BenchFault::NothingToUndo => "NothingToUndo",
             BenchFault::NothingToRedo => "NothingToRedo",
             BenchFault::HistoryFull => "HistoryFull",
+            BenchFault::StillNeeded { .. } => "StillNeeded",
+            BenchFault::NoSuchStatement => "NoSuchStatement",
         }
     }
 }

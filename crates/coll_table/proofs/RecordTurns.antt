@@ -1,8 +1,8 @@
 -- A record that fits a table turns back.
 use Rattle.std.proofs.Common.{◌≡◌, ◌≤◌, Bool, true, false, not, List, length, sym, ap, subst}
-use Rattle.coll_table.proofs.TurningBack.{back_and_on, on_and_back, steps_back, steps_on, length_back, length_on}
-use Rattle.coll_table.specs.Record.{CanTurn, turn, turned, turned_items, turned_layout}
-use Rattle.coll_table.specs.RecordLaws.{RecordsTurnBack}
+use Rattle.coll_table.proofs.TurningBack.{added_back, added_on, back_and_on, on_and_back, steps_back, steps_on, length_back, length_on}
+use Rattle.coll_table.specs.Record.{CanTurn, added_nodes, turn, turned, turned_items, turned_layout}
+use Rattle.coll_table.specs.RecordLaws.{RecordsAddAlike, RecordsTurnBack}
 use Rattle.coll_nodes.specs.SoundLayouts.{IsSoundLayout}
 use Rattle.coll_nodes.specs.TableLayout.{TableLayout, TableValue, collation}
 use Rattle.coll_table.specs.Turning.{steps_of}
@@ -41,3 +41,11 @@ records_turn table kept is fits =
       back = back;
       steps = turns.steps;
     }
+
+-- and has the nodes that it added before
+pub records_add : RecordsAddAlike
+unfolding turned
+records_add table kept = by kept.undone where
+  by : (undone : Bool) → added_nodes (turned_items undone table.layout kept.items) ≡ added_nodes kept.items
+  by true = added_on table.layout kept.items
+  by false = added_back table.layout kept.items

@@ -1,5 +1,5 @@
 -- The way back: an item that was done can be taken back, which gives back the layout, and the other way round.
-use Rattle.std.proofs.Common.{◌≡◌, ◌+◌, cond, List, [], ◌∷◌, Option, Some, None, IsSome, length, suc, sym, ap, subst, ◌∙◌, refl}
+use Rattle.std.proofs.Common.{◌≡◌, ◌+◌, cond, List, [], ◌∷◌, ◌++◌, Option, Some, None, IsSome, length, suc, sym, ap, subst, ◌∙◌, refl}
 use Rattle.coll_order.specs.Layout.{rings_without}
 use Rattle.coll_order.specs.declared.places.NodeId.{NodeId}
 use Rattle.coll_order.specs.declared.places.Place.{Place}
@@ -15,6 +15,7 @@ use Rattle.coll_nodes.specs.Bodies.{without_link}
 use Rattle.coll_nodes.specs.SoundLayouts.{IsSoundLayout}
 use Rattle.coll_nodes.specs.TableLayout.{TableLayout, content_of}
 use Rattle.coll_nodes.specs.Moving.{CanGo, IsAt, Suits, exchanged, weighed}
+use Rattle.coll_table.specs.Record.{added_nodes, item_added}
 use Rattle.coll_table.specs.Turning.{CanTurnBack, CanTurnOn, ItemGoes, items_back, items_on, item_back, item_on, steps_between, steps_of, turned_back, turned_on, with_exchanged}
 use Rattle.coll_nodes.specs.declared.contents.Content.{Content}
 use Rattle.coll_table.specs.declared.records.Item.{Item}
@@ -132,3 +133,14 @@ pub length_on : (layout : TableLayout) (items : List Item) → length (items_on 
 unfolding items_on
 length_on layout [] = refl
 length_on layout (item ∷ items) = ap suc (length_on (item_on layout item) items)
+
+-- and they added the same nodes
+pub added_back : (layout : TableLayout) (items : List Item) → added_nodes (items_back layout items) ≡ added_nodes items
+unfolding added_nodes items_back
+added_back layout [] = refl
+added_back layout (item ∷ items) = ap (λ (nodes : List NodeId). item_added item ++ nodes) (added_back layout items)
+
+pub added_on : (layout : TableLayout) (items : List Item) → added_nodes (items_on layout items) ≡ added_nodes items
+unfolding added_nodes items_on
+added_on layout [] = refl
+added_on layout (item ∷ items) = ap (λ (nodes : List NodeId). item_added item ++ nodes) (added_on (item_on layout item) items)

@@ -22,6 +22,10 @@ pub record TurnsBack (table : TableValue) (kept : Record) : Type 0 where
 abbrev pub RecordsTurnBack : Type 0
 RecordsTurnBack = (table : TableValue) (kept : Record) → IsTable table → Fits table kept → TurnsBack table kept
 
+-- turned, a record has the nodes that it added before
+abbrev pub RecordsAddAlike : Type 0
+RecordsAddAlike = (table : TableValue) (kept : Record) → added_nodes (turned table kept).items ≡ added_nodes kept.items
+
 -- a record fits another table too, and what it makes of the wider one extends what it makes of the other
 pub record TurnsAlike (wide table : TableValue) (kept : Record) (own : TableValue) : Type 0 where
   pub fits : Fits own kept

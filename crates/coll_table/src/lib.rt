@@ -33,8 +33,8 @@ pub use coll_statements::second_names_are_not_placed;
 pub use loaders::{Loader, lines_are_read};
 pub use loading::{load, load_keyed, texts_are_well_formed};
 pub use record_laws::{
-    records_fit_narrower, records_fit_where_named, records_fit_wider, records_turn_back,
-    undone_records_put_in, wider_tables_read_alike,
+    records_add_alike, records_fit_narrower, records_fit_where_named, records_fit_wider,
+    records_turn_back, undone_records_put_in, wider_tables_read_alike,
 };
 pub use records::{Item, Record};
 pub use refusals::Refusal;

@@ -2,11 +2,16 @@
 //!
 //! They are what a history of statements rests on, each of which is taken back by its nodes' neighbours alone.
 
-ghost use Rattle.coll_table.specs.RecordLaws.{RecordsTurnBack, RecordsFitWider, RecordsFitWhereNamed, RecordsFitNarrower, WiderReadsAlike, UndonePutIn};
+ghost use Rattle.coll_table.specs.RecordLaws.{RecordsTurnBack, RecordsAddAlike, RecordsFitWider, RecordsFitWhereNamed, RecordsFitNarrower, WiderReadsAlike, UndonePutIn};
 
 /// Turning a record that fits gives a table, and turning it again gives back the first.
 pub fn records_turn_back()
     ensures { RecordsTurnBack }
+{}
+
+/// A record has the same added nodes once it is turned.
+pub fn records_add_alike()
+    ensures { RecordsAddAlike }
 {}
 
 /// A record that fits a table fits each table that extends it.

@@ -5,8 +5,9 @@ use Rattle.coll_history.specs.Kept.{Leads, LeadsOn, history_of, uncounted}
 use Rattle.coll_table.specs.Record.{more_steps}
 use Rattle.coll_history.specs.declared.history_faults.BenchFault.TheVariants.{NothingToRedo}
 use Rattle.coll_history.specs.declared.histories.Kept.{Kept}
+use Rattle.coll_history.specs.Withdrawing.{IsTurned}
 use Rattle.coll_history.proofs.HistoryLemmas.{nothing_left, put_again_none}
-use Rattle.coll_history.proofs.HistorySteps.{fits_counted, is_turned, leads_next, leads_longer, leads_on_shorter, history_redone, steps_redone, IsTurned}
+use Rattle.coll_history.proofs.HistorySteps.{fits_counted, is_turned, leads_next, leads_longer, leads_on_shorter, history_redone, steps_redone}
 use Rattle.coll_history.proofs.histories.Session.redo.Goals as goal
 
 pub returns-in_default-clause-refused : goal.returns-in_default-clause-refused

@@ -41,7 +41,7 @@ invariant_of-self-2 c =
     let s = c.self.inside in
     let k : Kept = record { statement = c.args.statement; change = c.in-Ok.change } in
     let a : Accepts (uncounted s.table) (uncounted c.apply.new.self) (uncounted c.give_up.new.table) k =
-    accepts s.table c.apply.new.self c.give_up.new.table k c.check_table.ensures.table c.check_table-2.ensures.table c.check_table-3.ensures.table c.in-Ok.ensures.ok c.in-Ok.ensures.in_force c.in-Ok.ensures.fits c.in-Ok.ensures.back c.in-Ok.ensures.steps c.give_up.ensures.table in
+    accepts s.table c.apply.new.self c.give_up.new.table k c.check_table.ensures.table c.check_table-2.ensures.table c.check_table-3.ensures.table c.requires.proper c.in-Ok.ensures.ok c.in-Ok.ensures.in_force c.in-Ok.ensures.fits c.in-Ok.ensures.back c.in-Ok.ensures.steps c.give_up.ensures.table in
     let then = leads_with c.records_turn_back.ensures c.records_fit_wider.ensures c.records_fit_narrower.ensures c.wider_tables_read_alike.ensures (uncounted s.table) (uncounted c.apply.new.self) (uncounted c.give_up.new.table) s.remaining.items k a c.self.invariant.leads in
     record {
       leads = subst (Leads (uncounted c.give_up.new.table)) (sym (c.push_reserved.ensures.items ∙ ap (λ (ks : List Kept). ks ++ k ∷ []) c.make_room.ensures.remaining)) then.leads;
@@ -56,7 +56,7 @@ returns-clause-accepted c =
     let s = c.self.inside in
     let k : Kept = record { statement = c.args.statement; change = c.in-Ok.change } in
     let a : Accepts (uncounted s.table) (uncounted c.apply.new.self) (uncounted c.give_up.new.table) k =
-    accepts s.table c.apply.new.self c.give_up.new.table k c.check_table.ensures.table c.check_table-2.ensures.table c.check_table-3.ensures.table c.in-Ok.ensures.ok c.in-Ok.ensures.in_force c.in-Ok.ensures.fits c.in-Ok.ensures.back c.in-Ok.ensures.steps c.give_up.ensures.table in
+    accepts s.table c.apply.new.self c.give_up.new.table k c.check_table.ensures.table c.check_table-2.ensures.table c.check_table-3.ensures.table c.requires.proper c.in-Ok.ensures.ok c.in-Ok.ensures.in_force c.in-Ok.ensures.fits c.in-Ok.ensures.back c.in-Ok.ensures.steps c.give_up.ensures.table in
     let then = leads_with c.records_turn_back.ensures c.records_fit_wider.ensures c.records_fit_narrower.ensures c.wider_tables_read_alike.ensures (uncounted s.table) (uncounted c.apply.new.self) (uncounted c.give_up.new.table) s.remaining.items k a c.self.invariant.leads in
     let grown = c.push_reserved.ensures.items ∙ ap (λ (ks : List Kept). ks ++ k ∷ []) c.make_room.ensures.remaining in
     let accepted = judged_accepted (history_of (uncounted s.table) s.remaining.items s.undone.items) c.args.statement (collation (uncounted c.apply.new.self))
