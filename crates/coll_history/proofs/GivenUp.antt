@@ -167,3 +167,39 @@ loose_kept old new nodes keeps l = record {
 -- the nodes of undone records, those of the last one first
 pub in_order : (layout : TableLayout) (undone rest : List Kept) (k : Kept) → undone ≡ rest ++ k ∷ [] → AreLoose layout (added_by_all (reverse undone)) → AreLoose layout (dropped_nodes k.change ++ added_by_all (reverse rest))
 in_order layout undone rest k shrunk l = subst (AreLoose layout) (ap (λ (ks : List Kept). added_by_all (reverse ks)) shrunk ∙ given_up_first rest k) l
+
+-- Nodes dropped one list after another.
+
+nodes_without_joined : (a b : List NodeId) (nodes : List MadeNode) → nodes_without (a ++ b) nodes ≡ nodes_without b (nodes_without a nodes)
+nodes_without_joined a b [] = refl
+nodes_without_joined a b (first ∷ later) =
+    ap (λ t. cond (not t) (first ∷ nodes_without (a ++ b) later) (nodes_without (a ++ b) later)) (has_joined a b first.node)
+    ∙ ap (λ (ns : List MadeNode). cond (not (has_node a first.node || has_node b first.node)) (first ∷ ns) ns) (nodes_without_joined a b later)
+    ∙ by (has_node a first.node) refl where
+      by : (t : Bool) → has_node a first.node ≡ t
+          → cond (not (t || has_node b first.node)) (first ∷ nodes_without b (nodes_without a later)) (nodes_without b (nodes_without a later)) ≡ nodes_without b (cond (not t) (first ∷ nodes_without a later) (nodes_without a later))
+      by true e = refl
+      by false e = refl
+
+pub without_joined : (table : TableValue) (a b : List NodeId) → without_nodes table (a ++ b) ≡ without_nodes (without_nodes table a) b
+unfolding without_nodes
+without_joined table a b = ap (λ (nodes : List MadeNode). record table { layout = record table.layout { nodes = nodes } }) (nodes_without_joined a b table.layout.nodes)
+
+nodes_without_none : (nodes : List MadeNode) → nodes_without [] nodes ≡ nodes
+nodes_without_none [] = refl
+nodes_without_none (first ∷ later) = ap (λ (ns : List MadeNode). first ∷ ns) (nodes_without_none later)
+
+-- a table without no nodes
+pub without_none : (table : TableValue) (undone : List Kept) → undone ≡ [] → without_nodes table (added_by_all (reverse undone)) ≡ table
+unfolding without_nodes
+without_none table undone none =
+    ap (λ (ks : List Kept). without_nodes table (added_by_all (reverse ks))) none
+    ∙ ap (λ (nodes : List MadeNode). record table { layout = record table.layout { nodes = nodes } }) (nodes_without_none table.layout.nodes)
+
+-- the nodes of the record that was undone last, and then those of the others
+pub without_first : (table next : TableValue) (undone rest : List Kept) (k : Kept) → undone ≡ rest ++ k ∷ [] → next ≡ without_nodes table (dropped_nodes k.change)
+    → without_nodes next (added_by_all (reverse rest)) ≡ without_nodes table (added_by_all (reverse undone))
+without_first table next undone rest k e n =
+    ap (λ (t : TableValue). without_nodes t (added_by_all (reverse rest))) n
+    ∙ sym (without_joined table (dropped_nodes k.change) (added_by_all (reverse rest)))
+    ∙ ap (without_nodes table) (sym (ap (λ (ks : List Kept). added_by_all (reverse ks)) e ∙ given_up_first rest k))

@@ -237,6 +237,7 @@ fn make_room(remaining: &mut Vec<Kept>, undone: &mut Vec<Kept>) -> Result<(), Al
 pub(crate) fn give_up(table: &mut Table, undone: &mut Vec<Kept>)
     requires loose { AreLoose table.old.layout (added_by_all (reverse undone.old.items)) }
     ensures table { Extends table.old table.new }
+    ensures dropped { table.new ≡ without_nodes table.old (added_by_all (reverse undone.old.items)) }
     ensures steps { table.new.steps ≡ table.old.steps }
     ensures undone { undone.new.items ≡ [] }
     ensures len { vec_len undone.new ≡ 0 }

@@ -210,6 +210,7 @@ fn pair(
     requires count { vec_len fresh.old ≤ vec_len undone.old }
     requires room { vec_len remaining.old + vec_len fresh.old ≤ vec_capacity remaining.old }
     ensures table { Extends table.old table.new }
+    ensures dropped { without_nodes table.new (added_by_all (reverse undone.new.items)) ≡ without_nodes table.old (added_by_all (reverse undone.old.items)) }
     ensures loose { AreLoose table.new.layout (added_by_all (reverse undone.new.items)) }
     ensures remaining { remaining.new.items ≡ remaining.old.items ++ paired (reverse undone.old.items) (reverse fresh.old.items) }
     ensures len { vec_len remaining.new ≡ vec_len remaining.old + vec_len fresh.old }
@@ -233,6 +234,7 @@ fn settle(
     requires count { vec_len fresh.old < vec_len undone.old }
     requires room { vec_len remaining.old + vec_len fresh.old ≤ vec_capacity remaining.old }
     ensures table { Extends table.old table.new }
+    ensures dropped { table.new ≡ without_nodes table.old (added_by_all (reverse undone.old.items)) }
     ensures remaining { (rest : List Kept) (last : Kept) → undone.old.items ≡ rest ++ last ∷ [] → remaining.new.items ≡ remaining.old.items ++ paired (reverse rest) fresh.old.items }
     ensures undone { undone.new.items ≡ [] }
     ensures len { vec_len remaining.new ≡ vec_len remaining.old + vec_len fresh.old }

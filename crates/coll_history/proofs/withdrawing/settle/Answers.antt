@@ -7,7 +7,7 @@ use Rattle.coll_history.specs.declared.histories.Kept.{Kept}
 use Rattle.coll_table.specs.Record.{AreLoose, Extends, dropped_nodes}
 use Rattle.coll_table.specs.declared.records.Record.{Record}
 use Rattle.coll_nodes.specs.TableLayout.{TableValue}
-use Rattle.coll_history.proofs.GivenUp.{extends_on, extends_without, in_order, loose_first, loose_later}
+use Rattle.coll_history.proofs.GivenUp.{extends_on, extends_without, in_order, loose_first, loose_later, without_first}
 use Rattle.coll_history.proofs.PairedStatements.{same_front}
 use Rattle.coll_history.proofs.withdrawing.settle.Goals as goal
 
@@ -37,3 +37,9 @@ returns-clause-remaining c = λ rest last e.
     c.pair.ensures.remaining
     ∙ ap (λ (ks : List Kept). c.args.remaining.now.items ++ paired ks (reverse c.reverse.new.self.items)) (same_front c.take_last.new.self.items rest c.take_last.result last (sym c.take_last.ensures.items ∙ e))
     ∙ ap (λ (rs : List Record). c.args.remaining.now.items ++ paired (reverse rest) rs) (ap reverse c.reverse.ensures.items ∙ reverse-reverse c.args.fresh.now.items)
+
+pub returns-clause-dropped : goal.returns-clause-dropped
+returns-clause-dropped c =
+    c.give_up.ensures.dropped
+    ∙ c.pair.ensures.dropped
+    ∙ without_first c.args.table.now c.give_up_one.new.table c.args.undone.now.items c.take_last.new.self.items c.take_last.result c.take_last.ensures.items c.give_up_one.ensures
