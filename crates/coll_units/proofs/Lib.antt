@@ -8,5 +8,6 @@ pub mod DeltaSteps
 pub mod DeltaTaking
 pub mod HearingLemmas
 pub mod LineStops
+pub mod NumeralLemmas
 pub mod PhysicalTaking
 pub mod TakingLemmas

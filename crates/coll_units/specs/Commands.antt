@@ -7,6 +7,7 @@ use Rattle.coll_syntax.specs.Identifier.{is_word}
 use Rattle.coll_syntax.specs.Operands.{and_then, read_as, wanted, ended, only, string_in}
 use Rattle.coll_syntax.specs.declared.syntax_faults.SyntaxFault.{SyntaxFault}
 use Rattle.coll_syntax.specs.declared.syntax_faults.SyntaxFault.TheVariants.{MissingOperand}
+use Rattle.coll_units.specs.Numerals.{number_in}
 use Rattle.coll_units.specs.declared.session_lines.Command.{Command}
 use Rattle.coll_units.specs.declared.session_lines.Command.TheVariants as command
 use Rattle.coll_units.specs.declared.unit_faults.UnitFault.{UnitFault}
@@ -45,6 +46,10 @@ key_of arguments = read_as command.Key (only text_in arguments)
 abbrev pub compare_of : List Token → Result Command SyntaxFault
 compare_of arguments = read_as (λ texts. command.Compare texts.0 texts.1) (two_texts arguments)
 
+-- `:withdraw` by its arguments: one numeral, and no more
+abbrev pub withdraw_of : List Token → Result Command SyntaxFault
+withdraw_of arguments = read_as command.Withdraw (only number_in arguments)
+
 -- a command, or the fault of its arguments
 abbrev pub argued : Result Command SyntaxFault → Result Command UnitFault
 argued (Ok read) = Ok read
@@ -61,7 +66,8 @@ command_of word arguments =
     else (if is_word word (codes ":compare") then argued (compare_of arguments)
     else (if is_word word (codes ":history") then argued (ended command.History arguments)
     else (if is_word word (codes ":check") then argued (ended command.Check arguments)
-    else Err fault.UnknownCommand)))))))
+    else (if is_word word (codes ":withdraw") then argued (withdraw_of arguments)
+    else Err fault.UnknownCommand))))))))
 
 -- a string, whose characters are copied
 abbrev pub is_string : Token → Bool

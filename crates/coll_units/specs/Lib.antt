@@ -6,6 +6,7 @@ pub mod Gathered
 pub mod Hearing
 pub mod Laws
 pub mod Limits
+pub mod Numerals
 pub mod OpenBlocks
 pub mod ProperLines
 pub mod SessionLines

@@ -2,14 +2,16 @@
 //!
 //! A command is `command_of` of `specs/Commands.antt`, by its word and its arguments. A word that isn't known comes before wrong
 //! arguments, and of these one that is missing comes first, then one of the wrong kind, then one that is left over. The
-//! texts of a command are copies, in new memory; a command without texts takes none.
+//! texts of a command are copies, in new memory; a command without texts takes none. A number is a numeral, of which
+//! `numerals` knows.
 
 ghost use Rattle.std.specs.Prelude.{◌≡◌, ◌≢◌, Ok, Err, IsTrue, IfOk, IfErr, chars};
 ghost use Rattle.coll_syntax.specs.Operands.{ended as spelled_end, only};
 ghost use Rattle.coll_syntax.specs.declared.syntax_faults.SyntaxFault.TheVariants as syntax;
-ghost use Rattle.coll_units.specs.Commands.{is_command as spells_command, is_command_word as spells_command_word, command_of as spelled_command, argued, key_of, compare_of, text_in, two_texts as spelled_two, command_takes_memory, begins_with_string, is_string};
+ghost use Rattle.coll_units.specs.Commands.{is_command as spells_command, is_command_word as spells_command_word, command_of as spelled_command, argued, key_of, compare_of, withdraw_of, text_in, two_texts as spelled_two, command_takes_memory, begins_with_string, is_string};
 ghost use Rattle.coll_units.specs.declared.unit_faults.UnitFault.TheVariants as fault;
 
+use crate::numerals::only_number;
 use crate::session_lines::Command;
 use crate::unit_faults::UnitFault;
 use coll_lex::{TextBuf, Token};
@@ -75,6 +77,9 @@ pub(crate) fn command_of(
     if is_word(word, ":check") {
         return alone(Command::Check, arguments);
     }
+    if is_word(word, ":withdraw") {
+        return withdraw(arguments);
+    }
     Err(UnitFault::UnknownCommand)
 }
 
@@ -108,6 +113,17 @@ fn compare(alloc: Global, arguments: &[Token]) -> Result<Command, UnitFault>
 {
     match two_texts(alloc, arguments) {
         Ok((first, second)) => Ok(Command::Compare(first, second)),
+        Err(fault) => Err(UnitFault::Syntax(fault)),
+    }
+}
+
+// `:withdraw`, by its arguments.
+fn withdraw(arguments: &[Token]) -> Result<Command, UnitFault>
+    ensures command { result ≡ argued (withdraw_of arguments.now) }
+    ensures spared { IfErr result (λ refused. refused ≢ fault.Syntax syntax.OutOfMemory) }
+{
+    match only_number(arguments) {
+        Ok(number) => Ok(Command::Withdraw(number)),
         Err(fault) => Err(UnitFault::Syntax(fault)),
     }
 }

@@ -1,6 +1,6 @@
 //! The units of a session, and the statements of a delta file: what lines ask for, found apart from any table.
 //!
-//! The way of a line: a physical line is heard (`hearing`) as what its logical line is (`session_lines`, `commands`), once that
+//! The way of a line: a physical line is heard (`hearing`) as what its logical line is (`session_lines`, `commands`, `numerals`), once that
 //! is whole; a block takes it (`open_blocks`, `gathering`), which may complete a unit of the session (`units`). `taking` does this
 //! for one physical line of a session, and `delta_files` for those of a delta file; `laws` says what follows from the
 //! definitions, `unit_faults` and `delta_faults` have the faults, and `limits` says how many lines a block has at most.
@@ -13,6 +13,7 @@ mod gathering;
 mod hearing;
 mod laws;
 mod limits;
+mod numerals;
 mod open_blocks;
 mod session_lines;
 mod taking;

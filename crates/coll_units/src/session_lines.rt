@@ -26,6 +26,8 @@ pub enum Command {
     Compare(TextBuf, TextBuf),
     /// `:history`: the statements that remain.
     History,
+    /// `:withdraw K`: takes the remaining statement with this number back, and leaves those behind it.
+    Withdraw(u32),
     /// `:check`: how many entries, declarations, sections and levels the table has.
     Check,
 }
