@@ -2,9 +2,10 @@
 use Rattle.std.proofs.Common.{◌≡◌, ℕ, zero, suc, Bool, true, false, List, [], ◌∷◌, Result, Ok, Err, refl, sym, ap, ◌∙◌, arith, length}
 use Rattle.std.specs.Prelude.{◌&&◌, if◌then◌else◌, codes}
 use Rattle.coll_history.specs.Histories.{History, judged, taken_back, put_again}
+use Rattle.coll_history.specs.Withdrawal.{withdrawn}
 use Rattle.coll_history.specs.declared.history_faults.BenchFault.{BenchFault}
 use Rattle.coll_replies.specs.Laws.{RefusedChangesNothing}
-use Rattle.coll_replies.specs.Replies.{counted_line, count_reply, refused_line, reply, reply_if, starved_line, history_or, history_after, history_after_if, may_starve, command_reply, history_after_command}
+use Rattle.coll_replies.specs.Replies.{counted_line, count_reply, refused_line, reply, starved_line, history_or, history_after, may_starve, command_reply, history_after_command}
 use Rattle.coll_replies.specs.declared.faults.Fault.{Fault}
 use Rattle.coll_units.specs.declared.session_lines.Command.{Command}
 use Rattle.coll_units.specs.declared.session_lines.Command.TheVariants as command
@@ -30,6 +31,10 @@ third_redone : (n : ℕ) → at 2 (counted_line (codes "redone") n) ≡ 100
 unfolding counted_line at
 third_redone n = refl
 
+first_withdrawn : (n : ℕ) → at 0 (counted_line (codes "withdrawn") n) ≡ 119
+unfolding counted_line at
+first_withdrawn n = refl
+
 first_refused : (f : Fault) → at 0 (refused_line f) ≡ 114
 unfolding refused_line at
 first_refused f = refl
@@ -48,6 +53,9 @@ counted_undone n f e = let same : 117 ≡ 114 = sym (first_undone n) ∙ ap (at 
 counted_redone : (n : ℕ) (f : Fault) → counted_line (codes "redone") n ≡ refused_line f → ⊥
 counted_redone n f e = let same : 100 ≡ 102 = sym (third_redone n) ∙ ap (at 2) e ∙ third_refused f in omega (arith, same)
 
+counted_withdrawn : (n : ℕ) (f : Fault) → counted_line (codes "withdrawn") n ≡ refused_line f → ⊥
+counted_withdrawn n f e = let same : 119 ≡ 114 = sym (first_withdrawn n) ∙ ap (at 0) e ∙ first_refused f in omega (arith, same)
+
 -- what a call of the history answered leaves it, where the reply to it is a refusal
 by_answer : (word : List ℕ) (apart : (n : ℕ) (f : Fault) → counted_line word n ≡ refused_line f → ⊥) (h : History) (r : Result History BenchFault) (f : Fault)
     → count_reply word r ≡ refused_line f → history_or h r ≡ h
@@ -62,6 +70,7 @@ by_command h command.Print f e = refl
 by_command h (command.Key t) f e = refl
 by_command h (command.Compare t u) f e = refl
 by_command h command.History f e = refl
+by_command h (command.Withdraw k) f e = by_answer (codes "withdrawn") counted_withdrawn h (withdrawn h k) f e
 by_command h command.Check f e = refl
 
 by_unit : (h : History) (unit : Request) (f : Fault) → reply h unit ≡ refused_line f → history_after h unit ≡ h
@@ -76,4 +85,4 @@ by_want true h unit f e = refl
 by_want false h unit f e = by_unit h unit f e
 
 pub refused_changes_nothing : RefusedChangesNothing
-refused_changes_nothing starved h unit f e = by_want (starved && may_starve unit) h unit f e
+refused_changes_nothing starved h unit f e = by_want (starved && may_starve h unit) h unit f e

@@ -1,7 +1,8 @@
 -- What is written for what a call of the history or of the keys answered.
 use Rattle.std.proofs.Common.{◌≡◌, ◌≢◌, ◌||◌, ◌++◌, ◌∷◌, Bool, true, false, if◌then◌else◌, Option, Some, Result, Ok, Err, IsErr, codes, inl, inr, ⊎_elim, ℕ, zero, suc, ◌+◌, ◌≤◌, List, [], length, drop, refl, sym, ap, ◌∙◌, subst, append-nil, arith}
-use Rattle.std.specs.Prelude.{◌⊎◌, IfOk, IfErr, OnErr, slice_get}
+use Rattle.std.specs.Prelude.{◌⊎◌, IfOk, IfErr, IsTrue, OnErr, slice_get}
 use Rattle.std.proofs.lemmas.List.{drop_all}
+use Rattle.std.specs.Fmt.{digits}
 use Rattle.std.specs.Io.KnownBytes.{Appends, Keeps}
 use Rattle.std.proofs.KnownBytes.{Appends-kept}
 use Rattle.std.specs.declared.cmp.Ordering.{Ordering}
@@ -9,6 +10,7 @@ use Rattle.coll_devices.specs.Devices.{AppendsFront, Sends}
 use Rattle.coll_devices.proofs.WritingLemmas.{AppendsFront-after, AppendsFront-before, Sends-stopped}
 use Rattle.coll_syntax.specs.declared.rules.Rule.{Rule}
 use Rattle.coll_syntax.specs.declared.statements.Statement.{Statement}
+use Rattle.coll_table.specs.declared.refusals.Refusal.{Refusal}
 use Rattle.coll_table.specs.declared.refusals.Refusal.TheVariants as refusal
 use Rattle.coll_key.specs.KeyLimits.{is_too_long}
 use Rattle.coll_key.specs.SortKey.{key_of}
@@ -18,7 +20,8 @@ use Rattle.coll_key.specs.declared.key_faults.KeyFault.{KeyFault}
 use Rattle.coll_key.specs.declared.key_faults.KeyFault.TheVariants as key_fault
 use Rattle.coll_replies.specs.Faults.{fault_of}
 use Rattle.coll_history.specs.Histories.{History, SessionValue, table_now, judged, numbered, RefusesStatement}
-use Rattle.coll_replies.specs.Replies.{counted_line, refused_line, too_long_line, order_word, count_reply, outcome_line, history_or, command_reply, history_after_command, reply, history_after, reply_if, history_after_if, key_line, order_line, history_line, history_lines}
+use Rattle.coll_history.specs.Withdrawal.{is_numbered, withdrawn}
+use Rattle.coll_replies.specs.Replies.{counted_line, refused_line, starved_line, still_needed_line, too_long_line, order_word, count_reply, outcome_line, history_or, command_reply, history_after_command, reply, history_after, reply_if, history_after_if, key_line, order_line, history_line, history_lines}
 use Rattle.coll_history.specs.declared.history_faults.BenchFault.{BenchFault}
 use Rattle.coll_history.specs.declared.history_faults.BenchFault.TheVariants as bench
 use Rattle.coll_replies.specs.declared.faults.Fault.TheVariants as fault
@@ -63,11 +66,11 @@ Answers old new h h2 unit r = (starved : Bool) × Sends old new (reply_if starve
 
 -- what was sent is the reply to a command, and the history is then the one that the command leads to
 abbrev pub Obeys : {T E : Type 0} → (old new : Option (List ℕ)) → (h h2 : History) → Command → Result T E → Type 0
-Obeys old new h h2 c r = (starved : Bool) × Sends old new (reply_if starved h (request.Asks c)) r × (h2 ≡ history_after_command h c)
+Obeys old new h h2 c r = Answers old new h h2 (request.Asks c) r
 
 -- a command that takes no memory
 pub obeys : {T E : Type 0} (old new : Option (List ℕ)) (h h2 : History) (c : Command) (line : List ℕ) (r : Result T E) → Sends old new line r → line ≡ command_reply h c → h2 ≡ history_after_command h c → Obeys old new h h2 c r
-unfolding reply
+unfolding reply history_after
 obeys old new h h2 c line r sent is state = (false, subst (λ (bytes : List ℕ). Sends old new bytes r) is sent, state)
 
 -- an undo or a redo
@@ -75,26 +78,21 @@ pub obeys_outcome : {T E : Type 0} (old new : Option (List ℕ)) (h h2 : History
     → Outcome word h h2 outcome given → Sends old new (outcome_line word outcome) r → count_reply word given ≡ command_reply h c → history_or h given ≡ history_after_command h c → Obeys old new h h2 c r
 obeys_outcome old new h h2 c word given outcome r o sent line state = obeys old new h h2 c (outcome_line word outcome) r sent (o.line ∙ line) (o.state ∙ state)
 
--- a command that takes memory
-pub obeys_starving : {T E : Type 0} (old new : Option (List ℕ)) (h h2 : History) (c : Command) (r : Result T E) → SendsReply old new h (request.Asks c) r → h2 ≡ history_after_command h c → Obeys old new h h2 c r
-obeys_starving old new h h2 c r (starved, sent) state = (starved, sent, state)
-
--- a command, whose answer alone may be refused for want of memory, leaves the history that it leads to
-state_after : (starved : Bool) (h : History) (c : Command) → history_after_if starved h (request.Asks c) ≡ history_after_command h c
+-- a key and an order leave the history, whether memory was refused or not
+pub key_leaves : (starved : Bool) (h : History) (text : List ℕ) → history_after_if starved h (request.Asks (command.Key text)) ≡ h
 unfolding history_after
-state_after false h c = refl
-state_after true h command.Undo = refl
-state_after true h command.Redo = refl
-state_after true h command.List = refl
-state_after true h command.Print = refl
-state_after true h (command.Key text) = refl
-state_after true h (command.Compare text other_text) = refl
-state_after true h command.History = refl
-state_after true h command.Check = refl
+key_leaves true h text = refl
+key_leaves false h text = refl
 
-pub answers_command : {T E : Type 0} (old new : Option (List ℕ)) (h h2 : History) (c : Command) (r : Result T E)
-    → Obeys old new h h2 c r → Answers old new h h2 (request.Asks c) r
-answers_command old new h h2 c r (starved, sent, state) = (starved, sent, state ∙ sym (state_after starved h c))
+pub order_leaves : (starved : Bool) (h : History) (text other_text : List ℕ) → history_after_if starved h (request.Asks (command.Compare text other_text)) ≡ h
+unfolding history_after
+order_leaves true h text other_text = refl
+order_leaves false h text other_text = refl
+
+-- a command that takes memory, and leaves the history
+pub obeys_starving : {T E : Type 0} (old new : Option (List ℕ)) (h h2 : History) (c : Command) (r : Result T E)
+    → SendsReply old new h (request.Asks c) r → h2 ≡ h → ((starved : Bool) → history_after_if starved h (request.Asks c) ≡ h) → Obeys old new h h2 c r
+obeys_starving old new h h2 c r (starved, sent) state leaves = (starved, sent, state ∙ sym (leaves starved))
 
 -- a statement that was judged
 answers_judged : {T E : Type 0} (old new : Option (List ℕ)) (h h2 : History) (s : Statement) (outcome : Result ℕ BenchFault) (r : Result T E)
@@ -122,6 +120,8 @@ want_or_not (bench.Table refusal.NotASymbol) = inr (λ e. cc)
 want_or_not bench.NothingToUndo = inr (λ e. cc)
 want_or_not bench.NothingToRedo = inr (λ e. cc)
 want_or_not bench.HistoryFull = inr (λ e. cc)
+want_or_not (bench.StillNeeded statement reason) = inr (λ e. cc)
+want_or_not bench.NoSuchStatement = inr (λ e. cc)
 
 answers_starved : {T E : Type 0} (old new : Option (List ℕ)) (h h2 : History) (s : Statement) (f : BenchFault) (r : Result T E)
     → f ≡ bench.Table refusal.OutOfMemory → h2 ≡ h → Sends old new (outcome_line (codes "ok") (Err f)) r → Answers old new h h2 (request.States s) r
@@ -136,6 +136,33 @@ answers_statement old new h h2 s (Ok n) r ok count err same sent = answers_judge
 answers_statement old new h h2 s (Err f) r ok count err same sent =
     ⊎_elim (λ (want : f ≡ bench.Table refusal.OutOfMemory). answers_starved old new h h2 s f r want same sent)
     (λ (other_fault : f ≢ bench.Table refusal.OutOfMemory). answers_judged old new h h2 s (Err f) r (outcome_is (codes "ok") h h2 (Err f) (judged h s) ok count (err other_fault) same) sent)
+    (want_or_not f)
+
+-- a withdrawal of a statement that remains, for which memory was refused
+withdraw_starved : {T E : Type 0} (old new : Option (List ℕ)) (h h2 : History) (k : ℕ) (f : BenchFault) (r : Result T E)
+    → f ≡ bench.Table refusal.OutOfMemory → is_numbered h k ≡ true → h2 ≡ h → Sends old new (outcome_line (codes "withdrawn") (Err f)) r → Obeys old new h h2 (command.Withdraw k) r
+unfolding refused_line
+withdraw_starved old new h h2 k f r want some same sent =
+    let starved : Sends old new starved_line r = subst (λ (g : BenchFault). Sends old new (refused_line (fault.Bench g)) r) want sent in (
+      true,
+      subst (λ (b : Bool). Sends old new (if b then starved_line else reply h (request.Asks (command.Withdraw k))) r) (sym some) starved,
+      same ∙ ap (λ (b : Bool). if b then h else history_after h (request.Asks (command.Withdraw k))) (sym some),
+    )
+
+-- the reply that tells another statement is the one to this refusal
+pub still_needed : (statement : ℕ) (reason : Refusal) → still_needed_line statement reason ≡ refused_line (fault.Bench (bench.StillNeeded statement reason))
+unfolding refused_line digits
+still_needed statement reason = refl
+
+-- the reply to a withdrawal
+pub obeys_withdraw : {T E : Type 0} (old new : Option (List ℕ)) (h h2 : History) (k : ℕ) (outcome : Result ℕ BenchFault) (r : Result T E)
+    → IfOk outcome (λ _. withdrawn h k ≡ Ok h2) → IfOk outcome (λ n. n ≡ length h2.remaining) → IfErr outcome (λ f. f ≢ bench.Table refusal.OutOfMemory → withdrawn h k ≡ Err f)
+    → IfErr outcome (λ f. f ≡ bench.Table refusal.OutOfMemory → IsTrue (is_numbered h k)) → OnErr outcome (h2 ≡ h) → Sends old new (outcome_line (codes "withdrawn") outcome) r → Obeys old new h h2 (command.Withdraw k) r
+obeys_withdraw old new h h2 k (Ok n) r ok count err memory same sent =
+    obeys_outcome old new h h2 (command.Withdraw k) (codes "withdrawn") (withdrawn h k) (Ok n) r (outcome_is (codes "withdrawn") h h2 (Ok n) (withdrawn h k) ok count tt same) sent refl refl
+obeys_withdraw old new h h2 k (Err f) r ok count err memory same sent =
+    ⊎_elim (λ (want : f ≡ bench.Table refusal.OutOfMemory). withdraw_starved old new h h2 k f r want (memory want) same sent)
+    (λ (other_fault : f ≢ bench.Table refusal.OutOfMemory). obeys_outcome old new h h2 (command.Withdraw k) (codes "withdrawn") (withdrawn h k) (Err f) r (outcome_is (codes "withdrawn") h h2 (Err f) (withdrawn h k) ok count (err other_fault) same) sent refl refl)
     (want_or_not f)
 
 -- the reply to what is refused

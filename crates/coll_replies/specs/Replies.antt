@@ -16,9 +16,13 @@ use Rattle.coll_key.specs.declared.key_faults.KeyFault.TheVariants as key_fault
 use Rattle.std.specs.declared.cmp.Ordering.{Ordering}
 use Rattle.std.specs.declared.cmp.Ordering.TheVariants.{Less, Equal, Greater}
 use Rattle.coll_history.specs.Histories.{History, table_now, judged, taken_back, put_again}
+use Rattle.coll_history.specs.Withdrawal.{is_numbered, withdrawn}
+use Rattle.coll_table.specs.Refusals.{refusal_number, refusal_name}
+use Rattle.coll_table.specs.declared.refusals.Refusal.{Refusal}
 use Rattle.coll_replies.specs.Faults.{fault_number, fault_name, fault_of}
 use Rattle.coll_nodes.specs.declared.entries.Entry.{Entry}
 use Rattle.coll_history.specs.declared.history_faults.BenchFault.{BenchFault}
+use Rattle.coll_history.specs.declared.history_faults.BenchFault.TheVariants as bench
 use Rattle.coll_replies.specs.declared.faults.Fault.{Fault}
 use Rattle.coll_replies.specs.declared.faults.Fault.TheVariants as fault
 use Rattle.coll_units.specs.declared.session_lines.Command.{Command}
@@ -40,9 +44,30 @@ counted_line word n = worded word (decimal n)
 abbrev pub told_line : List ℕ → Fault → List ℕ
 told_line word f = word ++ worded (decimal (fault_number f)) (fault_name f)
 
+-- the number of a statement and its refusal, and the line's end
+abbrev pub refused_statement : ℕ → Refusal → List ℕ
+refused_statement number refusal = (decimal number ++ 32 ∷ []) ++ worded (decimal (refusal_number refusal)) (refusal_name refusal)
+
+-- what ends the reply to a refusal: that of a withdrawal, for which another statement is refused, tells that one and its refusal
+abbrev pub refusal_end : Fault → List ℕ
+refusal_end (fault.Bench (bench.StillNeeded statement refusal)) = 32 ∷ refused_statement statement refusal
+refusal_end f = 10 ∷ []
+
+-- the name of a fault, and what ends the reply to it
+abbrev pub refusal_name_ended : Fault → List ℕ
+refusal_name_ended f = fault_name f ++ refusal_end f
+
+-- the number of a fault, and what follows it in the reply
+abbrev pub refusal_told : Fault → List ℕ
+refusal_told f = (decimal (fault_number f) ++ 32 ∷ []) ++ refusal_name_ended f
+
 -- the reply to what is refused
 unfoldable pub refused_line : Fault → List ℕ
-refused_line f = told_line (codes "refused ") f
+refused_line f = codes "refused " ++ refusal_told f
+
+-- the reply to a withdrawal for which another statement is refused
+abbrev pub still_needed_line : ℕ → Refusal → List ℕ
+still_needed_line statement refusal = codes "refused 71 StillNeeded " ++ refused_statement statement refusal
 
 -- the replies to faults, one after another
 unfoldable pub refused_lines : List FaultAt → List ℕ
@@ -163,6 +188,7 @@ command_reply h command.Print = text (table_now h)
 command_reply h (command.Key t) = key_line (table_now h) t
 command_reply h (command.Compare t u) = order_line (table_now h) t u
 command_reply h command.History = history_listing h
+command_reply h (command.Withdraw k) = count_reply (codes "withdrawn") (withdrawn h k)
 command_reply h command.Check = checked_line (table_now h)
 
 -- the reply to a unit
@@ -185,6 +211,7 @@ history_after_command h command.Print = h
 history_after_command h (command.Key t) = h
 history_after_command h (command.Compare t u) = h
 history_after_command h command.History = h
+history_after_command h (command.Withdraw k) = history_or h (withdrawn h k)
 history_after_command h command.Check = h
 
 -- the history after a unit: one that is refused, and a listing, leave it
@@ -193,22 +220,23 @@ history_after h (request.Asks c) = history_after_command h c
 history_after h (request.States s) = history_or h (judged h s)
 history_after h (request.Refused f) = h
 
--- a command whose answer takes memory: a key, and the order of two texts
-abbrev pub may_starve_command : Command → Bool
-may_starve_command command.Undo = false
-may_starve_command command.Redo = false
-may_starve_command command.List = false
-may_starve_command command.Print = false
-may_starve_command (command.Key t) = true
-may_starve_command (command.Compare t u) = true
-may_starve_command command.History = false
-may_starve_command command.Check = false
+-- a command whose answer takes memory: a key, the order of two texts, and the withdrawal of a statement that remains
+abbrev pub may_starve_command : History → Command → Bool
+may_starve_command h command.Undo = false
+may_starve_command h command.Redo = false
+may_starve_command h command.List = false
+may_starve_command h command.Print = false
+may_starve_command h (command.Key t) = true
+may_starve_command h (command.Compare t u) = true
+may_starve_command h command.History = false
+may_starve_command h (command.Withdraw k) = is_numbered h k
+may_starve_command h command.Check = false
 
 -- what takes memory to answer may be refused for want of it
-abbrev pub may_starve : Request → Bool
-may_starve (request.Asks c) = may_starve_command c
-may_starve (request.States s) = true
-may_starve (request.Refused f) = false
+abbrev pub may_starve : History → Request → Bool
+may_starve h (request.Asks c) = may_starve_command h c
+may_starve h (request.States s) = true
+may_starve h (request.Refused f) = false
 
 -- the reply to want of memory
 abbrev pub starved_line : List ℕ
@@ -216,11 +244,11 @@ starved_line = refused_line (fault.Lex lex.OutOfMemory)
 
 -- a unit that was starved has that reply and leaves the history
 abbrev pub reply_if : Bool → History → Request → List ℕ
-reply_if starved h unit = if starved && may_starve unit then starved_line else reply h unit
+reply_if starved h unit = if starved && may_starve h unit then starved_line else reply h unit
 
 -- the history after a unit that was starved or not
 abbrev pub history_after_if : Bool → History → Request → History
-history_after_if starved h unit = if starved && may_starve unit then h else history_after h unit
+history_after_if starved h unit = if starved && may_starve h unit then h else history_after h unit
 
 -- what is written for what a call of the history answered
 abbrev pub outcome_line : List ℕ → Result ℕ BenchFault → List ℕ

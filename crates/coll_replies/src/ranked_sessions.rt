@@ -1,10 +1,10 @@
 //! A session with the ranks of its table.
 //!
 //! Ranks are made where a key or an order is first asked for, kept over commands and refusals, and given up with each change of
-//! the table: an accepted statement, an undo, a redo. Whoever adds a call that changes the table gives them up there. Contracts
+//! the table: an accepted statement, an undo, a redo, a withdrawal. Whoever adds a call that changes the table gives them up there. Contracts
 //! see what they see of the session, and no ranks.
 
-ghost use Rattle.std.specs.Prelude.{◌≡◌, ◌≢◌, ◌≤◌, ◌||◌, true, false, chars, length, IsSome, IfOk, IfErr, OnOk, OnErr};
+ghost use Rattle.std.specs.Prelude.{◌≡◌, ◌≢◌, ◌≤◌, ◌||◌, true, false, chars, length, IsSome, IsTrue, IfOk, IfErr, OnOk, OnErr};
 ghost use Rattle.coll_syntax.specs.Proper.{IsProper};
 ghost use Rattle.coll_nodes.specs.TableLayout.{collation};
 ghost use Rattle.coll_key.specs.KeyLimits.{is_too_long};
@@ -15,6 +15,9 @@ ghost use Rattle.coll_key.specs.declared.key_faults.KeyFault.TheVariants.{OutOfM
 ghost use Rattle.coll_table.specs.Record.{more_steps};
 ghost use Rattle.coll_history.specs.Limits.{most_remaining};
 ghost use Rattle.coll_history.specs.declared.history_faults.BenchFault.TheVariants.{HistoryFull};
+ghost use Rattle.coll_history.specs.declared.history_faults.BenchFault.TheVariants as bench;
+ghost use Rattle.coll_table.specs.declared.refusals.Refusal.TheVariants as refusal;
+ghost use Rattle.coll_history.specs.Withdrawal.{withdrawn, is_numbered};
 ghost use Rattle.coll_history.specs.Histories.{begun, judged, taken_back, put_again, undo_steps, redo_steps, table_now, RefusesStatement};
 ghost use Rattle.coll_replies.specs.Ranked.{AreRanksIfAny};
 
@@ -100,6 +103,24 @@ impl RankedSession {
         ensures unchanged { OnErr result (self.new ≡ self.old) }
     {
         let count = self.session.redo()?;
+        keep(&mut self.ranks, None);
+        Ok(count)
+    }
+
+    /// Withdraws the remaining statement with a number, counted from 1, and answers how many then remain: the others are put to the
+    /// table at first again, in order.
+    ///
+    /// It is refused with `NoSuchStatement` exactly where no statement remains with the number, and else with `StillNeeded` where
+    /// another one is then refused. A refusal, want of memory included, leaves the history and the table.
+    pub fn withdraw(&mut self, number: u32) -> Result<u32, BenchFault>
+        ensures withdrawn { IfOk result (λ _. withdrawn self.old.history number ≡ Ok self.new.history) }
+        ensures count { IfOk result (λ n. n ≡ length self.new.history.remaining) }
+        ensures refused { IfErr result (λ fault. fault ≢ bench.Table refusal.OutOfMemory → withdrawn self.old.history number ≡ Err fault) }
+        ensures memory { IfErr result (λ fault. fault ≡ bench.Table refusal.OutOfMemory → IsTrue (is_numbered self.old.history number)) }
+        ensures unchanged { OnErr result (self.new.history ≡ self.old.history) }
+        ensures layout { OnErr result (self.new.layout ≡ self.old.layout) }
+    {
+        let count = self.session.withdraw(number)?;
         keep(&mut self.ranks, None);
         Ok(count)
     }

@@ -13,7 +13,8 @@ ghost use Rattle.coll_units.specs.ProperLines.{IsProperRequest};
 ghost use Rattle.coll_print.specs.PrintedParts.{id_bytes};
 ghost use Rattle.coll_nodes.specs.WalkItems.{met_by};
 ghost use Rattle.coll_replies.specs.Listing.{met_line, rank_after};
-ghost use Rattle.coll_replies.specs.Replies.{worded, count_part, levels_part, sections_part, declared_part, checked_line, counted_line, told_line, refused_line, section_line, listed_line, listed_sections, listing, outcome_line, history_after_command, reply_if, history_after_if};
+ghost use Rattle.coll_replies.specs.declared.faults.Fault.TheVariants.{Bench};
+ghost use Rattle.coll_replies.specs.Replies.{worded, count_part, levels_part, sections_part, declared_part, checked_line, counted_line, told_line, refused_line, refused_statement, still_needed_line, section_line, listed_line, listed_sections, listing, outcome_line, reply_if, history_after_if};
 
 mod past;
 mod texts;
@@ -23,7 +24,7 @@ use crate::ranked_sessions::RankedSession;
 use coll_history::BenchFault;
 use coll_lex::{Sink, WriteStop, write_bytes, write_symbol};
 use coll_syntax::Id;
-use coll_table::{Entry, Table, WalkItem, write_id};
+use coll_table::{Entry, Refusal, Table, WalkItem, write_id};
 use coll_units::{Command, Request};
 use itoa::Buffer;
 use past::write_history;
@@ -95,7 +96,7 @@ fn respond<W: Sink>(
     }
 }
 
-// Does what a command asks for, and writes its reply. Keys and comparisons alone take memory.
+// Does what a command asks for, and writes its reply. Keys, comparisons and withdrawals alone take memory.
 fn obey<W: Sink>(
     alloc: Global,
     session: &mut RankedSession,
@@ -103,7 +104,7 @@ fn obey<W: Sink>(
     out: &mut W,
 ) -> Result<(), WriteStop>
     ensures answered { (starved : Bool) × Sends (W.taken out.old) (W.taken out.new) (reply_if starved session.old.history (Request.Asks command.now)) result
-        × (session.new.history ≡ history_after_command session.old.history command.now) }
+        × (session.new.history ≡ history_after_if starved session.old.history (Request.Asks command.now)) }
     ensures errors { CountsErr (W.failed out.old) (W.failed out.new) result }
 {
     match command {
@@ -120,6 +121,10 @@ fn obey<W: Sink>(
         Command::Key(text) => answer_key(alloc, session, text, out),
         Command::Compare(text, other) => answer_compare(alloc, session, text, other, out),
         Command::History => write_history(out, session.session()),
+        Command::Withdraw(number) => {
+            let outcome = session.withdraw(*number);
+            write_outcome(out, b"withdrawn", outcome)
+        }
         Command::Check => write_checked(out, session.session().table()),
     }
 }
@@ -276,7 +281,56 @@ fn write_refused<W: Sink>(out: &mut W, fault: Fault) -> Result<(), WriteStop>
     ensures sent { Sends (W.taken out.old) (W.taken out.new) (refused_line fault) result }
     ensures errors { CountsErr (W.failed out.old) (W.failed out.new) result }
 {
-    write_told(out, b"refused ", fault)
+    match fault {
+        Fault::Bench(refused) => write_bench_refused(out, refused),
+        _ => write_told(out, b"refused ", fault),
+    }
+}
+
+// Writes the reply to what the history refused.
+#[tactic(auto, unfolding(crate::specs::Replies::refused_line))]
+fn write_bench_refused<W: Sink>(out: &mut W, refused: BenchFault) -> Result<(), WriteStop>
+    ensures sent { Sends (W.taken out.old) (W.taken out.new) (refused_line (Bench refused)) result }
+    ensures errors { CountsErr (W.failed out.old) (W.failed out.new) result }
+{
+    match refused {
+        BenchFault::StillNeeded { statement, refusal } => {
+            write_still_needed(out, statement, refusal)
+        }
+        _ => write_told(out, b"refused ", Fault::Bench(refused)),
+    }
+}
+
+// Writes the reply to a withdrawal for which another statement is refused: its number, and its refusal.
+fn write_still_needed<W: Sink>(
+    out: &mut W,
+    statement: u32,
+    refusal: Refusal,
+) -> Result<(), WriteStop>
+    ensures sent { Sends (W.taken out.old) (W.taken out.new) (still_needed_line statement refusal) result }
+    ensures errors { CountsErr (W.failed out.old) (W.failed out.new) result }
+{
+    write_bytes(out, b"refused 71 StillNeeded ")?;
+    write_refused_statement(out, statement, refusal)
+}
+
+// Writes the number of a statement and its refusal, and the line's end.
+fn write_refused_statement<W: Sink>(
+    out: &mut W,
+    statement: u32,
+    refusal: Refusal,
+) -> Result<(), WriteStop>
+    ensures sent { Sends (W.taken out.old) (W.taken out.new) (refused_statement statement refusal) result }
+    ensures errors { CountsErr (W.failed out.old) (W.failed out.new) result }
+{
+    let mut digits = Buffer::new();
+    write_spaced(out, digits.format(u64::from(statement)).as_bytes())?;
+    let mut number = Buffer::new();
+    write_words(
+        out,
+        number.format(refusal.number()).as_bytes(),
+        refusal.name().as_bytes(),
+    )
 }
 
 /// Writes a word, and then the number and the name of a fault, and the line's end.

@@ -4,7 +4,7 @@ use Rattle.coll_print.specs.CanonicalText.{text}
 use Rattle.coll_history.specs.Histories.{SessionValue, table_now, taken_back, put_again}
 use Rattle.coll_replies.specs.Replies.{listing, checked_line, history_listing}
 use Rattle.coll_units.specs.declared.session_lines.Command.TheVariants as command
-use Rattle.coll_replies.proofs.ReplyLemmas.{history_stays, outcome_is, obeys, obeys_outcome, obeys_starving}
+use Rattle.coll_replies.proofs.ReplyLemmas.{history_stays, outcome_is, obeys, obeys_outcome, obeys_starving, obeys_withdraw, key_leaves, order_leaves}
 use Rattle.coll_replies.proofs.replies.obey.Goals as goal
 
 pub returns-in-Undo-clause-answered : goal.returns-in-Undo-clause-answered
@@ -36,18 +36,25 @@ returns-in-Print-clause-answered g c =
 pub returns-in-Key-clause-answered : goal.returns-in-Key-clause-answered
 returns-in-Key-clause-answered g c =
     let taken = g.W.Sink.taken in
-    rw c.in-Key.is (obeys_starving (taken c.args.out.now) (taken c.answer_key.new.out) c.args.session.now.history c.answer_key.new.session.history (command.Key c.in-Key.text) c.answer_key.result c.answer_key.ensures.answered (ap (λ (v : SessionValue). v.history) c.answer_key.ensures.unchanged))
+    rw c.in-Key.is (obeys_starving (taken c.args.out.now) (taken c.answer_key.new.out) c.args.session.now.history c.answer_key.new.session.history (command.Key c.in-Key.text) c.answer_key.result c.answer_key.ensures.answered (ap (λ (v : SessionValue). v.history) c.answer_key.ensures.unchanged) (λ b. key_leaves b c.args.session.now.history c.in-Key.text))
 
 pub returns-in-Compare-clause-answered : goal.returns-in-Compare-clause-answered
 returns-in-Compare-clause-answered g c =
     let taken = g.W.Sink.taken in
-    rw c.in-Compare.is (obeys_starving (taken c.args.out.now) (taken c.answer_compare.new.out) c.args.session.now.history c.answer_compare.new.session.history (command.Compare c.in-Compare.text c.in-Compare.other) c.answer_compare.result c.answer_compare.ensures.answered (ap (λ (v : SessionValue). v.history) c.answer_compare.ensures.unchanged))
+    rw c.in-Compare.is (obeys_starving (taken c.args.out.now) (taken c.answer_compare.new.out) c.args.session.now.history c.answer_compare.new.session.history (command.Compare c.in-Compare.text c.in-Compare.other) c.answer_compare.result c.answer_compare.ensures.answered (ap (λ (v : SessionValue). v.history) c.answer_compare.ensures.unchanged) (λ b. order_leaves b c.args.session.now.history c.in-Compare.text c.in-Compare.other))
 
 pub returns-in-History-clause-answered : goal.returns-in-History-clause-answered
 returns-in-History-clause-answered g c =
     let taken = g.W.Sink.taken in
     let h = c.args.session.now.history in
     rw c.in-History.is (obeys (taken c.args.out.now) (taken c.write_history.new.out) h h command.History _ c.write_history.result c.write_history.ensures.sent (ap (λ (v : SessionValue). history_listing v.history) c.session-in-History.ensures) refl)
+
+pub returns-in-Withdraw-clause-answered : goal.returns-in-Withdraw-clause-answered
+returns-in-Withdraw-clause-answered g c =
+    let taken = g.W.Sink.taken in
+    let w = c.withdraw-outcome in
+    rw c.in-Withdraw.is (obeys_withdraw (taken c.args.out.now) (taken c.write_outcome-in-Withdraw.new.out) c.args.session.now.history w.new.self.history _ w.result c.write_outcome-in-Withdraw.result
+    w.ensures.withdrawn w.ensures.count w.ensures.refused w.ensures.memory w.ensures.unchanged c.write_outcome-in-Withdraw.ensures.sent)
 
 pub returns-in-Check-clause-answered : goal.returns-in-Check-clause-answered
 returns-in-Check-clause-answered g c =

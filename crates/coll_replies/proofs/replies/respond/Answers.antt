@@ -1,11 +1,10 @@
 -- Each reply is that of the definition, or the one to want of memory.
-use Rattle.coll_replies.proofs.ReplyLemmas.{answers_command, answers_statement, answers_refused, history_stays}
+use Rattle.coll_replies.proofs.ReplyLemmas.{answers_statement, answers_refused, history_stays}
 use Rattle.coll_replies.proofs.replies.respond.Goals as goal
 
 pub returns-in-Asks-clause-answered : goal.returns-in-Asks-clause-answered
 returns-in-Asks-clause-answered g c =
-    let taken = g.W.Sink.taken in
-    rw c.in-Asks.is (answers_command (taken c.args.out.now) (taken c.obey.new.out) c.args.session.now.history c.obey.new.session.history c.in-Asks.command c.obey.result c.obey.ensures.answered)
+    rw c.in-Asks.is c.obey.ensures.answered
 
 pub returns-in-States-clause-answered : goal.returns-in-States-clause-answered
 returns-in-States-clause-answered g c =
