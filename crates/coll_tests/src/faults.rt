@@ -112,11 +112,18 @@ const DELTA_CAUSES: &[(DeltaCause, &str)] = &[
     (DeltaCause::NoEnd, "43 NoEnd"),
 ];
 
+const STILL_NEEDED: BenchFault = BenchFault::StillNeeded {
+    statement: 4,
+    refusal: Refusal::WeightNotPlaced,
+};
+
 const BENCH_FAULTS: &[(BenchFault, &str)] = &[
     (BenchFault::Table(Refusal::NotPlaced), "54 NotPlaced"),
     (BenchFault::NothingToUndo, "60 NothingToUndo"),
     (BenchFault::NothingToRedo, "61 NothingToRedo"),
     (BenchFault::HistoryFull, "66 HistoryFull"),
+    (STILL_NEEDED, "71 StillNeeded"),
+    (BenchFault::NoSuchStatement, "72 NoSuchStatement"),
 ];
 
 const LOAD_FAULT: LoadFault = LoadFault {
@@ -133,6 +140,7 @@ const FAULTS: &[(Fault, &str)] = &[
     (Fault::Table(Refusal::Full), "42 Full"),
     (Fault::Key(KeyFault::TextTooLong), "65 TextTooLong"),
     (Fault::Bench(BenchFault::HistoryFull), "66 HistoryFull"),
+    (Fault::Bench(STILL_NEEDED), "71 StillNeeded"),
     (Fault::BlockOpen, "62 BlockOpen"),
     (Fault::BlockNotEnded, "63 BlockNotEnded"),
     (Fault::UnknownCommand, "64 UnknownCommand"),

@@ -20,9 +20,21 @@ enum Call {
     States(Lines, Result<u32, BenchFault>),
     Undo(Result<u32, BenchFault>),
     Redo(Result<u32, BenchFault>),
+    Withdraw(u32, Result<u32, BenchFault>),
 }
 
-use Call::{Redo, States, Undo};
+use Call::{Redo, States, Undo, Withdraw};
+
+// Without the block the fourth statement is refused, and without the symbol the second one.
+const BLOCK_IS_NEEDED: BenchFault = BenchFault::StillNeeded {
+    statement: 4,
+    refusal: Refusal::WeightNotPlaced,
+};
+
+const SYMBOL_IS_NEEDED: BenchFault = BenchFault::StillNeeded {
+    statement: 2,
+    refusal: Refusal::NotDeclared,
+};
 
 // A table, and the calls of a session over it.
 const SESSIONS: &[(Lines, &[Call])] = &[
@@ -136,6 +148,30 @@ const SESSIONS: &[(Lines, &[Call])] = &[
             Undo(Ok(1)),
             Undo(Ok(0)),
             Redo(Ok(1)),
+        ],
+    ),
+    (
+        BASE_TABLE,
+        &[
+            States(&["collating-symbol <X>"], Ok(1)),
+            States(&["reorder-after <CAP>", "<X>"], Ok(2)),
+            States(&["reorder-after <U0061>", "<U0063>"], Ok(3)),
+            States(&["<U0062> <U0062>;<X>"], Ok(4)),
+            States(&["collating-symbol <Y>"], Ok(5)),
+            Undo(Ok(4)),
+            Withdraw(2, Err(BLOCK_IS_NEEDED)),
+            Withdraw(1, Err(SYMBOL_IS_NEEDED)),
+            Withdraw(0, Err(BenchFault::NoSuchStatement)),
+            Withdraw(5, Err(BenchFault::NoSuchStatement)),
+            Redo(Ok(5)),
+            Undo(Ok(4)),
+            Withdraw(3, Ok(3)),
+            Redo(Err(BenchFault::NothingToRedo)),
+            Undo(Ok(2)),
+            Withdraw(2, Ok(1)),
+            Redo(Err(BenchFault::NothingToRedo)),
+            Withdraw(1, Ok(0)),
+            Withdraw(1, Err(BenchFault::NoSuchStatement)),
         ],
     ),
     (
@@ -371,6 +407,39 @@ fn assert_stated<R: Abort + Print>(
     assert_same(rt, "a statement", given, answer);
 }
 
+// What a session answers to a withdrawal.
+fn counted_withdraw<R: Abort + Print>(
+    rt: &R,
+    session: &mut Session,
+    number: u32,
+) -> Result<u32, BenchFault> {
+    count_growths(rt);
+    let answer = session.withdraw(number);
+    count_no_growths(rt);
+    answer
+}
+
+// Asserts what a session answers to a withdrawal. One that is refused leaves it as it stood.
+fn assert_withdrawn<R: Abort + Print>(
+    rt: &R,
+    alloc: Global,
+    session: &mut Session,
+    number: u32,
+    answer: Result<u32, BenchFault>,
+) {
+    let before = standing(rt, alloc, session);
+    let mut given = counted_withdraw(rt, session, number);
+    if given == NO_MEMORY {
+        tell_refused(rt);
+        assert_text(rt, alloc, &standing(rt, alloc, session), &before);
+        given = counted_withdraw(rt, session, number);
+    }
+    assert_same(rt, "a withdrawal", given, answer);
+    if answer.is_err() {
+        assert_text(rt, alloc, &standing(rt, alloc, session), &before);
+    }
+}
+
 // What is taken back or put again takes no memory, so it is never refused for want of it.
 fn assert_call<R: Abort + Print>(
     rt: &R,
@@ -386,6 +455,7 @@ fn assert_call<R: Abort + Print>(
             assert_same(rt, "an undo", given, *answer);
         }
         Redo(answer) => assert_same(rt, "a redo", counted_redo(rt, session), *answer),
+        Withdraw(number, answer) => assert_withdrawn(rt, alloc, session, *number, *answer),
     }
 }
 

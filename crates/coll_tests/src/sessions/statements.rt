@@ -154,6 +154,13 @@ pub const ON_BASE: &[Worked] = &[
         text: "collating-element <ch> from \"ch\"\nsymbol-equivalence <Z> <ch>\n",
         replies: &[Told("ok 1\nrefused 73 NotASymbol\n")],
     },
+    // A statement is withdrawn unless another one needs it, and is no more to be put again.
+    Worked {
+        text: "collating-symbol <X>\nreorder-after <CAP>\n<X>\nreorder-end\nreorder-after <U0061>\n<U0063>\nreorder-end\n<U0062> <U0062>;<X>\n:withdraw 2\n:withdraw 1\n:withdraw 3\n:history\n:withdraw 0\n:withdraw 4\n:withdraw x\n:withdraw\n:key \"b\"\n:undo\n:key \"b\"\n:withdraw 2\n:redo\n",
+        replies: &[Told(
+            "ok 1\nok 2\nok 3\nok 4\nrefused 71 StillNeeded 4 38 WeightNotPlaced\nrefused 71 StillNeeded 2 34 NotDeclared\nwithdrawn 3\n1 symbol <X>\n2 block <CAP> 1\n3 reweight <U0062>\nhistory 3 0\nrefused 72 NoSuchStatement\nrefused 72 NoSuchStatement\nrefused 29 BadOperand\nrefused 21 MissingOperand\n7 | 4 | 7 | @1 7 |\nundone 2\n7 | 1 | 2 | |\nwithdrawn 1\nrefused 61 NothingToRedo\n",
+        )],
+    },
     // The order changes with each statement, and with each that is taken back or put again.
     Worked {
         text: ":compare \"b\" \"c\"\nreorder-after <U0061>\n<U0063>\nreorder-end\n:compare \"b\" \"c\"\nreorder-after <U0061>\n<X>\nreorder-end\n:compare \"b\" \"c\"\n:undo\n:compare \"b\" \"c\"\n:redo\n:compare \"b\" \"c\"\n",
