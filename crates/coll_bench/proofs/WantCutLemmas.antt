@@ -1,7 +1,7 @@
 -- Want of memory shows of a text that is cut, too: a block that a line was refused of for want of memory may still be open where
 -- the text is cut, and has its reply in what is written wherever it ends.
 use Rattle.std.proofs.Common.{◌≡◌, ℕ, Bool, true, false, List, [], ◌∷◌, ◌++◌, map, Option, Some, None, refl, sym, ap, ◌∙◌, subst, append-nil, append_assoc, inl, inr, ⊎_elim}
-use Rattle.std.specs.Prelude.{◌⊎◌, ◌==◌, if◌then◌else◌, option_to_list}
+use Rattle.std.specs.Prelude.{◌⊎◌, ◌==◌, if◌then◌else◌}
 use Rattle.coll_devices.specs.PhysicalLines.{line_feed, with_first, lines_of}
 use Rattle.coll_lex.specs.LogicalLines.{LexerState, LogicalLine, first_state, first_choice, later_choices, takes_memory, served, state_by, logical_lines}
 use Rattle.coll_lex.specs.declared.faults.LexFault.{LexFault}

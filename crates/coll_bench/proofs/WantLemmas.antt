@@ -8,6 +8,7 @@ use Rattle.coll_lex.specs.declared.tokens.Line.{Line}
 use Rattle.coll_lex.specs.declared.faults.LexFault.{LexFault}
 use Rattle.coll_lex.specs.declared.faults.LexFault.TheVariants as lex
 use Rattle.coll_history.specs.Histories.{History, begun}
+use Rattle.coll_history.specs.Withdrawal.{is_numbered}
 use Rattle.coll_units.specs.SessionLines.{opening_of, heard}
 use Rattle.coll_units.specs.Hearing.{heard_by, heard_in, heard_at}
 use Rattle.coll_units.specs.Units.{starved_at, fault_at, refused_at}
@@ -85,6 +86,13 @@ answered_step : (h : History) (asks : Request) (later : List SessionUnit) (choic
     → Exact (reply h asks ++ answers (history_after h asks) later choices) (reply h asks ++ answers (history_after h asks) later [])
 answered_step h asks later choices ih = exact_later (reply h asks) (answers (history_after h asks) later choices) (answers (history_after h asks) later []) (ih (history_after h asks))
 
+-- a withdrawal takes memory where a statement remains with the number, and is answered where none does
+withdraw_step : (h : History) (k : ℕ) (later : List SessionUnit) (choices : List Bool) → ((h2 : History) → Exact (answers h2 later choices) (answers h2 later [])) → (remains : Bool)
+    → Exact ((if remains then starved_line else reply h (request.Asks (command.Withdraw k))) ++ answers (if remains then h else history_after h (request.Asks (command.Withdraw k))) later choices)
+    (reply h (request.Asks (command.Withdraw k)) ++ answers (history_after h (request.Asks (command.Withdraw k))) later [])
+withdraw_step h k later choices ih true = inr ([], answers h later choices, refl)
+withdraw_step h k later choices ih false = answered_step h (request.Asks (command.Withdraw k)) later choices ih
+
 -- a command that takes no memory is answered, and one that does may show it
 command_step : (h : History) (c : Command) (later : List SessionUnit) (choices : List Bool) → ((h2 : History) → Exact (answers h2 later choices) (answers h2 later []))
     → Exact (reply_if true h (request.Asks c) ++ answers (history_after_if true h (request.Asks c)) later choices) (reply_if false h (request.Asks c) ++ answers (history_after_if false h (request.Asks c)) later [])
@@ -95,6 +103,7 @@ command_step h command.Print later choices ih = answered_step h (request.Asks co
 command_step h (command.Key text) later choices ih = inr ([], answers h later choices, refl)
 command_step h (command.Compare text other_text) later choices ih = inr ([], answers h later choices, refl)
 command_step h command.History later choices ih = answered_step h (request.Asks command.History) later choices ih
+command_step h (command.Withdraw k) later choices ih = withdraw_step h k later choices ih (is_numbered h k)
 command_step h command.Check later choices ih = answered_step h (request.Asks command.Check) later choices ih
 
 answers_step : (c : Bool) (h : History) (asks : Request) (later : List SessionUnit) (choices : List Bool) → ((h2 : History) → Exact (answers h2 later choices) (answers h2 later []))
