@@ -48,41 +48,44 @@ order_end
 END LC_COLLATE
 """
 LOOK = ':print\n:history\n:key "chab-de"\n'
-SYMBOLS = ["<BASE>", "<MIN>", "<CAP>", "<LOOSE>", "<S1>", "<S2>", "<S3>", "<N1>", "<N2>"]
-IDENTIFIERS = [*SYMBOLS, "<ch>", "<E1>", "<E2>", *(f"<U{code:04X}>" for code in (0x61, 0x62, 0x63, 0x64, 0x65, 0x66, 0x2D))]
+SYMBOLS = ["<BASE>", "<MIN>", "<CAP>", "<LOOSE>", "<S1>", "<S2>", "<N1>", "<N2>"]
+CHARACTERS = ["<ch>", "<E1>", "<E2>", *(f"<U{code:04X}>" for code in (0x61, 0x62, 0x63, 0x64, 0x65, 0x66, 0x2D))]
 SECTIONS = ["<FIRST>", "<SECOND>", "<THIRD>"]
 
 
-def weights(chance):
-    """The weights of an order line, or none."""
-    given = chance.choice([0, 0, 1, 2, 3])
-    return ";".join(chance.choice(["IGNORE", *IDENTIFIERS]) for _ in range(given))
+def weights(chance, fewest):
+    """The weights of an order line: at least so many, and at most three."""
+    return ";".join(chance.choice(["IGNORE", *SYMBOLS, *CHARACTERS[3:]]) for _ in range(chance.randint(fewest, 3)))
+
+
+def placed(chance, identifier):
+    """The line of a block that places an identifier."""
+    return f"{identifier}\n" if identifier in SYMBOLS else f"{identifier} {weights(chance, 0)}\n"
 
 
 def statement(chance):
     """The lines of a random statement."""
-    kind = chance.choice(["symbol", "element", "equivalence", "block", "block", "block", "block", "reweight", "reweight", "section"])
+    kind = chance.choice(["symbol"] * 3 + ["element", "equivalence", "equivalence"] + ["block"] * 6 + ["reweight"] * 3 + ["section"])
     if kind == "symbol":
-        return f"collating-symbol {chance.choice(SYMBOLS[4:])}\n"
+        return f"collating-symbol {chance.choice(SYMBOLS[4:6])}\n"
     if kind == "element":
-        return f"collating-element {chance.choice(['<E1>', '<E2>'])} from \"{chance.choice(['ab', 'de', 'ch'])}\"\n"
+        return f"collating-element {chance.choice(CHARACTERS[1:3])} from \"{chance.choice(['ab', 'de'])}\"\n"
     if kind == "equivalence":
-        return f"symbol-equivalence {chance.choice(['<N1>', '<N2>'])} {chance.choice(SYMBOLS)}\n"
+        return f"symbol-equivalence {chance.choice(SYMBOLS[6:])} {chance.choice(SYMBOLS)}\n"
     if kind == "section":
-        return f"reorder-section-after {chance.choice(SECTIONS)} {chance.choice(SECTIONS)}\n"
+        return "reorder-section-after {} {}\n".format(*chance.sample(SECTIONS, 2))
     if kind == "reweight":
-        return f"{chance.choice(IDENTIFIERS)} {weights(chance)}\n"
-    target, *lines = chance.sample(IDENTIFIERS, chance.randint(1, 4))
-    placed = "".join(f"{line} {weights(chance)}\n" for line in lines)
-    return f"reorder-after {target}\n{placed}reorder-end\n"
+        return f"{chance.choice(CHARACTERS)} {weights(chance, 1)}\n"
+    target, *lines = chance.sample([*SYMBOLS, *CHARACTERS], chance.randint(1, 3))
+    return f"reorder-after {target}\n{''.join(placed(chance, line) for line in lines)}reorder-end\n"
 
 
-def line(chance, count):
-    """A random line, or the lines of a block, where about so many statements remain."""
-    kind = chance.choice(["statement"] * 6 + ["undo", "redo", "withdraw", "withdraw", "withdraw"])
+def line(chance):
+    """A random line, or the lines of a block. About half a dozen statements remain at most moments."""
+    kind = chance.choice(["statement"] * 12 + ["undo", "redo", "withdraw", "withdraw", "withdraw"])
     if kind == "statement":
         return statement(chance)
-    return f":withdraw {chance.randint(0, count + 1)}\n" if kind == "withdraw" else f":{kind}\n"
+    return f":withdraw {chance.randint(0, 8)}\n" if kind == "withdraw" else f":{kind}\n"
 
 
 def replies(program, table, lines):
@@ -126,7 +129,7 @@ def checked(program, table, seed):
 def compared(program, table, seed):
     """The same, where the program runs and its replies can be read."""
     chance = random.Random(seed)
-    lines = [line(chance, 6) for _ in range(LINES)]
+    lines = [line(chance) for _ in range(LINES)]
     answers = replies(program, table, [LOOK, *(it + LOOK for it in lines)])
     before, remaining, undone, counts = seen(answers), [], [], [0, 0]
     for it in lines:
