@@ -6,7 +6,7 @@ Run by hand, after `make`, which builds the program; no gate runs it:
     bench/withdrawals.py [PROGRAM]
 
 The tables are those of load_table.py, with 105,000 entries and with 1,000. Printed are processor times beyond a session that makes the
-history alone, each the least of ten runs, in turns.
+history alone, each the least of five runs, in turns.
 
 Targets: the first of 2,000 blocks of one line withdrawn in at most twice what 2,000 undos and 2,000 statements take; the last of
 60,000 blocks in at most twice what an undo and a statement take, on either table; and a withdrawal that the last statement refuses in
@@ -14,6 +14,7 @@ at most three times one that is accepted.
 """
 
 import os
+import resource
 import subprocess
 import sys
 import tempfile
@@ -22,11 +23,11 @@ from load_table import DECLARATIONS, ENTRIES, ROOT, written
 from serve_sessions import SMALL, block, identifier
 
 PROGRAM = os.path.join(ROOT, "crates", "collbench", "out", "collbench")
-RUNS = 10
+RUNS = 5
 BLOCKS = 2_000
 LONG = 60_000
-TURNS = 5_000
-FIRST = 20
+TURNS = 50_000
+FIRST = 100
 
 
 def session(program, table, lines):
@@ -40,12 +41,12 @@ def session(program, table, lines):
 
 def timed(words, given):
     """The processor time of a run, whose standard input this is."""
-    before = os.times()
+    before = resource.getrusage(resource.RUSAGE_CHILDREN)
     run = subprocess.run(words, stdin=given, stdout=subprocess.DEVNULL, stderr=subprocess.PIPE)
-    after = os.times()
+    after = resource.getrusage(resource.RUSAGE_CHILDREN)
     if run.returncode != 0:
         sys.exit(f"the program ended with status {run.returncode}: {run.stderr.decode()}")
-    return after.children_user + after.children_system - before.children_user - before.children_system
+    return after.ru_utime + after.ru_stime - before.ru_utime - before.ru_stime
 
 
 def beyond(program, table, history, *more):
