@@ -1,5 +1,5 @@
 -- What is placed is known as an own name, and so is no second name.
-use Rattle.std.proofs.Common.{◌≡◌, true, false, refl}
+use Rattle.std.proofs.Common.{◌≡◌, false, refl}
 use Rattle.coll_order.proofs.Sameness.{by_test, not_both}
 use Rattle.coll_syntax.specs.Identifier.{same_id}
 use Rattle.coll_nodes.specs.Table.{entries_of, ids_of, is_placed}
