@@ -12,7 +12,7 @@ use Rattle.coll_syntax.specs.declared.identifiers.Id.TheVariants.{Char, Named, U
 use Rattle.coll_syntax.specs.declared.weights.Weight.{Weight}
 use Rattle.coll_syntax.specs.declared.weights.Weight.TheVariants.{Ignore, Own, Names}
 use Rattle.coll_print.specs.CanonicalText.{is_own}
-use Rattle.coll_nodes.specs.Placement.{entry_at}
+use Rattle.coll_nodes.specs.Placement.{entry_at, place_among}
 use Rattle.coll_nodes.specs.Table.{Collation, entries_of, is_placed}
 use Rattle.coll_nodes.specs.WellFormed.{IsWellFormed}
 use Rattle.coll_nodes.specs.declared.entries.Entry.{Entry}
@@ -20,7 +20,7 @@ use Rattle.coll_nodes.proofs.Sameness.{same_id_decides}
 use Rattle.coll_ranks.specs.Elements.{Element, beyond_first, longest, longer, split, elements_of, elements_placed, element_text, part_id, begins_with}
 use Rattle.coll_ranks.specs.NamedElements.{Finds}
 use Rattle.coll_ranks.specs.WeightNumbers.{number_of, numbers_at, weight_at, weights_or, weight_numbers, undefined_weights, code_point}
-use Rattle.coll_ranks.specs.Rank.{place_among, known_rank}
+use Rattle.coll_ranks.specs.Rank.{known_rank}
 use Rattle.coll_ranks.specs.Ranks.{RanksValue, RankedElement, AreRanksOf, parts_of, parts_behind, part_with, part_numbers, character_part, added_to, added_at, compiled_weight, compiled_by, compiled_entry, compiled_row_by, compiled_weights, filled_up, ranked_text, ranked_in}
 use Rattle.coll_ranks.specs.AlikeFronts.{BeginAlike}
 use Rattle.coll_ranks.specs.declared.parts.Part.{Part}

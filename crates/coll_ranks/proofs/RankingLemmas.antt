@@ -9,6 +9,7 @@ use Rattle.coll_syntax.specs.Identifier.{same_id, has_id}
 use Rattle.coll_syntax.specs.Proper.{IsElementText}
 use Rattle.coll_syntax.specs.declared.identifiers.Id.{Id}
 use Rattle.coll_syntax.specs.declared.identifiers.Id.TheVariants.{Char, Named, Undefined}
+use Rattle.coll_nodes.specs.Placement.{place_among}
 use Rattle.coll_nodes.specs.Table.{Collation, entries_of, ids_of, texts_of}
 use Rattle.coll_nodes.specs.Walks.{Met, MetSection, MetEntry, met, entry_met, entries_met}
 use Rattle.coll_nodes.specs.WellFormed.{AreDistinct, IsWellFormed}
@@ -19,7 +20,7 @@ use Rattle.coll_draft.proofs.MetEntries.{met_all}
 use Rattle.coll_nodes.proofs.Sameness.{same_id_decides}
 use Rattle.coll_ranks.specs.Elements.{element_placed}
 use Rattle.coll_ranks.specs.WeightNumbers.{undefined_weights}
-use Rattle.coll_ranks.specs.Rank.{place_among, rank_unplaced, known_rank}
+use Rattle.coll_ranks.specs.Rank.{rank_unplaced, known_rank}
 use Rattle.coll_ranks.specs.Ranking.{last_place, AreIdRanksOf, ranked_if_any, ranked_declared, HasString}
 use Rattle.coll_ranks.specs.Ranks.{RanksById, RankedElement, no_ranks, rank_with, rank_or_zero, ranked_in, compiled_row_by, compiled_entry, compiled_weights}
 use Rattle.coll_ranks.proofs.Tests.{by_test}
