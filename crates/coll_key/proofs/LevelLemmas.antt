@@ -30,10 +30,10 @@ level_lists_same (rule ∷ rules) from f g ps qs same =
     ∙ ap (λ xs. level_list rule (g from) qs ∷ xs) (level_lists_same rules (suc from) f g ps qs (λ level low high. same level (omega arith) (omega arith)))
 
 -- the lists of a text are those of its parts
-pub level_lists_by_parts : (ranks : RanksValue) (table : Collation) → AreRanksOf ranks table → IsWellFormed table → (text : List ℕ) → level_lists table text ≡ level_lists_from table.rules 0 (part_numbers ranks) (parts_of ranks text)
+pub level_lists_by_parts : (ranks : RanksValue) (table : Collation) → AreRanksOf ranks table → IsWellFormed table → (text : List ℕ) → level_lists table text ≡ level_lists_from table.rules 0 (part_numbers ranks.compiled) (parts_of ranks text)
 unfolding level_lists
 level_lists_by_parts ranks table are well text =
-    sym (level_lists_same table.rules 0 (part_numbers ranks) (numbers_at table) (parts_of ranks text) (elements_of table text) (λ level low high. numbers_are ranks table are well level (omega arith) text))
+    sym (level_lists_same table.rules 0 (part_numbers ranks.compiled) (numbers_at table) (parts_of ranks text) (elements_of table text) (λ level low high. numbers_are ranks table are well level (omega arith) text))
 
 -- a text has no more parts than characters
 few_split : {X P : Type 0} (string_of : X → List ℕ) (xs : List X) (part : Option X → ℕ → P) (skipped : ℕ) (text : List ℕ) → length (split string_of xs part skipped text) ≤ length text

@@ -54,14 +54,14 @@ module _ {P : Type 0} (f : ℕ → P → List ℕ) (ps qs : List P) where
   order_undecided level items rules same past = ap (λ rs. order_from level (drop level rs)) (sym same) ∙ at_drop_all (order_from level) items level past
 
 -- the order of two texts is that of their parts
-pub order_by_parts : (ranks : RanksValue) (table : Collation) → AreRanksOf ranks table → IsWellFormed table → (text other : List ℕ) → order_of table text other ≡ order_from (part_numbers ranks) (parts_of ranks text) (parts_of ranks other) 0 table.rules
+pub order_by_parts : (ranks : RanksValue) (table : Collation) → AreRanksOf ranks table → IsWellFormed table → (text other : List ℕ) → order_of table text other ≡ order_from (part_numbers ranks.compiled) (parts_of ranks text) (parts_of ranks other) 0 table.rules
 unfolding order_of
 order_by_parts ranks table are well text other =
     ap (λ lists. first_difference lists (level_lists table other)) (level_lists_by_parts ranks table are well text)
-    ∙ ap (first_difference (level_lists_from table.rules 0 (part_numbers ranks) (parts_of ranks text))) (level_lists_by_parts ranks table are well other)
+    ∙ ap (first_difference (level_lists_from table.rules 0 (part_numbers ranks.compiled) (parts_of ranks text))) (level_lists_by_parts ranks table are well other)
 
 -- the key of a text is that of its parts
-key_by_parts : (ranks : RanksValue) (table : Collation) → AreRanksOf ranks table → IsWellFormed table → (text : List ℕ) → key_of table text ≡ flat_map ended (level_lists_from table.rules 0 (part_numbers ranks) (parts_of ranks text))
+key_by_parts : (ranks : RanksValue) (table : Collation) → AreRanksOf ranks table → IsWellFormed table → (text : List ℕ) → key_of table text ≡ flat_map ended (level_lists_from table.rules 0 (part_numbers ranks.compiled) (parts_of ranks text))
 unfolding key_of
 key_by_parts ranks table are well text = ap (flat_map ended) (level_lists_by_parts ranks table are well text)
 
@@ -93,9 +93,9 @@ key_is_whole f ps level items rules key same past =
     ∙ append-nil key
 
 -- a key is that of a text where no level is left
-pub key_is_made : (ranks : RanksValue) (table : Collation) → AreRanksOf ranks table → IsWellFormed table → (text : List ℕ) (parts : List Part) (level : ℕ) (items : List Rule) (key : List ℕ) → parts ≡ parts_of ranks text → items ≡ table.rules → length items ≤ level → flat_map ended (level_lists_from table.rules 0 (part_numbers ranks) parts) ≡ key ++ flat_map ended (level_lists_from (drop level table.rules) level (part_numbers ranks) parts) → key ≡ key_of table text
+pub key_is_made : (ranks : RanksValue) (table : Collation) → AreRanksOf ranks table → IsWellFormed table → (text : List ℕ) (parts : List Part) (level : ℕ) (items : List Rule) (key : List ℕ) → parts ≡ parts_of ranks text → items ≡ table.rules → length items ≤ level → flat_map ended (level_lists_from table.rules 0 (part_numbers ranks.compiled) parts) ≡ key ++ flat_map ended (level_lists_from (drop level table.rules) level (part_numbers ranks.compiled) parts) → key ≡ key_of table text
 key_is_made ranks table are well text parts level items key kept same past made =
-    sym (key_is_whole (part_numbers ranks) parts level items table.rules key same past)
+    sym (key_is_whole (part_numbers ranks.compiled) parts level items table.rules key same past)
     ∙ sym made
-    ∙ ap (λ ps. flat_map ended (level_lists_from table.rules 0 (part_numbers ranks) ps)) kept
+    ∙ ap (λ ps. flat_map ended (level_lists_from table.rules 0 (part_numbers ranks.compiled) ps)) kept
     ∙ sym (key_by_parts ranks table are well text)

@@ -35,7 +35,7 @@ pub fn key(alloc: Global, table: &Table, ranks: &Ranks, text: &str) -> Result<Ve
     let mut key = Vec::new(alloc);
     key.reserve(likely_numbers(parts.len(), table.rules().len()))?;
     for (level, rule) in table.rules().iter().enumerate() {
-        push_level(&mut key, ranks, level, *rule, &parts)?;
+        push_level(&mut key, ranks.weights(), level, *rule, &parts)?;
         key.push(0)?;
     }
     Ok(key)

@@ -9,27 +9,27 @@ ghost use Rattle.coll_key.specs.LevelList.{directed, items_of, listed, level_lis
 ghost use Rattle.coll_ranks.specs.Ranks.{added_to, part_numbers};
 
 use crate::limits::RANK_STEP;
-use coll_ranks::{Part, PartWeight, Ranks};
+use coll_ranks::{CompiledWeights, Part, PartWeight};
 use coll_syntax::Rule;
 use std::alloc::AllocError;
 
 /// Puts the list of a level behind a key.
 pub(crate) fn push_level(
     key: &mut Vec<u64>,
-    ranks: &Ranks,
+    weights: &CompiledWeights,
     level: usize,
     rule: Rule,
     parts: &[Part],
 ) -> Result<(), AllocError>
-    requires level { level < ranks.now.levels }
+    requires level { level < weights.now.levels }
     requires few { length parts.now ≤ 65_536 }
-    ensures { OnOk result (key.new.items ≡ key.old.items ++ level_list rule (part_numbers ranks.now level) parts.now) }
+    ensures { OnOk result (key.new.items ≡ key.old.items ++ level_list rule (part_numbers weights.now level) parts.now) }
 {
     match (rule.backward, rule.position) {
-        (false, false) => push_parts(key, ranks, level, false, false, parts),
-        (false, true) => push_parts(key, ranks, level, false, true, parts),
-        (true, false) => push_parts(key, ranks, level, true, false, parts),
-        (true, true) => push_parts(key, ranks, level, true, true, parts),
+        (false, false) => push_parts(key, weights, level, false, false, parts),
+        (false, true) => push_parts(key, weights, level, false, true, parts),
+        (true, false) => push_parts(key, weights, level, true, false, parts),
+        (true, true) => push_parts(key, weights, level, true, true, parts),
     }
 }
 
@@ -37,20 +37,20 @@ pub(crate) fn push_level(
 #[inline(always)]
 fn push_parts(
     key: &mut Vec<u64>,
-    ranks: &Ranks,
+    weights: &CompiledWeights,
     level: usize,
     backward: bool,
     position: bool,
     parts: &[Part],
 ) -> Result<(), AllocError>
-    requires level { level < ranks.now.levels }
+    requires level { level < weights.now.levels }
     requires few { length parts.now ≤ 65_536 }
-    ensures { OnOk result (key.new.items ≡ key.old.items ++ level_list (record { backward = backward; position = position }) (part_numbers ranks.now level) parts.now) }
+    ensures { OnOk result (key.new.items ≡ key.old.items ++ level_list (record { backward = backward; position = position }) (part_numbers weights.now level) parts.now) }
 {
     let mut left = parts;
     let mut gaps = 0;
     'parts: while let Some((part, later)) = split_towards(left, backward) {
-        let weight = ranks.weight(part, level);
+        let weight = weights.weight(part, level);
         gaps = push_part(key, weight, backward, position, gaps)?;
         left = later;
     }

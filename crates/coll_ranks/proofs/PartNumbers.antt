@@ -197,7 +197,7 @@ numbers_absent table id (Names ids) absent = none_added (map (known_rank table) 
 
 module _ (ranks : RanksValue) (table : Collation) (are : AreRanksOf ranks table) (level : ℕ) (within : level < length table.rules) where
   -- what is compiled for a rank, by the rows of the table
-  pub compiled_for : (rank : ℕ) → compiled_weight ranks rank level ≡ get_or (compiled_weights table) (rank * length table.rules + level) []
+  pub compiled_for : (rank : ℕ) → compiled_weight ranks.compiled rank level ≡ get_or (compiled_weights table) (rank * length table.rules + level) []
   compiled_for rank = ap₂ (λ (lists : List (List ℕ)) (levels : ℕ). get_or lists (rank * levels + level) []) are.weights are.levels
 
   undefined_row : List (List ℕ)
@@ -207,7 +207,7 @@ module _ (ranks : RanksValue) (table : Collation) (are : AreRanksOf ranks table)
   undefined_length = filled_length (length table.rules) (map (compiled_by (known_rank table) Undefined) (undefined_weights table))
 
   -- what has an entry
-  placed_numbers : (id : Id) (place : ℕ) → place_among (entries_of table) id ≡ Some place → part_numbers ranks level (Placed place) ≡ numbers_at table level id
+  placed_numbers : (id : Id) (place : ℕ) → place_among (entries_of table) id ≡ Some place → part_numbers ranks.compiled level (Placed place) ≡ numbers_at table level id
   unfolding numbers_at
   placed_numbers id place is =
       let there : HasEntry (entries_of table) id = has_entry (entries_of table) id place is in
@@ -222,7 +222,7 @@ module _ (ranks : RanksValue) (table : Collation) (are : AreRanksOf ranks table)
   absent_weight id is = ap (λ e. get_or (weights_or e (undefined_weights table)) level Ignore) (entry_of_place (entries_of table) id is)
 
   -- what is compiled for it
-  absent_compiled : (id : Id) → place_among (entries_of table) id ≡ None → compiled_weight ranks 0 level ≡ compiled_by (known_rank table) Undefined (weight_at table level id)
+  absent_compiled : (id : Id) → place_among (entries_of table) id ≡ None → compiled_weight ranks.compiled 0 level ≡ compiled_by (known_rank table) Undefined (weight_at table level id)
   absent_compiled id is =
       compiled_for 0
       ∙ (ap (λ n. get_or (compiled_weights table) n []) (let at : 0 * length table.rules + level ≡ level = omega arith in at)
@@ -230,36 +230,36 @@ module _ (ranks : RanksValue) (table : Collation) (are : AreRanksOf ranks table)
       ∙ (row_at (known_rank table) (length table.rules) level Undefined (undefined_weights table) within
       ∙ ap (compiled_by (known_rank table) Undefined) (sym (absent_weight id is)))))
 
-  absent_numbers : (id : Id) (added : ℕ) → place_among (entries_of table) id ≡ None → added ≡ cond (is_own (weight_at table level id)) (code_point id) 0 → map (added_to added) (compiled_weight ranks 0 level) ≡ numbers_at table level id
+  absent_numbers : (id : Id) (added : ℕ) → place_among (entries_of table) id ≡ None → added ≡ cond (is_own (weight_at table level id)) (code_point id) 0 → map (added_to added) (compiled_weight ranks.compiled 0 level) ≡ numbers_at table level id
   unfolding numbers_at
   absent_numbers id added is counted =
       let absent : is_placed table id ≡ false = has_place (entries_of table) id ∙ ap is_some is in
       ap₂ (λ (n : ℕ) (rs : List ℕ). map (added_to n) rs) counted (absent_compiled id is) ∙ numbers_absent table id (weight_at table level id) absent
 
   -- a character
-  character_numbers : (c : ℕ) → part_numbers ranks level (part_with ranks.ids None c) ≡ numbers_at table level (Char c)
-  character_numbers c = ap (λ r. part_numbers ranks level (character_part r c)) (are.identifiers (Char c)) ∙ by (place_among (entries_of table) (Char c)) refl where
-    own : slice_index_or ranks.own level false ≡ is_own (get_or (undefined_weights table) level Ignore)
+  character_numbers : (c : ℕ) → part_numbers ranks.compiled level (part_with ranks.ids None c) ≡ numbers_at table level (Char c)
+  character_numbers c = ap (λ r. part_numbers ranks.compiled level (character_part r c)) (are.identifiers (Char c)) ∙ by (place_among (entries_of table) (Char c)) refl where
+    own : slice_index_or ranks.compiled.own level false ≡ is_own (get_or (undefined_weights table) level Ignore)
     own = ap (λ o. get_or o level false) are.own ∙ get_or-map is_own (undefined_weights table) level Ignore
 
-    by : (p : Option ℕ) → place_among (entries_of table) (Char c) ≡ p → part_numbers ranks level (character_part (option_or p None) c) ≡ numbers_at table level (Char c)
-    by None e = absent_numbers (Char c) (added_at ranks level c) e (ap (λ b. cond b c 0) (own ∙ ap is_own (sym (absent_weight (Char c) e))))
+    by : (p : Option ℕ) → place_among (entries_of table) (Char c) ≡ p → part_numbers ranks.compiled level (character_part (option_or p None) c) ≡ numbers_at table level (Char c)
+    by None e = absent_numbers (Char c) (added_at ranks.compiled level c) e (ap (λ b. cond b c 0) (own ∙ ap is_own (sym (absent_weight (Char c) e))))
     by (Some place) e = placed_numbers (Char c) place e
 
   -- an element
-  element_numbers : (element : Element) → part_numbers ranks level (Placed (known_rank table (Named element.name))) ≡ numbers_at table level (Named element.name)
+  element_numbers : (element : Element) → part_numbers ranks.compiled level (Placed (known_rank table (Named element.name))) ≡ numbers_at table level (Named element.name)
   element_numbers element = by (place_among (entries_of table) (Named element.name)) refl where
-    by : (p : Option ℕ) → place_among (entries_of table) (Named element.name) ≡ p → part_numbers ranks level (Placed (known_rank table (Named element.name))) ≡ numbers_at table level (Named element.name)
+    by : (p : Option ℕ) → place_among (entries_of table) (Named element.name) ≡ p → part_numbers ranks.compiled level (Placed (known_rank table (Named element.name))) ≡ numbers_at table level (Named element.name)
     by None e =
-        ap (λ p. part_numbers ranks level (Placed (unwrap_or (option_or p None) 0))) e
+        ap (λ p. part_numbers ranks.compiled level (Placed (unwrap_or (option_or p None) 0))) e
         ∙ absent_numbers (Named element.name) 0 e (nothing (is_own (weight_at table level (Named element.name)))) where
           nothing : (b : Bool) → ◌≡◌ {A = ℕ} 0 (cond b 0 0)
           nothing true = refl
           nothing false = refl
-    by (Some place) e = ap (λ p. part_numbers ranks level (Placed (unwrap_or (option_or p None) 0))) e ∙ placed_numbers (Named element.name) place e
+    by (Some place) e = ap (λ p. part_numbers ranks.compiled level (Placed (unwrap_or (option_or p None) 0))) e ∙ placed_numbers (Named element.name) place e
 
   -- a part
-  numbers_of_part : (found : Option Element) (c : ℕ) → part_numbers ranks level (part_with ranks.ids (option_map (ranked_in table) found) c) ≡ numbers_at table level (part_id found c)
+  numbers_of_part : (found : Option Element) (c : ℕ) → part_numbers ranks.compiled level (part_with ranks.ids (option_map (ranked_in table) found) c) ≡ numbers_at table level (part_id found c)
   numbers_of_part None c = character_numbers c
   numbers_of_part (Some element) c = element_numbers element
 
@@ -284,20 +284,20 @@ module _ (ranks : RanksValue) (table : Collation) (are : AreRanksOf ranks table)
   beyond_ranked (Some element) = refl
 
   -- the numbers of all parts
-  numbers_of_parts : (skipped : ℕ) (text : List ℕ) → map (part_numbers ranks level) (split ranked_text (map (ranked_in table) (elements_placed table)) (part_with ranks.ids) skipped text) ≡ map (numbers_at table level) (split element_text (elements_placed table) part_id skipped text)
+  numbers_of_parts : (skipped : ℕ) (text : List ℕ) → map (part_numbers ranks.compiled level) (split ranked_text (map (ranked_in table) (elements_placed table)) (part_with ranks.ids) skipped text) ≡ map (numbers_at table level) (split element_text (elements_placed table) part_id skipped text)
   numbers_of_parts skipped [] = refl
   numbers_of_parts (suc skipped) (c ∷ text) = numbers_of_parts skipped text
   numbers_of_parts zero (c ∷ text) =
       let found = longest element_text (elements_placed table) (c ∷ text) in
-      ap (λ l. part_numbers ranks level (part_with ranks.ids l c) ∷ map (part_numbers ranks level) (split ranked_text (map (ranked_in table) (elements_placed table)) (part_with ranks.ids) (beyond_first ranked_text l) text)) (longest_ranked (elements_placed table) (c ∷ text))
-      ∙ (ap (λ n. part_numbers ranks level (part_with ranks.ids (option_map (ranked_in table) found) c) ∷ map (part_numbers ranks level) (split ranked_text (map (ranked_in table) (elements_placed table)) (part_with ranks.ids) n text)) (beyond_ranked found)
+      ap (λ l. part_numbers ranks.compiled level (part_with ranks.ids l c) ∷ map (part_numbers ranks.compiled level) (split ranked_text (map (ranked_in table) (elements_placed table)) (part_with ranks.ids) (beyond_first ranked_text l) text)) (longest_ranked (elements_placed table) (c ∷ text))
+      ∙ (ap (λ n. part_numbers ranks.compiled level (part_with ranks.ids (option_map (ranked_in table) found) c) ∷ map (part_numbers ranks.compiled level) (split ranked_text (map (ranked_in table) (elements_placed table)) (part_with ranks.ids) n text)) (beyond_ranked found)
       ∙ ap₂ (λ (n : List ℕ) (ns : List (List ℕ)). n ∷ ns) (numbers_of_part found c) (numbers_of_parts (beyond_first element_text found) text))
 
 -- the numbers of the parts of a text are those of its elements
-pub numbers_are : (ranks : RanksValue) (table : Collation) → AreRanksOf ranks table → IsWellFormed table → (level : ℕ) → level < length table.rules → (text : List ℕ) → map (part_numbers ranks level) (parts_of ranks text) ≡ map (numbers_at table level) (elements_of table text)
+pub numbers_are : (ranks : RanksValue) (table : Collation) → AreRanksOf ranks table → IsWellFormed table → (level : ℕ) → level < length table.rules → (text : List ℕ) → map (part_numbers ranks.compiled level) (parts_of ranks text) ≡ map (numbers_at table level) (elements_of table text)
 unfolding parts_of elements_of
 numbers_are ranks table are well level within text =
-    ap (λ es. map (part_numbers ranks level) (split ranked_text es (part_with ranks.ids) 0 text)) are.elements
+    ap (λ es. map (part_numbers ranks.compiled level) (split ranked_text es (part_with ranks.ids) 0 text)) are.elements
     ∙ numbers_of_parts ranks table are level within 0 text
 
 -- an empty text has no characters

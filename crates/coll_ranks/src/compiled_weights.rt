@@ -10,6 +10,7 @@ ghost use Rattle.coll_ranks.specs.Ranks.{rank_or_zero, compiled_by, compiled_row
 ghost use Rattle.coll_ranks.specs.RankLists.{IsLonger};
 
 use crate::id_ranks::IdRanks;
+use crate::parts::{Part, PartWeight};
 use coll_syntax::{Id, Weight};
 use std::alloc::{AllocError, Global};
 use std::marker::Model;
@@ -174,7 +175,7 @@ fn push_rank(ranks: &mut Vec<u32>, ids: &IdRanks, id: &Id) -> Result<(), AllocEr
 
 /// The weights of entries as ranks.
 #[derive(Drop)]
-pub(crate) struct CompiledWeights {
+pub struct CompiledWeights {
     levels: usize,
     lists: RankLists,
     /// For each level whether `UNDEFINED` stands for itself there.
@@ -194,6 +195,7 @@ impl Model for CompiledWeights {
 
 impl CompiledWeights {
     ghost use Rattle.coll_ranks.specs.RankLists.{AddsRow};
+    ghost use Rattle.coll_ranks.specs.Ranks.{compiled_weight, part_numbers, added_to, added_at};
 
     /// The weights of `UNDEFINED` at so many levels, with room for those of so many entries.
     pub(crate) fn new(
@@ -216,15 +218,40 @@ impl CompiledWeights {
     }
 
     /// The compiled weight at a level of what has this rank, where 0 is that of what has no entry.
-    pub(crate) fn weight(&self, rank: u32, level: usize) -> &[u32]
+    pub(crate) fn compiled(&self, rank: u32, level: usize) -> &[u32]
         requires { level < self.now.levels }
-        ensures { result.now ≡ slice_index_or self.now.lists (rank * self.now.levels + level) [] }
+        ensures { result.now ≡ compiled_weight self.now rank level }
     {
         self.lists.list(rank as usize * self.levels + level)
     }
 
-    /// Whether `UNDEFINED` stands for itself at a level.
-    pub(crate) fn is_own(&self, level: usize) -> bool
+    /// What a part weighs at a level.
+    #[inline(always)]
+    pub fn weight(&self, part: Part, level: usize) -> PartWeight<'_>
+        requires { level < self.now.levels }
+        ensures { map (added_to result.added) result.ranks.now ≡ part_numbers self.now level part }
+    {
+        match part {
+            Part::Placed(rank) => PartWeight {
+                ranks: self.compiled(rank, level),
+                added: 0,
+            },
+            Part::Absent(c) => PartWeight {
+                ranks: self.compiled(0, level),
+                added: self.added(c, level),
+            },
+        }
+    }
+
+    // What is added to the number of a character without an entry.
+    fn added(&self, c: char, level: usize) -> u32
+        ensures { result ≡ added_at self.now level c }
+    {
+        if self.is_own(level) { c as u32 } else { 0 }
+    }
+
+    // Whether `UNDEFINED` stands for itself at a level.
+    fn is_own(&self, level: usize) -> bool
         ensures { result ≡ slice_index_or self.now.own level false }
     {
         match self.own.get(level) {

@@ -6,8 +6,9 @@
 //! - `code_points`, `name_numbers` and `id_ranks`: which rank an identifier has (`Rank`, `Ranks`, `NameMaps`);
 //! - `named_elements`, `element_order` and `placed_elements`: which collating element a text begins with (`Elements`,
 //!   `NamedElements`, `ElementOrder`);
-//! - `parts`: what a text is split into, and what a part weighs (`WeightNumbers`, `AlikeFronts`);
-//! - `compiled_weights`: the weights of all entries as ranks (`Ranks`, `RankLists`);
+//! - `parts`: what a text is split into (`AlikeFronts`);
+//! - `compiled_weights`: the weights of all entries as ranks, and what a part weighs by them (`Ranks`, `RankLists`,
+//!   `WeightNumbers`);
 //! - `ranks`, and `ranking`: the whole, made of a table (`Ranks`, `Ranking`).
 #![tactic(auto)]
 
@@ -22,5 +23,6 @@ mod placed_elements;
 mod ranking;
 mod ranks;
 
+pub use compiled_weights::CompiledWeights;
 pub use parts::{FirstPart, Part, PartWeight};
 pub use ranks::Ranks;

@@ -1,6 +1,7 @@
-use Rattle.std.proofs.Common.{◌∙◌, chars, ap}
+use Rattle.std.proofs.Common.{◌∙◌, ◌++◌, chars, get_or, ap, false}
 use Rattle.coll_nodes.specs.TableLayout.{collation}
 use Rattle.coll_ranks.specs.Ranks.{part_numbers}
+use Rattle.coll_key.specs.LevelList.{level_list}
 use Rattle.coll_key.specs.WrittenKey.{has_key_form}
 use Rattle.coll_key.proofs.KeyForm.{key_form}
 use Rattle.coll_key.proofs.LevelLemmas.{few_parts}
@@ -13,7 +14,8 @@ push_level-requires-clause-few c =
 
 pub loop-level-preserved : goal.loop-level-preserved
 loop-level-preserved c =
-    key_goes_on (part_numbers c.args.ranks.now) c.loop-level.level c.rules-rule-items.result.now _ _ c.in_ok-parts.parts.items _ _ _ _ _ c.rules-rule-items.ensures c.loop-level-test.true c.deref.ensures.value c.in_ok-push_level.ensures c.in_ok-push.ensures.items c.loop-level.invariant
+    let pushed = ap (λ w. c.loop-level.key.items ++ level_list (get_or c.rules-rule-items.result.now c.loop-level.level (record { backward = false; position = false })) (part_numbers w c.loop-level.level) c.deref.result.now) c.weights.ensures in
+    key_goes_on (part_numbers c.args.ranks.now.compiled) c.loop-level.level c.rules-rule-items.result.now _ _ c.in_ok-parts.parts.items _ _ _ _ _ c.rules-rule-items.ensures c.loop-level-test.true c.deref.ensures.value (c.in_ok-push_level.ensures ∙ pushed) c.in_ok-push.ensures.items c.loop-level.invariant
 
 pub returns-clause-ok : goal.returns-clause-ok
 returns-clause-ok c =

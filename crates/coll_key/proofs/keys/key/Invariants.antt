@@ -9,5 +9,5 @@ use Rattle.coll_key.proofs.keys.key.Given as goal
 abbrev pub invariant-loop-level : goal.invariant-loop-level
 invariant-loop-level l =
     let rules = (collation l.table).rules in
-    flat_map ended (level_lists_from rules 0 (part_numbers l.ranks) l.parts.items)
-    ≡ l.key.items ++ flat_map ended (level_lists_from (drop l.level rules) l.level (part_numbers l.ranks) l.parts.items)
+    flat_map ended (level_lists_from rules 0 (part_numbers l.ranks.compiled) l.parts.items)
+    ≡ l.key.items ++ flat_map ended (level_lists_from (drop l.level rules) l.level (part_numbers l.ranks.compiled) l.parts.items)

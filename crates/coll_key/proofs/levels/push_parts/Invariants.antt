@@ -6,7 +6,7 @@ use Rattle.coll_key.proofs.levels.push_parts.Given as goal
 
 abbrev pub invariant-parts : goal.invariant-parts
 invariant-parts l =
-    let numbers = directed_numbers l.backward (part_numbers l.ranks l.level) in
+    let numbers = directed_numbers l.backward (part_numbers l.weights l.level) in
     record {
       few : l.gaps + length l.left ≤ 65_536;
       same : l.initial.key.items ++ listed l.position 0 (items numbers (directed l.backward l.parts)) ≡ l.key.items ++ listed l.position l.gaps (items numbers (directed l.backward l.left));
