@@ -7,4 +7,5 @@ pub mod Rank
 pub mod RankLists
 pub mod Ranking
 pub mod Ranks
+pub mod TextElements
 pub mod WeightNumbers

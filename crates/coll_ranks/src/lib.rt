@@ -9,6 +9,7 @@
 //! - `parts`: what a text is split into (`AlikeFronts`);
 //! - `compiled_weights`: the weights of all entries as ranks, and what a part weighs by them (`Ranks`, `RankLists`,
 //!   `WeightNumbers`);
+//! - `text_elements`: the elements of one text, looked up by themselves (`TextElements`);
 //! - `ranks`, and `ranking`: the whole, made of a table (`Ranks`, `Ranking`).
 #![tactic(auto)]
 
@@ -22,6 +23,7 @@ mod parts;
 mod placed_elements;
 mod ranking;
 mod ranks;
+mod text_elements;
 
 pub use compiled_weights::CompiledWeights;
 pub use parts::{FirstPart, Part, PartWeight};
