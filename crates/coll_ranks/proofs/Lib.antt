@@ -12,3 +12,4 @@ pub mod PartNumbers
 pub mod RankListLemmas
 pub mod RankingLemmas
 pub mod Tests
+pub mod TextElements
