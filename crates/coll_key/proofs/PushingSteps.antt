@@ -1,5 +1,5 @@
 -- What is put behind a key for a part, and for a level.
-use Rattle.std.proofs.Common.{◌≡◌, ◌≤◌, ◌+◌, ℕ, Bool, List, [], ◌∷◌, ◌++◌, length, map, Option, Some, true, false, refl, sym, ap, ◌∙◌, append-nil, append_assoc, arith}
+use Rattle.std.proofs.Common.{◌≡◌, ◌≤◌, ◌<◌, ◌+◌, ℕ, Bool, List, [], ◌∷◌, ◌++◌, length, map, Option, Some, true, false, refl, sym, ap, ◌∙◌, append-nil, append_assoc, arith}
 use Rattle.coll_key.specs.LevelList.{items_of, items, directed, listed, level_list, position_of}
 use Rattle.coll_key.proofs.DirectionLemmas.{directed_numbers, map-directed, length-directed, items-directed}
 
@@ -19,6 +19,10 @@ module _ (p b : Bool) (gaps : ℕ) (g : ℕ → ℕ) (ranks others old now : Lis
       nothing : (b : Bool) → directed {X = ℕ} b [] ≡ []
       nothing true = refl
       nothing false = refl
+
+-- with one part more behind a key fewer are left
+pub shorter_left : {P : Type 0} (b : Bool) (left later : List P) (part : P) → directed b left ≡ part ∷ directed b later → length later < length left
+shorter_left b left later part begins = omega (arith, ap length begins, length-directed b left, length-directed b later)
 
 module _ {P : Type 0} (b : Bool) (left later : List P) (part : P) (begins : directed b left ≡ part ∷ directed b later) (gaps after : ℕ) where
   -- with one part more behind a key the gaps and the parts that are left are no more than before

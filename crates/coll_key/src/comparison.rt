@@ -15,7 +15,7 @@ ghost use Rattle.coll_key.specs.declared.key_faults.KeyFault.TheVariants.{TextTo
 
 use crate::forward_numbers::{ForwardNumbers, Step};
 use crate::key_faults::KeyFault;
-use crate::levels::push_level;
+use crate::levels::with_level;
 use crate::limits::is_too_long;
 use crate::text_parts::kept_parts;
 use coll_ranks::Ranks;
@@ -98,8 +98,7 @@ fn backward_list(
     ensures err { IfErr result (λ fault. fault ≢ OutOfMemory → is_too_long (chars text.now) ≡ true) }
 {
     let parts = kept_parts(alloc, ranks, text)?;
-    let mut list = Vec::new(alloc);
-    push_level(&mut list, ranks.weights(), level, rule, &parts)?;
+    let list = with_level(Vec::new(alloc), ranks.weights(), level, rule, &parts)?;
     Ok(list)
 }
 

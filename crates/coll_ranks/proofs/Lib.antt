@@ -1,4 +1,5 @@
 pub mod AlikeFronts
+pub mod CellLemmas
 pub mod ElementBeginnings
 pub mod ElementOrder
 pub mod ElementOrderGrowth

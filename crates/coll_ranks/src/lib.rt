@@ -7,8 +7,8 @@
 //! - `named_elements`, `element_order` and `placed_elements`: which collating element a text begins with (`Elements`,
 //!   `NamedElements`, `ElementOrder`);
 //! - `parts`: what a text is split into (`AlikeFronts`);
-//! - `compiled_weights`: the weights of all entries as ranks, and what a part weighs by them (`Ranks`, `RankLists`,
-//!   `WeightNumbers`);
+//! - `rank_lists`, `weight_cells` and `compiled_weights`: the weights of all entries as ranks, and what a part weighs by them
+//!   (`RankLists`, `Ranks`, `WeightNumbers`);
 //! - `text_elements`: the elements of one text, looked up by themselves (`TextElements`);
 //! - `ranks`, and `ranking`: the whole, made of a table (`Ranks`, `Ranking`).
 #![tactic(auto)]
@@ -21,9 +21,11 @@ mod name_numbers;
 mod named_elements;
 mod parts;
 mod placed_elements;
+mod rank_lists;
 mod ranking;
 mod ranks;
 mod text_elements;
+mod weight_cells;
 
 pub use compiled_weights::CompiledWeights;
 pub use parts::{FirstPart, Part, PartWeight};

@@ -1,7 +1,7 @@
 -- A list stands between two ends.
 use Rattle.std.proofs.Common.{◌∙◌, ◌≤◌, ◌-◌, length, take, drop, sym, ap, subst}
 use Rattle.coll_ranks.proofs.RankListLemmas.{stands_between, no_list}
-use Rattle.coll_ranks.proofs.compiled_weights.RankLists.list.Goals as goal
+use Rattle.coll_ranks.proofs.rank_lists.RankLists.list.Goals as goal
 
 pub piece-requires : goal.piece-requires
 piece-requires c =

@@ -1,12 +1,12 @@
 use Rattle.std.proofs.Common.{◌≡◌, ◌++◌, ℕ, List, Option, Some, map, length}
 use Rattle.coll_key.specs.LevelList.{directed, listed}
 use Rattle.coll_ranks.specs.Ranks.{added_to}
-use Rattle.coll_key.proofs.levels.push_others.Given as goal
+use Rattle.coll_key.proofs.levels.with_others.Given as goal
 
 abbrev pub invariant-others : goal.invariant-others
 invariant-others l =
-    (later : List (Option ℕ)) → l.initial.key.items ++ listed l.position 0 (map Some (map (added_to l.added) (directed l.backward l.ranks)) ++ later)
-    ≡ l.key.items ++ listed l.position 0 (map Some (map (added_to l.added) (directed l.backward l.left)) ++ later)
+    (later : List (Option ℕ)) → l.initial.with.items ++ listed l.position 0 (map Some (map (added_to l.added) (directed l.backward l.ranks)) ++ later)
+    ≡ l.with.items ++ listed l.position 0 (map Some (map (added_to l.added) (directed l.backward l.left)) ++ later)
 
 abbrev pub decreases-others : goal.decreases-others
 decreases-others l = length l.left

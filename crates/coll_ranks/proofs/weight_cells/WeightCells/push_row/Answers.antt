@@ -1,7 +1,7 @@
 -- One level more is one weight less.
 use Rattle.std.proofs.Common.{◌≡◌, ◌++◌, ◌-◌, ◌+◌, suc, ◌∙◌, sym, ap, arith}
 use Rattle.coll_ranks.specs.Ranks.{rank_or_zero, compiled_row_by}
-use Rattle.coll_ranks.proofs.compiled_weights.RankLists.push_row.Goals as goal
+use Rattle.coll_ranks.proofs.weight_cells.WeightCells.push_row.Goals as goal
 
 pub loop-level-preserved : goal.loop-level-preserved
 loop-level-preserved c =

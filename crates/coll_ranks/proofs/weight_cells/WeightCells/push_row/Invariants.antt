@@ -1,7 +1,7 @@
 -- The weights that are left make up the row.
 use Rattle.std.proofs.Common.{◌≡◌, ◌++◌, ◌-◌}
 use Rattle.coll_ranks.specs.Ranks.{rank_or_zero, compiled_row_by}
-use Rattle.coll_ranks.proofs.compiled_weights.RankLists.push_row.Given as goal
+use Rattle.coll_ranks.proofs.weight_cells.WeightCells.push_row.Given as goal
 
 abbrev pub invariant-loop-level : goal.invariant-loop-level
 invariant-loop-level l =
