@@ -6,11 +6,12 @@
 ghost use Rattle.std.specs.Prelude.{◌≡◌, ◌<◌, ◌≤◌, ◌-◌, ◌+◌, ◌*◌, ◌++◌, ◌∷◌, [], ℕ, suc, length, take, drop, map, IfOk, OnOk, OnErr, false, slice_index_or};
 ghost use Rattle.coll_print.specs.CanonicalText.{is_own};
 ghost use Rattle.coll_syntax.specs.declared.identifiers.Id.TheVariants.{Undefined};
-ghost use Rattle.coll_ranks.specs.Ranks.{rank_or_zero, compiled_by, compiled_row_by};
+ghost use Rattle.coll_ranks.specs.Rank.{known_rank};
+ghost use Rattle.coll_ranks.specs.Ranks.{compiled_by, compiled_row_by};
 ghost use Rattle.coll_ranks.specs.RankLists.{IsLonger};
 
-use crate::id_ranks::IdRanks;
 use crate::parts::{Part, PartWeight};
+use crate::table_ranks::TableRanks;
 use coll_syntax::{Id, Weight};
 use std::alloc::{AllocError, Global};
 use std::marker::Model;
@@ -55,12 +56,17 @@ impl RankLists {
     }
 
     // Puts the ranks of a weight behind all others.
-    fn push(&mut self, ids: &IdRanks, owner: &Id, weight: &Weight) -> Result<(), AllocError>
-        ensures { OnOk result (self.new ≡ self.old ++ compiled_by (rank_or_zero ids.now) owner.now weight.now ∷ []) }
+    fn push(
+        &mut self,
+        table: &TableRanks<'_>,
+        owner: &Id,
+        weight: &Weight,
+    ) -> Result<(), AllocError>
+        ensures { OnOk result (self.new ≡ self.old ++ compiled_by (known_rank table.now) owner.now weight.now ∷ []) }
     {
         self.ends.reserve(1)?;
         let whole = self.ranks.len();
-        match push_weight(&mut self.ranks, ids, owner, weight) {
+        match push_weight(&mut self.ranks, table, owner, weight) {
             Ok(()) => {
                 self.ends.push_reserved(self.ranks.len());
                 Ok(())
@@ -75,16 +81,16 @@ impl RankLists {
     // Puts the weights of an identifier behind all others, as many as there are levels.
     fn push_row(
         &mut self,
-        ids: &IdRanks,
+        table: &TableRanks<'_>,
         owner: &Id,
         weights: &[Weight],
         levels: usize,
     ) -> Result<(), AllocError>
-        ensures { OnOk result (self.new ≡ self.old ++ compiled_row_by (rank_or_zero ids.now) levels owner.now weights.now) }
+        ensures { OnOk result (self.new ≡ self.old ++ compiled_row_by (known_rank table.now) levels owner.now weights.now) }
     {
         let mut left = weights;
         for level in 0..levels {
-            left = self.push_next(ids, owner, left)?;
+            left = self.push_next(table, owner, left)?;
         }
         Ok(())
     }
@@ -92,17 +98,17 @@ impl RankLists {
     // Puts the first of some weights behind all others, or an empty one where there is none, and gives the later ones.
     fn push_next<'a>(
         &mut self,
-        ids: &IdRanks,
+        table: &TableRanks<'_>,
         owner: &Id,
         weights: &'a [Weight],
     ) -> Result<&'a [Weight], AllocError>
-        ensures { IfOk result (λ later. (count : ℕ) → self.new ++ compiled_row_by (rank_or_zero ids.now) count owner.now later.now ≡ self.old ++ compiled_row_by (rank_or_zero ids.now) (suc count) owner.now weights.now) }
+        ensures { IfOk result (λ later. (count : ℕ) → self.new ++ compiled_row_by (known_rank table.now) count owner.now later.now ≡ self.old ++ compiled_row_by (known_rank table.now) (suc count) owner.now weights.now) }
     {
         let Some((weight, later)) = weights.split_first() else {
             self.push_empty()?;
             return Ok(weights);
         };
-        self.push(ids, owner, weight)?;
+        self.push(table, owner, weight)?;
         Ok(later)
     }
 
@@ -137,27 +143,27 @@ fn start(ends: &[usize], place: usize) -> usize
 // Puts the ranks of a weight behind others.
 fn push_weight(
     ranks: &mut Vec<u32>,
-    ids: &IdRanks,
+    table: &TableRanks<'_>,
     owner: &Id,
     weight: &Weight,
 ) -> Result<(), AllocError>
-    ensures ok { OnOk result (ranks.new.items ≡ ranks.old.items ++ compiled_by (rank_or_zero ids.now) owner.now weight.now) }
+    ensures ok { OnOk result (ranks.new.items ≡ ranks.old.items ++ compiled_by (known_rank table.now) owner.now weight.now) }
     ensures err { OnErr result (IsLonger ranks.old.items ranks.new.items) }
 {
     match weight {
         Weight::Ignore => Ok(()),
-        Weight::Own => push_rank(ranks, ids, owner),
-        Weight::Names(named) => push_named(ranks, ids, named.get()),
+        Weight::Own => push_rank(ranks, table, owner),
+        Weight::Names(named) => push_named(ranks, table, named.get()),
     }
 }
 
 // Puts the ranks of identifiers behind others.
-fn push_named(ranks: &mut Vec<u32>, ids: &IdRanks, named: &[Id]) -> Result<(), AllocError>
-    ensures ok { OnOk result (ranks.new.items ≡ ranks.old.items ++ map (rank_or_zero ids.now) named.now) }
+fn push_named(ranks: &mut Vec<u32>, table: &TableRanks<'_>, named: &[Id]) -> Result<(), AllocError>
+    ensures ok { OnOk result (ranks.new.items ≡ ranks.old.items ++ map (known_rank table.now) named.now) }
     ensures err { OnErr result (IsLonger ranks.old.items ranks.new.items) }
 {
     for id in named {
-        if let Err(error) = push_rank(ranks, ids, id) {
+        if let Err(error) = push_rank(ranks, table, id) {
             return Err(error);
         }
     }
@@ -165,11 +171,11 @@ fn push_named(ranks: &mut Vec<u32>, ids: &IdRanks, named: &[Id]) -> Result<(), A
 }
 
 // Puts the rank of an identifier behind others.
-fn push_rank(ranks: &mut Vec<u32>, ids: &IdRanks, id: &Id) -> Result<(), AllocError>
-    ensures ok { OnOk result (ranks.new.items ≡ ranks.old.items ++ rank_or_zero ids.now id.now ∷ []) }
+fn push_rank(ranks: &mut Vec<u32>, table: &TableRanks<'_>, id: &Id) -> Result<(), AllocError>
+    ensures ok { OnOk result (ranks.new.items ≡ ranks.old.items ++ known_rank table.now id.now ∷ []) }
     ensures err { OnErr result (IsLonger ranks.old.items ranks.new.items) }
 {
-    ranks.push(ids.rank(id).unwrap_or(0))?;
+    ranks.push(table.known_rank(id))?;
     Ok(())
 }
 
@@ -202,18 +208,18 @@ impl CompiledWeights {
         alloc: Global,
         levels: usize,
         entries: usize,
-        ids: &IdRanks,
+        table: &TableRanks<'_>,
         undefined: &[Weight],
     ) -> Result<CompiledWeights, AllocError>
         requires levels { levels ≤ 4 }
         requires few { entries < 1_000_000 }
         ensures levels { IfOk result (λ compiled. compiled.levels ≡ levels) }
-        ensures lists { IfOk result (λ compiled. compiled.lists ≡ compiled_row_by (rank_or_zero ids.now) levels Undefined undefined.now) }
+        ensures lists { IfOk result (λ compiled. compiled.lists ≡ compiled_row_by (known_rank table.now) levels Undefined undefined.now) }
         ensures own { IfOk result (λ compiled. compiled.own ≡ map is_own undefined.now) }
     {
         let own = own_levels(alloc, undefined)?;
         let mut lists = RankLists::with_room(alloc, likely_weights(entries, levels))?;
-        lists.push_row(ids, &Id::Undefined, undefined, levels)?;
+        lists.push_row(table, &Id::Undefined, undefined, levels)?;
         Ok(CompiledWeights { levels, lists, own })
     }
 
@@ -263,13 +269,13 @@ impl CompiledWeights {
     /// Puts the weights of an identifier behind all others, as many as there are levels.
     pub(crate) fn push(
         &mut self,
-        ids: &IdRanks,
+        table: &TableRanks<'_>,
         owner: &Id,
         weights: &[Weight],
     ) -> Result<(), AllocError>
-        ensures { OnOk result (AddsRow self.old self.new (compiled_row_by (rank_or_zero ids.now) self.old.levels owner.now weights.now)) }
+        ensures { OnOk result (AddsRow self.old self.new (compiled_row_by (known_rank table.now) self.old.levels owner.now weights.now)) }
     {
-        self.lists.push_row(ids, owner, weights, self.levels)?;
+        self.lists.push_row(table, owner, weights, self.levels)?;
         Ok(())
     }
 }
