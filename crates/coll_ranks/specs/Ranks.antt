@@ -1,7 +1,7 @@
 -- The ranks of a table, compiled: what their look-ups find, and when they are those of a table.
 use Rattle.std.specs.Prelude.{◌≡◌, ℕ, zero, suc, ◌+◌, ◌*◌, false, if◌then◌else◌, List, [], ◌∷◌, ◌++◌, Option, Some, None, length, map, slice_index_or}
 use Rattle.std.specs.List.{flat_map}
-use Rattle.std.specs.Option.{option_or, unwrap_or}
+use Rattle.std.specs.Option.{option_or}
 use Rattle.coll_syntax.specs.Identifier.{same_name}
 use Rattle.coll_syntax.specs.declared.identifiers.Id.{Id}
 use Rattle.coll_syntax.specs.declared.identifiers.Id.TheVariants.{Char, Named, Undefined}
@@ -61,10 +61,6 @@ abbrev pub rank_with : RanksById → Id → Option ℕ
 rank_with ids (Char c) = rank_if_any (slice_index_or ids.characters c 0)
 rank_with ids (Named name) = number_named ids.names name
 rank_with ids Undefined = ids.undefined
-
--- the rank of an identifier, and 0 for one that has none
-abbrev pub rank_or_zero : RanksById → Id → ℕ
-rank_or_zero ids id = unwrap_or (rank_with ids id) 0
 
 -- the string of a ranked element
 abbrev pub ranked_text : RankedElement → List ℕ

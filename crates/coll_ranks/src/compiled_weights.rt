@@ -5,10 +5,11 @@
 ghost use Rattle.std.specs.Prelude.{◌≡◌, ◌<◌, ◌≤◌, ◌+◌, ◌*◌, map, IfOk, OnOk, false, slice_index_or};
 ghost use Rattle.coll_print.specs.CanonicalText.{is_own};
 ghost use Rattle.coll_syntax.specs.declared.identifiers.Id.TheVariants.{Undefined};
-ghost use Rattle.coll_ranks.specs.Ranks.{rank_or_zero, compiled_row_by};
+ghost use Rattle.coll_ranks.specs.Rank.{known_rank};
+ghost use Rattle.coll_ranks.specs.Ranks.{compiled_row_by};
 
-use crate::id_ranks::IdRanks;
 use crate::parts::{Part, PartWeight};
+use crate::table_ranks::TableRanks;
 use crate::weight_cells::WeightCells;
 use coll_syntax::{Id, Weight};
 use std::alloc::{AllocError, Global};
@@ -43,18 +44,18 @@ impl CompiledWeights {
         alloc: Global,
         levels: usize,
         entries: usize,
-        ids: &IdRanks,
+        table: &TableRanks<'_>,
         undefined: &[Weight],
     ) -> Result<CompiledWeights, AllocError>
         requires levels { levels ≤ 4 }
         requires few { entries < 1_000_000 }
         ensures levels { IfOk result (λ compiled. compiled.levels ≡ levels) }
-        ensures lists { IfOk result (λ compiled. compiled.lists ≡ compiled_row_by (rank_or_zero ids.now) levels Undefined undefined.now) }
+        ensures lists { IfOk result (λ compiled. compiled.lists ≡ compiled_row_by (known_rank table.now) levels Undefined undefined.now) }
         ensures own { IfOk result (λ compiled. compiled.own ≡ map is_own undefined.now) }
     {
         let own = own_levels(alloc, undefined)?;
         let mut lists = WeightCells::with_room(alloc, likely_weights(entries, levels))?;
-        lists.push_row(ids, &Id::Undefined, undefined, levels)?;
+        lists.push_row(table, &Id::Undefined, undefined, levels)?;
         Ok(CompiledWeights { levels, lists, own })
     }
 
@@ -105,13 +106,13 @@ impl CompiledWeights {
     /// Puts the weights of an identifier behind all others, as many as there are levels.
     pub(crate) fn push(
         &mut self,
-        ids: &IdRanks,
+        table: &TableRanks<'_>,
         owner: &Id,
         weights: &[Weight],
     ) -> Result<(), AllocError>
-        ensures { OnOk result (AddsRow self.old self.new (compiled_row_by (rank_or_zero ids.now) self.old.levels owner.now weights.now)) }
+        ensures { OnOk result (AddsRow self.old self.new (compiled_row_by (known_rank table.now) self.old.levels owner.now weights.now)) }
     {
-        self.lists.push_row(ids, owner, weights, self.levels)?;
+        self.lists.push_row(table, owner, weights, self.levels)?;
         Ok(())
     }
 }

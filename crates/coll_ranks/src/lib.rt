@@ -4,6 +4,7 @@
 //! weighs at a level. A way through the crate, each file with its definitions in `specs/`:
 //!
 //! - `code_points`, `name_numbers` and `id_ranks`: which rank an identifier has (`Rank`, `Ranks`, `NameMaps`);
+//! - `table_ranks`: which rank it has in a table whose entries are numbered (`Rank`);
 //! - `named_elements`, `element_order` and `placed_elements`: which collating element a text begins with (`Elements`,
 //!   `NamedElements`, `ElementOrder`);
 //! - `parts`: what a text is split into (`AlikeFronts`);
@@ -24,6 +25,7 @@ mod placed_elements;
 mod rank_lists;
 mod ranking;
 mod ranks;
+mod table_ranks;
 mod text_elements;
 mod weight_cells;
 

@@ -3,10 +3,11 @@
 //! All ranks stand in one list, and a second list has where each ends. So what is looked up is one piece of a list.
 
 ghost use Rattle.std.specs.Prelude.{◌≡◌, ◌<◌, ◌≤◌, ◌-◌, ◌++◌, ◌∷◌, [], length, take, drop, map, IfOk, OnOk, OnErr, slice_index_or};
-ghost use Rattle.coll_ranks.specs.Ranks.{rank_or_zero, compiled_by};
+ghost use Rattle.coll_ranks.specs.Rank.{known_rank};
+ghost use Rattle.coll_ranks.specs.Ranks.{compiled_by};
 ghost use Rattle.coll_ranks.specs.RankLists.{IsLonger};
 
-use crate::id_ranks::IdRanks;
+use crate::table_ranks::TableRanks;
 use coll_syntax::{Id, Weight};
 use std::alloc::{AllocError, Global};
 use std::marker::Model;
@@ -61,16 +62,16 @@ impl RankLists {
     /// Puts the ranks of a weight behind all others.
     pub(crate) fn push(
         &mut self,
-        ids: &IdRanks,
+        table: &TableRanks<'_>,
         owner: &Id,
         weight: &Weight,
     ) -> Result<(), AllocError>
-        ensures ok { OnOk result (self.new ≡ self.old ++ compiled_by (rank_or_zero ids.now) owner.now weight.now ∷ []) }
+        ensures ok { OnOk result (self.new ≡ self.old ++ compiled_by (known_rank table.now) owner.now weight.now ∷ []) }
         ensures err { OnErr result (self.new ≡ self.old) }
     {
         self.ends.reserve(1)?;
         let whole = self.ranks.len();
-        match push_weight(&mut self.ranks, ids, owner, weight) {
+        match push_weight(&mut self.ranks, table, owner, weight) {
             Ok(()) => {
                 self.ends.push_reserved(self.ranks.len());
                 Ok(())
@@ -105,27 +106,27 @@ fn start(ends: &[usize], place: usize) -> usize
 // Puts the ranks of a weight behind others.
 fn push_weight(
     ranks: &mut Vec<u32>,
-    ids: &IdRanks,
+    table: &TableRanks<'_>,
     owner: &Id,
     weight: &Weight,
 ) -> Result<(), AllocError>
-    ensures ok { OnOk result (ranks.new.items ≡ ranks.old.items ++ compiled_by (rank_or_zero ids.now) owner.now weight.now) }
+    ensures ok { OnOk result (ranks.new.items ≡ ranks.old.items ++ compiled_by (known_rank table.now) owner.now weight.now) }
     ensures err { OnErr result (IsLonger ranks.old.items ranks.new.items) }
 {
     match weight {
         Weight::Ignore => Ok(()),
-        Weight::Own => push_rank(ranks, ids, owner),
-        Weight::Names(named) => push_named(ranks, ids, named.get()),
+        Weight::Own => push_rank(ranks, table, owner),
+        Weight::Names(named) => push_named(ranks, table, named.get()),
     }
 }
 
 // Puts the ranks of identifiers behind others.
-fn push_named(ranks: &mut Vec<u32>, ids: &IdRanks, named: &[Id]) -> Result<(), AllocError>
-    ensures ok { OnOk result (ranks.new.items ≡ ranks.old.items ++ map (rank_or_zero ids.now) named.now) }
+fn push_named(ranks: &mut Vec<u32>, table: &TableRanks<'_>, named: &[Id]) -> Result<(), AllocError>
+    ensures ok { OnOk result (ranks.new.items ≡ ranks.old.items ++ map (known_rank table.now) named.now) }
     ensures err { OnErr result (IsLonger ranks.old.items ranks.new.items) }
 {
     for id in named {
-        if let Err(error) = push_rank(ranks, ids, id) {
+        if let Err(error) = push_rank(ranks, table, id) {
             return Err(error);
         }
     }
@@ -133,10 +134,10 @@ fn push_named(ranks: &mut Vec<u32>, ids: &IdRanks, named: &[Id]) -> Result<(), A
 }
 
 // Puts the rank of an identifier behind others.
-fn push_rank(ranks: &mut Vec<u32>, ids: &IdRanks, id: &Id) -> Result<(), AllocError>
-    ensures ok { OnOk result (ranks.new.items ≡ ranks.old.items ++ rank_or_zero ids.now id.now ∷ []) }
+fn push_rank(ranks: &mut Vec<u32>, table: &TableRanks<'_>, id: &Id) -> Result<(), AllocError>
+    ensures ok { OnOk result (ranks.new.items ≡ ranks.old.items ++ known_rank table.now id.now ∷ []) }
     ensures err { OnErr result (IsLonger ranks.old.items ranks.new.items) }
 {
-    ranks.push(ids.rank(id).unwrap_or(0))?;
+    ranks.push(table.known_rank(id))?;
     Ok(())
 }
