@@ -11,4 +11,6 @@ pub mod NamedElements
 pub mod PartNumbers
 pub mod RankListLemmas
 pub mod RankingLemmas
+pub mod RowNumbers
 pub mod Tests
+pub mod TextRows

@@ -8,4 +8,5 @@ pub mod RankLists
 pub mod Ranking
 pub mod Ranks
 pub mod TextElements
+pub mod TextWeights
 pub mod WeightNumbers

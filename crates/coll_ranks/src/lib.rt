@@ -10,7 +10,8 @@
 //! - `parts`: what a text is split into (`AlikeFronts`);
 //! - `compiled_weights`: the weights of all entries as ranks, and what a part weighs by them (`Ranks`, `RankLists`,
 //!   `WeightNumbers`);
-//! - `text_elements`: the elements of one text, looked up by themselves (`TextElements`);
+//! - `text_elements` and `text_weights`: the elements of one text, looked up by themselves, and its weights, compiled for it alone
+//!   (`TextElements`, `TextWeights`);
 //! - `ranks`, and `ranking`: the whole, made of a table (`Ranks`, `Ranking`).
 #![tactic(auto)]
 
@@ -26,7 +27,9 @@ mod ranking;
 mod ranks;
 mod table_ranks;
 mod text_elements;
+mod text_weights;
 
 pub use compiled_weights::CompiledWeights;
 pub use parts::{FirstPart, Part, PartWeight};
 pub use ranks::Ranks;
+pub use text_weights::TextWeights;
