@@ -1,27 +1,25 @@
 -- What the look-ups find for a text is what the table says of its elements.
-use Rattle.std.proofs.Common.{◌≡◌, ◌<◌, ℕ, zero, suc, ◌+◌, ◌*◌, ◌-◌, Bool, true, false, cond, List, [], ◌∷◌, ◌++◌, length, map, get_or, chars, Option, Some, None, is_some, sym, ap, ap₂, ◌∙◌, refl, arith, length-append}
-use Rattle.std.specs.Prelude.{nat_lt, slice_index_or}
+use Rattle.std.proofs.Common.{◌≡◌, ◌<◌, ◌≤◌, ℕ, zero, suc, ◌+◌, ◌*◌, ◌-◌, Bool, true, false, cond, List, [], ◌∷◌, ◌++◌, length, map, get_or, chars, Option, Some, None, is_some, sym, ap, ap₂, ◌∙◌, refl, arith, length-append}
+use Rattle.std.specs.Prelude.{nat_lt}
 use Rattle.std.specs.List.{flat_map}
 use Rattle.std.specs.Option.{option_or, option_map, unwrap_or}
-use Rattle.std.proofs.Math.ListN.{get_or-append, get_or-map}
 use Rattle.std.proofs.lemmas.List.{get_or-append-add}
 use Rattle.std.proofs.lemmas.Str.{chars-nil}
 use Rattle.coll_syntax.specs.Identifier.{same_id}
 use Rattle.coll_syntax.specs.declared.identifiers.Id.{Id}
 use Rattle.coll_syntax.specs.declared.identifiers.Id.TheVariants.{Char, Named, Undefined}
-use Rattle.coll_syntax.specs.declared.weights.Weight.{Weight}
-use Rattle.coll_syntax.specs.declared.weights.Weight.TheVariants.{Ignore, Own, Names}
+use Rattle.coll_syntax.specs.declared.weights.Weight.TheVariants.{Ignore}
 use Rattle.coll_print.specs.CanonicalText.{is_own}
 use Rattle.coll_nodes.specs.Placement.{entry_at, place_among}
-use Rattle.coll_nodes.specs.Table.{Collation, entries_of, is_placed}
+use Rattle.coll_nodes.specs.Table.{Collation, entries_of}
 use Rattle.coll_nodes.specs.WellFormed.{IsWellFormed}
 use Rattle.coll_nodes.specs.declared.entries.Entry.{Entry}
 use Rattle.coll_nodes.proofs.EntryLemmas.{entry_there}
 use Rattle.coll_ranks.specs.Elements.{Element, beyond_first, longest, longer, split, elements_of, elements_placed, element_text, part_id, begins_with}
 use Rattle.coll_ranks.specs.NamedElements.{Finds}
-use Rattle.coll_ranks.specs.WeightNumbers.{number_of, numbers_at, weight_at, weights_or, weight_numbers, undefined_weights, code_point}
+use Rattle.coll_ranks.specs.WeightNumbers.{numbers_at, weight_at, undefined_weights}
 use Rattle.coll_ranks.specs.Rank.{known_rank}
-use Rattle.coll_ranks.specs.Ranks.{RanksValue, RankedElement, AreRanksOf, parts_of, parts_behind, part_with, part_numbers, character_part, added_to, added_at, compiled_weight, compiled_by, compiled_entry, compiled_row_by, compiled_weights, filled_up, ranked_text, ranked_in}
+use Rattle.coll_ranks.specs.Ranks.{RanksValue, RankedElement, AreRanksOf, parts_of, parts_behind, part_with, part_numbers, character_part, compiled_weight, compiled_by, compiled_entry, compiled_row_by, compiled_weights, ranked_text, ranked_in}
 use Rattle.coll_ranks.specs.AlikeFronts.{BeginAlike}
 use Rattle.coll_ranks.specs.declared.parts.Part.{Part}
 use Rattle.coll_ranks.specs.declared.parts.Part.TheVariants.{Placed}
@@ -37,6 +35,12 @@ module _ {X P : Type 0} (string_of : X → List ℕ) (xs : List X) (part : Optio
   pub split_skips : (front rest : List ℕ) → split string_of xs part (length front) (front ++ rest) ≡ split string_of xs part 0 rest
   split_skips [] rest = refl
   split_skips (c ∷ front) rest = split_skips front rest
+
+-- a text is split into no more parts than it has characters
+pub few_split : {X P : Type 0} (string_of : X → List ℕ) (xs : List X) (part : Option X → ℕ → P) (skipped : ℕ) (text : List ℕ) → length (split string_of xs part skipped text) ≤ length text
+few_split string_of xs part skipped [] = omega arith
+few_split string_of xs part (suc skipped) (c ∷ text) = omega (arith, few_split string_of xs part skipped text)
+few_split string_of xs part zero (c ∷ text) = omega (arith, few_split string_of xs part (beyond_first string_of (longest string_of xs (c ∷ text))) text)
 
 -- the part of a longest element, and what is behind it
 pub part_of_element : (ranks : RanksValue) (ranked : RankedElement) (text rest : List ℕ) → longest ranked_text ranks.elements text ≡ Some ranked → text ≡ ranked_text ranked ++ rest → 0 < length (ranked_text ranked) → parts_of ranks text ≡ part_with ranks.ids (Some ranked) 0 ∷ parts_of ranks rest

@@ -1,5 +1,5 @@
 -- The parts of a text's elements and the rows of their weights, and that their numbers are what the table says.
-use Rattle.std.proofs.Common.{◌≡◌, ◌<◌, ◌≤◌, ℕ, zero, suc, ◌+◌, ◌*◌, List, [], ◌∷◌, ◌++◌, length, map, get_or, drop, chars, sym, ap, ap₂, ◌∙◌, refl, arith, append_assoc, append-nil, length-append, Option, None}
+use Rattle.std.proofs.Common.{◌≡◌, ◌<◌, ◌≤◌, ℕ, suc, ◌+◌, ◌*◌, List, [], ◌∷◌, ◌++◌, length, map, get_or, drop, sym, ap, ap₂, ◌∙◌, refl, arith, append_assoc, append-nil, length-append, None}
 use Rattle.std.specs.List.{flat_map}
 use Rattle.std.proofs.lemmas.List.{at_drop_more, at_drop_all}
 use Rattle.coll_syntax.specs.declared.identifiers.Id.{Id}
@@ -8,7 +8,7 @@ use Rattle.coll_syntax.specs.declared.weights.Weight.TheVariants.{Ignore}
 use Rattle.coll_print.specs.CanonicalText.{is_own}
 use Rattle.coll_nodes.specs.Placement.{entry_at}
 use Rattle.coll_nodes.specs.Table.{Collation, entries_of}
-use Rattle.coll_ranks.specs.Elements.{beyond_first, elements_of, elements_placed, element_text, longest, part_id, split}
+use Rattle.coll_ranks.specs.Elements.{elements_of, elements_placed, element_text, part_id}
 use Rattle.coll_ranks.specs.Rank.{known_rank}
 use Rattle.coll_ranks.specs.RankLists.{WeightsValue, AddsRow}
 use Rattle.coll_ranks.specs.Ranks.{part_numbers, compiled_by, compiled_entry, compiled_row_by, compiled_weight}
@@ -18,6 +18,7 @@ use Rattle.coll_ranks.specs.WeightNumbers.{numbers_at, undefined_weights}
 use Rattle.coll_ranks.specs.declared.parts.Part.{Part}
 use Rattle.coll_ranks.specs.declared.text_elements.TextElement.{TextElement}
 use Rattle.coll_ranks.specs.declared.text_elements.TextElement.TheVariants.{Placed, Absent}
+use Rattle.coll_ranks.proofs.PartNumbers.{few_split}
 use Rattle.coll_ranks.proofs.RowNumbers.{BeginWithUndefined, filled_length, row_behind, entry_numbers, character_absent}
 
 -- Going along the elements.
@@ -58,12 +59,6 @@ elements_length table [] [] are = refl
 elements_length table [] (element ∷ elements) are = absurd are
 elements_length table (id ∷ ids) [] are = absurd are
 elements_length table (id ∷ ids) (element ∷ elements) are = ap suc (elements_length table ids elements are.1)
-
--- a text is split into no more parts than it has characters
-pub few_split : {X P : Type 0} (string_of : X → List ℕ) (xs : List X) (part : Option X → ℕ → P) (skipped : ℕ) (text : List ℕ) → length (split string_of xs part skipped text) ≤ length text
-few_split string_of xs part skipped [] = omega arith
-few_split string_of xs part (suc skipped) (c ∷ text) = omega (arith, few_split string_of xs part skipped text)
-few_split string_of xs part zero (c ∷ text) = omega (arith, few_split string_of xs part (beyond_first string_of (longest string_of xs (c ∷ text))) text)
 
 -- a text has no more elements than characters
 pub few_elements : (table : Collation) (text : List ℕ) (elements : List TextElement) → AreElementsOf table (elements_of table text) elements → length elements ≤ length text

@@ -1,27 +1,29 @@
-use Rattle.std.proofs.Common.{◌∙◌, ◌++◌, chars, get_or, ap, false}
+use Rattle.std.proofs.Common.{◌≡◌, ◌∙◌, chars, sym, ap, ap₂, List}
+use Rattle.std.specs.List.{flat_map}
 use Rattle.coll_nodes.specs.TableLayout.{collation}
+use Rattle.coll_syntax.specs.declared.rules.Rule.{Rule}
+use Rattle.coll_ranks.specs.RankLists.{WeightsValue}
 use Rattle.coll_ranks.specs.Ranks.{part_numbers}
-use Rattle.coll_key.specs.LevelList.{level_list}
+use Rattle.coll_ranks.specs.declared.parts.Part.{Part}
+use Rattle.coll_key.specs.LevelList.{level_lists_from}
+use Rattle.coll_key.specs.SortKey.{ended}
 use Rattle.coll_key.specs.WrittenKey.{has_key_form}
 use Rattle.coll_key.proofs.KeyForm.{key_form}
 use Rattle.coll_key.proofs.LevelLemmas.{few_parts}
-use Rattle.coll_key.proofs.OrderLemmas.{key_goes_on, key_is_made}
+use Rattle.coll_key.proofs.OrderLemmas.{key_by_parts}
 use Rattle.coll_key.proofs.keys.key.Goals as goal
 
-pub push_level-requires-clause-few : goal.push_level-requires-clause-few
-push_level-requires-clause-few c =
+pub key_of_parts-requires-clause-few : goal.key_of_parts-requires-clause-few
+key_of_parts-requires-clause-few c =
     rw (c.deref.ensures.value, c.in_ok-parts.ensures.ok) (few_parts c.args.ranks.now (chars c.args.text.now) c.in_ok-parts.ensures.short)
-
-pub loop-level-preserved : goal.loop-level-preserved
-loop-level-preserved c =
-    let pushed = ap (λ w. c.loop-level.key.items ++ level_list (get_or c.rules-rule-items.result.now c.loop-level.level (record { backward = false; position = false })) (part_numbers w c.loop-level.level) c.deref.result.now) c.weights.ensures in
-    key_goes_on (part_numbers c.args.ranks.now.compiled) c.loop-level.level c.rules-rule-items.result.now _ _ c.in_ok-parts.parts.items _ _ _ _ _ c.rules-rule-items.ensures c.loop-level-test.true c.deref.ensures.value (c.in_ok-push_level.ensures ∙ pushed) c.in_ok-push.ensures.items c.loop-level.invariant
 
 pub returns-clause-ok : goal.returns-clause-ok
 returns-clause-ok c =
     let ranks = c.args.ranks.now in
     let table = collation c.args.table.now in
-    key_is_made ranks table c.requires c.check_table.ensures.well_formed (chars c.args.text.now) c.in_ok-parts.parts.items c.loop-level.level c.rules-rule-items.result.now c.loop-level.key.items c.in_ok-parts.ensures.ok c.rules-rule-items.ensures c.loop-level-test.false c.loop-level.invariant
+    let weights = ap (λ (w : WeightsValue). flat_map ended (level_lists_from c.rules.result.now 0 (part_numbers w) c.deref.result.now)) c.weights.ensures in
+    let same = ap₂ (λ (rules : List Rule) (parts : List Part). flat_map ended (level_lists_from rules 0 (part_numbers ranks.compiled) parts)) c.rules.ensures (c.deref.ensures.value ∙ c.in_ok-parts.ensures.ok) in
+    c.in_ok-key.ensures ∙ weights ∙ same ∙ sym (key_by_parts ranks table c.requires c.check_table.ensures.well_formed (chars c.args.text.now))
 
 pub returns-clause-form : goal.returns-clause-form
 returns-clause-form c =
