@@ -32,7 +32,8 @@ use Rattle.coll_ranks.specs.Ranks.{RanksValue, AreRanksOf, ranked_in, last_strin
 use Rattle.coll_ranks.specs.WeightNumbers.{undefined_weights, weights_or}
 use Rattle.coll_key.specs.WrittenKey.{level_end}
 use Rattle.coll_key.specs.ListingParts.{spaced, spaced_number, is_star, level_bytes, spelled_with, levels_bytes, ranked_line, line_if_weighted, met_line, ranked_lines, HasFewWeights}
-use Rattle.coll_ranks.proofs.PartNumbers.{filled_length, row_at, compiled_for}
+use Rattle.coll_ranks.proofs.PartNumbers.{compiled_for}
+use Rattle.coll_ranks.proofs.RowNumbers.{filled_length, row_at}
 use Rattle.coll_ranks.proofs.RankingLemmas.{or_none}
 use Rattle.coll_ranks.proofs.Tests.{by_test}
 

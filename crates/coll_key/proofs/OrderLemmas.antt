@@ -1,10 +1,12 @@
 -- The order of two texts, and the key of a text, by the levels that are done and those that are left.
-use Rattle.std.proofs.Common.{◌≡◌, ℕ, suc, ◌+◌, ◌<◌, ◌≤◌, true, false, List, ◌++◌, length, get_or, drop, Ordering, Less, Equal, Greater, refl, sym, ap, ◌∙◌, append-nil, append_assoc, arith, [], ◌∷◌}
+use Rattle.std.proofs.Common.{◌≡◌, ℕ, suc, ◌+◌, ◌<◌, ◌≤◌, true, false, List, ◌++◌, length, get_or, drop, Ordering, Less, Equal, Greater, refl, sym, ap, ◌∙◌, append-nil, append_assoc, arith, map, [], ◌∷◌}
 use Rattle.std.specs.List.{flat_map}
 use Rattle.std.specs.Ordering.{is_ne, ordering_then}
 use Rattle.std.proofs.lemmas.List.{at_drop_more, at_drop_all}
 use Rattle.coll_syntax.specs.declared.rules.Rule.{Rule}
-use Rattle.coll_ranks.specs.declared.parts.Part.{Part}
+use Rattle.coll_ranks.proofs.PartNumbers.{numbers_are}
+use Rattle.coll_ranks.specs.Elements.{elements_of}
+use Rattle.coll_ranks.specs.WeightNumbers.{numbers_at}
 use Rattle.coll_nodes.specs.Table.{Collation}
 use Rattle.coll_nodes.specs.WellFormed.{IsWellFormed}
 use Rattle.coll_key.specs.LevelList.{level_list, level_lists_from}
@@ -12,7 +14,7 @@ use Rattle.coll_ranks.specs.RankLists.{WeightsValue}
 use Rattle.coll_ranks.specs.Ranks.{RanksValue, AreRanksOf, parts_of, part_numbers}
 use Rattle.coll_key.specs.SortKey.{ended, key_of}
 use Rattle.coll_key.specs.TextOrder.{list_order, first_difference, order_of, level_lists}
-use Rattle.coll_key.proofs.LevelLemmas.{level_lists_by_parts}
+use Rattle.coll_key.proofs.LevelLemmas.{level_lists_by_numbers, level_lists_by_parts}
 
 -- an order that isn't `Equal` decides
 ne_decides : (order later : Ordering) → true ≡ is_ne order → ordering_then order later ≡ order
@@ -61,10 +63,15 @@ order_by_parts ranks table are well text other =
     ap (λ lists. first_difference lists (level_lists table other)) (level_lists_by_parts ranks table are well text)
     ∙ ap (first_difference (level_lists_from table.rules 0 (part_numbers ranks.compiled) (parts_of ranks text))) (level_lists_by_parts ranks table are well other)
 
--- the key of a text is that of its parts
-key_by_parts : (ranks : RanksValue) (table : Collation) → AreRanksOf ranks table → IsWellFormed table → (text : List ℕ) → key_of table text ≡ flat_map ended (level_lists_from table.rules 0 (part_numbers ranks.compiled) (parts_of ranks text))
+-- the key of a text is that of parts with the numbers of its elements
+pub key_by_numbers : {P : Type 0} (table : Collation) (text : List ℕ) (f : ℕ → P → List ℕ) (parts : List P) → ((level : ℕ) → level < length table.rules → map (f level) parts ≡ map (numbers_at table level) (elements_of table text)) → key_of table text ≡ flat_map ended (level_lists_from table.rules 0 f parts)
 unfolding key_of
-key_by_parts ranks table are well text = ap (flat_map ended) (level_lists_by_parts ranks table are well text)
+key_by_numbers table text f parts numbers = ap (flat_map ended) (level_lists_by_numbers table text f parts numbers)
+
+-- so it is that of its parts by the ranks of the table
+pub key_by_parts : (ranks : RanksValue) (table : Collation) → AreRanksOf ranks table → IsWellFormed table → (text : List ℕ) → key_of table text ≡ flat_map ended (level_lists_from table.rules 0 (part_numbers ranks.compiled) (parts_of ranks text))
+key_by_parts ranks table are well text =
+    key_by_numbers table text (part_numbers ranks.compiled) (parts_of ranks text) (λ level within. numbers_are ranks table are well level within text)
 
 -- a key goes on by the list of a level, and its end
 pub key_goes_on : {P : Type 0} (f : ℕ → P → List ℕ) (level : ℕ) (rules : List Rule) (ps : List P) (rule : Rule) (old grown now whole : List ℕ) → level < length rules → grown ≡ old ++ level_list (get_or rules level rule) (f level) ps → now ≡ grown ++ 0 ∷ [] → whole ≡ old ++ flat_map ended (level_lists_from (drop level rules) level f ps) → whole ≡ now ++ flat_map ended (level_lists_from (drop (level + 1) rules) (level + 1) f ps)

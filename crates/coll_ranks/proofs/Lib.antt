@@ -12,5 +12,7 @@ pub mod NamedElements
 pub mod PartNumbers
 pub mod RankListLemmas
 pub mod RankingLemmas
+pub mod RowNumbers
 pub mod Tests
 pub mod TextElements
+pub mod TextRows

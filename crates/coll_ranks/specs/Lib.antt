@@ -8,5 +8,6 @@ pub mod RankLists
 pub mod Ranking
 pub mod Ranks
 pub mod TextElements
+pub mod TextWeights
 pub mod WeightCells
 pub mod WeightNumbers

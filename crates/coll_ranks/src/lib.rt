@@ -9,8 +9,9 @@
 //!   `NamedElements`, `ElementOrder`);
 //! - `parts`: what a text is split into (`AlikeFronts`);
 //! - `rank_lists`, `weight_cells` and `compiled_weights`: the weights of all entries as ranks, and what a part weighs by them
-//!   (`RankLists`, `Ranks`, `WeightNumbers`);
-//! - `text_elements`: the elements of one text, looked up by themselves (`TextElements`);
+//!   (`RankLists`, `WeightCells`, `Ranks`, `WeightNumbers`);
+//! - `text_elements` and `text_weights`: the elements of one text, looked up by themselves, and its weights, compiled for it alone
+//!   (`TextElements`, `TextWeights`);
 //! - `ranks`, and `ranking`: the whole, made of a table (`Ranks`, `Ranking`).
 #![tactic(auto)]
 
@@ -27,8 +28,10 @@ mod ranking;
 mod ranks;
 mod table_ranks;
 mod text_elements;
+mod text_weights;
 mod weight_cells;
 
 pub use compiled_weights::CompiledWeights;
 pub use parts::{FirstPart, Part, PartWeight};
 pub use ranks::Ranks;
+pub use text_weights::TextWeights;
