@@ -14,7 +14,7 @@ ghost use Rattle.coll_key.specs.WrittenKey.{has_key_form};
 ghost use Rattle.coll_key.specs.declared.key_faults.KeyFault.TheVariants.{OutOfMemory};
 
 use crate::key_faults::KeyFault;
-use crate::levels::{with_level, with_one};
+use crate::levels::with_level;
 use crate::text_parts::kept_parts;
 use coll_ranks::{CompiledWeights, Part, Ranks};
 use coll_syntax::Rule;
@@ -52,8 +52,8 @@ pub(crate) fn key_of_parts(
 {
     let mut key = Vec::with_capacity(alloc, likely_numbers(parts.len(), rules.len()))?;
     for (level, rule) in rules.iter().enumerate() {
-        let longer = with_level(key, weights, level, *rule, parts)?;
-        key = with_one(longer, 0)?;
+        key = with_level(key, weights, level, *rule, parts)?;
+        key.push_reserved(0);
     }
     Ok(key)
 }
