@@ -12,6 +12,7 @@ use Rattle.coll_nodes.specs.WellFormed.{IsWellFormed}
 use Rattle.coll_key.specs.LevelList.{level_list, level_lists_from}
 use Rattle.coll_ranks.specs.RankLists.{WeightsValue}
 use Rattle.coll_ranks.specs.Ranks.{RanksValue, AreRanksOf, parts_of, part_numbers}
+use Rattle.coll_ranks.specs.declared.parts.Part.{Part}
 use Rattle.coll_key.specs.SortKey.{ended, key_of}
 use Rattle.coll_key.specs.TextOrder.{list_order, first_difference, order_of, level_lists}
 use Rattle.coll_key.proofs.LevelLemmas.{level_lists_by_numbers, level_lists_by_parts}
