@@ -155,8 +155,8 @@ fn list_of<'a>(cell: &'a u32, long: &'a RankLists) -> &'a [u32]
     }
 }
 
-// The list of a cell that tells a place. It stands apart, so that what a look-up inlines stays small.
-#[inline(never)]
+// The list of a cell that tells a place. It is inlined too, since a call would cost each look-up around it what it has in registers.
+#[inline(always)]
 fn long_list(cell: u32, long: &RankLists) -> &[u32]
     requires { 2_147_483_648 ≤ cell }
     ensures { result.now ≡ slice_index_or long.now (cell - 2_147_483_648) [] }
