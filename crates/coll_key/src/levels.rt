@@ -16,6 +16,7 @@ use coll_syntax::Rule;
 use std::alloc::AllocError;
 
 /// Puts the list of a level behind a key, and makes room for one number more.
+#[inline(always)]
 pub(crate) fn with_level(
     key: Vec<u64>,
     weights: &CompiledWeights,
@@ -38,7 +39,21 @@ pub(crate) fn with_level(
 }
 
 // A key with room for so many numbers, each with its position, and one more.
+#[inline(always)]
 fn with_room(key: Vec<u64>, numbers: usize) -> Result<Vec<u64>, AllocError>
+    requires { numbers < 2 ^ 62 }
+    ensures same { IfOk result (λ with. with.items ≡ key.items) }
+    ensures room { IfOk result (λ with. vec_len with + numbers * 2 + 1 ≤ vec_capacity with) }
+{
+    if key.capacity().saturating_sub(key.len()) > numbers * 2 {
+        return Ok(key);
+    }
+    with_more_room(key, numbers)
+}
+
+// The same, where there is less room. It stands apart, so that a key isn't lent where it is made.
+#[inline(never)]
+fn with_more_room(key: Vec<u64>, numbers: usize) -> Result<Vec<u64>, AllocError>
     requires { numbers < 2 ^ 62 }
     ensures same { IfOk result (λ with. with.items ≡ key.items) }
     ensures room { IfOk result (λ with. vec_len with + numbers * 2 + 1 ≤ vec_capacity with) }

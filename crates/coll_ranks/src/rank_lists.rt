@@ -50,6 +50,7 @@ impl RankLists {
     }
 
     /// The list at a place; where there is none it is empty.
+    #[inline(always)]
     pub(crate) fn list(&self, place: usize) -> &[u32]
         ensures { result.now ≡ slice_index_or self.now place [] }
     {

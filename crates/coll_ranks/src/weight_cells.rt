@@ -167,8 +167,8 @@ fn list_of<'a>(cell: &'a WeightCell, long: &'a RankLists) -> &'a [u32]
     }
 }
 
-// The long list at a place. It stands apart, so that what a look-up inlines stays small.
-#[inline(never)]
+// The long list at a place. It is inlined too, since a call would cost each look-up around it what it has in registers.
+#[inline(always)]
 fn long_list(place: u32, long: &RankLists) -> &[u32]
     ensures { result.now ≡ slice_index_or long.now place [] }
 {
