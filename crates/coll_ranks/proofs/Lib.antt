@@ -13,4 +13,5 @@ pub mod RankListLemmas
 pub mod RankingLemmas
 pub mod RowNumbers
 pub mod Tests
+pub mod TextElements
 pub mod TextRows

@@ -36,26 +36,31 @@ module _ {X P : Type 0} (string_of : X → List ℕ) (xs : List X) (part : Optio
   split_skips [] rest = refl
   split_skips (c ∷ front) rest = split_skips front rest
 
+  -- the part of a longest element, and what is behind it
+  pub split_found : (x : X) (p : P) (text rest : List ℕ) → longest string_of xs text ≡ Some x → ((c : ℕ) → part (Some x) c ≡ p) → text ≡ string_of x ++ rest → 0 < length (string_of x)
+      → split string_of xs part 0 text ≡ p ∷ split string_of xs part 0 rest
+  split_found x p text rest found same goes_on some = by (string_of x) refl where
+    by : (string : List ℕ) → string_of x ≡ string → split string_of xs part 0 text ≡ p ∷ split string_of xs part 0 rest
+    by [] e = absurd (let none : length (string_of x) ≡ 0 = ap length e in omega arith)
+    by (c ∷ string) e =
+        let whole : text ≡ c ∷ (string ++ rest) = goes_on ∙ ap (λ s. s ++ rest) e in
+        let here : longest string_of xs (c ∷ (string ++ rest)) ≡ Some x = ap (longest string_of xs) (sym whole) ∙ found in
+        let more : length (string_of x) - 1 ≡ length string = ap (λ s. length s - 1) e ∙ (let one : suc (length string) - 1 ≡ length string = omega arith in one) in
+        ap (split string_of xs part 0) whole
+        ∙ (ap (λ l. part l c ∷ split string_of xs part (beyond_first string_of l) (string ++ rest)) here
+        ∙ ap₂ (λ (q : P) (n : ℕ). q ∷ split string_of xs part n (string ++ rest)) (same c) more
+        ∙ ap (λ ps. p ∷ ps) (split_skips string rest))
+
 -- a text is split into no more parts than it has characters
 pub few_split : {X P : Type 0} (string_of : X → List ℕ) (xs : List X) (part : Option X → ℕ → P) (skipped : ℕ) (text : List ℕ) → length (split string_of xs part skipped text) ≤ length text
 few_split string_of xs part skipped [] = omega arith
 few_split string_of xs part (suc skipped) (c ∷ text) = omega (arith, few_split string_of xs part skipped text)
 few_split string_of xs part zero (c ∷ text) = omega (arith, few_split string_of xs part (beyond_first string_of (longest string_of xs (c ∷ text))) text)
 
--- the part of a longest element, and what is behind it
+-- the part of a placed element, and what is behind it
 pub part_of_element : (ranks : RanksValue) (ranked : RankedElement) (text rest : List ℕ) → longest ranked_text ranks.elements text ≡ Some ranked → text ≡ ranked_text ranked ++ rest → 0 < length (ranked_text ranked) → parts_of ranks text ≡ part_with ranks.ids (Some ranked) 0 ∷ parts_of ranks rest
 unfolding parts_of
-part_of_element ranks ranked text rest found goes_on some = by (ranked_text ranked) refl where
-  by : (string : List ℕ) → ranked_text ranked ≡ string → parts_of ranks text ≡ part_with ranks.ids (Some ranked) 0 ∷ parts_of ranks rest
-  by [] e = absurd (let none : length (ranked_text ranked) ≡ 0 = ap length e in omega arith)
-  by (c ∷ string) e =
-      let whole : text ≡ c ∷ (string ++ rest) = goes_on ∙ ap (λ s. s ++ rest) e in
-      let here : longest ranked_text ranks.elements (c ∷ (string ++ rest)) ≡ Some ranked = ap (longest ranked_text ranks.elements) (sym whole) ∙ found in
-      let more : length (ranked_text ranked) - 1 ≡ length string = ap (λ s. length s - 1) e ∙ (let one : suc (length string) - 1 ≡ length string = omega arith in one) in
-      ap (parts_behind ranks 0) whole
-      ∙ (ap (λ l. part_with ranks.ids l c ∷ parts_behind ranks (beyond_first ranked_text l) (string ++ rest)) here
-      ∙ (ap (λ n. part_with ranks.ids (Some ranked) 0 ∷ parts_behind ranks n (string ++ rest)) more
-      ∙ ap (λ ps. part_with ranks.ids (Some ranked) 0 ∷ ps) (split_skips ranked_text ranks.elements (part_with ranks.ids) string rest)))
+part_of_element ranks ranked text rest found goes_on some = split_found ranked_text ranks.elements (part_with ranks.ids) ranked (Placed ranked.rank) text rest found (λ c. refl) goes_on some
 
 -- the part of a character, and what is behind it
 pub part_of_character : (ranks : RanksValue) (c : ℕ) (rest : List ℕ) → longest ranked_text ranks.elements (c ∷ rest) ≡ None → parts_of ranks (c ∷ rest) ≡ part_with ranks.ids None c ∷ parts_of ranks rest
