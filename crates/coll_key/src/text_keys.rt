@@ -1,7 +1,7 @@
 //! Sort keys and comparison of short texts, without the ranks of the whole table.
 //!
-//! What a text meets of a table is looked up for the text alone, so a changed table costs nothing but new numbers of its entries. For
-//! many texts or long ones `Ranks` serve better.
+//! What a text meets of a table is looked up for the text alone, so a changed table costs nothing but new numbers of its entries.
+//! For many texts or long ones `Ranks` serve better.
 
 ghost use Rattle.std.specs.Prelude.{◌≡◌, ◌≢◌, ◌||◌, chars, true, false, IfOk, IfErr};
 ghost use Rattle.coll_nodes.specs.NodeNumbers.{AreNumbersOf};

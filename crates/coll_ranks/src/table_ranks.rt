@@ -1,7 +1,7 @@
 //! Ranks of a table by the places of its entries.
 //!
-//! A `TableRanks` borrows a table and the places of its entries, which are kept beside it, and tells the rank of an identifier by one
-//! look-up in the table. So what is compiled of a table needs no map of ranks of its own.
+//! A `TableRanks` borrows a table and the places of its entries, which are kept beside it, and tells the rank of an identifier by
+//! one look-up in the table. So what is compiled of a table needs no map of ranks of its own.
 
 ghost use Rattle.std.specs.Prelude.{◌≡◌, length};
 ghost use Rattle.coll_nodes.specs.NodeNumbers.{AreNumbersOf};
