@@ -5,19 +5,31 @@ Run by hand, with the toolchain's `rt` on the path; no gate runs it:
 
     bench/keys.py
 
-It writes a table of the shape of a real one: four levels, 105,000 entries in 23 sections, of which half are collating symbols and
-half characters with four weights, and among them 800 collating elements, five for each of 160 first characters, of which two
-are letters of the words. Of 100,000 words of nine letters in their order it takes 4,000, forty times a hundred that follow one
-another. It builds a small program over coll_key that loads the table, and then makes its ranks, a key of each word, a comparison
-of each word with the next one, keys of 4,096 short texts and of eight long ones, and a listing. Each is done fifty times, in turn,
-and the least time is printed, since each is so short that it is seldom interrupted. The first of the long keys takes a twentieth
-more time than the later ones, since other work has driven its memory out of the processor's caches. The memory of the ranks is
-what the program took at most with them, less what it took without, and less the words. All of it stands in a temporary folder,
-which is removed at the end. The first build proves the crates below and takes some minutes; with a folder as its argument the
-script keeps what it builds there, and a second run is quick.
+It writes two tables of four levels, with 105,000 entries in 23 sections, of which half are collating symbols and half characters
+with four weights. In the first the weights are spread, the last level ignores all, and there are 800 collating elements, five for
+each of 160 first characters, of which two are letters of the words. Of 100,000 words of nine letters in their order it takes 4,000,
+forty times a hundred that follow one another. The second has the weights of a real one (ISO 14651, as glibc has it): a letter's
+are its symbol, a mark and a case that many share, and itself, a letter with an accent has two marks and two cases, and no level
+ignores a letter. Its words are 3,000 of ten letters, in no order, of which three in 29 have an accent and two bytes.
 
-Targets: 160 ns for a key of a word of nine letters, 35 ns for a comparison of adjacent words, 15 ms and 16 MB for the ranks, for a
-key of 65,536 characters at most 500 times that of 128, and 0.1 s for a listing.
+It builds a small program over coll_key that loads a table, and then makes its ranks, a key of each word, a comparison of each word
+with the next one, keys of 4,096 short texts and of eight long ones, and a listing. Each is done fifty times, in turn, and the least
+time is printed, since each is so short that it is seldom interrupted. The first of the long keys takes a twentieth more time than
+the later ones, since other work has driven its memory out of the processor's caches. The memory of the ranks is what the program
+took at most with them, less what it took without, and less the words. All of it stands in a temporary folder, which is removed at
+the end. The first build proves the crates below and takes some minutes; with a folder as its argument the script keeps what it
+builds there, and a second run is quick.
+
+An older commit is measured beside this one with its working tree as a second argument, as in
+
+    git worktree add /tmp/older 5aada37 && bench/keys.py /tmp/key_times /tmp/older
+
+The same program is then built over the crates of both, and the two are run in turn, ten times each. What is printed is the least of
+each row, of this tree and then of the other one.
+
+Targets, for the first table: 160 ns for a key of a word of nine letters, 35 ns for a comparison of adjacent words, 15 ms and 16 MB
+for the ranks, for a key of 65,536 characters at most 500 times that of 128, and 0.1 s for a listing. For the second: a key of a word
+of ten letters in at most 0.6 of what it took at commit 5aada37.
 """
 
 import os
@@ -49,6 +61,11 @@ WINDOW, WINDOWS = 100, 40
 LETTERS = 26
 LENGTH = 9
 SHORT, LONG, TEXTS = 128, 65_536, 8
+TURNS = 10
+# The letters of the second table's words: those without an accent, and for each other one the letter and the accent that it has.
+PLAIN = "abcdefghijklmnopqrstuvwxyz"
+ACCENTED = {"å": ("a", "RING"), "ä": ("a", "TREMA"), "ö": ("o", "TREMA")}
+REAL_LENGTH, REAL_WORDS = 10, 3_000
 
 PROGRAM = """#![tactic(auto)]
 
@@ -214,23 +231,43 @@ fn walk_pairs(pairs: &str) -> Result<usize> {
 
 
 def table_lines():
-    """The lines of the table. Its letters are the first characters that have entries."""
+    """The lines of the first table. Its letters are the first characters that have entries."""
     symbols = ENTRIES // 2
     characters = ENTRIES - symbols - ELEMENTS
-    yield "comment_char %\nescape_char /\nLC_COLLATE\n"
-    for number in range(symbols):
-        yield f"collating-symbol <S{number:07d}>\n"
+    declared = [f"collating-symbol <S{number:07d}>\n" for number in range(symbols)]
     for number in range(ELEMENTS):
         first, second = first_of(number // 5), letter(number % 5 + 5)
-        yield f'collating-element <E{number:07d}> from "<U{first:08X}><U{second:08X}>"\n'
-    yield "order_start forward;forward;forward;forward,position\n"
+        declared.append(f'collating-element <E{number:07d}> from "<U{first:08X}><U{second:08X}>"\n')
     lines = [f"<S{number:07d}>\n" for number in range(symbols)]
     for number in range(characters):
         code = 0x10000 + number
         lines.append(f"<U{code:08X}> <S{number:07d}>;<S{number // 2:07d}>;<S{number // 3:07d}>;IGNORE\n")
     for number in range(ELEMENTS):
         lines.append(f"<E{number:07d}> <S{number:07d}>;<S{number // 2:07d}>;<S{number // 3:07d}>;IGNORE\n")
-    each = ENTRIES // SECTIONS
+    return in_sections(declared, lines)
+
+
+def real_lines():
+    """The lines of the second table, in which a character's weights are those that a real one gives it."""
+    marks = ["BASE", "RING", "TREMA", "MIN"]
+    others = range(0x10000, 0x10000 + ENTRIES // 2 - len(PLAIN) - len(ACCENTED))
+    symbols = marks + [f"S{code:08X}" for code in others] + [f"S{ord(plain):04X}" for plain in PLAIN]
+    lines = [f"<{symbol}>\n" for symbol in symbols]
+    lines += [f"<U{code:08X}> <S{code:08X}>;<BASE>;<MIN>;<U{code:08X}>\n" for code in others]
+    for plain in PLAIN:
+        lines.append(f"<U{ord(plain):04X}> <S{ord(plain):04X}>;<BASE>;<MIN>;<U{ord(plain):04X}>\n")
+    for accented, (plain, accent) in ACCENTED.items():
+        code = f"U{ord(accented):04X}"
+        lines.append(f'<{code}> <S{ord(plain):04X}>;"<BASE><{accent}>";"<MIN><MIN>";<{code}>\n')
+    return in_sections([f"collating-symbol <{symbol}>\n" for symbol in symbols], lines)
+
+
+def in_sections(declared, lines):
+    """The lines of a table with these declarations, and these order lines in sections."""
+    yield "comment_char %\nescape_char /\nLC_COLLATE\n"
+    yield from declared
+    yield "order_start forward;forward;forward;forward,position\n"
+    each = len(lines) // SECTIONS
     for number, line in enumerate(lines):
         if number and number % each == 0 and number // each < SECTIONS:
             yield f"section <PART{number // each:02d}>\n"
@@ -262,23 +299,35 @@ def texts(work):
     some = lambda count: "".join(chr(letter(chosen.randrange(LETTERS))) for _ in range(count))
     all_words = sorted(some(LENGTH) for _ in range(WORDS))
     words = [word for first in range(0, WORDS, WORDS // WINDOWS) for word in all_words[first : first + WINDOW]]
+    return text_files(work, "", words, some)
+
+
+def real_texts(work):
+    """The same files for the second table, with words in no order."""
+    chosen = random.Random(10)
+    some = lambda count: "".join(chosen.choices(PLAIN + "".join(ACCENTED), k=count))
+    return text_files(work, "real_", [some(REAL_LENGTH) for _ in range(REAL_WORDS)], some)
+
+
+def text_files(work, name, words, some):
+    """The files of these words, and of texts that are some letters."""
     return [
-        written(work, "words", (word + "\n" for word in words)),
-        written(work, "pairs", (f"{word} {other}\n" for word, other in zip(words, words[1:] + words[:1]))),
-        written(work, "short", (some(SHORT) + "\n" for _ in range(TEXTS * (LONG // SHORT)))),
-        written(work, "long", (some(LONG) + "\n" for _ in range(TEXTS))),
+        written(work, name + "words", (word + "\n" for word in words)),
+        written(work, name + "pairs", (f"{word} {other}\n" for word, other in zip(words, words[1:] + words[:1]))),
+        written(work, name + "short", (some(SHORT) + "\n" for _ in range(TEXTS * (LONG // SHORT)))),
+        written(work, name + "long", (some(LONG) + "\n" for _ in range(TEXTS))),
     ]
 
 
-def build(work):
-    """The program, built in this folder over copies of the crates."""
+def build(work, tree):
+    """The program, built in this folder over copies of the crates of a working tree."""
     for name in CRATES:
         crate = os.path.join(work, "crates", name)
         os.makedirs(crate, exist_ok=True)
         for part in ("src", "specs", "proofs"):
             shutil.rmtree(os.path.join(crate, part), ignore_errors=True)
-            shutil.copytree(os.path.join(ROOT, "crates", name, part), os.path.join(crate, part))
-    with open(os.path.join(ROOT, "crates.txt")) as lines:
+            shutil.copytree(os.path.join(tree, "crates", name, part), os.path.join(crate, part))
+    with open(os.path.join(tree, "crates.txt")) as lines:
         own = [line for line in lines if line.split(":")[0] in CRATES]
     with open(os.path.join(work, "crates.txt"), "w") as out:
         out.writelines(own + ["key_times: coll_lex coll_nodes coll_table coll_ranks coll_key anyhow\n"])
@@ -292,36 +341,63 @@ def build(work):
 
 
 def run(program, *files):
-    """What the program printed, and its peak memory in kilobytes."""
+    """The least time of each thing that the program did, in nanoseconds, and its peak memory in kilobytes."""
     done = subprocess.run(["/usr/bin/time", "-f", "%M", program, *files], capture_output=True, text=True)
     if done.returncode != 0:
         sys.exit(f"the program ended with status {done.returncode}: {done.stderr}")
-    return done.stdout, int(done.stderr.split()[-1])
-
-
-def main(work):
-    program = build(work)
-    table = written(work, "table", table_lines())
-    _, without = run(program, table)
-    files = texts(work)
-    said, with_ranks = run(program, table, *files)
-    held = sum(os.path.getsize(file) for file in files) // 1024
     least = {}
-    for line in said.splitlines():
+    for line in done.stdout.splitlines():
         name, nanoseconds = line.split()[:2]
         least[name] = min(least.get(name, int(nanoseconds)), int(nanoseconds))
-    print(f"ranks: {least['ranks'] / 1e6:.1f} ms, {with_ranks - without - held} kB (aim 15 ms, 16000 kB)")
-    print(f"a key: {(least['keys'] - least['words']) / (WINDOW * WINDOWS):.0f} ns (aim 160)")
-    print(f"a comparison: {(least['comparisons'] - least['pairs']) / (WINDOW * WINDOWS):.0f} ns (aim 35)")
-    short, long = least["short"] / (TEXTS * (LONG // SHORT)), least["long"] / TEXTS
-    print(f"keys of {SHORT} characters: {short:.0f} ns, of {LONG}: {long:.0f} ns, {long / short:.0f} times that (aim 500)")
-    print(f"a listing: {least['listing'] / 1e9:.3f} s (aim 0.1)")
+    return least, int(done.stderr.split()[-1])
+
+
+def run_in_turn(programs, *files):
+    """The same of each program, where they are run in turn: the least of all runs of each."""
+    runs = [[run(program, *files) for program in programs] for _ in range(TURNS if len(programs) > 1 else 1)]
+    return [least_of([turn[place] for turn in runs]) for place in range(len(programs))]
+
+
+def least_of(runs):
+    """The least of some runs of a program."""
+    times = [least for least, _ in runs]
+    return {name: min(least[name] for least in times) for name in times[0]}, min(peak for _, peak in runs)
+
+
+def told(what, figures, aim):
+    """Prints a row: what was measured, the figure of each program, and the aim."""
+    print(f"{what}: {', '.join(figures)}" + (f" (aim {aim})" if aim else ""))
+
+
+def each(measured, name, less, count):
+    """The nanoseconds that each of so many took, less what it takes to find them."""
+    return [f"{(least[name] - least[less]) / count:.0f} ns" for least, _ in measured]
+
+
+def main(work, trees):
+    programs = [build(os.path.join(work, str(place)) if place else work, tree) for place, tree in enumerate(trees)]
+    table, real_table = written(work, "table", table_lines()), written(work, "real_table", real_lines())
+    without = run_in_turn(programs, table)
+    files = texts(work)
+    spread = run_in_turn(programs, table, *files)
+    real = run_in_turn(programs, real_table, *real_texts(work))
+    held = sum(os.path.getsize(file) for file in files) // 1024
+    kilobytes = [with_ranks - before - held for (_, with_ranks), (_, before) in zip(spread, without)]
+    told("ranks", [f"{least['ranks'] / 1e6:.1f} ms" for least, _ in spread] + [f"{size} kB" for size in kilobytes], "15 ms, 16000 kB")
+    told("a key", each(spread, "keys", "words", WINDOW * WINDOWS), "160 ns")
+    told("a comparison", each(spread, "comparisons", "pairs", WINDOW * WINDOWS), "35 ns")
+    for least, _ in spread:
+        short, long = least["short"] / (TEXTS * (LONG // SHORT)), least["long"] / TEXTS
+        told(f"keys of {SHORT} and of {LONG} characters", [f"{short:.0f} ns", f"{long:.0f} ns", f"{long / short:.0f} times"], "500 times")
+    told("a listing", [f"{least['listing'] / 1e9:.4f} s" for least, _ in spread], "0.1 s")
+    told("a key of a real word", each(real, "keys", "words", REAL_WORDS), "")
+    told("a comparison of real words", each(real, "comparisons", "pairs", REAL_WORDS), "")
 
 
 if __name__ == "__main__":
     if len(sys.argv) > 1:
         os.makedirs(sys.argv[1], exist_ok=True)
-        main(sys.argv[1])
+        main(sys.argv[1], [ROOT] + sys.argv[2:3])
     else:
         with tempfile.TemporaryDirectory() as folder:
-            main(folder)
+            main(folder, [ROOT])

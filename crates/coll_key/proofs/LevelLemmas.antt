@@ -1,16 +1,16 @@
 -- The lists of levels depend on the numbers of the parts alone, so those of a text are those of its parts.
-use Rattle.std.proofs.Common.{◌≡◌, ℕ, suc, ◌+◌, ◌<◌, ◌≤◌, false, List, [], ◌∷◌, ◌++◌, length, map, nat_lt, refl, sym, ap, ◌∙◌, arith, zero, Option}
+use Rattle.std.proofs.Common.{◌≡◌, ℕ, suc, ◌+◌, ◌<◌, ◌≤◌, false, List, [], ◌∷◌, ◌++◌, length, map, nat_lt, refl, sym, ap, ◌∙◌, arith}
 use Rattle.std.specs.List.{flat_map}
 use Rattle.std.proofs.lemmas.Bool.{ltb-false}
 use Rattle.coll_syntax.specs.declared.rules.Rule.{Rule}
 use Rattle.coll_nodes.specs.Table.{Collation}
 use Rattle.coll_nodes.specs.WellFormed.{IsWellFormed}
-use Rattle.coll_ranks.specs.Elements.{elements_of, split, longest, beyond_first}
+use Rattle.coll_ranks.specs.Elements.{elements_of}
 use Rattle.coll_key.specs.LevelList.{items_of, items, directed, listed, level_list, level_lists_from}
 use Rattle.coll_ranks.specs.WeightNumbers.{numbers_at}
 use Rattle.coll_ranks.specs.Ranks.{RanksValue, AreRanksOf, parts_of, part_numbers, part_with, ranked_text}
 use Rattle.coll_key.specs.TextOrder.{level_lists}
-use Rattle.coll_ranks.proofs.PartNumbers.{numbers_are}
+use Rattle.coll_ranks.proofs.PartNumbers.{few_split, numbers_are}
 
 -- items are those of the numbers
 items_by_map : {P : Type 0} (f : P → List ℕ) (ps : List P) → items f ps ≡ flat_map items_of (map f ps)
@@ -29,17 +29,16 @@ level_lists_same (rule ∷ rules) from f g ps qs same =
     ap (λ xs. xs ∷ level_lists_from rules (suc from) f ps) (level_list_same rule (f from) (g from) ps qs (same from (omega arith) (omega arith)))
     ∙ ap (λ xs. level_list rule (g from) qs ∷ xs) (level_lists_same rules (suc from) f g ps qs (λ level low high. same level (omega arith) (omega arith)))
 
--- the lists of a text are those of its parts
-pub level_lists_by_parts : (ranks : RanksValue) (table : Collation) → AreRanksOf ranks table → IsWellFormed table → (text : List ℕ) → level_lists table text ≡ level_lists_from table.rules 0 (part_numbers ranks) (parts_of ranks text)
+-- the lists of a text are those of parts with the numbers of its elements
+pub level_lists_by_numbers : {P : Type 0} (table : Collation) (text : List ℕ) (f : ℕ → P → List ℕ) (parts : List P) → ((level : ℕ) → level < length table.rules → map (f level) parts ≡ map (numbers_at table level) (elements_of table text)) → level_lists table text ≡ level_lists_from table.rules 0 f parts
 unfolding level_lists
-level_lists_by_parts ranks table are well text =
-    sym (level_lists_same table.rules 0 (part_numbers ranks) (numbers_at table) (parts_of ranks text) (elements_of table text) (λ level low high. numbers_are ranks table are well level (omega arith) text))
+level_lists_by_numbers table text f parts numbers =
+    sym (level_lists_same table.rules 0 f (numbers_at table) parts (elements_of table text) (λ level low high. numbers level (omega arith)))
 
--- a text has no more parts than characters
-few_split : {X P : Type 0} (string_of : X → List ℕ) (xs : List X) (part : Option X → ℕ → P) (skipped : ℕ) (text : List ℕ) → length (split string_of xs part skipped text) ≤ length text
-few_split string_of xs part skipped [] = omega arith
-few_split string_of xs part (suc skipped) (c ∷ text) = omega (arith, few_split string_of xs part skipped text)
-few_split string_of xs part zero (c ∷ text) = omega (arith, few_split string_of xs part (beyond_first string_of (longest string_of xs (c ∷ text))) text)
+-- so they are those of its parts by the ranks of the table
+pub level_lists_by_parts : (ranks : RanksValue) (table : Collation) → AreRanksOf ranks table → IsWellFormed table → (text : List ℕ) → level_lists table text ≡ level_lists_from table.rules 0 (part_numbers ranks.compiled) (parts_of ranks text)
+level_lists_by_parts ranks table are well text =
+    level_lists_by_numbers table text (part_numbers ranks.compiled) (parts_of ranks text) (λ level within. numbers_are ranks table are well level within text)
 
 -- a text that isn't too long has few parts
 pub few_parts : (ranks : RanksValue) (text : List ℕ) → nat_lt 65_536 (length text) ≡ false → length (parts_of ranks text) ≤ 65_536

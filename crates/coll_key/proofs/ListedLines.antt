@@ -32,7 +32,8 @@ use Rattle.coll_ranks.specs.Ranks.{RanksValue, AreRanksOf, ranked_in, last_strin
 use Rattle.coll_ranks.specs.WeightNumbers.{undefined_weights, weights_or}
 use Rattle.coll_key.specs.WrittenKey.{level_end}
 use Rattle.coll_key.specs.ListingParts.{spaced, spaced_number, is_star, level_bytes, spelled_with, levels_bytes, ranked_line, line_if_weighted, met_line, ranked_lines, HasFewWeights}
-use Rattle.coll_ranks.proofs.PartNumbers.{filled_length, row_at, compiled_for}
+use Rattle.coll_ranks.proofs.PartNumbers.{compiled_for}
+use Rattle.coll_ranks.proofs.RowNumbers.{filled_length, row_at}
 use Rattle.coll_ranks.proofs.RankingLemmas.{or_none}
 use Rattle.coll_ranks.proofs.Tests.{by_test}
 
@@ -70,18 +71,18 @@ level_words table Undefined Own = ap (λ l. spaced (codes "*") ++ l) (sym (appen
 level_words table Undefined (Names ids) = words_named (known_rank table) ids
 
 -- all levels, where the compiled weights are those of the weights
-levels_words : (ranks : RanksValue) (table : Collation) (rank : ℕ) (id : Id) (level : ℕ) (weights : List Weight) → ((further : ℕ) → further < length weights → compiled_weight ranks rank (level + further) ≡ compiled_by (known_rank table) id (get_or weights further Ignore)) → levels_bytes ranks rank id level weights ≡ flat_map spaced (flat_map (listed_level table id) weights)
+levels_words : (ranks : RanksValue) (table : Collation) (rank : ℕ) (id : Id) (level : ℕ) (weights : List Weight) → ((further : ℕ) → further < length weights → compiled_weight ranks.compiled rank (level + further) ≡ compiled_by (known_rank table) id (get_or weights further Ignore)) → levels_bytes ranks rank id level weights ≡ flat_map spaced (flat_map (listed_level table id) weights)
 levels_words ranks table rank id level [] row = refl
 levels_words ranks table rank id level (weight ∷ weights) row =
     ap₂ (λ (first later : List ℕ). first ++ later)
-    (ap (level_bytes (is_star id weight)) (ap (compiled_weight ranks rank) (let here : level ≡ level + 0 = omega arith in here) ∙ row 0 (omega arith)) ∙ level_words table id weight)
-    (levels_words ranks table rank id (suc level) weights (λ further within. ap (compiled_weight ranks rank) (let next : suc level + further ≡ level + suc further = omega arith in next) ∙ row (suc further) (omega arith)))
+    (ap (level_bytes (is_star id weight)) (ap (compiled_weight ranks.compiled rank) (let here : level ≡ level + 0 = omega arith in here) ∙ row 0 (omega arith)) ∙ level_words table id weight)
+    (levels_words ranks table rank id (suc level) weights (λ further within. ap (compiled_weight ranks.compiled rank) (let next : suc level + further ≡ level + suc further = omega arith in next) ∙ row (suc further) (omega arith)))
     ∙ sym (flat_map-append spaced (listed_level table id weight) (flat_map (listed_level table id) weights))
 
 -- the levels of UNDEFINED where it stands for itself at each
 own_words : (ranks : RanksValue) (table : Collation) (rank level count : ℕ) → levels_bytes ranks rank Undefined level (replicate count Own) ≡ flat_map spaced (flat_map (listed_level table Undefined) (replicate count Own))
 own_words ranks table rank level zero = refl
-own_words ranks table rank level (suc count) = ap (λ l. level_bytes true (compiled_weight ranks rank level) ++ l) (own_words ranks table rank (suc level) count)
+own_words ranks table rank level (suc count) = ap (λ l. level_bytes true (compiled_weight ranks.compiled rank level) ++ l) (own_words ranks table rank (suc level) count)
 
 -- Spellings.
 
@@ -166,7 +167,7 @@ none_of (Some x) absent = absurd (false≢true (sym absent))
 
 module _ (ranks : RanksValue) (table : Collation) (are : AreRanksOf ranks table) (well : IsWellFormed table) where
   -- the compiled weights of an entry
-  entry_row : (before : List Entry) (entry : Entry) (later : List Entry) → entries_of table ≡ before ++ entry ∷ later → (level : ℕ) → level < length table.rules → compiled_weight ranks (suc (length before)) level ≡ compiled_by (known_rank table) entry.id (get_or entry.weights level Ignore)
+  entry_row : (before : List Entry) (entry : Entry) (later : List Entry) → entries_of table ≡ before ++ entry ∷ later → (level : ℕ) → level < length table.rules → compiled_weight ranks.compiled (suc (length before)) level ≡ compiled_by (known_rank table) entry.id (get_or entry.weights level Ignore)
   entry_row before entry later all level within =
       compiled_for ranks table are level within (suc (length before))
       ∙ (ap (λ es. get_or (compiled_row_by (known_rank table) (length table.rules) Undefined (undefined_weights table) ++ flat_map (compiled_entry (known_rank table) (length table.rules)) es) (suc (length before) * length table.rules + level) []) all
@@ -185,7 +186,7 @@ module _ (ranks : RanksValue) (table : Collation) (are : AreRanksOf ranks table)
         ∙ line_words table ranks (suc (length before)) entry.id entry.weights
         (spelled_as_listed ranks table entry.id are well placed)
         (levels_words ranks table (suc (length before)) entry.id 0 entry.weights
-        (λ level within. ap (compiled_weight ranks (suc (length before))) (let same : 0 + level ≡ level = omega arith in same) ∙ entry_row before entry later all level (let fits : level < length table.rules = omega (arith, within, some.0) in fits)))
+        (λ level within. ap (compiled_weight ranks.compiled (suc (length before))) (let same : 0 + level ≡ level = omega arith in same) ∙ entry_row before entry later all level (let fits : level < length table.rules = omega (arith, within, some.0) in fits)))
 
   -- the lines of entries behind others
   lines_behind : (before rest : List Entry) → entries_of table ≡ before ++ rest → All (IsWeighted (length table.rules) table.declared) rest → ranked_lines ranks (suc (length before)) rest ≡ listed_entries table (suc (length before)) rest

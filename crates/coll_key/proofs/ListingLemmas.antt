@@ -50,7 +50,7 @@ pub left_none : (whole left : List ℕ) (a b : Option (List ℕ)) → left ≡ [
 left_none whole left a b none h = subst (Appends a b) (sym (h.1 ∙ (ap (λ l. h.0 ++ l) none ∙ append-nil h.0))) h.2
 
 -- the levels from one on are that level, and those behind it
-pub levels_next : (ranks : RanksValue) (rank : ℕ) (id : Id) (weights : List Weight) (level : ℕ) (weight : Weight) → level < length weights → weight ≡ get_or weights level weight → levels_bytes ranks rank id level (drop level weights) ≡ level_bytes (is_star id weight) (compiled_weight ranks rank level) ++ levels_bytes ranks rank id (level + 1) (drop (level + 1) weights)
+pub levels_next : (ranks : RanksValue) (rank : ℕ) (id : Id) (weights : List Weight) (level : ℕ) (weight : Weight) → level < length weights → weight ≡ get_or weights level weight → levels_bytes ranks rank id level (drop level weights) ≡ level_bytes (is_star id weight) (compiled_weight ranks.compiled rank level) ++ levels_bytes ranks rank id (level + 1) (drop (level + 1) weights)
 levels_next ranks rank id weights level weight within is =
     ap (levels_bytes ranks rank id level) (left_begins weights level weight within is)
-    ∙ ap (λ n. level_bytes (is_star id weight) (compiled_weight ranks rank level) ++ levels_bytes ranks rank id n (drop (level + 1) weights)) (let next : suc level ≡ level + 1 = omega arith in next)
+    ∙ ap (λ n. level_bytes (is_star id weight) (compiled_weight ranks.compiled rank level) ++ levels_bytes ranks rank id n (drop (level + 1) weights)) (let next : suc level ≡ level + 1 = omega arith in next)

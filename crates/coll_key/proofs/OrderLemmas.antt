@@ -1,17 +1,21 @@
 -- The order of two texts, and the key of a text, by the levels that are done and those that are left.
-use Rattle.std.proofs.Common.{◌≡◌, ℕ, suc, ◌+◌, ◌<◌, ◌≤◌, true, false, List, ◌++◌, length, get_or, drop, Ordering, Less, Equal, Greater, refl, sym, ap, ◌∙◌, append-nil, append_assoc, arith, [], ◌∷◌}
+use Rattle.std.proofs.Common.{◌≡◌, ℕ, suc, ◌+◌, ◌<◌, ◌≤◌, true, false, List, ◌++◌, length, get_or, drop, Ordering, Less, Equal, Greater, refl, sym, ap, ◌∙◌, append-nil, append_assoc, arith, map, [], ◌∷◌}
 use Rattle.std.specs.List.{flat_map}
 use Rattle.std.specs.Ordering.{is_ne, ordering_then}
 use Rattle.std.proofs.lemmas.List.{at_drop_more, at_drop_all}
 use Rattle.coll_syntax.specs.declared.rules.Rule.{Rule}
-use Rattle.coll_ranks.specs.declared.parts.Part.{Part}
+use Rattle.coll_ranks.proofs.PartNumbers.{numbers_are}
+use Rattle.coll_ranks.specs.Elements.{elements_of}
+use Rattle.coll_ranks.specs.WeightNumbers.{numbers_at}
 use Rattle.coll_nodes.specs.Table.{Collation}
 use Rattle.coll_nodes.specs.WellFormed.{IsWellFormed}
 use Rattle.coll_key.specs.LevelList.{level_list, level_lists_from}
+use Rattle.coll_ranks.specs.RankLists.{WeightsValue}
 use Rattle.coll_ranks.specs.Ranks.{RanksValue, AreRanksOf, parts_of, part_numbers}
+use Rattle.coll_ranks.specs.declared.parts.Part.{Part}
 use Rattle.coll_key.specs.SortKey.{ended, key_of}
 use Rattle.coll_key.specs.TextOrder.{list_order, first_difference, order_of, level_lists}
-use Rattle.coll_key.proofs.LevelLemmas.{level_lists_by_parts}
+use Rattle.coll_key.proofs.LevelLemmas.{level_lists_by_numbers, level_lists_by_parts}
 
 -- an order that isn't `Equal` decides
 ne_decides : (order later : Ordering) → true ≡ is_ne order → ordering_then order later ≡ order
@@ -54,48 +58,52 @@ module _ {P : Type 0} (f : ℕ → P → List ℕ) (ps qs : List P) where
   order_undecided level items rules same past = ap (λ rs. order_from level (drop level rs)) (sym same) ∙ at_drop_all (order_from level) items level past
 
 -- the order of two texts is that of their parts
-pub order_by_parts : (ranks : RanksValue) (table : Collation) → AreRanksOf ranks table → IsWellFormed table → (text other : List ℕ) → order_of table text other ≡ order_from (part_numbers ranks) (parts_of ranks text) (parts_of ranks other) 0 table.rules
+pub order_by_parts : (ranks : RanksValue) (table : Collation) → AreRanksOf ranks table → IsWellFormed table → (text other : List ℕ) → order_of table text other ≡ order_from (part_numbers ranks.compiled) (parts_of ranks text) (parts_of ranks other) 0 table.rules
 unfolding order_of
 order_by_parts ranks table are well text other =
     ap (λ lists. first_difference lists (level_lists table other)) (level_lists_by_parts ranks table are well text)
-    ∙ ap (first_difference (level_lists_from table.rules 0 (part_numbers ranks) (parts_of ranks text))) (level_lists_by_parts ranks table are well other)
+    ∙ ap (first_difference (level_lists_from table.rules 0 (part_numbers ranks.compiled) (parts_of ranks text))) (level_lists_by_parts ranks table are well other)
 
--- the key of a text is that of its parts
-key_by_parts : (ranks : RanksValue) (table : Collation) → AreRanksOf ranks table → IsWellFormed table → (text : List ℕ) → key_of table text ≡ flat_map ended (level_lists_from table.rules 0 (part_numbers ranks) (parts_of ranks text))
+-- the key of a text is that of parts with the numbers of its elements
+pub key_by_numbers : {P : Type 0} (table : Collation) (text : List ℕ) (f : ℕ → P → List ℕ) (parts : List P) → ((level : ℕ) → level < length table.rules → map (f level) parts ≡ map (numbers_at table level) (elements_of table text)) → key_of table text ≡ flat_map ended (level_lists_from table.rules 0 f parts)
 unfolding key_of
-key_by_parts ranks table are well text = ap (flat_map ended) (level_lists_by_parts ranks table are well text)
+key_by_numbers table text f parts numbers = ap (flat_map ended) (level_lists_by_numbers table text f parts numbers)
+
+-- so it is that of its parts by the ranks of the table
+pub key_by_parts : (ranks : RanksValue) (table : Collation) → AreRanksOf ranks table → IsWellFormed table → (text : List ℕ) → key_of table text ≡ flat_map ended (level_lists_from table.rules 0 (part_numbers ranks.compiled) (parts_of ranks text))
+key_by_parts ranks table are well text =
+    key_by_numbers table text (part_numbers ranks.compiled) (parts_of ranks text) (λ level within. numbers_are ranks table are well level within text)
 
 -- a key goes on by the list of a level, and its end
-pub key_goes_on : {P : Type 0} (f : ℕ → P → List ℕ) (level : ℕ) (items rules : List Rule) (rule : Rule) (ps kept : List P) (old grown now whole : List ℕ) → items ≡ rules → level < length items → kept ≡ ps → grown ≡ old ++ level_list (get_or items level rule) (f level) kept → now ≡ grown ++ 0 ∷ [] → whole ≡ old ++ flat_map ended (level_lists_from (drop level rules) level f ps) → whole ≡ now ++ flat_map ended (level_lists_from (drop (level + 1) rules) (level + 1) f ps)
-key_goes_on f level items rules rule ps kept old grown now whole same within keeps pushed closed so_far =
+pub key_goes_on : {P : Type 0} (f : ℕ → P → List ℕ) (level : ℕ) (rules : List Rule) (ps : List P) (rule : Rule) (old grown now whole : List ℕ) → level < length rules → grown ≡ old ++ level_list (get_or rules level rule) (f level) ps → now ≡ grown ++ 0 ∷ [] → whole ≡ old ++ flat_map ended (level_lists_from (drop level rules) level f ps) → whole ≡ now ++ flat_map ended (level_lists_from (drop (level + 1) rules) (level + 1) f ps)
+key_goes_on f level rules ps rule old grown now whole within put closed so_far =
     so_far
-    ∙ ap (λ rs. old ++ flat_map ended (level_lists_from (drop level rs) level f ps)) (sym same)
-    ∙ ap (λ lists. old ++ lists) (at_drop_more (λ rs. flat_map ended (level_lists_from rs level f ps)) items level rule within)
+    ∙ ap (λ lists. old ++ lists) (at_drop_more (λ rs. flat_map ended (level_lists_from rs level f ps)) rules level rule within)
     ∙ sym (append_assoc old (ended list) others)
-    ∙ ap (λ front. front ++ others) (sym (append_assoc old list (0 ∷ [])) ∙ ap (λ xs. xs ++ 0 ∷ []) (sym (pushed ∙ ap (λ qs. old ++ level_list (get_or items level rule) (f level) qs) keeps)) ∙ sym closed)
-    ∙ ap (λ rs. now ++ flat_map ended (level_lists_from (drop (level + 1) rs) (suc level) f ps)) same
+    ∙ ap (λ front. front ++ others) (sym (append_assoc old list (0 ∷ [])) ∙ ap (λ xs. xs ++ 0 ∷ []) (sym put) ∙ sym closed)
     ∙ ap (λ n. now ++ flat_map ended (level_lists_from (drop (level + 1) rules) n f ps)) next
   where
     list : List ℕ
-    list = level_list (get_or items level rule) (f level) ps
+    list = level_list (get_or rules level rule) (f level) ps
 
     others : List ℕ
-    others = flat_map ended (level_lists_from (drop (level + 1) items) (suc level) f ps)
+    others = flat_map ended (level_lists_from (drop (level + 1) rules) (suc level) f ps)
 
     next : suc level ≡ level + 1
     next = omega arith
 
 -- a key is whole where no level is left
-key_is_whole : {P : Type 0} (f : ℕ → P → List ℕ) (ps : List P) (level : ℕ) (items rules : List Rule) (key : List ℕ) → items ≡ rules → length items ≤ level → key ++ flat_map ended (level_lists_from (drop level rules) level f ps) ≡ key
-key_is_whole f ps level items rules key same past =
-    ap (λ rs. key ++ flat_map ended (level_lists_from (drop level rs) level f ps)) (sym same)
-    ∙ ap (λ lists. key ++ lists) (at_drop_all (λ rs. flat_map ended (level_lists_from rs level f ps)) items level past)
-    ∙ append-nil key
+pub key_is_whole : {P : Type 0} (f : ℕ → P → List ℕ) (ps : List P) (level : ℕ) (rules : List Rule) (key whole : List ℕ) → length rules ≤ level → whole ≡ key ++ flat_map ended (level_lists_from (drop level rules) level f ps) → key ≡ whole
+key_is_whole f ps level rules key whole past so_far =
+    sym (so_far
+    ∙ ap (λ lists. key ++ lists) (at_drop_all (λ rs. flat_map ended (level_lists_from rs level f ps)) rules level past)
+    ∙ append-nil key)
 
--- a key is that of a text where no level is left
-pub key_is_made : (ranks : RanksValue) (table : Collation) → AreRanksOf ranks table → IsWellFormed table → (text : List ℕ) (parts : List Part) (level : ℕ) (items : List Rule) (key : List ℕ) → parts ≡ parts_of ranks text → items ≡ table.rules → length items ≤ level → flat_map ended (level_lists_from table.rules 0 (part_numbers ranks) parts) ≡ key ++ flat_map ended (level_lists_from (drop level table.rules) level (part_numbers ranks) parts) → key ≡ key_of table text
-key_is_made ranks table are well text parts level items key kept same past made =
-    sym (key_is_whole (part_numbers ranks) parts level items table.rules key same past)
-    ∙ sym made
-    ∙ ap (λ ps. flat_map ended (level_lists_from table.rules 0 (part_numbers ranks) ps)) kept
+-- the key of a text is that of its parts, by the weights and the rules of a table
+pub key_is_made : (ranks : RanksValue) (table : Collation) → AreRanksOf ranks table → IsWellFormed table → (text : List ℕ) (weights : WeightsValue) (rules : List Rule) (parts : List Part) (key : List ℕ) → weights ≡ ranks.compiled → rules ≡ table.rules → parts ≡ parts_of ranks text → key ≡ flat_map ended (level_lists_from rules 0 (part_numbers weights) parts) → key ≡ key_of table text
+key_is_made ranks table are well text weights rules parts key by_weights by_rules by_parts made =
+    made
+    ∙ ap (λ ws. flat_map ended (level_lists_from rules 0 (part_numbers ws) parts)) by_weights
+    ∙ ap (λ rs. flat_map ended (level_lists_from rs 0 (part_numbers ranks.compiled) parts)) by_rules
+    ∙ ap (λ ps. flat_map ended (level_lists_from table.rules 0 (part_numbers ranks.compiled) ps)) by_parts
     ∙ sym (key_by_parts ranks table are well text)

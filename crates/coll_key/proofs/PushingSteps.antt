@@ -1,6 +1,7 @@
 -- What is put behind a key for a part, and for a level.
-use Rattle.std.proofs.Common.{◌≡◌, ◌≤◌, ◌+◌, ℕ, Bool, List, [], ◌∷◌, ◌++◌, length, map, Option, Some, true, false, refl, sym, ap, ◌∙◌, append-nil, append_assoc, arith}
+use Rattle.std.proofs.Common.{◌≡◌, ◌≤◌, ◌<◌, ◌+◌, ℕ, Bool, List, [], ◌∷◌, ◌++◌, length, map, Option, Some, true, false, refl, sym, ap, ◌∙◌, append-nil, append_assoc, arith}
 use Rattle.coll_key.specs.LevelList.{items_of, items, directed, listed, level_list, position_of}
+use Rattle.coll_key.proofs.ForwardLemmas.{none_left}
 use Rattle.coll_key.proofs.DirectionLemmas.{directed_numbers, map-directed, length-directed, items-directed}
 
 module _ (p b : Bool) (gaps : ℕ) (g : ℕ → ℕ) (ranks others old now : List ℕ) (first : ℕ) (begins : directed b ranks ≡ first ∷ directed b others) (pushed : (list : List ℕ) → old ++ position_of p gaps ++ g first ∷ list ≡ now ++ list) where
@@ -19,6 +20,18 @@ module _ (p b : Bool) (gaps : ℕ) (g : ℕ → ℕ) (ranks others old now : Lis
       nothing : (b : Bool) → directed {X = ℕ} b [] ≡ []
       nothing true = refl
       nothing false = refl
+
+-- a list that has a first member has one more than behind it
+pub one_fewer : {P : Type 0} (b : Bool) (left later : List P) (part : P) → directed b left ≡ part ∷ directed b later → length left ≡ length later + 1
+one_fewer b left later part begins = omega (arith, ap length begins, length-directed b left, length-directed b later)
+
+-- and where it has no more than one, none is behind it
+pub none_behind : {P : Type 0} (b : Bool) (left later : List P) (part : P) → directed b left ≡ part ∷ directed b later → length left ≤ 1 → later ≡ []
+none_behind b left later part begins short = none_left later (omega (arith, short, one_fewer b left later part begins))
+
+-- with one part more behind a key fewer are left
+pub shorter_left : {P : Type 0} (b : Bool) (left later : List P) (part : P) → directed b left ≡ part ∷ directed b later → length later < length left
+shorter_left b left later part begins = omega (arith, ap length begins, length-directed b left, length-directed b later)
 
 module _ {P : Type 0} (b : Bool) (left later : List P) (part : P) (begins : directed b left ≡ part ∷ directed b later) (gaps after : ℕ) where
   -- with one part more behind a key the gaps and the parts that are left are no more than before

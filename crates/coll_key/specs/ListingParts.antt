@@ -50,7 +50,7 @@ spelled_with ranks Undefined = codes "UNDEFINED"
 abbrev pub levels_bytes : RanksValue → (rank : ℕ) → Id → (level : ℕ) → List Weight → List ℕ
 levels_bytes ranks rank id level [] = []
 levels_bytes ranks rank id level (weight ∷ weights) =
-    level_bytes (is_star id weight) (compiled_weight ranks rank level) ++ levels_bytes ranks rank id (suc level) weights
+    level_bytes (is_star id weight) (compiled_weight ranks.compiled rank level) ++ levels_bytes ranks rank id (suc level) weights
 
 -- the words of all weights, and the line's end
 abbrev pub levels_ended : RanksValue → (rank : ℕ) → Id → List Weight → List ℕ

@@ -15,7 +15,7 @@ ghost use Rattle.coll_key.specs.declared.key_faults.KeyFault.TheVariants.{TextTo
 
 use crate::forward_numbers::{ForwardNumbers, Step};
 use crate::key_faults::KeyFault;
-use crate::levels::push_level;
+use crate::levels::with_level;
 use crate::limits::is_too_long;
 use crate::text_parts::kept_parts;
 use coll_ranks::Ranks;
@@ -68,10 +68,10 @@ fn level_order(
     text: &str,
     other: &str,
 ) -> Result<Ordering, KeyFault>
-    requires level { level < ranks.now.levels }
+    requires level { level < ranks.now.compiled.levels }
     requires few { length (parts_of ranks.now (chars text.now)) ≤ 65_536 }
     requires few_others { length (parts_of ranks.now (chars other.now)) ≤ 65_536 }
-    ensures ok { IfOk result (λ order. order ≡ list_order (level_list rule (part_numbers ranks.now level) (parts_of ranks.now (chars text.now))) (level_list rule (part_numbers ranks.now level) (parts_of ranks.now (chars other.now)))) }
+    ensures ok { IfOk result (λ order. order ≡ list_order (level_list rule (part_numbers ranks.now.compiled level) (parts_of ranks.now (chars text.now))) (level_list rule (part_numbers ranks.now.compiled level) (parts_of ranks.now (chars other.now)))) }
     ensures err { IfErr result (λ fault. fault ≢ OutOfMemory → (is_too_long (chars text.now) || is_too_long (chars other.now)) ≡ true) }
     ensures memory { rule.backward ≡ false → IsOk result }
 {
@@ -92,23 +92,22 @@ fn backward_list(
     rule: Rule,
     text: &str,
 ) -> Result<Vec<u64>, KeyFault>
-    requires level { level < ranks.now.levels }
+    requires level { level < ranks.now.compiled.levels }
     requires few { length (parts_of ranks.now (chars text.now)) ≤ 65_536 }
-    ensures ok { IfOk result (λ list. list.items ≡ level_list rule (part_numbers ranks.now level) (parts_of ranks.now (chars text.now))) }
+    ensures ok { IfOk result (λ list. list.items ≡ level_list rule (part_numbers ranks.now.compiled level) (parts_of ranks.now (chars text.now))) }
     ensures err { IfErr result (λ fault. fault ≢ OutOfMemory → is_too_long (chars text.now) ≡ true) }
 {
     let parts = kept_parts(alloc, ranks, text)?;
-    let mut list = Vec::new(alloc);
-    push_level(&mut list, ranks, level, rule, &parts)?;
+    let list = with_level(Vec::new(alloc), ranks.weights(), level, rule, &parts)?;
     Ok(list)
 }
 
 // The order of two texts at a forward level. It takes no memory.
 fn forward_order(ranks: &Ranks, level: usize, position: bool, text: &str, other: &str) -> Ordering
-    requires level { level < ranks.now.levels }
+    requires level { level < ranks.now.compiled.levels }
     requires few { length (parts_of ranks.now (chars text.now)) ≤ 65_536 }
     requires few_others { length (parts_of ranks.now (chars other.now)) ≤ 65_536 }
-    ensures { result ≡ list_order (level_list (record { backward = false; position = position }) (part_numbers ranks.now level) (parts_of ranks.now (chars text.now))) (level_list (record { backward = false; position = position }) (part_numbers ranks.now level) (parts_of ranks.now (chars other.now))) }
+    ensures { result ≡ list_order (level_list (record { backward = false; position = position }) (part_numbers ranks.now.compiled level) (parts_of ranks.now (chars text.now))) (level_list (record { backward = false; position = position }) (part_numbers ranks.now.compiled level) (parts_of ranks.now (chars other.now))) }
 {
     let (later, later_other) = ranks.past_common(text, other);
     order_along(

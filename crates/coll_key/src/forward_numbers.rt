@@ -39,9 +39,9 @@ impl<'a> Model for ForwardNumbers<'a> {
 
     ghost Value = { List (Option ℕ) };
 
-    ghost view = { λ n. items_left (part_numbers n.ranks.now n.level) (map (added_to n.weight.added) n.weight.ranks.now) (parts_of n.ranks.now (chars n.text.now)) };
+    ghost view = { λ n. items_left (part_numbers n.ranks.now.compiled n.level) (map (added_to n.weight.added) n.weight.ranks.now) (parts_of n.ranks.now (chars n.text.now)) };
 
-    ghost invariant = { λ n. (n.level < n.ranks.now.levels) × (length (parts_of n.ranks.now (chars n.text.now)) ≤ 65_536) };
+    ghost invariant = { λ n. (n.level < n.ranks.now.compiled.levels) × (length (parts_of n.ranks.now (chars n.text.now)) ≤ 65_536) };
 }
 
 impl<'a> ForwardNumbers<'a> {
@@ -50,9 +50,9 @@ impl<'a> ForwardNumbers<'a> {
     /// The numbers of a text.
     #[inline(always)]
     pub(crate) fn new(ranks: &'a Ranks, level: usize, text: &'a str) -> ForwardNumbers<'a>
-        requires level { level < ranks.now.levels }
+        requires level { level < ranks.now.compiled.levels }
         requires few { length (parts_of ranks.now (chars text.now)) ≤ 65_536 }
-        ensures { result ≡ items (part_numbers ranks.now level) (parts_of ranks.now (chars text.now)) }
+        ensures { result ≡ items (part_numbers ranks.now.compiled level) (parts_of ranks.now (chars text.now)) }
     {
         ForwardNumbers {
             ranks,
@@ -85,7 +85,7 @@ impl<'a> ForwardNumbers<'a> {
                 return None;
             };
             self.text = first.rest;
-            self.weight = self.ranks.weight(first.part, self.level);
+            self.weight = self.ranks.weights().weight(first.part, self.level);
             gaps += gap_count(self.weight.ranks);
         }
     }

@@ -3,20 +3,23 @@
 //! A key is made level by level from the parts of the text, for which room is reserved first. That keys are ordered as their
 //! texts is a law over the definitions alone.
 
-ghost use Rattle.std.specs.Prelude.{◌≡◌, ◌≢◌, ◌≤◌, ◌+◌, ◌*◌, chars, true, false, IfOk, IfErr};
+ghost use Rattle.std.specs.Prelude.{◌≡◌, ◌≢◌, ◌≤◌, ◌+◌, ◌*◌, chars, length, true, false, IfOk, IfErr};
+ghost use Rattle.std.specs.List.{flat_map};
 ghost use Rattle.coll_nodes.specs.TableLayout.{collation};
 ghost use Rattle.coll_key.specs.KeyLimits.{is_too_long};
-ghost use Rattle.coll_ranks.specs.Ranks.{AreRanksOf};
-ghost use Rattle.coll_key.specs.SortKey.{key_of, KeysAreOrderedAsTexts};
+ghost use Rattle.coll_key.specs.LevelList.{level_lists_from};
+ghost use Rattle.coll_ranks.specs.Ranks.{AreRanksOf, part_numbers};
+ghost use Rattle.coll_key.specs.SortKey.{ended, key_of, KeysAreOrderedAsTexts};
 ghost use Rattle.coll_key.specs.WrittenKey.{has_key_form};
 ghost use Rattle.coll_key.specs.declared.key_faults.KeyFault.TheVariants.{OutOfMemory};
 
 use crate::key_faults::KeyFault;
-use crate::levels::push_level;
+use crate::levels::with_level;
 use crate::text_parts::kept_parts;
-use coll_ranks::Ranks;
+use coll_ranks::{CompiledWeights, Part, Ranks};
+use coll_syntax::Rule;
 use coll_table::Table;
-use std::alloc::Global;
+use std::alloc::{AllocError, Global};
 
 /// The sort key of a text: for each level its list of numbers, followed by 0.
 ///
@@ -32,11 +35,25 @@ pub fn key(alloc: Global, table: &Table, ranks: &Ranks, text: &str) -> Result<Ve
 {
     table.check_table();
     let parts = kept_parts(alloc, ranks, text)?;
-    let mut key = Vec::new(alloc);
-    key.reserve(likely_numbers(parts.len(), table.rules().len()))?;
-    for (level, rule) in table.rules().iter().enumerate() {
-        push_level(&mut key, ranks, level, *rule, &parts)?;
-        key.push(0)?;
+    let key = key_of_parts(alloc, ranks.weights(), table.rules(), &parts)?;
+    Ok(key)
+}
+
+/// The sort key of a text with these parts, by compiled weights at levels with these rules.
+pub(crate) fn key_of_parts(
+    alloc: Global,
+    weights: &CompiledWeights,
+    rules: &[Rule],
+    parts: &[Part],
+) -> Result<Vec<u64>, AllocError>
+    requires levels { length rules.now ≤ weights.now.levels }
+    requires few { length parts.now ≤ 65_536 }
+    ensures { IfOk result (λ key. key.items ≡ flat_map ended (level_lists_from rules.now 0 (part_numbers weights.now) parts.now)) }
+{
+    let mut key = Vec::with_capacity(alloc, likely_numbers(parts.len(), rules.len()))?;
+    for (level, rule) in rules.iter().enumerate() {
+        key = with_level(key, weights, level, *rule, parts)?;
+        key.push_reserved(0);
     }
     Ok(key)
 }

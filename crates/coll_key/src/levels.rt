@@ -2,115 +2,192 @@
 //!
 //! One goes along the parts of a text in the direction of the level, and counts the gaps between numbers. Direction and `position`
 //! are told apart once for a level: what each part calls is inlined there, and what few parts call is not, so that the loop stays
-//! small. A key of nine letters takes a fifth less time by it.
+//! small. The key is handed on by value, and given back: so where it stands and how long it is are kept in registers along the
+//! loop. There is room for one number of each part that is left, with its position, and a part with more numbers makes room for
+//! them first: so no number asks for room, and none may be refused. A key of ten letters takes half the time by it.
 
-ghost use Rattle.std.specs.Prelude.{◌≡◌, ◌<◌, ◌≤◌, ◌+◌, ◌++◌, ◌∷◌, [], ℕ, List, Option, Some, map, length, IfOk, OnOk, MatchOption};
+ghost use Rattle.std.specs.Prelude.{◌≡◌, ◌<◌, ◌≤◌, ◌+◌, ◌*◌, ◌^◌, ◌++◌, ◌∷◌, [], ℕ, List, Option, Some, map, length, vec_len, vec_capacity, IfOk, MatchOption};
 ghost use Rattle.coll_key.specs.LevelList.{directed, items_of, listed, level_list, position_of};
 ghost use Rattle.coll_ranks.specs.Ranks.{added_to, part_numbers};
 
 use crate::limits::RANK_STEP;
-use coll_ranks::{Part, PartWeight, Ranks};
+use coll_ranks::{CompiledWeights, Part, PartWeight};
 use coll_syntax::Rule;
 use std::alloc::AllocError;
 
-/// Puts the list of a level behind a key.
-pub(crate) fn push_level(
-    key: &mut Vec<u64>,
-    ranks: &Ranks,
+/// Puts the list of a level behind a key, and makes room for one number more.
+#[inline(always)]
+pub(crate) fn with_level(
+    key: Vec<u64>,
+    weights: &CompiledWeights,
     level: usize,
     rule: Rule,
     parts: &[Part],
-) -> Result<(), AllocError>
-    requires level { level < ranks.now.levels }
+) -> Result<Vec<u64>, AllocError>
+    requires level { level < weights.now.levels }
     requires few { length parts.now ≤ 65_536 }
-    ensures { OnOk result (key.new.items ≡ key.old.items ++ level_list rule (part_numbers ranks.now level) parts.now) }
+    ensures list { IfOk result (λ with. with.items ≡ key.items ++ level_list rule (part_numbers weights.now level) parts.now) }
+    ensures room { IfOk result (λ with. vec_len with < vec_capacity with) }
 {
+    let key = with_room(key, parts.len())?;
     match (rule.backward, rule.position) {
-        (false, false) => push_parts(key, ranks, level, false, false, parts),
-        (false, true) => push_parts(key, ranks, level, false, true, parts),
-        (true, false) => push_parts(key, ranks, level, true, false, parts),
-        (true, true) => push_parts(key, ranks, level, true, true, parts),
+        (false, false) => with_parts(key, weights, level, false, false, parts),
+        (false, true) => with_parts(key, weights, level, false, true, parts),
+        (true, false) => with_parts(key, weights, level, true, false, parts),
+        (true, true) => with_parts(key, weights, level, true, true, parts),
     }
+}
+
+// A key with room for so many numbers, each with its position, and one more.
+#[inline(always)]
+fn with_room(key: Vec<u64>, numbers: usize) -> Result<Vec<u64>, AllocError>
+    requires { numbers < 2 ^ 62 }
+    ensures same { IfOk result (λ with. with.items ≡ key.items) }
+    ensures room { IfOk result (λ with. vec_len with + numbers * 2 + 1 ≤ vec_capacity with) }
+{
+    if key.capacity().saturating_sub(key.len()) > numbers * 2 {
+        return Ok(key);
+    }
+    with_more_room(key, numbers)
+}
+
+// The same, where there is less room. It stands apart, so that a key isn't lent where it is made.
+#[inline(never)]
+fn with_more_room(key: Vec<u64>, numbers: usize) -> Result<Vec<u64>, AllocError>
+    requires { numbers < 2 ^ 62 }
+    ensures same { IfOk result (λ with. with.items ≡ key.items) }
+    ensures room { IfOk result (λ with. vec_len with + numbers * 2 + 1 ≤ vec_capacity with) }
+{
+    let mut with = key;
+    with.reserve(numbers * 2 + 1)?;
+    Ok(with)
 }
 
 // Puts the numbers of parts behind a key, in a direction.
 #[inline(always)]
-fn push_parts(
-    key: &mut Vec<u64>,
-    ranks: &Ranks,
+fn with_parts(
+    key: Vec<u64>,
+    weights: &CompiledWeights,
     level: usize,
     backward: bool,
     position: bool,
     parts: &[Part],
-) -> Result<(), AllocError>
-    requires level { level < ranks.now.levels }
+) -> Result<Vec<u64>, AllocError>
+    requires level { level < weights.now.levels }
     requires few { length parts.now ≤ 65_536 }
-    ensures { OnOk result (key.new.items ≡ key.old.items ++ level_list (record { backward = backward; position = position }) (part_numbers ranks.now level) parts.now) }
+    requires room { vec_len key + length parts.now * 2 + 1 ≤ vec_capacity key }
+    ensures list { IfOk result (λ with. with.items ≡ key.items ++ level_list (record { backward = backward; position = position }) (part_numbers weights.now level) parts.now) }
+    ensures room { IfOk result (λ with. vec_len with < vec_capacity with) }
 {
+    let mut with = key;
     let mut left = parts;
     let mut gaps = 0;
     'parts: while let Some((part, later)) = split_towards(left, backward) {
-        let weight = ranks.weight(part, level);
-        gaps = push_part(key, weight, backward, position, gaps)?;
+        let weight = weights.weight(part, level);
+        if weight.ranks.len() > 1 {
+            let (longer, after) = with_long_part(
+                with,
+                weight,
+                backward,
+                position,
+                gaps,
+                later.len(),
+            )?;
+            with = longer;
+            gaps = after;
+            left = later;
+            continue;
+        }
+        let (longer, after) = with_short_part(with, weight, backward, position, gaps);
+        with = longer;
+        gaps = after;
         left = later;
     }
-    Ok(())
+    Ok(with)
 }
 
-// Puts the numbers of a part behind a key, with so many gaps before it, and gives the gaps behind its last number.
+// Puts the number of a part that has one at most behind a key, with so many gaps before it, and gives the gaps behind it too.
 #[inline(always)]
-fn push_part(
-    key: &mut Vec<u64>,
+fn with_short_part(
+    key: Vec<u64>,
     weight: PartWeight<'_>,
     backward: bool,
     position: bool,
     gaps: u64,
-) -> Result<u64, AllocError>
-    requires { gaps < 65_536 }
-    ensures few { IfOk result (λ after. after ≤ gaps + 1) }
-    ensures numbers { IfOk result (λ after. (later : List (Option ℕ)) → key.old.items ++ listed position gaps (items_of (directed backward (map (added_to weight.entry.added) weight.entry.ranks.now)) ++ later) ≡ key.new.items ++ listed position after later) }
+) -> (Vec<u64>, u64)
+    requires few { gaps < 65_536 }
+    requires short { length weight.ranks.now ≤ 1 }
+    requires room { vec_len key + 2 ≤ vec_capacity key }
+    ensures few { result.1 ≤ gaps + 1 }
+    ensures numbers { (later : List (Option ℕ)) → key.items ++ listed position gaps (items_of (directed backward (map (added_to weight.entry.added) weight.entry.ranks.now)) ++ later) ≡ result.0.items ++ listed position result.1 later }
+    ensures capacity { vec_capacity result.0 ≡ vec_capacity key }
+    ensures len { vec_len result.0 ≤ vec_len key + 2 }
 {
-    let Some((first, others)) = split_towards(weight.ranks, backward) else {
-        return Ok(gaps + 1);
+    let Some((first, _)) = split_towards(weight.ranks, backward) else {
+        return (key, gaps + 1);
     };
-    push_number(key, position, gaps, number_of(first, weight.added))?;
-    if others.is_empty() {
-        return Ok(0);
-    }
-    push_others(key, others, weight.added, backward, position)?;
-    Ok(0)
+    let with = with_number(key, position, gaps, number_of(first, weight.added));
+    (with, 0)
 }
 
-// Puts the later numbers of a part behind a key. Few parts have them.
+// Puts the numbers of a part behind a key in the same way, and makes room for those of so many later parts. Few parts have several.
 #[inline(never)]
-fn push_others(
-    key: &mut Vec<u64>,
-    ranks: &[u32],
-    added: u32,
+fn with_long_part(
+    key: Vec<u64>,
+    weight: PartWeight<'_>,
     backward: bool,
     position: bool,
-) -> Result<(), AllocError>
-    ensures { OnOk result ((later : List (Option ℕ)) → key.old.items ++ listed position 0 (map Some (map (added_to added) (directed backward ranks.now)) ++ later) ≡ key.new.items ++ listed position 0 later) }
+    gaps: u64,
+    later_parts: usize,
+) -> Result<(Vec<u64>, u64), AllocError>
+    requires few { gaps < 65_536 }
+    requires few_later { later_parts ≤ 65_536 }
+    ensures few { IfOk result (λ with. with.1 ≤ gaps + 1) }
+    ensures numbers { IfOk result (λ with. (later : List (Option ℕ)) → key.items ++ listed position gaps (items_of (directed backward (map (added_to weight.entry.added) weight.entry.ranks.now)) ++ later) ≡ with.0.items ++ listed position with.1 later) }
+    ensures room { IfOk result (λ with. vec_len with.0 + later_parts * 2 + 1 ≤ vec_capacity with.0) }
 {
-    let mut left = ranks;
-    'others: while let Some((rank, later)) = split_towards(left, backward) {
-        push_number(key, position, 0, number_of(rank, added))?;
-        left = later;
-    }
-    Ok(())
+    let key = with_room(key, weight.ranks.len() + later_parts)?;
+    let Some((first, others)) = split_towards(weight.ranks, backward) else {
+        return Ok((key, gaps + 1));
+    };
+    let with = with_number(key, position, gaps, number_of(first, weight.added));
+    let whole = with_others(with, others, weight.added, backward, position);
+    Ok((whole, 0))
 }
 
-// Puts a number behind a key, with `position` behind its position.
-#[inline(always)]
-fn push_number(key: &mut Vec<u64>, position: bool, gaps: u64, number: u64) -> Result<(), AllocError>
-    requires { gaps < 65_536 }
-    ensures { OnOk result ((list : List ℕ) → key.old.items ++ position_of position gaps ++ number ∷ list ≡ key.new.items ++ list) }
+// Puts the later numbers of a part behind a key.
+fn with_others(key: Vec<u64>, ranks: &[u32], added: u32, backward: bool, position: bool) -> Vec<u64>
+    requires room { vec_len key + length ranks.now * 2 ≤ vec_capacity key }
+    ensures numbers { (later : List (Option ℕ)) → key.items ++ listed position 0 (map Some (map (added_to added) (directed backward ranks.now)) ++ later) ≡ result.items ++ listed position 0 later }
+    ensures capacity { vec_capacity result ≡ vec_capacity key }
+    ensures len { vec_len result ≤ vec_len key + length ranks.now * 2 }
 {
-    if position {
-        key.push(gaps + 1)?;
+    let mut with = key;
+    let mut left = ranks;
+    'others: while let Some((rank, later)) = split_towards(left, backward) {
+        with = with_number(with, position, 0, number_of(rank, added));
+        left = later;
     }
-    key.push(number)?;
-    Ok(())
+    with
+}
+
+// Puts a number behind a key that has room for it, with `position` behind its position.
+#[inline(always)]
+fn with_number(key: Vec<u64>, position: bool, gaps: u64, number: u64) -> Vec<u64>
+    requires few { gaps < 65_536 }
+    requires room { vec_len key + 2 ≤ vec_capacity key }
+    ensures numbers { (list : List ℕ) → key.items ++ position_of position gaps ++ number ∷ list ≡ result.items ++ list }
+    ensures capacity { vec_capacity result ≡ vec_capacity key }
+    ensures len { vec_len result ≤ vec_len key + 2 }
+{
+    let mut with = key;
+    if position {
+        with.push_reserved(gaps + 1);
+        with.push_reserved(number);
+        return with;
+    }
+    with.push_reserved(number);
+    with
 }
 
 /// The number of a rank, with what is added to it.

@@ -97,7 +97,7 @@ fn is_undefined_placed(table: &Table) -> bool
 
 // Writes a line for each entry on a walk that isn't a symbol.
 fn write_walk<W: Sink>(out: &mut W, ranks: &Ranks, walk: Walk<'_>) -> Result<(), WriteStop>
-    requires fit { All (HasFewWeights ranks.now.levels) (entries_met walk) }
+    requires fit { All (HasFewWeights ranks.now.compiled.levels) (entries_met walk) }
     requires few { length (entries_met walk) < 1_000_000 }
     ensures sent { Sends (W.taken out.old) (W.taken out.new) (ranked_lines ranks.now 1 (entries_met walk.entry)) result }
     ensures errors { CountsErr (W.failed out.old) (W.failed out.new) result }
@@ -117,7 +117,7 @@ fn write_met<W: Sink>(
     rank: u32,
     item: WalkItem<'_>,
 ) -> Result<u32, WriteStop>
-    requires fit { All (HasFewWeights ranks.now.levels) (entry_met (met_by item)) }
+    requires fit { All (HasFewWeights ranks.now.compiled.levels) (entry_met (met_by item)) }
     requires few { rank ≤ 1_000_000 }
     ensures sent { Sends (W.taken out.old) (W.taken out.new) (met_line ranks.now rank (met_by item.entry)) result }
     ensures errors { CountsErr (W.failed out.old) (W.failed out.new) result }
@@ -139,7 +139,7 @@ fn write_entry<W: Sink>(
     rank: u32,
     entry: &Entry,
 ) -> Result<(), WriteStop>
-    requires fit { HasFewWeights ranks.now.levels entry.now }
+    requires fit { HasFewWeights ranks.now.compiled.levels entry.now }
     ensures sent { Sends (W.taken out.old) (W.taken out.new) (line_if_weighted ranks.now rank entry.now.id entry.now.weights) result }
     ensures errors { CountsErr (W.failed out.old) (W.failed out.new) result }
 {
@@ -157,7 +157,7 @@ fn write_line<W: Sink>(
     id: &Id,
     weights: &[Weight],
 ) -> Result<(), WriteStop>
-    requires fit { length weights.now ≤ ranks.now.levels }
+    requires fit { length weights.now ≤ ranks.now.compiled.levels }
     ensures sent { Sends (W.taken out.old) (W.taken out.new) (ranked_line ranks.now rank id.now weights.now) result }
     ensures errors { CountsErr (W.failed out.old) (W.failed out.new) result }
 {
@@ -175,7 +175,7 @@ fn write_levels<W: Sink>(
     owner: &Id,
     weights: &[Weight],
 ) -> Result<(), WriteStop>
-    requires fit { length weights.now ≤ ranks.now.levels }
+    requires fit { length weights.now ≤ ranks.now.compiled.levels }
     ensures sent { Sends (W.taken out.old) (W.taken out.new) (levels_ended ranks.now rank owner.now weights.now) result }
     ensures errors { CountsErr (W.failed out.old) (W.failed out.new) result }
 {

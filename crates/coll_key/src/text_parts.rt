@@ -1,6 +1,6 @@
 //! The parts of a text, kept in a list.
 
-ghost use Rattle.std.specs.Prelude.{◌≡◌, ◌≢◌, ◌≤◌, chars, true, false, IfOk, IfErr, IfSome, MatchOption};
+ghost use Rattle.std.specs.Prelude.{◌≡◌, ◌≢◌, ◌≤◌, ℕ, chars, true, false, IfOk, IfErr, IfSome, MatchOption};
 ghost use Rattle.coll_key.specs.KeyLimits.{is_too_long};
 ghost use Rattle.coll_ranks.specs.Ranks.{parts_of};
 ghost use Rattle.coll_key.specs.declared.key_faults.KeyFault.TheVariants.{OutOfMemory};
@@ -45,8 +45,7 @@ fn split_parts(alloc: Global, ranks: &Ranks, text: &str) -> Result<Option<Vec<Pa
     ensures long { IfOk result (λ kept. MatchOption kept (is_too_long (chars text.now) ≡ true) (λ parts. is_too_long (chars text.now) ≡ false)) }
     ensures parts { IfOk result (λ kept. IfSome kept (λ parts. parts.items ≡ parts_of ranks.now (chars text.now))) }
 {
-    let mut parts = Vec::new(alloc);
-    parts.reserve(likely_parts(text.len()))?;
+    let mut parts = Vec::with_capacity(alloc, most_parts(text.len()))?;
     let mut left = text;
     let mut room = MOST_TEXT_CHARACTERS;
     'parts: while let Some(first) = ranks.first_part(left) {
@@ -54,16 +53,17 @@ fn split_parts(alloc: Global, ranks: &Ranks, text: &str) -> Result<Option<Vec<Pa
             return Ok(None);
         }
         room -= first.characters;
-        parts.push(first.part)?;
+        parts.push_reserved(first.part);
         left = first.rest;
     }
     Ok(Some(parts))
 }
 
 // The number of parts of a text of so many bytes, at most, where the text isn't too long.
-fn likely_parts(bytes: usize) -> usize
+fn most_parts(bytes: usize) -> usize
     ensures bytes { result ≤ bytes }
     ensures most { result ≤ 65_536 }
+    ensures enough { (parts : ℕ) → parts ≤ bytes → parts ≤ 65_536 → parts ≤ result }
 {
     bytes.min(MOST_TEXT_CHARACTERS)
 }

@@ -5,6 +5,7 @@ pub mod BodySteps
 pub mod ChangedNodes
 pub mod ChangedTags
 pub mod CharNodes
+pub mod ElementNodes
 pub mod EmptyRings
 pub mod EntryLemmas
 pub mod EntryMoves
@@ -23,6 +24,7 @@ pub mod NodeLemmas
 pub mod NodeLists
 pub mod NodeLookUps
 pub mod NodeTags
+pub mod NumberedNodes
 pub mod OwnNames
 pub mod OwnTables
 pub mod RingPlaces

@@ -20,7 +20,7 @@ use Rattle.coll_nodes.specs.declared.entries.Entry.{Entry}
 use Rattle.coll_nodes.specs.declared.contents.Content.TheVariants.{Declared, Begun, Placed}
 
 -- a list is cut at a node of it
-cut_at : (nodes : List NodeId) (node : NodeId) → has_node nodes node ≡ true → (front : List NodeId) × (rest : List NodeId) × (nodes ≡ front ++ node ∷ rest) × (from_node nodes node ≡ node ∷ rest)
+pub cut_at : (nodes : List NodeId) (node : NodeId) → has_node nodes node ≡ true → (front : List NodeId) × (rest : List NodeId) × (nodes ≡ front ++ node ∷ rest) × (from_node nodes node ≡ node ∷ rest)
 cut_at [] node there = not_both there refl
 cut_at (first ∷ nodes) node there =
     by_test (λ b. same_node node first ≡ b → (front : List NodeId) × (rest : List NodeId) × (first ∷ nodes ≡ front ++ node ∷ rest) × (cond b (first ∷ nodes) (from_node nodes node) ≡ node ∷ rest)) (same_node node first)

@@ -1,6 +1,7 @@
 pub mod Bodies
 pub mod BodyInvariant
 pub mod Counting
+pub mod ElementTexts
 pub mod Entries
 pub mod HashKeys
 pub mod KeyedNodes
@@ -10,6 +11,7 @@ pub mod LookUps
 pub mod Moving
 pub mod NodeLookUps
 pub mod NodeMaps
+pub mod NodeNumbers
 pub mod OwnNames
 pub mod Placement
 pub mod SoundBodies

@@ -1,6 +1,7 @@
 -- Finding an entry in a table's sections, taking it out, and putting one in; the same for sections.
-use Rattle.std.specs.Prelude.{ℕ, Bool, false, if◌then◌else◌, not, List, [], ◌∷◌, Option, Some, None, filter, map}
+use Rattle.std.specs.Prelude.{ℕ, suc, Bool, false, if◌then◌else◌, not, List, [], ◌∷◌, Option, Some, None, filter, map}
 use Rattle.std.specs.List.{flat_map}
+use Rattle.std.specs.Option.{option_map}
 use Rattle.coll_syntax.specs.Identifier.{same_id, same_name}
 use Rattle.coll_nodes.specs.Table.{Section}
 use Rattle.coll_syntax.specs.declared.identifiers.Id.{Id}
@@ -10,6 +11,11 @@ use Rattle.coll_nodes.specs.declared.entries.Entry.{Entry}
 abbrev pub entry_at : List Entry → Id → Option Entry
 entry_at [] id = None
 entry_at (entry ∷ entries) id = if same_id id entry.id then Some entry else entry_at entries id
+
+-- the place of an identifier among entries, from 1
+abbrev pub place_among : List Entry → Id → Option ℕ
+place_among [] id = None
+place_among (entry ∷ entries) id = if same_id id entry.id then Some 1 else option_map (λ place. suc place) (place_among entries id)
 
 -- the entries without that of an identifier
 abbrev pub entries_without : List Entry → Id → List Entry

@@ -10,7 +10,9 @@ ghost use Rattle.std.specs.Prelude.{◌≡◌, ◌∷◌, ◌++◌, [], Some, No
 ghost use Rattle.coll_syntax.specs.Identifier.{has_name, same_name};
 ghost use Rattle.coll_nodes.specs.SoundBodies.{entry_if};
 
+mod elements;
 mod linking;
+mod numbering;
 mod own_names;
 
 use crate::contents::Content;

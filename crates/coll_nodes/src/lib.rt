@@ -11,6 +11,7 @@
 //! - `bodies`, `bodies/own_names` and `bodies/linking`: the whole, with its look-ups and `counts`, what names stand for, and what
 //!   is put in, moved and taken out (`SoundBodies`, `SoundLayouts`, `BodyInvariant`, `Counting`, `OwnNames`, `Linking`);
 //! - `walks` and `met_nodes`: a body, read in order (`Walks`, `WalkStates`, `WalkItems`);
+//! - `entry_numbers` and `bodies/numbering`: the places of entries, kept beside a body (`NodeNumbers`);
 //! - and, for the look-ups of blocks in `coll_statements`, `LookUps`.
 #![tactic(auto)]
 
@@ -19,6 +20,7 @@ mod contents;
 mod counts;
 mod declarations;
 mod entries;
+mod entry_numbers;
 mod hash_keys;
 mod limits;
 mod met_nodes;
@@ -32,6 +34,7 @@ pub use bodies::Body;
 pub use contents::Content;
 pub use declarations::Declaration;
 pub use entries::Entry;
+pub use entry_numbers::EntryNumbers;
 pub use hash_keys::HashKeys;
 pub use limits::{MOST_DECLARATIONS, MOST_ENTRIES, MOST_SECTIONS, limits_are_stated};
 pub use walks::{Declared, DeclaredItem, Walk, WalkItem};

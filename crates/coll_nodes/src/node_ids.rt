@@ -7,6 +7,7 @@ ghost use Rattle.std.specs.Prelude.{◌≡◌, true, None, Some, IfOk, OnOk, OnE
 
 use super::node_names::NodeNames;
 use crate::HashKeys;
+use coll_lex::TextBuf;
 use coll_order::NodeId;
 use coll_syntax::Id;
 use indexmap::IndexMap;
@@ -31,6 +32,7 @@ impl Model for NodeIds {
 }
 
 impl NodeIds {
+    ghost use Rattle.coll_syntax.specs.declared.identifiers.Id.TheVariants.{Named};
     ghost use Rattle.coll_nodes.specs.NodeLookUps.{no_nodes, node_with, is_id_key, SetsId, AddsIdKey, LeadAlike, KeepIdKeys};
 
     /// No identifiers. It takes no memory.
@@ -53,9 +55,16 @@ impl NodeIds {
                 Some(node) => *node,
                 None => None,
             },
-            Id::Named(name) => self.names.find(name),
+            Id::Named(name) => self.find_name(name),
             Id::Undefined => self.undefined,
         }
+    }
+
+    /// The node that a name leads to.
+    pub(crate) fn find_name(&self, name: &TextBuf) -> Option<NodeId>
+        ensures { result ≡ node_with self.now (Named name.now) }
+    {
+        self.names.find(name)
     }
 
     /// Makes an identifier a key, so that it can be `set`. It leads to where it led.

@@ -4,6 +4,8 @@
 //! asks, in its `requires`, that the name is one of its own. A new kind of place is a new case of `Place`, of
 //! `specs/Lists.antt`, `specs/Layout.antt` and `specs/Store.antt`, and of `Store::next`, `Store::set_next` and `Store::ring`.
 
+ghost use Rattle.std.specs.Prelude.{◌≡◌};
+
 /// The name of a ring. It stays valid as long as its store.
 #[derive(Clone, Copy, Debug, PartialEq, Eq)]
 pub struct RingId {
@@ -16,6 +18,15 @@ pub struct RingId {
 pub struct NodeId {
     /// The node's key in the slab.
     pub(crate) key: usize,
+}
+
+impl NodeId {
+    /// A number for what is kept of nodes beside their store: no other node has it as long as this one is there.
+    pub fn number(self) -> usize
+        ensures { result ≡ self.key }
+    {
+        self.key
+    }
 }
 
 /// What stands directly before a node.

@@ -1,4 +1,5 @@
 pub mod AlikeFronts
+pub mod CellLemmas
 pub mod ElementBeginnings
 pub mod ElementOrder
 pub mod ElementOrderGrowth
@@ -11,4 +12,7 @@ pub mod NamedElements
 pub mod PartNumbers
 pub mod RankListLemmas
 pub mod RankingLemmas
+pub mod RowNumbers
 pub mod Tests
+pub mod TextElements
+pub mod TextRows

@@ -1,32 +1,31 @@
 -- What the look-ups find for a text is what the table says of its elements.
-use Rattle.std.proofs.Common.{◌≡◌, ◌<◌, ℕ, zero, suc, ◌+◌, ◌*◌, ◌-◌, Bool, true, false, cond, List, [], ◌∷◌, ◌++◌, length, map, get_or, chars, Option, Some, None, is_some, sym, ap, ap₂, ◌∙◌, refl, arith, length-append}
-use Rattle.std.specs.Prelude.{nat_lt, slice_index_or}
+use Rattle.std.proofs.Common.{◌≡◌, ◌<◌, ◌≤◌, ℕ, zero, suc, ◌+◌, ◌*◌, ◌-◌, Bool, true, false, cond, List, [], ◌∷◌, ◌++◌, length, map, get_or, chars, Option, Some, None, is_some, sym, ap, ap₂, ◌∙◌, refl, arith, length-append}
+use Rattle.std.specs.Prelude.{nat_lt}
 use Rattle.std.specs.List.{flat_map}
 use Rattle.std.specs.Option.{option_or, option_map, unwrap_or}
-use Rattle.std.proofs.Math.ListN.{get_or-append, get_or-map}
 use Rattle.std.proofs.lemmas.List.{get_or-append-add}
 use Rattle.std.proofs.lemmas.Str.{chars-nil}
 use Rattle.coll_syntax.specs.Identifier.{same_id}
 use Rattle.coll_syntax.specs.declared.identifiers.Id.{Id}
 use Rattle.coll_syntax.specs.declared.identifiers.Id.TheVariants.{Char, Named, Undefined}
-use Rattle.coll_syntax.specs.declared.weights.Weight.{Weight}
-use Rattle.coll_syntax.specs.declared.weights.Weight.TheVariants.{Ignore, Own, Names}
+use Rattle.coll_syntax.specs.declared.weights.Weight.TheVariants.{Ignore}
 use Rattle.coll_print.specs.CanonicalText.{is_own}
-use Rattle.coll_nodes.specs.Placement.{entry_at}
-use Rattle.coll_nodes.specs.Table.{Collation, entries_of, is_placed}
+use Rattle.coll_nodes.specs.Placement.{entry_at, place_among}
+use Rattle.coll_nodes.specs.Table.{Collation, entries_of}
 use Rattle.coll_nodes.specs.WellFormed.{IsWellFormed}
 use Rattle.coll_nodes.specs.declared.entries.Entry.{Entry}
-use Rattle.coll_nodes.proofs.Sameness.{same_id_decides}
+use Rattle.coll_nodes.proofs.EntryLemmas.{entry_there}
 use Rattle.coll_ranks.specs.Elements.{Element, beyond_first, longest, longer, split, elements_of, elements_placed, element_text, part_id, begins_with}
 use Rattle.coll_ranks.specs.NamedElements.{Finds}
-use Rattle.coll_ranks.specs.WeightNumbers.{number_of, numbers_at, weight_at, weights_or, weight_numbers, undefined_weights, code_point}
-use Rattle.coll_ranks.specs.Rank.{place_among, known_rank}
-use Rattle.coll_ranks.specs.Ranks.{RanksValue, RankedElement, AreRanksOf, parts_of, parts_behind, part_with, part_numbers, character_part, added_to, added_at, compiled_weight, compiled_by, compiled_entry, compiled_row_by, compiled_weights, filled_up, ranked_text, ranked_in}
+use Rattle.coll_ranks.specs.WeightNumbers.{numbers_at, weight_at, undefined_weights}
+use Rattle.coll_ranks.specs.Rank.{known_rank}
+use Rattle.coll_ranks.specs.Ranks.{RanksValue, RankedElement, AreRanksOf, parts_of, parts_behind, part_with, part_numbers, character_part, compiled_weight, compiled_by, compiled_entry, compiled_row_by, compiled_weights, ranked_text, ranked_in}
 use Rattle.coll_ranks.specs.AlikeFronts.{BeginAlike}
 use Rattle.coll_ranks.specs.declared.parts.Part.{Part}
 use Rattle.coll_ranks.specs.declared.parts.Part.TheVariants.{Placed}
 use Rattle.coll_ranks.specs.declared.named_elements.FoundElement.{FoundElement}
 use Rattle.coll_ranks.proofs.RankingLemmas.{has_place}
+use Rattle.coll_ranks.proofs.RowNumbers.{BeginWithUndefined, filled_length, row_behind, entry_numbers, absent_numbers, character_absent}
 use Rattle.coll_ranks.proofs.Tests.{by_test}
 
 -- The parts of a text, one after another.
@@ -37,20 +36,31 @@ module _ {X P : Type 0} (string_of : X → List ℕ) (xs : List X) (part : Optio
   split_skips [] rest = refl
   split_skips (c ∷ front) rest = split_skips front rest
 
--- the part of a longest element, and what is behind it
+  -- the part of a longest element, and what is behind it
+  pub split_found : (x : X) (p : P) (text rest : List ℕ) → longest string_of xs text ≡ Some x → ((c : ℕ) → part (Some x) c ≡ p) → text ≡ string_of x ++ rest → 0 < length (string_of x)
+      → split string_of xs part 0 text ≡ p ∷ split string_of xs part 0 rest
+  split_found x p text rest found same goes_on some = by (string_of x) refl where
+    by : (string : List ℕ) → string_of x ≡ string → split string_of xs part 0 text ≡ p ∷ split string_of xs part 0 rest
+    by [] e = absurd (let none : length (string_of x) ≡ 0 = ap length e in omega arith)
+    by (c ∷ string) e =
+        let whole : text ≡ c ∷ (string ++ rest) = goes_on ∙ ap (λ s. s ++ rest) e in
+        let here : longest string_of xs (c ∷ (string ++ rest)) ≡ Some x = ap (longest string_of xs) (sym whole) ∙ found in
+        let more : length (string_of x) - 1 ≡ length string = ap (λ s. length s - 1) e ∙ (let one : suc (length string) - 1 ≡ length string = omega arith in one) in
+        ap (split string_of xs part 0) whole
+        ∙ (ap (λ l. part l c ∷ split string_of xs part (beyond_first string_of l) (string ++ rest)) here
+        ∙ ap₂ (λ (q : P) (n : ℕ). q ∷ split string_of xs part n (string ++ rest)) (same c) more
+        ∙ ap (λ ps. p ∷ ps) (split_skips string rest))
+
+-- a text is split into no more parts than it has characters
+pub few_split : {X P : Type 0} (string_of : X → List ℕ) (xs : List X) (part : Option X → ℕ → P) (skipped : ℕ) (text : List ℕ) → length (split string_of xs part skipped text) ≤ length text
+few_split string_of xs part skipped [] = omega arith
+few_split string_of xs part (suc skipped) (c ∷ text) = omega (arith, few_split string_of xs part skipped text)
+few_split string_of xs part zero (c ∷ text) = omega (arith, few_split string_of xs part (beyond_first string_of (longest string_of xs (c ∷ text))) text)
+
+-- the part of a placed element, and what is behind it
 pub part_of_element : (ranks : RanksValue) (ranked : RankedElement) (text rest : List ℕ) → longest ranked_text ranks.elements text ≡ Some ranked → text ≡ ranked_text ranked ++ rest → 0 < length (ranked_text ranked) → parts_of ranks text ≡ part_with ranks.ids (Some ranked) 0 ∷ parts_of ranks rest
 unfolding parts_of
-part_of_element ranks ranked text rest found goes_on some = by (ranked_text ranked) refl where
-  by : (string : List ℕ) → ranked_text ranked ≡ string → parts_of ranks text ≡ part_with ranks.ids (Some ranked) 0 ∷ parts_of ranks rest
-  by [] e = absurd (let none : length (ranked_text ranked) ≡ 0 = ap length e in omega arith)
-  by (c ∷ string) e =
-      let whole : text ≡ c ∷ (string ++ rest) = goes_on ∙ ap (λ s. s ++ rest) e in
-      let here : longest ranked_text ranks.elements (c ∷ (string ++ rest)) ≡ Some ranked = ap (longest ranked_text ranks.elements) (sym whole) ∙ found in
-      let more : length (ranked_text ranked) - 1 ≡ length string = ap (λ s. length s - 1) e ∙ (let one : suc (length string) - 1 ≡ length string = omega arith in one) in
-      ap (parts_behind ranks 0) whole
-      ∙ (ap (λ l. part_with ranks.ids l c ∷ parts_behind ranks (beyond_first ranked_text l) (string ++ rest)) here
-      ∙ (ap (λ n. part_with ranks.ids (Some ranked) 0 ∷ parts_behind ranks n (string ++ rest)) more
-      ∙ ap (λ ps. part_with ranks.ids (Some ranked) 0 ∷ ps) (split_skips ranked_text ranks.elements (part_with ranks.ids) string rest)))
+part_of_element ranks ranked text rest found goes_on some = split_found ranked_text ranks.elements (part_with ranks.ids) ranked (Placed ranked.rank) text rest found (λ c. refl) goes_on some
 
 -- the part of a character, and what is behind it
 pub part_of_character : (ranks : RanksValue) (c : ℕ) (rest : List ℕ) → longest ranked_text ranks.elements (c ∷ rest) ≡ None → parts_of ranks (c ∷ rest) ≡ part_with ranks.ids None c ∷ parts_of ranks rest
@@ -96,25 +106,7 @@ same_first ranks text other rest later first second is also same none = (
   ap (parts_of ranks) (also ∙ ap (λ c. c ∷ later) same) ∙ part_of_character ranks first later (none later),
 )
 
--- Rows of compiled weights.
-
--- a row has a list for each level
-pub filled_length : (count : ℕ) (lists : List (List ℕ)) → length (filled_up count lists) ≡ count
-filled_length zero lists = refl
-filled_length (suc count) [] = ap suc (filled_length count [])
-filled_length (suc count) (list ∷ lists) = ap suc (filled_length count lists)
-
--- and the lists that were given are in it
-filled_at : (count level : ℕ) (lists : List (List ℕ)) → level < count → get_or (filled_up count lists) level [] ≡ get_or lists level []
-filled_at zero level lists h = absurd (omega arith)
-filled_at (suc count) zero [] h = refl
-filled_at (suc count) (suc level) [] h = filled_at count level [] (omega arith)
-filled_at (suc count) zero (list ∷ lists) h = refl
-filled_at (suc count) (suc level) (list ∷ lists) h = filled_at count level lists (omega arith)
-
--- the compiled weight at a level of a row
-pub row_at : (rank : Id → ℕ) (levels level : ℕ) (id : Id) (weights : List Weight) → level < levels → get_or (compiled_row_by rank levels id weights) level [] ≡ compiled_by rank id (get_or weights level Ignore)
-row_at rank levels level id weights h = filled_at levels level (map (compiled_by rank id) weights) h ∙ get_or-map (compiled_by rank id) weights level Ignore
+-- Where the weights of an entry stand.
 
 -- the compiled weight at a level of an entry that is found
 abbrev found_weight : (Id → ℕ) → ℕ → Option Entry → List ℕ
@@ -128,10 +120,7 @@ row_of_place rank levels level row (entry ∷ entries) id place counted within i
     by_test (λ b. cond b (Some 1) (option_map (λ place. suc place) (place_among entries id)) ≡ Some place → get_or (row ++ rows) (place * levels + level) [] ≡ found_weight rank level (cond b (Some entry) (entry_at entries id))) (same_id id entry.id)
     (λ same first.
     let one : 1 ≡ place = (let h = first in cc) in
-    ap (λ n. get_or (row ++ rows) n []) (let at : place * levels + level ≡ length row + level = omega (arith, one, counted, ap (λ n. n * levels) one) in at)
-    ∙ (get_or-append-add row rows level []
-    ∙ (get_or-append (compiled_entry rank levels entry) (flat_map (compiled_entry rank levels) entries) [] level (let fits : level < length (compiled_entry rank levels entry) = omega (arith, filled_length levels (map (compiled_by rank entry.id) entry.weights)) in fits)
-    ∙ row_at rank levels level entry.id entry.weights within)))
+    row_behind rank levels level (place * levels + level) row (flat_map (compiled_entry rank levels) entries) entry.id entry.weights within (let at : place * levels + level ≡ length row + level = omega (arith, one, counted, ap (λ n. n * levels) one) in at))
     (λ other later. by (λ before e. row_of_place rank levels level (compiled_entry rank levels entry) entries id before (filled_length levels (map (compiled_by rank entry.id) entry.weights)) within e) (place_among entries id) refl later) is where
       rows : List (List ℕ)
       rows = compiled_entry rank levels entry ++ flat_map (compiled_entry rank levels) entries
@@ -146,120 +135,61 @@ row_of_place rank levels level row (entry ∷ entries) id place counted within i
 
 -- what has no place has no entry, and what has one has that of its identifier
 entry_of_place : (entries : List Entry) (id : Id) → place_among entries id ≡ None → entry_at entries id ≡ None
-entry_of_place [] id e = refl
-entry_of_place (entry ∷ entries) id e =
-    by_test (λ b. cond b (Some 1) (option_map (λ place. suc place) (place_among entries id)) ≡ None → cond b (Some entry) (entry_at entries id) ≡ None) (same_id id entry.id)
-    (λ same none. absurd (cc))
-    (λ other none. entry_of_place entries id (by (place_among entries id) none)) e where
-      by : (p : Option ℕ) → option_map (λ place. suc place) p ≡ None → p ≡ None
-      by None h = refl
-      by (Some n) h = absurd (cc)
+entry_of_place entries id e = by (entry_at entries id) (sym (entry_there entries id) ∙ (has_place entries id ∙ ap is_some e)) where
+  by : (found : Option Entry) → is_some found ≡ false → found ≡ None
+  by None none = refl
+  by (Some entry) none = absurd (cc)
 
 record HasEntry (entries : List Entry) (id : Id) : Type 0 where
   entry : Entry
   found : entry_at entries id ≡ Some entry
-  same : entry.id ≡ id
 
 has_entry : (entries : List Entry) (id : Id) (place : ℕ) → place_among entries id ≡ Some place → HasEntry entries id
-has_entry [] id place e = absurd (cc)
-has_entry (first ∷ entries) id place e =
-    by_test (λ b. same_id id first.id ≡ b → HasEntry (first ∷ entries) id) (same_id id first.id)
-    (λ same is. record { entry = first; found = ap (λ b. cond b (Some first) (entry_at entries id)) same; same = sym ((same_id_decides id first.id).0 same) })
-    (λ other is.
-    let later : HasEntry entries id = by (λ before e. has_entry entries id before e) (place_among entries id) refl (ap (λ b. cond b (Some 1) (option_map (λ place. suc place) (place_among entries id))) (sym other) ∙ e) in
-    record { entry = later.entry; found = ap (λ b. cond b (Some first) (entry_at entries id)) other ∙ later.found; same = later.same }) refl where
-      by : ((before : ℕ) → place_among entries id ≡ Some before → HasEntry entries id) → (p : Option ℕ) → place_among entries id ≡ p → option_map (λ place. suc place) p ≡ Some place → HasEntry entries id
-      by there None e none = absurd (cc)
-      by there (Some before) e next = there before e
-
--- Numbers.
-
--- nothing is added
-none_added : (ranks : List ℕ) → map (added_to 0) ranks ≡ map number_of ranks
-none_added [] = refl
-none_added (rank ∷ ranks) = ap₂ (λ (n : ℕ) (ns : List ℕ). n ∷ ns) (let same : number_of rank + 0 ≡ number_of rank = omega arith in same) (none_added ranks)
-
-numbers_named : (rank : Id → ℕ) (ids : List Id) → map number_of (map rank ids) ≡ map (λ named. number_of (rank named)) ids
-numbers_named rank [] = refl
-numbers_named rank (id ∷ ids) = ap (λ ns. number_of (rank id) ∷ ns) (numbers_named rank ids)
-
--- the numbers of an entry's weight
-numbers_placed : (table : Collation) (id : Id) (weight : Weight) → is_placed table id ≡ true → map (added_to 0) (compiled_by (known_rank table) id weight) ≡ weight_numbers table id weight
-numbers_placed table id Ignore placed = refl
-numbers_placed table id Own placed = none_added (known_rank table id ∷ []) ∙ ap (λ b. cond b (number_of (known_rank table id)) (number_of (known_rank table Undefined) + code_point id) ∷ []) (sym placed)
-numbers_placed table id (Names ids) placed = none_added (map (known_rank table) ids) ∙ numbers_named (known_rank table) ids
-
--- the numbers of what has no entry, where the code point is added if UNDEFINED stands for itself
-numbers_absent : (table : Collation) (id : Id) (weight : Weight) → is_placed table id ≡ false → map (added_to (cond (is_own weight) (code_point id) 0)) (compiled_by (known_rank table) Undefined weight) ≡ weight_numbers table id weight
-numbers_absent table id Ignore absent = refl
-numbers_absent table id Own absent = ap (λ b. cond b (number_of (known_rank table id)) (number_of (known_rank table Undefined) + code_point id) ∷ []) (sym absent)
-numbers_absent table id (Names ids) absent = none_added (map (known_rank table) ids) ∙ numbers_named (known_rank table) ids
+has_entry entries id place e = by (entry_at entries id) refl (sym (entry_there entries id) ∙ (has_place entries id ∙ ap is_some e)) where
+  by : (found : Option Entry) → entry_at entries id ≡ found → is_some found ≡ true → HasEntry entries id
+  by None f there = absurd (cc)
+  by (Some entry) f there = record { entry = entry; found = f }
 
 module _ (ranks : RanksValue) (table : Collation) (are : AreRanksOf ranks table) (level : ℕ) (within : level < length table.rules) where
   -- what is compiled for a rank, by the rows of the table
-  pub compiled_for : (rank : ℕ) → compiled_weight ranks rank level ≡ get_or (compiled_weights table) (rank * length table.rules + level) []
+  pub compiled_for : (rank : ℕ) → compiled_weight ranks.compiled rank level ≡ get_or (compiled_weights table) (rank * length table.rules + level) []
   compiled_for rank = ap₂ (λ (lists : List (List ℕ)) (levels : ℕ). get_or lists (rank * levels + level) []) are.weights are.levels
 
-  undefined_row : List (List ℕ)
-  undefined_row = compiled_row_by (known_rank table) (length table.rules) Undefined (undefined_weights table)
+  begin : BeginWithUndefined ranks.compiled table (flat_map (compiled_entry (known_rank table) (length table.rules)) (entries_of table))
+  begin = record { levels = are.levels; lists = are.weights; own = are.own }
 
   undefined_length : length (compiled_row_by (known_rank table) (length table.rules) Undefined (undefined_weights table)) ≡ length table.rules
   undefined_length = filled_length (length table.rules) (map (compiled_by (known_rank table) Undefined) (undefined_weights table))
 
   -- what has an entry
-  placed_numbers : (id : Id) (place : ℕ) → place_among (entries_of table) id ≡ Some place → part_numbers ranks level (Placed place) ≡ numbers_at table level id
-  unfolding numbers_at
+  placed_numbers : (id : Id) (place : ℕ) → place_among (entries_of table) id ≡ Some place → part_numbers ranks.compiled level (Placed place) ≡ numbers_at table level id
   placed_numbers id place is =
       let there : HasEntry (entries_of table) id = has_entry (entries_of table) id place is in
-      let placed : is_placed table id ≡ true = has_place (entries_of table) id ∙ ap is_some is in
-      let weight : weight_at table level id ≡ get_or there.entry.weights level Ignore = ap (λ e. get_or (weights_or e (undefined_weights table)) level Ignore) there.found in
-      ap (map (added_to 0)) (compiled_for place ∙ (row_of_place (known_rank table) (length table.rules) level (compiled_row_by (known_rank table) (length table.rules) Undefined (undefined_weights table)) (entries_of table) id place undefined_length within is
-      ∙ (ap (found_weight (known_rank table) level) there.found ∙ ap₂ (λ (i : Id) (w : Weight). compiled_by (known_rank table) i w) there.same (sym weight))))
-      ∙ numbers_placed table id (weight_at table level id) placed
-
-  -- the weight of what has no entry
-  absent_weight : (id : Id) → place_among (entries_of table) id ≡ None → weight_at table level id ≡ get_or (undefined_weights table) level Ignore
-  absent_weight id is = ap (λ e. get_or (weights_or e (undefined_weights table)) level Ignore) (entry_of_place (entries_of table) id is)
-
-  -- what is compiled for it
-  absent_compiled : (id : Id) → place_among (entries_of table) id ≡ None → compiled_weight ranks 0 level ≡ compiled_by (known_rank table) Undefined (weight_at table level id)
-  absent_compiled id is =
-      compiled_for 0
-      ∙ (ap (λ n. get_or (compiled_weights table) n []) (let at : 0 * length table.rules + level ≡ level = omega arith in at)
-      ∙ (get_or-append (compiled_row_by (known_rank table) (length table.rules) Undefined (undefined_weights table)) (flat_map (compiled_entry (known_rank table) (length table.rules)) (entries_of table)) [] level (let fits : level < length (compiled_row_by (known_rank table) (length table.rules) Undefined (undefined_weights table)) = omega (arith, undefined_length) in fits)
-      ∙ (row_at (known_rank table) (length table.rules) level Undefined (undefined_weights table) within
-      ∙ ap (compiled_by (known_rank table) Undefined) (sym (absent_weight id is)))))
-
-  absent_numbers : (id : Id) (added : ℕ) → place_among (entries_of table) id ≡ None → added ≡ cond (is_own (weight_at table level id)) (code_point id) 0 → map (added_to added) (compiled_weight ranks 0 level) ≡ numbers_at table level id
-  unfolding numbers_at
-  absent_numbers id added is counted =
-      let absent : is_placed table id ≡ false = has_place (entries_of table) id ∙ ap is_some is in
-      ap₂ (λ (n : ℕ) (rs : List ℕ). map (added_to n) rs) counted (absent_compiled id is) ∙ numbers_absent table id (weight_at table level id) absent
+      entry_numbers ranks.compiled table (flat_map (compiled_entry (known_rank table) (length table.rules)) (entries_of table)) begin level within id there.entry place there.found
+      (compiled_for place ∙ (row_of_place (known_rank table) (length table.rules) level (compiled_row_by (known_rank table) (length table.rules) Undefined (undefined_weights table)) (entries_of table) id place undefined_length within is
+      ∙ ap (found_weight (known_rank table) level) there.found))
 
   -- a character
-  character_numbers : (c : ℕ) → part_numbers ranks level (part_with ranks.ids None c) ≡ numbers_at table level (Char c)
-  character_numbers c = ap (λ r. part_numbers ranks level (character_part r c)) (are.identifiers (Char c)) ∙ by (place_among (entries_of table) (Char c)) refl where
-    own : slice_index_or ranks.own level false ≡ is_own (get_or (undefined_weights table) level Ignore)
-    own = ap (λ o. get_or o level false) are.own ∙ get_or-map is_own (undefined_weights table) level Ignore
-
-    by : (p : Option ℕ) → place_among (entries_of table) (Char c) ≡ p → part_numbers ranks level (character_part (option_or p None) c) ≡ numbers_at table level (Char c)
-    by None e = absent_numbers (Char c) (added_at ranks level c) e (ap (λ b. cond b c 0) (own ∙ ap is_own (sym (absent_weight (Char c) e))))
+  character_numbers : (c : ℕ) → part_numbers ranks.compiled level (part_with ranks.ids None c) ≡ numbers_at table level (Char c)
+  character_numbers c = ap (λ r. part_numbers ranks.compiled level (character_part r c)) (are.identifiers (Char c)) ∙ by (place_among (entries_of table) (Char c)) refl where
+    by : (p : Option ℕ) → place_among (entries_of table) (Char c) ≡ p → part_numbers ranks.compiled level (character_part (option_or p None) c) ≡ numbers_at table level (Char c)
+    by None e = character_absent ranks.compiled table (flat_map (compiled_entry (known_rank table) (length table.rules)) (entries_of table)) begin level within c (entry_of_place (entries_of table) (Char c) e)
     by (Some place) e = placed_numbers (Char c) place e
 
   -- an element
-  element_numbers : (element : Element) → part_numbers ranks level (Placed (known_rank table (Named element.name))) ≡ numbers_at table level (Named element.name)
+  element_numbers : (element : Element) → part_numbers ranks.compiled level (Placed (known_rank table (Named element.name))) ≡ numbers_at table level (Named element.name)
   element_numbers element = by (place_among (entries_of table) (Named element.name)) refl where
-    by : (p : Option ℕ) → place_among (entries_of table) (Named element.name) ≡ p → part_numbers ranks level (Placed (known_rank table (Named element.name))) ≡ numbers_at table level (Named element.name)
+    by : (p : Option ℕ) → place_among (entries_of table) (Named element.name) ≡ p → part_numbers ranks.compiled level (Placed (known_rank table (Named element.name))) ≡ numbers_at table level (Named element.name)
     by None e =
-        ap (λ p. part_numbers ranks level (Placed (unwrap_or (option_or p None) 0))) e
-        ∙ absent_numbers (Named element.name) 0 e (nothing (is_own (weight_at table level (Named element.name)))) where
+        ap (λ p. part_numbers ranks.compiled level (Placed (unwrap_or (option_or p None) 0))) e
+        ∙ absent_numbers ranks.compiled table (flat_map (compiled_entry (known_rank table) (length table.rules)) (entries_of table)) begin level within (Named element.name) 0 (entry_of_place (entries_of table) (Named element.name) e) (nothing (is_own (weight_at table level (Named element.name)))) where
           nothing : (b : Bool) → ◌≡◌ {A = ℕ} 0 (cond b 0 0)
           nothing true = refl
           nothing false = refl
-    by (Some place) e = ap (λ p. part_numbers ranks level (Placed (unwrap_or (option_or p None) 0))) e ∙ placed_numbers (Named element.name) place e
+    by (Some place) e = ap (λ p. part_numbers ranks.compiled level (Placed (unwrap_or (option_or p None) 0))) e ∙ placed_numbers (Named element.name) place e
 
   -- a part
-  numbers_of_part : (found : Option Element) (c : ℕ) → part_numbers ranks level (part_with ranks.ids (option_map (ranked_in table) found) c) ≡ numbers_at table level (part_id found c)
+  numbers_of_part : (found : Option Element) (c : ℕ) → part_numbers ranks.compiled level (part_with ranks.ids (option_map (ranked_in table) found) c) ≡ numbers_at table level (part_id found c)
   numbers_of_part None c = character_numbers c
   numbers_of_part (Some element) c = element_numbers element
 
@@ -284,20 +214,20 @@ module _ (ranks : RanksValue) (table : Collation) (are : AreRanksOf ranks table)
   beyond_ranked (Some element) = refl
 
   -- the numbers of all parts
-  numbers_of_parts : (skipped : ℕ) (text : List ℕ) → map (part_numbers ranks level) (split ranked_text (map (ranked_in table) (elements_placed table)) (part_with ranks.ids) skipped text) ≡ map (numbers_at table level) (split element_text (elements_placed table) part_id skipped text)
+  numbers_of_parts : (skipped : ℕ) (text : List ℕ) → map (part_numbers ranks.compiled level) (split ranked_text (map (ranked_in table) (elements_placed table)) (part_with ranks.ids) skipped text) ≡ map (numbers_at table level) (split element_text (elements_placed table) part_id skipped text)
   numbers_of_parts skipped [] = refl
   numbers_of_parts (suc skipped) (c ∷ text) = numbers_of_parts skipped text
   numbers_of_parts zero (c ∷ text) =
       let found = longest element_text (elements_placed table) (c ∷ text) in
-      ap (λ l. part_numbers ranks level (part_with ranks.ids l c) ∷ map (part_numbers ranks level) (split ranked_text (map (ranked_in table) (elements_placed table)) (part_with ranks.ids) (beyond_first ranked_text l) text)) (longest_ranked (elements_placed table) (c ∷ text))
-      ∙ (ap (λ n. part_numbers ranks level (part_with ranks.ids (option_map (ranked_in table) found) c) ∷ map (part_numbers ranks level) (split ranked_text (map (ranked_in table) (elements_placed table)) (part_with ranks.ids) n text)) (beyond_ranked found)
+      ap (λ l. part_numbers ranks.compiled level (part_with ranks.ids l c) ∷ map (part_numbers ranks.compiled level) (split ranked_text (map (ranked_in table) (elements_placed table)) (part_with ranks.ids) (beyond_first ranked_text l) text)) (longest_ranked (elements_placed table) (c ∷ text))
+      ∙ (ap (λ n. part_numbers ranks.compiled level (part_with ranks.ids (option_map (ranked_in table) found) c) ∷ map (part_numbers ranks.compiled level) (split ranked_text (map (ranked_in table) (elements_placed table)) (part_with ranks.ids) n text)) (beyond_ranked found)
       ∙ ap₂ (λ (n : List ℕ) (ns : List (List ℕ)). n ∷ ns) (numbers_of_part found c) (numbers_of_parts (beyond_first element_text found) text))
 
 -- the numbers of the parts of a text are those of its elements
-pub numbers_are : (ranks : RanksValue) (table : Collation) → AreRanksOf ranks table → IsWellFormed table → (level : ℕ) → level < length table.rules → (text : List ℕ) → map (part_numbers ranks level) (parts_of ranks text) ≡ map (numbers_at table level) (elements_of table text)
+pub numbers_are : (ranks : RanksValue) (table : Collation) → AreRanksOf ranks table → IsWellFormed table → (level : ℕ) → level < length table.rules → (text : List ℕ) → map (part_numbers ranks.compiled level) (parts_of ranks text) ≡ map (numbers_at table level) (elements_of table text)
 unfolding parts_of elements_of
 numbers_are ranks table are well level within text =
-    ap (λ es. map (part_numbers ranks level) (split ranked_text es (part_with ranks.ids) 0 text)) are.elements
+    ap (λ es. map (part_numbers ranks.compiled level) (split ranked_text es (part_with ranks.ids) 0 text)) are.elements
     ∙ numbers_of_parts ranks table are level within 0 text
 
 -- an empty text has no characters

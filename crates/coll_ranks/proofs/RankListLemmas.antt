@@ -41,6 +41,11 @@ list_at start ranks [] place h = absurd (omega arith)
 list_at start ranks (end ∷ ends) zero h = refl
 list_at start ranks (end ∷ ends) (suc place) h = list_at end ranks ends place (omega arith)
 
+-- there are as many lists as ends
+pub count_lists : (start : ℕ) (ranks ends : List ℕ) → length ends ≡ length (lists_from start ranks ends)
+count_lists start ranks [] = refl
+count_lists start ranks (end ∷ ends) = ap suc (count_lists end ranks ends)
+
 -- behind them there is none
 pub no_list : (start : ℕ) (ranks ends : List ℕ) (place : ℕ) → length ends ≤ place → get_or (lists_from start ranks ends) place [] ≡ []
 no_list start ranks [] place h = refl

@@ -9,6 +9,7 @@ use Rattle.coll_syntax.specs.Identifier.{same_id, has_id}
 use Rattle.coll_syntax.specs.Proper.{IsElementText}
 use Rattle.coll_syntax.specs.declared.identifiers.Id.{Id}
 use Rattle.coll_syntax.specs.declared.identifiers.Id.TheVariants.{Char, Named, Undefined}
+use Rattle.coll_nodes.specs.Placement.{place_among}
 use Rattle.coll_nodes.specs.Table.{Collation, entries_of, ids_of, texts_of}
 use Rattle.coll_nodes.specs.Walks.{Met, MetSection, MetEntry, met, entry_met, entries_met}
 use Rattle.coll_nodes.specs.WellFormed.{AreDistinct, IsWellFormed}
@@ -19,9 +20,9 @@ use Rattle.coll_draft.proofs.MetEntries.{met_all}
 use Rattle.coll_nodes.proofs.Sameness.{same_id_decides}
 use Rattle.coll_ranks.specs.Elements.{element_placed}
 use Rattle.coll_ranks.specs.WeightNumbers.{undefined_weights}
-use Rattle.coll_ranks.specs.Rank.{place_among, rank_unplaced, known_rank}
+use Rattle.coll_ranks.specs.Rank.{rank_unplaced, known_rank}
 use Rattle.coll_ranks.specs.Ranking.{last_place, AreIdRanksOf, ranked_if_any, ranked_declared, HasString}
-use Rattle.coll_ranks.specs.Ranks.{RanksById, RankedElement, no_ranks, rank_with, rank_or_zero, ranked_in, compiled_row_by, compiled_entry, compiled_weights}
+use Rattle.coll_ranks.specs.Ranks.{RanksById, RankedElement, no_ranks, rank_with, ranked_in, compiled_row_by, compiled_entry, compiled_weights}
 use Rattle.coll_ranks.proofs.Tests.{by_test}
 
 -- What one meets.
@@ -168,13 +169,9 @@ few_met table items well all =
 
 -- Weights.
 
--- the ranks that are found are those known
-pub ranks_known : (ids : RanksById) (table : Collation) → AreIdRanksOf ids table → rank_or_zero ids ≡ known_rank table
-ranks_known ids table are = λ i id. unwrap_or (are id i) 0
-
 -- the compiled weights of UNDEFINED and of all entries are those of the table
-pub weights_of_table : (table : Collation) (ids : RanksById) (items : List Met) (first all : List (List ℕ)) (levels : ℕ) → AreIdRanksOf ids table → items ≡ met table.sections → levels ≡ length table.rules → first ≡ compiled_row_by (rank_or_zero ids) (length table.rules) Undefined (undefined_weights table) → all ≡ first ++ flat_map (compiled_entry (rank_or_zero ids) levels) (entries_met items) → all ≡ compiled_weights table
-weights_of_table table ids items first all levels are met_items counted begun whole =
+pub weights_of_table : (table ranked : Collation) (items : List Met) (first all : List (List ℕ)) (levels : ℕ) → ranked ≡ table → items ≡ met table.sections → levels ≡ length table.rules → first ≡ compiled_row_by (known_rank ranked) (length table.rules) Undefined (undefined_weights table) → all ≡ first ++ flat_map (compiled_entry (known_rank ranked) levels) (entries_met items) → all ≡ compiled_weights table
+weights_of_table table ranked items first all levels same met_items counted begun whole =
     whole
-    ∙ (ap₂ (λ (row : List (List ℕ)) (es : List Entry). row ++ flat_map (compiled_entry (rank_or_zero ids) levels) es) begun (ap entries_met met_items ∙ met_all table.sections)
-    ∙ ap₂ (λ (rank : Id → ℕ) (n : ℕ). compiled_row_by rank (length table.rules) Undefined (undefined_weights table) ++ flat_map (compiled_entry rank n) (entries_of table)) (ranks_known ids table are) counted)
+    ∙ (ap₂ (λ (row : List (List ℕ)) (es : List Entry). row ++ flat_map (compiled_entry (known_rank ranked) levels) es) begun (ap entries_met met_items ∙ met_all table.sections)
+    ∙ ap₂ (λ (t : Collation) (n : ℕ). compiled_row_by (known_rank t) (length table.rules) Undefined (undefined_weights table) ++ flat_map (compiled_entry (known_rank t) n) (entries_of table)) same counted)

@@ -1,16 +1,11 @@
 -- The rank of an identifier: its place in the order of a table (POSIX.1-2017, 7.3.2.4; the count from 1 is the project's own).
-use Rattle.std.specs.Prelude.{ℕ, suc, if◌then◌else◌, List, [], ◌∷◌, Option, Some, None, length}
-use Rattle.std.specs.Option.{option_map, option_or, unwrap_or}
-use Rattle.coll_syntax.specs.Identifier.{same_id}
+use Rattle.std.specs.Prelude.{ℕ, suc, List, Option, Some, None, length}
+use Rattle.std.specs.Option.{option_or, unwrap_or}
 use Rattle.coll_syntax.specs.declared.identifiers.Id.{Id}
 use Rattle.coll_syntax.specs.declared.identifiers.Id.TheVariants.{Char, Named, Undefined}
+use Rattle.coll_nodes.specs.Placement.{place_among}
 use Rattle.coll_nodes.specs.Table.{Collation, entries_of}
 use Rattle.coll_nodes.specs.declared.entries.Entry.{Entry}
-
--- the place of an identifier among entries, from 1
-abbrev pub place_among : List Entry → Id → Option ℕ
-place_among [] id = None
-place_among (entry ∷ entries) id = if same_id id entry.id then Some 1 else option_map (λ place. suc place) (place_among entries id)
 
 -- the rank of an identifier without an entry: UNDEFINED stands behind all entries, and others have none (the project's own)
 abbrev pub rank_unplaced : (entries : ℕ) → Id → Option ℕ

@@ -15,7 +15,8 @@ AreEnds start ranks (end ∷ ends) = (start ≤ end) × AreEnds end ranks ends
 abbrev pub IsLonger : (old new : List ℕ) → Type 0
 IsLonger old new = (more : List ℕ) × (new ≡ old ++ more)
 
--- compiled weights: the number of levels; the ranks of each weight, level by level; and where UNDEFINED stands for itself
+-- compiled weights as contracts see them: the number of levels; the ranks of the weight at each level, level by level, for
+-- UNDEFINED and then for each entry; and for each level whether UNDEFINED stands for itself there
 pub record WeightsValue : Type 0 where
   pub levels : ℕ
   pub lists : List (List ℕ)

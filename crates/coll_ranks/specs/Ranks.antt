@@ -1,7 +1,7 @@
 -- The ranks of a table, compiled: what their look-ups find, and when they are those of a table.
-use Rattle.std.specs.Prelude.{◌≡◌, ℕ, zero, suc, ◌+◌, ◌*◌, Bool, false, if◌then◌else◌, List, [], ◌∷◌, ◌++◌, Option, Some, None, length, map, slice_index_or}
+use Rattle.std.specs.Prelude.{◌≡◌, ℕ, zero, suc, ◌+◌, ◌*◌, false, if◌then◌else◌, List, [], ◌∷◌, ◌++◌, Option, Some, None, length, map, slice_index_or}
 use Rattle.std.specs.List.{flat_map}
-use Rattle.std.specs.Option.{option_or, unwrap_or}
+use Rattle.std.specs.Option.{option_or}
 use Rattle.coll_syntax.specs.Identifier.{same_name}
 use Rattle.coll_syntax.specs.declared.identifiers.Id.{Id}
 use Rattle.coll_syntax.specs.declared.identifiers.Id.TheVariants.{Char, Named, Undefined}
@@ -11,6 +11,7 @@ use Rattle.coll_print.specs.CanonicalText.{is_own}
 use Rattle.coll_nodes.specs.Table.{Collation, entries_of}
 use Rattle.coll_nodes.specs.declared.entries.Entry.{Entry}
 use Rattle.coll_ranks.specs.Elements.{Element, elements_placed, split}
+use Rattle.coll_ranks.specs.RankLists.{WeightsValue}
 use Rattle.coll_ranks.specs.WeightNumbers.{number_of, undefined_weights}
 use Rattle.coll_ranks.specs.Rank.{rank_of, known_rank}
 use Rattle.coll_ranks.specs.declared.parts.Part.{Part}
@@ -37,15 +38,11 @@ pub record RankedElement : Type 0 where
   pub element : Element
   pub rank : ℕ
 
--- the ranks of a table as contracts see them: those of identifiers; the placed elements; the number of levels; the compiled
--- weights, that is the ranks of the weight at each level, level by level, for UNDEFINED and then for each entry; and for each
--- level whether UNDEFINED stands for itself there
+-- the ranks of a table as contracts see them: those of identifiers, the placed elements, and the compiled weights
 pub record RanksValue : Type 0 where
   pub ids : RanksById
   pub elements : List RankedElement
-  pub levels : ℕ
-  pub weights : List (List ℕ)
-  pub own : List Bool
+  pub compiled : WeightsValue
 
 -- What look-ups find.
 
@@ -65,10 +62,6 @@ rank_with ids (Char c) = rank_if_any (slice_index_or ids.characters c 0)
 rank_with ids (Named name) = number_named ids.names name
 rank_with ids Undefined = ids.undefined
 
--- the rank of an identifier, and 0 for one that has none
-abbrev pub rank_or_zero : RanksById → Id → ℕ
-rank_or_zero ids id = unwrap_or (rank_with ids id) 0
-
 -- the string of a ranked element
 abbrev pub ranked_text : RankedElement → List ℕ
 ranked_text ranked = ranked.element.text
@@ -79,21 +72,21 @@ last_string [] name = None
 last_string (first ∷ later) name = option_or (last_string later name) (if same_name name first.element.name then Some (ranked_text first) else None)
 
 -- the compiled weight at a level of what has this rank; 0 stands for what has no entry
-abbrev pub compiled_weight : RanksValue → (rank : ℕ) → (level : ℕ) → List ℕ
-compiled_weight ranks rank level = slice_index_or ranks.weights (rank * ranks.levels + level) []
+abbrev pub compiled_weight : WeightsValue → (rank : ℕ) → (level : ℕ) → List ℕ
+compiled_weight weights rank level = slice_index_or weights.lists (rank * weights.levels + level) []
 
 -- the number that a rank in a weight of a part has, with what is added to it
 abbrev pub added_to : ℕ → ℕ → ℕ
 added_to added rank = number_of rank + added
 
 -- what is added for a character without an entry, where UNDEFINED stands for itself
-abbrev pub added_at : RanksValue → (level : ℕ) → ℕ → ℕ
-added_at ranks level c = if slice_index_or ranks.own level false then c else 0
+abbrev pub added_at : WeightsValue → (level : ℕ) → ℕ → ℕ
+added_at weights level c = if slice_index_or weights.own level false then c else 0
 
 -- the numbers of a part at a level
-abbrev pub part_numbers : RanksValue → (level : ℕ) → Part → List ℕ
-part_numbers ranks level (Placed rank) = map (added_to 0) (compiled_weight ranks rank level)
-part_numbers ranks level (Absent c) = map (added_to (added_at ranks level c)) (compiled_weight ranks 0 level)
+abbrev pub part_numbers : WeightsValue → (level : ℕ) → Part → List ℕ
+part_numbers weights level (Placed rank) = map (added_to 0) (compiled_weight weights rank level)
+part_numbers weights level (Absent c) = map (added_to (added_at weights level c)) (compiled_weight weights 0 level)
 
 -- the part of a character with this rank, if it has one
 abbrev pub character_part : Option ℕ → ℕ → Part
@@ -148,8 +141,8 @@ compiled_weights table =
 -- ranks are those of a table: they have its levels, each identifier has its rank in the table, they have its placed elements
 -- and its compiled weights, and they know where UNDEFINED stands for itself
 pub record AreRanksOf (ranks : RanksValue) (table : Collation) : Type 0 where
-  pub levels : ranks.levels ≡ length table.rules
+  pub levels : ranks.compiled.levels ≡ length table.rules
   pub identifiers : (id : Id) → rank_with ranks.ids id ≡ rank_of table id
   pub elements : ranks.elements ≡ map (ranked_in table) (elements_placed table)
-  pub weights : ranks.weights ≡ compiled_weights table
-  pub own : ranks.own ≡ map is_own (undefined_weights table)
+  pub weights : ranks.compiled.lists ≡ compiled_weights table
+  pub own : ranks.compiled.own ≡ map is_own (undefined_weights table)

@@ -4,10 +4,14 @@
 //! weighs at a level. A way through the crate, each file with its definitions in `specs/`:
 //!
 //! - `code_points`, `name_numbers` and `id_ranks`: which rank an identifier has (`Rank`, `Ranks`, `NameMaps`);
+//! - `table_ranks`: which rank it has in a table whose entries are numbered (`Rank`);
 //! - `named_elements`, `element_order` and `placed_elements`: which collating element a text begins with (`Elements`,
 //!   `NamedElements`, `ElementOrder`);
-//! - `parts`: what a text is split into, and what a part weighs (`WeightNumbers`, `AlikeFronts`);
-//! - `compiled_weights`: the weights of all entries as ranks (`Ranks`, `RankLists`);
+//! - `parts`: what a text is split into (`AlikeFronts`);
+//! - `rank_lists`, `weight_cells` and `compiled_weights`: the weights of all entries as ranks, and what a part weighs by them
+//!   (`RankLists`, `WeightCells`, `Ranks`, `WeightNumbers`);
+//! - `text_elements` and `text_weights`: the elements of one text, looked up by themselves, and its weights, compiled for it alone
+//!   (`TextElements`, `TextWeights`);
 //! - `ranks`, and `ranking`: the whole, made of a table (`Ranks`, `Ranking`).
 #![tactic(auto)]
 
@@ -19,8 +23,15 @@ mod name_numbers;
 mod named_elements;
 mod parts;
 mod placed_elements;
+mod rank_lists;
 mod ranking;
 mod ranks;
+mod table_ranks;
+mod text_elements;
+mod text_weights;
+mod weight_cells;
 
+pub use compiled_weights::CompiledWeights;
 pub use parts::{FirstPart, Part, PartWeight};
 pub use ranks::Ranks;
+pub use text_weights::TextWeights;

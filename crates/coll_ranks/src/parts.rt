@@ -1,6 +1,7 @@
 //! The parts of a text, and what a part weighs at a level.
 //!
-//! A part is small and plain, so that a list of them can be kept. What a part is and weighs is found in `Ranks`.
+//! A part is small and plain, so that a list of them can be kept. What a part is, is found in `Ranks`; what it weighs, in
+//! `CompiledWeights`.
 
 ghost use Rattle.std.specs.Prelude.{◌≡◌, ℕ, map};
 

@@ -1,7 +1,7 @@
 //! Ranks and weights of a table, found on walks through it.
 //!
 //! One walk gives each identifier its rank, one goes over the declarations for the elements that are placed, and a last one compiles
-//! the weights, for which all ranks have to be there.
+//! the weights, by ranks that the table itself tells, once its entries are numbered.
 
 ghost use Rattle.std.specs.Prelude.{◌≡◌, ◌<◌, ◌≤◌, ◌+◌, ◌++◌, length, map, replicate, IfOk, OnOk};
 ghost use Rattle.std.specs.List.{flat_map, All};
@@ -17,14 +17,16 @@ ghost use Rattle.coll_ranks.specs.Elements.{elements_placed};
 ghost use Rattle.coll_ranks.specs.WeightNumbers.{undefined_weights};
 ghost use Rattle.coll_ranks.specs.Ranking.{last_place, ranked_declared, AreIdRanksOf, HasString};
 ghost use Rattle.coll_ranks.specs.RankLists.{AddsRow};
-ghost use Rattle.coll_ranks.specs.Ranks.{rank_with, rank_or_zero, ranked_in, compiled_row_by, compiled_entry, compiled_weights};
+ghost use Rattle.coll_ranks.specs.Rank.{known_rank};
+ghost use Rattle.coll_ranks.specs.Ranks.{rank_with, ranked_in, compiled_row_by, compiled_entry, compiled_weights};
 
 use crate::compiled_weights::CompiledWeights;
 use crate::id_ranks::IdRanks;
 use crate::named_elements::NamedElements;
 use crate::placed_elements::PlacedElements;
+use crate::table_ranks::TableRanks;
 use coll_syntax::{Id, Weight};
-use coll_table::{Declared, DeclaredItem, Table, Walk, WalkItem};
+use coll_table::{Declared, DeclaredItem, EntryNumbers, Table, Walk, WalkItem};
 use std::alloc::{AllocError, Global};
 
 /// The ranks of the identifiers of a table.
@@ -80,7 +82,7 @@ pub(crate) fn elements_and_weights(
     ensures own { IfOk result (λ made. made.1.own ≡ map is_own (undefined_weights (collation table.now))) }
 {
     let elements = ranked_elements(alloc, table, ids)?;
-    let weights = compiled(alloc, table, ids)?;
+    let weights = compiled(alloc, table)?;
     Ok((elements, weights))
 }
 
@@ -151,35 +153,52 @@ fn put_declared(
 }
 
 // The compiled weights of a table.
-fn compiled(alloc: Global, table: &Table, ids: &IdRanks) -> Result<CompiledWeights, AllocError>
-    requires { AreIdRanksOf ids.now (collation table.now) }
+fn compiled(alloc: Global, table: &Table) -> Result<CompiledWeights, AllocError>
     ensures levels { IfOk result (λ compiled. compiled.levels ≡ length (collation table.now).rules) }
     ensures lists { IfOk result (λ compiled. compiled.lists ≡ compiled_weights (collation table.now)) }
     ensures own { IfOk result (λ compiled. compiled.own ≡ map is_own (undefined_weights (collation table.now))) }
 {
-    let mut weights = compiled_undefined(alloc, table, ids)?;
-    compile_walk(&mut weights, ids, table.walk())?;
+    let mut numbers = EntryNumbers::new(alloc);
+    table.number_entries(&mut numbers)?;
+    compiled_entries(alloc, table, &TableRanks::new(table, &numbers))
+}
+
+// The compiled weights of a table, by its ranks.
+fn compiled_entries(
+    alloc: Global,
+    table: &Table,
+    ranks: &TableRanks<'_>,
+) -> Result<CompiledWeights, AllocError>
+    requires { ranks.now ≡ collation table.now }
+    ensures levels { IfOk result (λ compiled. compiled.levels ≡ length (collation table.now).rules) }
+    ensures lists { IfOk result (λ compiled. compiled.lists ≡ compiled_weights (collation table.now)) }
+    ensures own { IfOk result (λ compiled. compiled.own ≡ map is_own (undefined_weights (collation table.now))) }
+{
+    table.check_table();
+    let mut weights = compiled_undefined(alloc, table, ranks, table.len())?;
+    compile_walk(&mut weights, ranks, table.walk())?;
     Ok(weights)
 }
 
-// The compiled weights of `UNDEFINED`.
-fn compiled_undefined(
+/// The compiled weights of `UNDEFINED`, with room for those of so many entries.
+pub(crate) fn compiled_undefined(
     alloc: Global,
     table: &Table,
-    ids: &IdRanks,
+    ranks: &TableRanks<'_>,
+    entries: usize,
 ) -> Result<CompiledWeights, AllocError>
+    requires few { entries < 1_000_000 }
     ensures levels { IfOk result (λ compiled. compiled.levels ≡ length (collation table.now).rules) }
-    ensures lists { IfOk result (λ compiled. compiled.lists ≡ compiled_row_by (rank_or_zero ids.now) (length (collation table.now).rules) Undefined (undefined_weights (collation table.now))) }
+    ensures lists { IfOk result (λ compiled. compiled.lists ≡ compiled_row_by (known_rank ranks.now) (length (collation table.now).rules) Undefined (undefined_weights (collation table.now))) }
     ensures own { IfOk result (λ compiled. compiled.own ≡ map is_own (undefined_weights (collation table.now))) }
 {
     table.check_table();
     let levels = table.rules().len();
-    let entries = table.len();
     match table.entry(&Id::Undefined) {
-        Some(entry) => CompiledWeights::new(alloc, levels, entries, ids, entry.weights()),
+        Some(entry) => CompiledWeights::new(alloc, levels, entries, ranks, entry.weights()),
         None => {
             let own = own_weights(alloc, levels)?;
-            CompiledWeights::new(alloc, levels, entries, ids, &own)
+            CompiledWeights::new(alloc, levels, entries, ranks, &own)
         }
     }
 }
@@ -198,14 +217,14 @@ fn own_weights(alloc: Global, levels: usize) -> Result<Vec<Weight>, AllocError>
 // Puts the compiled weights of each entry on a walk behind others.
 fn compile_walk(
     weights: &mut CompiledWeights,
-    ids: &IdRanks,
+    ranks: &TableRanks<'_>,
     walk: Walk<'_>,
 ) -> Result<(), AllocError>
-    ensures { OnOk result (AddsRow weights.old weights.new (flat_map (compiled_entry (rank_or_zero ids.now) weights.old.levels) (entries_met walk.entry))) }
+    ensures { OnOk result (AddsRow weights.old weights.new (flat_map (compiled_entry (known_rank ranks.now) weights.old.levels) (entries_met walk.entry))) }
 {
     let mut left = walk;
     'walk: while let Some(item) = left.next() {
-        compile_met(weights, ids, item)?;
+        compile_met(weights, ranks, item)?;
     }
     Ok(())
 }
@@ -213,13 +232,13 @@ fn compile_walk(
 // Puts the compiled weights of what one meets behind others, if it is an entry.
 fn compile_met(
     weights: &mut CompiledWeights,
-    ids: &IdRanks,
+    ranks: &TableRanks<'_>,
     item: WalkItem<'_>,
 ) -> Result<(), AllocError>
-    ensures { OnOk result (AddsRow weights.old weights.new (flat_map (compiled_entry (rank_or_zero ids.now) weights.old.levels) (entry_met (met_by item.entry)))) }
+    ensures { OnOk result (AddsRow weights.old weights.new (flat_map (compiled_entry (known_rank ranks.now) weights.old.levels) (entry_met (met_by item.entry)))) }
 {
     match item {
         WalkItem::Section(_) => Ok(()),
-        WalkItem::Entry(entry) => weights.push(ids, entry.id(), entry.weights()),
+        WalkItem::Entry(entry) => weights.push(ranks, entry.id(), entry.weights()),
     }
 }

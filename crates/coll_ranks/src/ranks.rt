@@ -10,7 +10,7 @@ ghost use Rattle.coll_ranks.specs.AlikeFronts.{BeginAlike};
 
 use crate::compiled_weights::CompiledWeights;
 use crate::id_ranks::IdRanks;
-use crate::parts::{FirstPart, Part, PartWeight};
+use crate::parts::{FirstPart, Part};
 use crate::placed_elements::PlacedElements;
 use crate::ranking::{elements_and_weights, ranked_ids};
 use coll_lex::TextBuf;
@@ -35,13 +35,13 @@ impl Model for Ranks {
 
     ghost Value = { RanksValue };
 
-    ghost view = { λ r. record { ids = r.ids; elements = r.elements; levels = r.weights.levels; weights = r.weights.lists; own = r.weights.own } };
+    ghost view = { λ r. record { ids = r.ids; elements = r.elements; compiled = r.weights } };
 }
 
 impl Ranks {
     ghost use Rattle.coll_nodes.specs.Table.{Collation};
     ghost use Rattle.coll_ranks.specs.Rank.{rank_of};
-    ghost use Rattle.coll_ranks.specs.Ranks.{AreRanksOf, rank_with, parts_of, part_numbers, added_to, added_at, compiled_weight, last_string};
+    ghost use Rattle.coll_ranks.specs.Ranks.{AreRanksOf, rank_with, parts_of, compiled_weight, last_string};
 
     /// The ranks of a table, in new memory.
     pub fn new(alloc: Global, table: &Table) -> Result<Ranks, AllocError>
@@ -128,40 +128,19 @@ impl Ranks {
         self.elements.string(name)
     }
 
+    /// The compiled weights of the table.
+    #[inline(always)]
+    pub fn weights(&self) -> &CompiledWeights
+        ensures { result.now ≡ self.now.compiled }
+    {
+        &self.weights
+    }
+
     /// The compiled weight at a level of what has this rank.
     pub fn compiled(&self, rank: u32, level: usize) -> &[u32]
-        requires { level < self.now.levels }
-        ensures { result.now ≡ compiled_weight self.now rank level }
+        requires { level < self.now.compiled.levels }
+        ensures { result.now ≡ compiled_weight self.now.compiled rank level }
     {
-        self.weights.weight(rank, level)
-    }
-
-    /// What a part weighs at a level.
-    #[inline(always)]
-    pub fn weight(&self, part: Part, level: usize) -> PartWeight<'_>
-        requires { level < self.now.levels }
-        ensures { map (added_to result.added) result.ranks.now ≡ part_numbers self.now level part }
-    {
-        match part {
-            Part::Placed(rank) => PartWeight {
-                ranks: self.weights.weight(rank, level),
-                added: 0,
-            },
-            Part::Absent(c) => PartWeight {
-                ranks: self.weights.weight(0, level),
-                added: self.added(c, level),
-            },
-        }
-    }
-
-    // What is added to the number of a character without an entry.
-    fn added(&self, c: char, level: usize) -> u32
-        ensures { result ≡ added_at self.now level c }
-    {
-        if self.weights.is_own(level) {
-            c as u32
-        } else {
-            0
-        }
+        self.weights.compiled(rank, level)
     }
 }

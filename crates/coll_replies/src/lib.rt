@@ -1,9 +1,9 @@
 //! What a session and a batch write: replies, and the line of the fault that ended a run.
 //!
-//! Replies are answered from a `RankedSession`, which keeps with a history the ranks of its table, for keys and comparisons. A
+//! Replies are answered from a `RankedSession`, which keeps with a history what its table is asked by, for keys and comparisons. A
 //! way through the crate, each file with its definitions in `specs/`:
 //!
-//! - `ranked_sessions`: a history, with ranks (`Ranked`);
+//! - `kept_ranks` and `ranked_sessions`: ranks and places, kept while the table stays, and a history with them (`Ranked`);
 //! - `faults`: all faults of a session and a batch, and the one that ends a run (`Faults`);
 //! - `replies`: the reply to each unit (`Replies`, and of a table's listing `Listing`), with `past` for `:history` and `texts` for
 //!   `:key` and `:compare`; a batch writes its counts, keys and orders by the same functions;
@@ -12,6 +12,7 @@
 #![tactic(auto)]
 
 mod faults;
+mod kept_ranks;
 mod laws;
 mod ranked_sessions;
 mod replies;

@@ -1,10 +1,10 @@
-//! A session with the ranks of its table.
+//! A session with what is kept beside its table for keys and comparisons.
 //!
-//! Ranks are made where a key or an order is first asked for, kept over commands and refusals, and given up with each change of
-//! the table: an accepted statement, an undo, a redo, a withdrawal. Whoever adds a call that changes the table gives them up there. Contracts
-//! see what they see of the session, and no ranks.
+//! Ranks, and places of entries, are made where a key or an order is asked for, kept over commands and refusals, and given up with
+//! each change of the table: an accepted statement, an undo, a redo, a withdrawal. Whoever adds a call that changes the table gives
+//! them up there. Contracts see what they see of the session, and nothing that is kept.
 
-ghost use Rattle.std.specs.Prelude.{◌≡◌, ◌≢◌, ◌≤◌, ◌||◌, true, false, chars, length, IsSome, IsTrue, IfOk, IfErr, OnOk, OnErr};
+ghost use Rattle.std.specs.Prelude.{◌≡◌, ◌≢◌, ◌≤◌, ◌||◌, true, false, chars, length, IsTrue, IfOk, IfErr, OnOk, OnErr};
 ghost use Rattle.coll_syntax.specs.Proper.{IsProper};
 ghost use Rattle.coll_nodes.specs.TableLayout.{collation};
 ghost use Rattle.coll_key.specs.KeyLimits.{is_too_long};
@@ -19,32 +19,32 @@ ghost use Rattle.coll_history.specs.declared.history_faults.BenchFault.TheVarian
 ghost use Rattle.coll_table.specs.declared.refusals.Refusal.TheVariants as refusal;
 ghost use Rattle.coll_history.specs.Withdrawal.{withdrawn, is_numbered};
 ghost use Rattle.coll_history.specs.Histories.{begun, judged, taken_back, put_again, undo_steps, redo_steps, table_now, RefusesStatement};
-ghost use Rattle.coll_replies.specs.Ranked.{AreRanksIfAny};
 
+use crate::kept_ranks::KeptRanks;
 use coll_history::{BenchFault, Session};
-use coll_key::{KeyFault, Ranks, compare, key};
+use coll_key::KeyFault;
 use coll_syntax::Statement;
 use coll_table::Table;
-use std::alloc::{AllocError, Global};
+use std::alloc::Global;
 use std::cmp::Ordering;
 use std::marker::Model;
 
-/// A session, and the ranks of its table if they were made.
+/// A session, and what is kept beside its table.
 #[derive(Drop)]
 pub struct RankedSession {
     session: Session,
-    ranks: Option<Ranks>,
+    kept: KeptRanks,
 }
 
 impl Model for RankedSession {
     ghost use Rattle.coll_history.specs.Histories.{SessionValue, table_now};
-    ghost use Rattle.coll_replies.specs.Ranked.{AreRanksIfAny};
+    ghost use Rattle.coll_replies.specs.Ranked.{IsKeptFor};
 
     ghost Value = { SessionValue };
 
     ghost view = { λ s. s.session };
 
-    ghost invariant = { λ s. AreRanksIfAny s.ranks (table_now s.session.history) };
+    ghost invariant = { λ s. IsKeptFor s.kept (table_now s.session.history) s.session.layout };
 }
 
 impl RankedSession {
@@ -56,7 +56,7 @@ impl RankedSession {
     {
         RankedSession {
             session: Session::new(alloc, table),
-            ranks: None,
+            kept: KeptRanks::new(alloc),
         }
     }
 
@@ -73,7 +73,7 @@ impl RankedSession {
         ensures unchanged { OnErr result (self.new ≡ self.old) }
     {
         let count = self.session.statement(statement)?;
-        keep(&mut self.ranks, None);
+        self.kept.give_up();
         Ok(count)
     }
 
@@ -88,7 +88,7 @@ impl RankedSession {
         ensures unchanged { OnErr result (self.new ≡ self.old) }
     {
         let count = self.session.undo()?;
-        keep(&mut self.ranks, None);
+        self.kept.give_up();
         Ok(count)
     }
 
@@ -103,25 +103,27 @@ impl RankedSession {
         ensures unchanged { OnErr result (self.new ≡ self.old) }
     {
         let count = self.session.redo()?;
-        keep(&mut self.ranks, None);
+        self.kept.give_up();
         Ok(count)
     }
 
     /// Withdraws the remaining statement with a number, counted from 1, and answers how many then remain: the others are put to the
     /// table at first again, in order.
     ///
-    /// It is refused with `NoSuchStatement` exactly where no statement remains with the number, and else with `StillNeeded` where
-    /// another one is then refused. A refusal, want of memory included, leaves the history and the table.
+    /// It is refused with `NoSuchStatement` exactly where no statement remains with the number, and nothing has then changed; else
+    /// with `StillNeeded` where another one is then refused. A refusal, want of memory included, leaves the history and the table.
     pub fn withdraw(&mut self, number: u32) -> Result<u32, BenchFault>
         ensures withdrawn { IfOk result (λ _. withdrawn self.old.history number ≡ Ok self.new.history) }
         ensures count { IfOk result (λ n. n ≡ length self.new.history.remaining) }
         ensures refused { IfErr result (λ fault. fault ≢ bench.Table refusal.OutOfMemory → withdrawn self.old.history number ≡ Err fault) }
         ensures memory { IfErr result (λ fault. fault ≡ bench.Table refusal.OutOfMemory → IsTrue (is_numbered self.old.history number)) }
+        ensures missing { withdrawn self.old.history number ≡ Err bench.NoSuchStatement → result ≡ Err bench.NoSuchStatement }
+        ensures missing_changes_nothing { withdrawn self.old.history number ≡ Err bench.NoSuchStatement → self.new ≡ self.old }
         ensures unchanged { OnErr result (self.new.history ≡ self.old.history) }
         ensures layout { OnErr result (self.new.layout ≡ self.old.layout) }
     {
         let count = self.session.withdraw(number)?;
-        keep(&mut self.ranks, None);
+        self.kept.give_up();
         Ok(count)
     }
 
@@ -135,7 +137,7 @@ impl RankedSession {
     /// The sort key of a text in the table now.
     ///
     /// It is refused with `TextTooLong` only where the text has more than 65,536 characters, and with `OutOfMemory` where memory
-    /// is refused to the ranks or to the key. The history stays.
+    /// is refused to the ranks, to the places of entries or to the key. The history stays.
     pub fn key(&mut self, alloc: Global, text: &str) -> Result<Vec<u64>, KeyFault>
         ensures unchanged { self.new ≡ self.old }
         ensures ok { IfOk result (λ key. key.items ≡ key_of (table_now self.old.history) (chars text.now)) }
@@ -143,50 +145,21 @@ impl RankedSession {
         ensures short { IfOk result (λ _. is_too_long (chars text.now) ≡ false) }
         ensures err { IfErr result (λ fault. fault ≢ OutOfMemory → is_too_long (chars text.now) ≡ true) }
     {
-        make_ranks(alloc, self.session.table(), &mut self.ranks)?;
-        let Some(ranks) = &self.ranks else {
-            unreachable!();
-        };
-        let key = key(alloc, self.session.table(), ranks, text)?;
+        let key = self.kept.key(alloc, self.session.table(), text)?;
         Ok(key)
     }
 
     /// The order of two texts in the table now.
     ///
     /// It is refused with `TextTooLong` only where one of them has more than 65,536 characters, and with `OutOfMemory` where memory
-    /// is refused to the ranks or to the comparison. The history stays.
+    /// is refused to the ranks, to the places of entries or to the comparison. The history stays.
     pub fn compare(&mut self, alloc: Global, text: &str, other: &str) -> Result<Ordering, KeyFault>
         ensures unchanged { self.new ≡ self.old }
         ensures ok { IfOk result (λ order. order ≡ order_of (table_now self.old.history) (chars text.now) (chars other.now)) }
         ensures short { IfOk result (λ _. (is_too_long (chars text.now) || is_too_long (chars other.now)) ≡ false) }
         ensures err { IfErr result (λ fault. fault ≢ OutOfMemory → (is_too_long (chars text.now) || is_too_long (chars other.now)) ≡ true) }
     {
-        make_ranks(alloc, self.session.table(), &mut self.ranks)?;
-        let Some(ranks) = &self.ranks else {
-            unreachable!();
-        };
-        let order = compare(alloc, self.session.table(), ranks, text, other)?;
+        let order = self.kept.compare(alloc, self.session.table(), text, other)?;
         Ok(order)
     }
-}
-
-// Keeps ranks, or none, in place of what was kept. It alone drops what was.
-fn keep(kept: &mut Option<Ranks>, ranks: Option<Ranks>)
-    ensures { kept.new ≡ ranks }
-{
-    *kept = ranks;
-}
-
-// Makes the ranks of a table, unless they are there.
-fn make_ranks(alloc: Global, table: &Table, ranks: &mut Option<Ranks>) -> Result<(), AllocError>
-    requires { AreRanksIfAny ranks.old (collation table.now) }
-    ensures kept { AreRanksIfAny ranks.new (collation table.now) }
-    ensures ok { OnOk result (IsSome ranks.new) }
-{
-    if ranks.is_some() {
-        return Ok(());
-    }
-    let made = Ranks::new(alloc, table)?;
-    keep(ranks, Some(made));
-    Ok(())
 }

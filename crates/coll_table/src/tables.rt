@@ -4,9 +4,9 @@
 //! read it through `collation`, which is the table that the layout stands for; every table is well formed (`WellFormed` there).
 //! What is read here takes no memory. How a body holds its nodes may change without a clause here.
 
-ghost use Rattle.std.specs.Prelude.{◌≡◌, chars, length, option_copied, option_map, IfOk};
+ghost use Rattle.std.specs.Prelude.{◌≡◌, chars, length, option_copied, option_map, IfOk, OnOk};
 
-use coll_nodes::{Body, Declared, Entry, HashKeys, Walk};
+use coll_nodes::{Body, Declared, Entry, EntryNumbers, HashKeys, Walk};
 use coll_syntax::{Id, Rule, Rules};
 use std::alloc::{AllocError, Global};
 use std::marker::Model;
@@ -39,8 +39,10 @@ impl Model for Table {
 }
 
 impl Table {
+    ghost use Rattle.coll_nodes.specs.ElementTexts.{element_entry};
+    ghost use Rattle.coll_nodes.specs.NodeNumbers.{AreNumbersOf};
     ghost use Rattle.coll_nodes.specs.OwnNames.{own_name};
-    ghost use Rattle.coll_nodes.specs.Placement.{entry_at};
+    ghost use Rattle.coll_nodes.specs.Placement.{entry_at, place_among};
     ghost use Rattle.coll_nodes.specs.SoundLayouts.{IsTable};
     ghost use Rattle.coll_nodes.specs.Table.{entries_of, is_known, is_placed, is_symbol};
     ghost use Rattle.coll_nodes.specs.TableLayout.{collation};
@@ -85,6 +87,39 @@ impl Table {
         ensures { option_copied result ≡ entry_at (entries_of (collation self.now)) id.now }
     {
         self.body.entry(id)
+    }
+
+    /// The entry of the collating element that has a string, if one has it and is placed. It takes no memory.
+    #[tactic(auto, unfolding(coll_nodes::specs::TableLayout::collation))]
+    pub fn element_entry(&self, text: &str) -> Option<&Entry>
+        ensures { option_copied result ≡ element_entry (collation self.now) (chars text.now) }
+    {
+        match self.body.element_name(text) {
+            Some(name) => self.body.entry_named(name),
+            None => None,
+        }
+    }
+
+    /// Gives each entry its place among all, from 1, for `entry_number`. It takes memory only for entries that the numbers have no
+    /// room for yet.
+    ///
+    /// The numbers are those of the table as it stands. After an `apply` or a `flip` they are to be given anew.
+    #[tactic(auto, unfolding(coll_nodes::specs::TableLayout::collation))]
+    pub fn number_entries(&self, numbers: &mut EntryNumbers) -> Result<(), AllocError>
+        ensures { OnOk result (AreNumbersOf numbers.new self.now.layout) }
+    {
+        self.check_table();
+        self.body.number_entries(numbers)?;
+        Ok(())
+    }
+
+    /// The place of an identifier among all entries, from 1, if it has an entry. It takes no memory.
+    #[tactic(auto, unfolding(coll_nodes::specs::TableLayout::collation))]
+    pub fn entry_number(&self, numbers: &EntryNumbers, id: &Id) -> Option<u32>
+        requires { AreNumbersOf numbers.now self.now.layout }
+        ensures { result ≡ place_among (entries_of (collation self.now)) id.now }
+    {
+        self.body.entry_number(numbers, id)
     }
 
     /// The own name of a declared name: for a second name that of its symbol. It takes no memory.

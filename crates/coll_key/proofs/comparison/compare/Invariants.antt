@@ -10,5 +10,5 @@ invariant-loop-level l =
     let rules = (collation l.table).rules in
     let parts = parts_of l.ranks (chars l.text) in
     let others = parts_of l.ranks (chars l.other) in
-    first_difference (level_lists_from rules 0 (part_numbers l.ranks) parts) (level_lists_from rules 0 (part_numbers l.ranks) others)
-    ≡ first_difference (level_lists_from (drop l.level rules) l.level (part_numbers l.ranks) parts) (level_lists_from (drop l.level rules) l.level (part_numbers l.ranks) others)
+    first_difference (level_lists_from rules 0 (part_numbers l.ranks.compiled) parts) (level_lists_from rules 0 (part_numbers l.ranks.compiled) others)
+    ≡ first_difference (level_lists_from (drop l.level rules) l.level (part_numbers l.ranks.compiled) parts) (level_lists_from (drop l.level rules) l.level (part_numbers l.ranks.compiled) others)

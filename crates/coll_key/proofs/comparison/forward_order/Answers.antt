@@ -7,7 +7,7 @@ use Rattle.coll_key.proofs.comparison.forward_order.Goals as goal
 pub returns : goal.returns
 returns c =
     let p = c.args.position in
-    let f = part_numbers c.args.ranks.now c.args.level in
+    let f = part_numbers c.args.ranks.now.compiled c.args.level in
     let text = parts_of c.args.ranks.now (chars c.args.text.now) in
     let other = parts_of c.args.ranks.now (chars c.args.other.now) in
     rw (c.order_along.ensures, c.new.ensures, c.new-2.ensures) (sym (order_alike p f text other _ _ c.past_common.ensures))

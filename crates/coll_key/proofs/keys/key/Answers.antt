@@ -1,25 +1,19 @@
+-- The key of the parts of a text is that of the text.
 use Rattle.std.proofs.Common.{◌∙◌, chars, ap}
 use Rattle.coll_nodes.specs.TableLayout.{collation}
-use Rattle.coll_ranks.specs.Ranks.{part_numbers}
 use Rattle.coll_key.specs.WrittenKey.{has_key_form}
 use Rattle.coll_key.proofs.KeyForm.{key_form}
 use Rattle.coll_key.proofs.LevelLemmas.{few_parts}
-use Rattle.coll_key.proofs.OrderLemmas.{key_goes_on, key_is_made}
+use Rattle.coll_key.proofs.OrderLemmas.{key_is_made}
 use Rattle.coll_key.proofs.keys.key.Goals as goal
 
-pub push_level-requires-clause-few : goal.push_level-requires-clause-few
-push_level-requires-clause-few c =
+pub key_of_parts-requires-clause-few : goal.key_of_parts-requires-clause-few
+key_of_parts-requires-clause-few c =
     rw (c.deref.ensures.value, c.in_ok-parts.ensures.ok) (few_parts c.args.ranks.now (chars c.args.text.now) c.in_ok-parts.ensures.short)
-
-pub loop-level-preserved : goal.loop-level-preserved
-loop-level-preserved c =
-    key_goes_on (part_numbers c.args.ranks.now) c.loop-level.level c.rules-rule-items.result.now _ _ c.in_ok-parts.parts.items _ _ _ _ _ c.rules-rule-items.ensures c.loop-level-test.true c.deref.ensures.value c.in_ok-push_level.ensures c.in_ok-push.ensures.items c.loop-level.invariant
 
 pub returns-clause-ok : goal.returns-clause-ok
 returns-clause-ok c =
-    let ranks = c.args.ranks.now in
-    let table = collation c.args.table.now in
-    key_is_made ranks table c.requires c.check_table.ensures.well_formed (chars c.args.text.now) c.in_ok-parts.parts.items c.loop-level.level c.rules-rule-items.result.now c.loop-level.key.items c.in_ok-parts.ensures.ok c.rules-rule-items.ensures c.loop-level-test.false c.loop-level.invariant
+    key_is_made c.args.ranks.now (collation c.args.table.now) c.requires c.check_table.ensures.well_formed (chars c.args.text.now) c.weights.result.now c.rules.result.now c.deref.result.now c.in_ok-key.key.items c.weights.ensures c.rules.ensures (c.deref.ensures.value ∙ c.in_ok-parts.ensures.ok) c.in_ok-key.ensures
 
 pub returns-clause-form : goal.returns-clause-form
 returns-clause-form c =

@@ -10,7 +10,7 @@ use Rattle.coll_ranks.proofs.RankingLemmas.{few_met}
 use Rattle.coll_key.proofs.listing.write_entries.Goals as goal
 
 pub write_walk-requires-clause-fit : goal.write_walk-requires-clause-fit
-write_walk-requires-clause-fit g c = fit_met (collation c.args.table.now) c.args.ranks.now.levels c.walk.result c.check_table.ensures.well_formed c.requires.levels c.walk.ensures
+write_walk-requires-clause-fit g c = fit_met (collation c.args.table.now) c.args.ranks.now.compiled.levels c.walk.result c.check_table.ensures.well_formed c.requires.levels c.walk.ensures
 
 pub write_walk-requires-clause-few : goal.write_walk-requires-clause-few
 write_walk-requires-clause-few g c = few_met (collation c.args.table.now) c.walk.result c.check_table.ensures.well_formed c.walk.ensures

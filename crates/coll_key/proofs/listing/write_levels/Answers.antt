@@ -16,7 +16,7 @@ returns-in-Err-clause-sent g c =
     let i = c.loop-level.level in
     let bytes = levels_bytes c.args.ranks.now c.args.rank c.args.owner.now in
     AppendsFront-before (taken c.args.out.now) (taken c.write_level.new.out) (bytes 0 all) (line_feed ∷ [])
-    (left_front (bytes 0 all) (bytes i (drop i all)) (level_bytes (is_star c.args.owner.now c.index-weights-level.result) (compiled_weight c.args.ranks.now c.args.rank i)) (bytes (i + 1) (drop (i + 1) all)) (taken c.args.out.now) (taken c.loop-level.out) (taken c.write_level.new.out)
+    (left_front (bytes 0 all) (bytes i (drop i all)) (level_bytes (is_star c.args.owner.now c.index-weights-level.result) (compiled_weight c.args.ranks.now.compiled c.args.rank i)) (bytes (i + 1) (drop (i + 1) all)) (taken c.args.out.now) (taken c.loop-level.out) (taken c.write_level.new.out)
     (levels_next c.args.ranks.now c.args.rank c.args.owner.now all i c.index-weights-level.result c.loop-level-test.true c.index-weights-level.is) c.loop-level.invariant.sent (let part = rw c.compiled.ensures at c.in-Err.ensures.sent in part))
 
 pub loop-level-preserved : goal.loop-level-preserved
@@ -26,7 +26,7 @@ loop-level-preserved g c =
     let i = c.loop-level.level in
     let bytes = levels_bytes c.args.ranks.now c.args.rank c.args.owner.now in
     record {
-      sent = left_more (bytes 0 all) (bytes i (drop i all)) (level_bytes (is_star c.args.owner.now c.index-weights-level.result) (compiled_weight c.args.ranks.now c.args.rank i)) (bytes (i + 1) (drop (i + 1) all)) (taken c.args.out.now) (taken c.loop-level.out) (taken c.write_level.new.out)
+      sent = left_more (bytes 0 all) (bytes i (drop i all)) (level_bytes (is_star c.args.owner.now c.index-weights-level.result) (compiled_weight c.args.ranks.now.compiled c.args.rank i)) (bytes (i + 1) (drop (i + 1) all)) (taken c.args.out.now) (taken c.loop-level.out) (taken c.write_level.new.out)
           (levels_next c.args.ranks.now c.args.rank c.args.owner.now all i c.index-weights-level.result c.loop-level-test.true c.index-weights-level.is) c.loop-level.invariant.sent (let part = rw c.compiled.ensures at c.in_default.ensures.sent in part);
       count = c.in_default.ensures.errors ∙ c.loop-level.invariant.count;
     }

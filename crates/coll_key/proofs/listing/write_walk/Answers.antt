@@ -28,6 +28,6 @@ walk-preserved g c =
       sent = left_more (lines 1 (entries_met c.args.walk)) (lines c.walk.rank (entries_met c.walk.left)) (met_line c.args.ranks.now c.walk.rank item) (lines c.in_ok-rank.rank (entries_met c.next.new.self)) (taken c.args.out.now) (taken c.walk.out) (taken c.write_met.new.out)
           (lines_next c.args.ranks.now c.walk.rank c.in_ok-rank.rank c.walk.left c.next.new.self item c.in-Some.ensures.steps c.in_ok-rank.ensures.next) c.walk.invariant.sent c.in_ok-rank.ensures.sent;
       count = c.in_ok-rank.ensures.errors ∙ c.walk.invariant.count;
-      fit = fits_later c.args.ranks.now.levels c.walk.left c.next.new.self item c.in-Some.ensures.steps c.walk.invariant.fit;
+      fit = fits_later c.args.ranks.now.compiled.levels c.walk.left c.next.new.self item c.in-Some.ensures.steps c.walk.invariant.fit;
       few = subst (λ n. n ≤ 1_000_000) (sym (counted_met c.walk.left c.next.new.self item c.walk.rank c.in_ok-rank.rank (c.walk.rank + length (entries_met c.walk.left)) c.in-Some.ensures.steps c.in_ok-rank.ensures.next refl)) c.walk.invariant.few;
     }

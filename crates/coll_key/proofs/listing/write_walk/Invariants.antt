@@ -10,6 +10,6 @@ invariant-walk g l =
     record {
       sent : IsLeft (ranked_lines l.ranks 1 (entries_met l.initial.left)) (ranked_lines l.ranks l.rank (entries_met l.left)) (g.W.Sink.taken l.initial.out) (g.W.Sink.taken l.out);
       count : g.W.Sink.failed l.out ≡ g.W.Sink.failed l.initial.out;
-      fit : All (HasFewWeights l.ranks.levels) (entries_met l.left);
+      fit : All (HasFewWeights l.ranks.compiled.levels) (entries_met l.left);
       few : l.rank + length (entries_met l.left) ≤ 1_000_000;
     }

@@ -8,10 +8,10 @@ abbrev pub invariant-gaps : goal.invariant-gaps
 invariant-gaps l =
     let now = l.self-inside in
     let first = l.initial.self-inside in
-    let items_now = items_left (part_numbers now.ranks.now now.level) (map (added_to now.weight.added) now.weight.ranks.now) (parts_of now.ranks.now (chars now.text.now)) in
-    let items_first = items_left (part_numbers first.ranks.now first.level) (map (added_to first.weight.added) first.weight.ranks.now) (parts_of first.ranks.now (chars first.text.now)) in
+    let items_now = items_left (part_numbers now.ranks.now.compiled now.level) (map (added_to now.weight.added) now.weight.ranks.now) (parts_of now.ranks.now (chars now.text.now)) in
+    let items_first = items_left (part_numbers first.ranks.now.compiled first.level) (map (added_to first.weight.added) first.weight.ranks.now) (parts_of first.ranks.now (chars first.text.now)) in
     record {
-      level : now.level < now.ranks.now.levels;
+      level : now.level < now.ranks.now.compiled.levels;
       few : l.gaps + length (parts_of now.ranks.now (chars now.text.now)) ≤ 65_536;
       same : (position : Bool) → listed position 0 items_first ≡ listed position l.gaps items_now;
       shorter : length items_now ≤ length items_first;

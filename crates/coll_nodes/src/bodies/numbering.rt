@@ -1,0 +1,41 @@
+//! The places of a body's entries, kept beside it.
+//!
+//! A caller keeps an `EntryNumbers`, has it filled when the body has changed, and then asks it for places.
+
+ghost use Rattle.std.specs.Prelude.{◌≡◌, ◌<◌, length, OnOk};
+
+use super::Body;
+use crate::entry_numbers::{EntryNumbers, number_sections};
+use coll_syntax::Id;
+use std::alloc::AllocError;
+
+impl Body {
+    ghost use Rattle.coll_syntax.specs.Identifier.{same_id};
+    ghost use Rattle.coll_nodes.specs.NodeNumbers.{AreNumbersOf};
+    ghost use Rattle.coll_nodes.specs.Placement.{place_among};
+    ghost use Rattle.coll_nodes.specs.Table.{ids_of, joined_entries};
+    ghost use Rattle.coll_nodes.specs.TableLayout.{sections_at};
+    ghost use Rattle.coll_nodes.specs.WellFormed.{AreDistinct};
+
+    /// Gives each entry its place, from 1. It takes memory only for nodes that the numbers have no room for yet.
+    pub fn number_entries(&self, numbers: &mut EntryNumbers) -> Result<(), AllocError>
+        requires few { length (joined_entries (sections_at self.now.layout)) < 1_000_000 }
+        requires distinct { AreDistinct same_id (ids_of (joined_entries (sections_at self.now.layout))) }
+        ensures { OnOk result (AreNumbersOf numbers.new self.now.layout) }
+    {
+        self.check_layout();
+        number_sections(&self.nodes, self.sections, numbers)?;
+        Ok(())
+    }
+
+    /// The place of an identifier among all entries, from 1, if it has an entry. It takes no memory.
+    pub fn entry_number(&self, numbers: &EntryNumbers, id: &Id) -> Option<u32>
+        requires { AreNumbersOf numbers.now self.now.layout }
+        ensures { result ≡ place_among (joined_entries (sections_at self.now.layout)) id.now }
+    {
+        match self.keys.placed.find(id) {
+            Some(node) => Some(numbers.get(node)),
+            None => None,
+        }
+    }
+}

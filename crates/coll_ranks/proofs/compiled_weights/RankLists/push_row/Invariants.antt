@@ -1,9 +1,0 @@
--- The weights that are left make up the row.
-use Rattle.std.proofs.Common.{◌≡◌, ◌++◌, ◌-◌}
-use Rattle.coll_ranks.specs.Ranks.{rank_or_zero, compiled_row_by}
-use Rattle.coll_ranks.proofs.compiled_weights.RankLists.push_row.Given as goal
-
-abbrev pub invariant-loop-level : goal.invariant-loop-level
-invariant-loop-level l =
-    l.self ++ compiled_row_by (rank_or_zero l.ids) (l.levels - l.level) l.owner l.left
-    ≡ l.initial.self ++ compiled_row_by (rank_or_zero l.ids) l.levels l.owner l.initial.left

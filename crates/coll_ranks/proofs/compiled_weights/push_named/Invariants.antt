@@ -1,7 +1,0 @@
--- The ranks of the identifiers so far stand behind the others.
-use Rattle.std.proofs.Common.{◌≡◌, ◌++◌, take, map}
-use Rattle.coll_ranks.specs.Ranks.{rank_or_zero}
-use Rattle.coll_ranks.proofs.compiled_weights.push_named.Given as goal
-
-abbrev pub invariant-loop-id : goal.invariant-loop-id
-invariant-loop-id l = l.ranks.items ≡ l.initial.ranks.items ++ map (rank_or_zero l.ids) (take l.id-index l.named)

@@ -1,0 +1,16 @@
+-- What is put in, and what is left, is the whole.
+use Rattle.std.proofs.Common.{◌≡◌, ◌≤◌, ◌+◌, ◌++◌, drop}
+use Rattle.std.specs.List.{flat_map}
+use Rattle.coll_ranks.specs.Rank.{known_rank}
+use Rattle.coll_ranks.specs.TextWeights.{element_parts, element_row}
+use Rattle.coll_ranks.proofs.text_weights.compiled_parts.Given as goal
+
+abbrev pub invariant-loop-element : goal.invariant-loop-element
+invariant-loop-element l =
+    record {
+      few : l.row ≤ l.element-index + 1;
+      parts : l.parts.items ++ element_parts l.row (drop l.element-index l.elements) ≡ element_parts 1 l.elements;
+      levels : l.weights.levels ≡ l.initial.weights.levels;
+      own : l.weights.own ≡ l.initial.weights.own;
+      lists : l.weights.lists ++ flat_map (element_row (known_rank l.ranks) l.initial.weights.levels) (drop l.element-index l.elements) ≡ l.initial.weights.lists ++ flat_map (element_row (known_rank l.ranks) l.initial.weights.levels) l.elements;
+    }

@@ -1,0 +1,124 @@
+//! The weights of one text.
+//!
+//! A `TextWeights` is what a key is made of where the ranks of a whole table aren't worth their time: the parts of one text, and
+//! compiled weights that have rows for this text alone. Row 0 is that of what has no entry, as in `Ranks`; each part that has an
+//! entry has a row of its own, in the order of the text, also where an entry comes again.
+
+ghost use Rattle.std.specs.Prelude.{◌≡◌, ◌<◌, ◌≤◌, ◌+◌, ◌++◌, ◌∷◌, ℕ, List, chars, length, map, IfOk, OnOk};
+ghost use Rattle.std.specs.List.{flat_map};
+ghost use Rattle.coll_nodes.specs.NodeNumbers.{AreNumbersOf};
+ghost use Rattle.coll_nodes.specs.TableLayout.{collation};
+ghost use Rattle.coll_ranks.specs.Elements.{elements_of};
+ghost use Rattle.coll_ranks.specs.Rank.{known_rank};
+ghost use Rattle.coll_ranks.specs.RankLists.{AddsRow};
+ghost use Rattle.coll_ranks.specs.Ranks.{part_numbers};
+ghost use Rattle.coll_ranks.specs.TextWeights.{element_parts, element_row};
+ghost use Rattle.coll_ranks.specs.WeightNumbers.{numbers_at};
+ghost use Rattle.coll_ranks.specs.declared.text_elements.TextElement.{TextElement};
+
+use crate::compiled_weights::CompiledWeights;
+use crate::parts::Part;
+use crate::ranking::compiled_undefined;
+use crate::table_ranks::TableRanks;
+use crate::text_elements::{TextElement, split_text};
+use coll_table::{EntryNumbers, Table};
+use std::alloc::{AllocError, Global};
+use std::marker::Model;
+
+/// The parts of a text, and what they weigh.
+///
+/// They are those of the table as it stood when they were made.
+#[derive(Drop)]
+pub struct TextWeights {
+    parts: Vec<Part>,
+    weights: CompiledWeights,
+}
+
+impl Model for TextWeights {
+    ghost use Rattle.coll_ranks.specs.TextWeights.{TextWeightsValue};
+
+    ghost Value = { TextWeightsValue };
+
+    ghost view = { λ t. record { parts = t.parts.items; weights = t.weights } };
+}
+
+impl TextWeights {
+    /// The weights of a text by a table whose entries are numbered, in new memory.
+    pub fn new(
+        alloc: Global,
+        table: &Table,
+        numbers: &EntryNumbers,
+        text: &str,
+    ) -> Result<TextWeights, AllocError>
+        requires numbers { AreNumbersOf numbers.now table.now.layout }
+        requires few { length (chars text.now) ≤ 65_536 }
+        ensures levels { IfOk result (λ made. made.weights.levels ≡ length (collation table.now).rules) }
+        ensures numbers { IfOk result (λ made. (level : ℕ) → level < length (collation table.now).rules → map (part_numbers made.weights level) made.parts ≡ map (numbers_at (collation table.now) level) (elements_of (collation table.now) (chars text.now))) }
+        ensures count { IfOk result (λ made. length made.parts ≤ length (chars text.now)) }
+    {
+        let elements = split_text(alloc, table, text)?;
+        let ranks = TableRanks::new(table, numbers);
+        let mut weights = compiled_undefined(alloc, table, &ranks, elements.len())?;
+        let parts = compiled_parts(alloc, &mut weights, &ranks, &elements)?;
+        Ok(TextWeights { parts, weights })
+    }
+
+    /// The parts of the text.
+    pub fn parts(&self) -> &[Part]
+        ensures { result.now ≡ self.now.parts }
+    {
+        &self.parts
+    }
+
+    /// The weights of these parts.
+    pub fn weights(&self) -> &CompiledWeights
+        ensures { result.now ≡ self.now.weights }
+    {
+        &self.weights
+    }
+}
+
+// The parts of elements, whose weights are put behind those of `UNDEFINED`.
+fn compiled_parts(
+    alloc: Global,
+    weights: &mut CompiledWeights,
+    ranks: &TableRanks<'_>,
+    elements: &[TextElement<'_>],
+) -> Result<Vec<Part>, AllocError>
+    requires { length elements.now ≤ 65_536 }
+    ensures parts { IfOk result (λ parts. parts.items ≡ element_parts 1 elements.now) }
+    ensures rows { OnOk result (AddsRow weights.old weights.new (flat_map (element_row (known_rank ranks.now) weights.old.levels) elements.now)) }
+{
+    let mut parts = Vec::with_capacity(alloc, elements.len())?;
+    let mut row = 1;
+    for element in elements {
+        row = push_element(&mut parts, weights, ranks, *element, row)?;
+    }
+    Ok(parts)
+}
+
+// Puts the part of an element behind others, and if it has an entry its weights too, which are this row; and gives the next row.
+fn push_element(
+    parts: &mut Vec<Part>,
+    weights: &mut CompiledWeights,
+    ranks: &TableRanks<'_>,
+    element: TextElement<'_>,
+    row: u32,
+) -> Result<u32, AllocError>
+    requires { row < 1_000_000 }
+    ensures few { IfOk result (λ next. next ≤ row + 1) }
+    ensures parts { IfOk result (λ next. (later : List TextElement) → parts.new.items ++ element_parts next later ≡ parts.old.items ++ element_parts row (element.entry ∷ later)) }
+    ensures rows { OnOk result (AddsRow weights.old weights.new (element_row (known_rank ranks.now) weights.old.levels element.entry)) }
+{
+    match element {
+        TextElement::Placed(entry) => {
+            weights.push(ranks, entry.id(), entry.weights())?;
+            parts.push(Part::Placed(row))?;
+            Ok(row + 1)
+        }
+        TextElement::Absent(c) => {
+            parts.push(Part::Absent(c))?;
+            Ok(row)
+        }
+    }
+}
