@@ -4,7 +4,7 @@
 //! are told apart once for a level: what each part calls is inlined there, and what few parts call is not, so that the loop stays
 //! small. The key is handed on by value, and given back: so where it stands and how long it is are kept in registers along the
 //! loop. There is room for one number of each part that is left, with its position, and a part with more numbers makes room for
-//! them first: so no number asks for room, and none may be refused. A key of ten letters takes half the time by it.
+//! them first: so no number asks for room, and none may be refused. A key of ten letters takes a fifth less time by it.
 
 ghost use Rattle.std.specs.Prelude.{◌≡◌, ◌<◌, ◌≤◌, ◌+◌, ◌*◌, ◌^◌, ◌++◌, ◌∷◌, [], ℕ, List, Option, Some, map, length, vec_len, vec_capacity, IfOk, MatchOption};
 ghost use Rattle.coll_key.specs.LevelList.{directed, items_of, listed, level_list, position_of};

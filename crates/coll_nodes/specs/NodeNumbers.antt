@@ -13,7 +13,7 @@ use Rattle.coll_nodes.specs.TableLayout.{TableLayout, nodes_in, sections_at, sec
 use Rattle.coll_nodes.specs.declared.contents.Content.{Content}
 use Rattle.coll_nodes.specs.declared.contents.Content.TheVariants as content
 
--- the number of a node; 0 where it was given none
+-- the number that is kept for a node's key; 0 where none is
 abbrev pub number_at : List ℕ → NodeId → ℕ
 number_at numbers node = slice_index_or numbers node.key 0
 

@@ -1,8 +1,8 @@
 //! The places of entries, as numbers of their nodes.
 //!
 //! An `EntryNumbers` is filled on one walk along the rings, and then tells the place of an identifier by one look-up. It is kept
-//! beside a table and filled anew when the table has changed: the numbers of before are written over, and memory is taken only for
-//! nodes that it has no room for yet. When the numbers are those of a body is said in `specs/NodeNumbers.antt`.
+//! beside a table and filled anew when the table has changed: the numbers of nodes that stand are written over, and memory is taken
+//! only for nodes that it has no room for yet. When the numbers are those of a body is said in `specs/NodeNumbers.antt`.
 
 ghost use Rattle.std.specs.Prelude.{◌≡◌, ◌<◌, ◌+◌, [], ℕ, if◌then◌else◌, length, slice_index_or, unwrap_or, vec_len, IfOk, OnOk};
 ghost use Rattle.coll_order.specs.Lists.{same_node};
@@ -41,7 +41,7 @@ impl EntryNumbers {
         }
     }
 
-    /// The number of a node; 0 where it was given none.
+    /// The number that is kept for a node's key; 0 where none is.
     pub(crate) fn get(&self, node: NodeId) -> u32
         ensures { result ≡ number_at self.now node }
     {

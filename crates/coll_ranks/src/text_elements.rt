@@ -1,8 +1,8 @@
 //! The elements of one text, each with its entry.
 //!
 //! Where the ranks of a whole table aren't worth their time, the elements of a text are looked up one by one: of each front of what is
-//! left of the text it is asked whether it is the string of an element that is placed, and the longest decides. That takes as many
-//! look-ups as a text has fronts, so it is for short texts.
+//! left of the text it is asked whether it is the string of an element that is placed, and the longest decides. At each place that
+//! takes as many look-ups as what is left has characters, so it is for short texts.
 
 ghost use Rattle.std.specs.Prelude.{◌≡◌, ◌<◌, ◌+◌, ◌∷◌, ◌++◌, [], ℕ, suc, List, chars, length, IfOk, IfSome, MatchOption};
 ghost use Rattle.coll_syntax.specs.declared.identifiers.Id.{Id};
@@ -49,7 +49,7 @@ pub(crate) fn split_text<'a>(
     Ok(elements)
 }
 
-// The element that a text begins with, and the text behind it.
+// The element that a text begins with, and the text behind it; none where the text is empty.
 fn first_element<'a, 'b>(table: &'a Table, text: &'b str) -> Option<(TextElement<'a>, &'b str)>
     ensures none { MatchOption result (chars text.now ≡ []) (λ first. length (chars first.1.now) < length (chars text.now)) }
     ensures element { IfSome result (λ first. (id : Id) × (elements_of (collation table.now) (chars text.now) ≡ id ∷ elements_of (collation table.now) (chars first.1.now)) × IsElementOf (collation table.now) id first.0) }
@@ -73,7 +73,7 @@ fn character(table: &Table, c: char) -> TextElement<'_>
     }
 }
 
-// The longest element that a text begins with.
+// The longest element that is placed and that a text begins with, and the text behind its string.
 fn longest_element<'a, 'b>(table: &'a Table, text: &'b str) -> Option<FoundFront<'a, 'b>>
     ensures { FindsFront (chars text.now) (longest_front (element_entry (collation table.now)) (chars text.now) (length (chars text.now))) result }
 {

@@ -39,13 +39,7 @@ fn number<R: Abort + Print>(rt: &R, table: &Table, numbers: &mut EntryNumbers)
     }
 }
 
-fn assert_place(
-    rt: &impl Abort,
-    table: &Table,
-    numbers: &EntryNumbers,
-    id: Id,
-    place: Option<u32>,
-)
+fn assert_place(rt: &impl Abort, table: &Table, numbers: &EntryNumbers, id: Id, place: Option<u32>)
     requires { AreNumbersOf numbers.now table.now.layout }
 {
     assert_same(rt, "a place", table.entry_number(numbers, &id), place);

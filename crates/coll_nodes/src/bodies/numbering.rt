@@ -18,6 +18,8 @@ impl Body {
     ghost use Rattle.coll_nodes.specs.WellFormed.{AreDistinct};
 
     /// Gives each entry its place, from 1. It takes memory only for nodes that the numbers have no room for yet.
+    ///
+    /// Where memory is refused, the numbers are those of no table, and are to be given anew.
     pub fn number_entries(&self, numbers: &mut EntryNumbers) -> Result<(), AllocError>
         requires few { length (joined_entries (sections_at self.now.layout)) < 1_000_000 }
         requires distinct { AreDistinct same_id (ids_of (joined_entries (sections_at self.now.layout))) }
