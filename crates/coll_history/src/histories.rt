@@ -2,9 +2,9 @@
 //!
 //! A `Session` keeps the table as the statements that remain have made it, and with each statement the record that takes it back,
 //! or, once it is undone, puts it again. No other table is kept: an undo turns one record, at the nodes that its statement changed,
-//! and a withdrawal puts the later statements to the table anew. The invariant says that each record leads back to the table that its statement was accepted in.
-//! Whoever adds a call that changes the history has to keep to that, and to make the room that every later undo and redo needs
-//! before the table changes.
+//! and a withdrawal puts the later statements to the table anew. The invariant says that each record leads back to the table that
+//! its statement was accepted in. Whoever adds a call that changes the history has to keep to that, and to make the room that every
+//! later undo and redo needs before the table changes.
 
 ghost use Rattle.std.specs.Prelude.{◌≡◌, ◌≢◌, ◌↔◌, ◌<◌, ◌≤◌, ◌+◌, [], length, reverse, slice_get, vec_len, vec_capacity, option_copied, IsOk, IsTrue, Ok, Err, IfOk, IfErr, OnOk, OnErr};
 ghost use Rattle.coll_syntax.specs.Proper.{IsProper};
@@ -113,7 +113,8 @@ impl Session {
     /// Takes the last remaining statement back, and answers how many then remain. It takes no memory.
     ///
     /// The table is then the one in which the statement was accepted, or, behind a withdrawal, the one that the statements before it
-    /// now give, and has taken just the ring steps of the statement's own nodes. It is refused with `NothingToUndo` exactly where no statement remains; nothing has then changed.
+    /// now give, and has taken just the ring steps of the statement's own nodes. It is refused with `NothingToUndo` exactly where no
+    /// statement remains; nothing has then changed.
     pub fn undo(&mut self) -> Result<u32, BenchFault>
         ensures undone { IfOk result (λ _. taken_back self.old.history ≡ Ok self.new.history) }
         ensures count { IfOk result (λ n. n ≡ length self.new.history.remaining) }

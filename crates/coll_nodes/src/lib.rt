@@ -11,8 +11,8 @@
 //! - `bodies`, `bodies/own_names` and `bodies/linking`: the whole, with its look-ups and `counts`, what names stand for, and what
 //!   is put in, moved and taken out (`SoundBodies`, `SoundLayouts`, `BodyInvariant`, `Counting`, `OwnNames`, `Linking`);
 //! - `walks` and `met_nodes`: a body, read in order (`Walks`, `WalkStates`, `WalkItems`);
-//! - `entry_numbers` and `bodies/numbering`: the places of entries, kept beside a body (`NodeNumbers`); `bodies/elements`: elements by
-//!   their strings (`ElementTexts`);
+//! - `entry_numbers` and `bodies/numbering`: the places of entries, kept beside a body (`NodeNumbers`); `bodies/elements`: elements
+//!   by their strings (`ElementTexts`);
 //! - and, for the look-ups of blocks in `coll_statements`, `LookUps`.
 #![tactic(auto)]
 

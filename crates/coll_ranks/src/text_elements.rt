@@ -1,8 +1,8 @@
 //! The elements of one text, each with its entry.
 //!
-//! Where the ranks of a whole table aren't worth their time, the elements of a text are looked up one by one: of each front of what is
-//! left of the text it is asked whether it is the string of an element that is placed, and the longest decides. At each place that
-//! takes as many look-ups as what is left has characters, so it is for short texts.
+//! Where the ranks of a whole table aren't worth their time, the elements of a text are looked up one by one: of each front of what
+//! is left of the text it is asked whether it is the string of an element that is placed, and the longest decides. At each place
+//! that takes as many look-ups as what is left has characters, so it is for short texts.
 
 ghost use Rattle.std.specs.Prelude.{◌≡◌, ◌<◌, ◌+◌, ◌∷◌, ◌++◌, [], ℕ, suc, List, chars, length, IfOk, IfSome, MatchOption};
 ghost use Rattle.coll_syntax.specs.declared.identifiers.Id.{Id};
