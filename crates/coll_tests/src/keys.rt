@@ -44,7 +44,7 @@ fn ranks_of<R: Abort + Print>(rt: &R, alloc: Global, table: &Table) -> Ranks
 }
 
 // Two texts, and their order.
-type Compared = (&'static str, &'static str, Ordering);
+pub(crate) type Compared = (&'static str, &'static str, Ordering);
 
 fn counted_order<R: Abort + Print>(
     rt: &R,
@@ -108,7 +108,7 @@ fn a_comparison_at_a_backward_level_takes_memory(rt: HostRuntime) {
 }
 
 // Texts, and their keys by the base table, with a zero behind each level. A rank counts 2,097,152.
-const KEYS: &[(&str, &[u64])] = &[
+pub(crate) const KEYS: &[(&str, &[u64])] = &[
     (
         "ab",
         &[
@@ -126,7 +126,7 @@ const KEYS: &[(&str, &[u64])] = &[
 ];
 
 // Texts, and their orders by the base table.
-const ORDERS: &[Compared] = &[
+pub(crate) const ORDERS: &[Compared] = &[
     ("a", "A", Ordering::Less),
     ("ab", "a-b", Ordering::Less),
     ("a", "a", Ordering::Equal),

@@ -41,4 +41,6 @@ mod statements;
 #[cfg(test)]
 mod tables;
 #[cfg(test)]
+mod texts;
+#[cfg(test)]
 mod writes;
