@@ -55,7 +55,7 @@ SPARED = {
     "ordered_rings::a_copy_and_its_source_change_apart": 0,
     "ordered_rings::a_node_goes_behind_another_and_into_another_ring": 0,
     "sessions::histories::a_statement_is_judged_as_it_is_answered": 0,
-    "texts::texts_that_are_looked_up_have_the_keys_by_ranks": 0,
+    "texts::texts_that_are_looked_up_have_the_keys_by_ranks": 8,
 }
 TAKES_NO_MEMORY = "keys::a_comparison_at_forward_levels_takes_no_memory"
 # Each test of what is wrong, and what it complains of.
