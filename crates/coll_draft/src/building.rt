@@ -6,7 +6,7 @@
 //! places where the sections and the last of them end (`IsSoundBuilder` of coll_nodes, `specs/SoundBodies.antt`), so that no call
 //! walks.
 
-ghost use Rattle.std.specs.Prelude.{◌≡◌, ◌∷◌, ◌++◌, [], ◌<◌, Some, true, false, IfOk, OnOk, OnErr, length, option_copied};
+ghost use Rattle.std.specs.Prelude.{◌≡◌, ◌∷◌, ◌++◌, [], ◌<◌, Some, true, false, is_some, unwrap_or, IfOk, OnOk, OnErr, length, option_copied};
 ghost use Rattle.coll_syntax.specs.Identifier.{has_name};
 
 use crate::own_weights::give_own_weights;
@@ -106,11 +106,12 @@ impl Builder {
         self.body.is_known(id)
     }
 
-    /// Whether an identifier is a collating symbol.
-    pub(crate) fn is_symbol(&self, id: &Id) -> bool
-        ensures { result ≡ is_symbol self.now.declared id.now }
+    /// Whether an identifier is a collating symbol, if it may stand in a section: both by one look-up.
+    pub(crate) fn symbol_if_known(&self, id: &Id) -> Option<bool>
+        ensures known { is_some result ≡ is_known self.now.declared id.now }
+        ensures symbol { unwrap_or result false ≡ is_symbol self.now.declared id.now }
     {
-        self.body.is_symbol(id)
+        self.body.symbol_if_known(id)
     }
 
     /// The declaration of a name, if it is declared.

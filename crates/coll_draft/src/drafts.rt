@@ -5,7 +5,7 @@
 //! of line, as `cause_after` does. After a refusal the draft is given up. What may stand where is changed in
 //! `specs/Drafts.antt` first.
 
-ghost use Rattle.std.specs.Prelude.{◌≡◌, ◌≢◌, ℕ, List, true, false, [], length, Some, None, IfOk, IfErr, IfSome, OnOk};
+ghost use Rattle.std.specs.Prelude.{◌≡◌, ◌≢◌, ℕ, List, true, false, is_some, unwrap_or, [], length, Some, None, IfOk, IfErr, IfSome, OnOk};
 ghost use Rattle.std.specs.List.{flat_map, list_any};
 ghost use Rattle.coll_lex.specs.Names.{IsName};
 ghost use Rattle.coll_syntax.specs.Proper.{IsElementText, IsProperTableLine, IsProperLine, IsNameIfGiven, AreRulesIfGiven};
@@ -15,7 +15,7 @@ ghost use Rattle.coll_draft.specs.Drafts.{is_end, levels_of, meaning_cause};
 ghost use Rattle.coll_draft.specs.Loading.{rules_after};
 ghost use Rattle.coll_draft.specs.OwnWeights.{is_equivalence};
 ghost use Rattle.coll_draft.specs.SoundDrafts.{IsSoundDraft, IsProperDeclaration, MayBePut};
-ghost use Rattle.coll_nodes.specs.Table.{name_of, text_of, is_declared, is_symbol_name};
+ghost use Rattle.coll_nodes.specs.Table.{name_of, text_of, is_declared, is_known, is_symbol, is_symbol_name};
 ghost use Rattle.coll_nodes.specs.OwnNames.{named_own, means_no_symbol};
 ghost use Rattle.coll_nodes.specs.declared.declarations.Declaration.TheVariants as declaration;
 ghost use Rattle.coll_nodes.specs.WellFormed.{IsWellFormed};
@@ -351,11 +351,12 @@ impl Draft {
         ensures err { IfErr result (λ cause. cause ≢ OutOfMemory → order_cause self.old (own_order self.old.declared line) ≡ Some cause) }
     {
         let line = self.own_order(line)?;
-        if let Some(cause) = self.order_cause(&line) {
+        let symbol = self.builder.symbol_if_known(&line.id);
+        if let Some(cause) = self.order_cause(&line, symbol) {
             return Err(cause);
         }
         self.check();
-        let entry = self.entry_of(line)?;
+        let entry = self.entry_of(line, symbol.unwrap_or(false))?;
         self.put(number, entry)?;
         Ok(())
     }
@@ -376,20 +377,22 @@ impl Draft {
         let _ = &self.order_open;
     }
 
-    /// Why an order line is refused, if it is.
-    fn order_cause(&self, line: &OrderLine) -> Option<LoadCause>
+    /// Why an order line is refused, if it is. Whether its identifier is a symbol, if it may stand in a section, was looked up.
+    fn order_cause(&self, line: &OrderLine, symbol: Option<bool>) -> Option<LoadCause>
+        requires known { is_some symbol ≡ is_known self.now.declared line.now.id }
+        requires symbol { unwrap_or symbol false ≡ is_symbol self.now.declared line.now.id }
         ensures { result ≡ order_cause self.now line.now }
     {
         if !self.order_open {
             return Some(LoadCause::OutsideOrder);
         }
-        if !self.builder.is_known(&line.id) {
+        if symbol.is_none() {
             return Some(LoadCause::NotDeclared);
         }
         if self.builder.is_placed(&line.id) {
             return Some(LoadCause::PlacedTwice);
         }
-        if line.weights.is_some() && self.builder.is_symbol(&line.id) {
+        if line.weights.is_some() && symbol.unwrap_or(false) {
             return Some(LoadCause::SymbolWithWeights);
         }
         if given_len(&line.weights) > levels(&self.rules) {
@@ -401,12 +404,13 @@ impl Draft {
         None
     }
 
-    /// The entry of an order line.
-    fn entry_of(&self, line: OrderLine) -> Result<Entry, AllocError>
+    /// The entry of an order line, whose identifier is a symbol or not.
+    fn entry_of(&self, line: OrderLine, symbol: bool) -> Result<Entry, AllocError>
+        requires { symbol ≡ is_symbol self.now.declared line.id }
         ensures { IfOk result (λ entry. entry ≡ entry_of (levels_of self.now.rules) self.now.declared line) }
     {
         let OrderLine { id, weights } = line;
-        if self.builder.is_symbol(&id) {
+        if symbol {
             let weights = ListBuf::new(Vec::new(self.alloc));
             return Ok(Entry::new(id, weights));
         }

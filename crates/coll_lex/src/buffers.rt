@@ -1,33 +1,91 @@
 //! Texts and lists that are handed out in tokens, statements and tables.
 //!
 //! `TextBuf` is a text that contracts see as the list of its characters, and `ListBuf` a list that they see as
-//! its members. Both only wrap: what allocates is the `String` or `Vec` inside. The view of `TextBuf` decodes
-//! the bytes, so that a name or a string is the same list in a contract as in the definition of a token.
-//! A new method here has to keep to that view, and to allocate only where it says so.
+//! its members. The bytes of a short text lie in the value itself, so that most names take no memory; all else is in the
+//! `String` or `Vec` inside. `Gathered` is a text that grows, whose room serves one text after another. The views of both
+//! texts decode the bytes, so that a name or a string is the same list in a contract as in the definition of a token.
+//! A new method here has to keep to these views, and to allocate only where it says so. How many bytes are short may change.
 
-ghost use Rattle.std.specs.Prelude.{◌≡◌, ◌==◌, [], ◌∷◌, ◌++◌, length, chars, string_bytes, encode_utf8_all, IfOk, OnOk, OnErr};
+ghost use Rattle.std.specs.Prelude.{◌≡◌, ◌==◌, [], ◌∷◌, ◌++◌, length, chars, string_bytes, encode_utf8, encode_utf8_all, IfOk, OnOk, OnErr};
 ghost use Rattle.std.specs.Borrow.{sem};
 ghost use Rattle.std.specs.List.{AllZip};
 ghost use Rattle.coll_lex.specs.Buffers.{LendsMembers};
 
+use arrayvec::ArrayString;
 use std::alloc::{AllocError, Global};
 use std::marker::Model;
 
-// The room that a text takes for its first character: all keywords and most names fit in it, and don't grow again.
+// Most bytes of a text that lies in the value itself: most names are as short.
+const SHORT_BYTES: usize = 16;
+
+// The room that is taken for the first character of a text that grows: all keywords and most names fit in it.
 const FIRST_ROOM: usize = 24;
+
+// The members that a list has room for once it gets its first: most lines have no more tokens.
+const FIRST_MEMBERS: usize = 8;
+
+// Where the bytes of a text lie: in the value itself, where they are few, or else in memory.
+#[derive(Debug, Drop)]
+enum Bytes {
+    Short(ArrayString<SHORT_BYTES>),
+    Long(String),
+}
+
+impl Bytes {
+    ghost use Rattle.std.specs.Prelude.{IsUtf8};
+    ghost use Rattle.coll_lex.specs.Buffers.{text_bytes};
+
+    // Lends the text.
+    fn as_str(&self) -> &str
+        ensures value { result.now ≡ text_bytes self.now }
+        ensures text { IsUtf8 (text_bytes self.now) }
+    {
+        match self {
+            Bytes::Short(text) => text.as_str(),
+            Bytes::Long(text) => text.as_str(),
+        }
+    }
+
+    // A copy of a text. It takes memory for a long one.
+    fn copied(alloc: Global, text: &str) -> Result<Bytes, AllocError>
+        ensures { IfOk result (λ copy. text_bytes copy ≡ text.now) }
+    {
+        match ArrayString::from(text) {
+            Ok(short) => Ok(Bytes::Short(short)),
+            Err(_) => {
+                let long = String::from_str(alloc, text)?;
+                Ok(Bytes::Long(long))
+            }
+        }
+    }
+
+    // A copy. It takes memory for what is long.
+    fn try_copy(&self) -> Result<Bytes, AllocError>
+        ensures { IfOk result (λ copy. text_bytes copy ≡ text_bytes self.now) }
+    {
+        match self {
+            Bytes::Short(text) => Ok(Bytes::Short(*text)),
+            Bytes::Long(text) => {
+                let copy = text.clone()?;
+                Ok(Bytes::Long(copy))
+            }
+        }
+    }
+}
 
 /// A text, which contracts see as the list of its characters.
 #[derive(Debug, Drop)]
 pub struct TextBuf {
-    text: String,
+    bytes: Bytes,
 }
 
 impl Model for TextBuf {
-    ghost use Rattle.std.specs.Prelude.{List, ℕ, chars, string_bytes};
+    ghost use Rattle.std.specs.Prelude.{List, ℕ, chars};
+    ghost use Rattle.coll_lex.specs.Buffers.{text_bytes};
 
     ghost Value = { List ℕ };
 
-    ghost view = { λ t. chars (string_bytes t.text) };
+    ghost view = { λ t. chars (text_bytes t.bytes) };
 }
 
 impl TextBuf {
@@ -35,7 +93,17 @@ impl TextBuf {
     pub fn new(text: String) -> TextBuf
         ensures { result ≡ chars (string_bytes text) }
     {
-        TextBuf { text }
+        TextBuf {
+            bytes: Bytes::Long(text),
+        }
+    }
+
+    /// A copy of a text. A short one takes no memory.
+    pub fn copied(alloc: Global, text: &str) -> Result<TextBuf, AllocError>
+        ensures { IfOk result (λ copy. copy ≡ chars text.now) }
+    {
+        let bytes = Bytes::copied(alloc, text)?;
+        Ok(TextBuf { bytes })
     }
 
     /// Lends the text, which is UTF-8.
@@ -43,24 +111,48 @@ impl TextBuf {
         ensures characters { chars result.now ≡ self.now }
         ensures bytes { encode_utf8_all self.now ≡ result.now }
     {
-        self.text.as_str()
+        self.bytes.as_str()
     }
 
-    /// A copy of the text, in new memory.
+    /// A copy of the text. A short one takes no memory.
     pub fn try_copy(&self) -> Result<TextBuf, AllocError>
         ensures { IfOk result (λ copy. copy ≡ self.now) }
     {
-        let text = self.text.clone()?;
-        Ok(TextBuf { text })
+        let bytes = self.bytes.try_copy()?;
+        Ok(TextBuf { bytes })
     }
+}
 
+/// A text that is gathered character by character, and whose room stays for the next one. Contracts see it as the list of its
+/// characters.
+#[derive(Drop)]
+pub(crate) struct Gathered {
+    text: String,
+}
+
+impl Model for Gathered {
+    ghost use Rattle.std.specs.Prelude.{List, ℕ, chars, string_bytes};
+
+    ghost Value = { List ℕ };
+
+    ghost view = { λ t. chars (string_bytes t.text) };
+}
+
+impl Gathered {
     /// A text of no characters. It takes no memory.
-    pub(crate) fn empty(alloc: Global) -> TextBuf
+    pub(crate) fn empty(alloc: Global) -> Gathered
         ensures { result ≡ [] }
     {
-        TextBuf {
+        Gathered {
             text: String::new(alloc),
         }
+    }
+
+    /// Lends the text, which is UTF-8.
+    pub(crate) fn get(&self) -> &str
+        ensures { chars result.now ≡ self.now }
+    {
+        self.text.as_str()
     }
 
     /// Whether the text has no characters.
@@ -78,6 +170,13 @@ impl TextBuf {
         self.begin()?;
         self.text.push(c)?;
         Ok(())
+    }
+
+    /// Begins another text in the same room.
+    pub(crate) fn clear(&mut self)
+        ensures { self.new ≡ [] }
+    {
+        self.text.clear();
     }
 
     // Takes room for the first characters of a text that has none yet.
@@ -167,7 +266,17 @@ impl<X: Drop> ListBuf<X> {
         ensures ok { OnOk result (self.new ≡ self.old ++ item ∷ []) }
         ensures err { OnErr result (self.new ≡ self.old) }
     {
+        self.begin()?;
         self.items.push(item)?;
+        Ok(())
+    }
+    // Takes room for the first members of a list that has none yet.
+    fn begin(&mut self) -> Result<(), AllocError>
+        ensures { self.new ≡ self.old }
+    {
+        if self.items.is_empty() {
+            self.items.reserve(FIRST_MEMBERS)?;
+        }
         Ok(())
     }
 }

@@ -15,7 +15,8 @@ mod symbol;
 mod text;
 mod word;
 
-use crate::{Chars, LexFault, ListBuf, Piece, TextBuf, Token};
+use crate::buffers::Gathered;
+use crate::{Chars, LexFault, ListBuf, Piece, Token};
 use std::alloc::Global;
 
 /// Where in a line the scan is.
@@ -41,7 +42,7 @@ pub(crate) struct Scan {
     // Whether the character before was an escape character, so that the next one is literal.
     escaped: bool,
     // The word so far in plain mode, and the name so far in a symbol.
-    partial: TextBuf,
+    partial: Gathered,
     // The pieces so far of the string that is open.
     pieces: ListBuf<Piece>,
     // The tokens that are complete.
@@ -66,7 +67,7 @@ impl Scan {
         Scan {
             mode: Mode::Plain,
             escaped: false,
-            partial: TextBuf::empty(alloc),
+            partial: Gathered::empty(alloc),
             pieces: ListBuf::empty(alloc),
             tokens: ListBuf::empty(alloc),
             alloc,
@@ -175,7 +176,7 @@ impl Scan {
     fn enter(&mut self, mode: Mode)
         ensures { self.new ≡ record self.old { mode = mode; partial = [] } }
     {
-        self.partial = TextBuf::empty(self.alloc);
+        self.partial.clear();
         self.mode = mode;
     }
 }

@@ -1,5 +1,5 @@
 -- Nodes by name: a name is found by its bytes.
-use Rattle.std.proofs.Common.{◌≡◌, ℕ, Bool, true, is_some, List, Option, sym, ap, ◌∙◌}
+use Rattle.std.proofs.Common.{◌≡◌, ℕ, Bool, true, is_some, List, Option, None, Some, unwrap_or, refl, sym, ap, ◌∙◌}
 use Rattle.std.specs.Prelude.{chars, string_bytes, encode_utf8_all}
 use Rattle.std.specs.Str.{bytes_eq}
 use Rattle.std.specs.Map.{lookup, set_value}
@@ -54,3 +54,8 @@ module _ {Y : Type 0} where
   -- a text of the same bytes is a text too
   pub same_is_text : (a b : String Y) → string_bytes b ≡ string_bytes a → IsText a → IsText b
   same_is_text a b e g = ap (λ bytes. encode_utf8_all (chars bytes)) e ∙ (g ∙ sym e)
+
+-- what a map had under a text, as a node
+pub led_to : (led : Option (Option NodeId)) → unwrap_or led None ≡ found led
+led_to None = refl
+led_to (Some led) = refl

@@ -77,8 +77,11 @@ impl NodeNames {
         ensures keys { OnOk result (AddsNameKey self.old self.new name.now) }
         ensures err { OnErr result (self.new ≡ self.old) }
     {
-        let node = self.find(name);
-        self.put(name, node)
+        match self.put(name, None)? {
+            Some(node) => self.set(name, Some(node)),
+            None => (),
+        }
+        Ok(())
     }
 
     /// Makes a name that is a key lead to a node, or to none. It takes no memory.
@@ -102,14 +105,15 @@ impl NodeNames {
         Ok(NodeNames { names, alloc })
     }
 
-    // Makes a name a key, and lead to this.
-    fn put(&mut self, name: &TextBuf, node: Option<NodeId>) -> Result<(), AllocError>
+    // Makes a name a key, and lead to this. Answers the node that it led to.
+    fn put(&mut self, name: &TextBuf, node: Option<NodeId>) -> Result<Option<NodeId>, AllocError>
         ensures ok { OnOk result (SetsName self.old self.new name.now node) }
         ensures keys { OnOk result (AddsNameKey self.old self.new name.now) }
+        ensures led { IfOk result (λ led. led ≡ node_named self.old name.now) }
         ensures err { OnErr result (self.new ≡ self.old) }
     {
         let text = String::from_str(self.alloc, name.get())?;
-        self.names.insert(text, node)?;
-        Ok(())
+        let led = self.names.insert(text, node)?;
+        Ok(led.unwrap_or(None))
     }
 }

@@ -15,12 +15,12 @@ use crate::{Id, SyntaxFault};
 use coll_lex::{Piece, TextBuf, Token};
 use std::alloc::{AllocError, Global};
 
-/// A copy of a name, in new memory.
+/// A copy of a name. A long one takes memory.
 pub fn copied_name(alloc: Global, name: &TextBuf) -> Result<TextBuf, AllocError>
     ensures { IfOk result (λ copy. copy ≡ name.now) }
 {
-    let text = String::from_str(alloc, name.get())?;
-    Ok(TextBuf::new(text))
+    let copy = TextBuf::copied(alloc, name.get())?;
+    Ok(copy)
 }
 
 /// What is read, where no token is left over; otherwise `ExtraOperand`.

@@ -2,7 +2,7 @@
 //!
 //! What stands between the brackets is decided after unescaping, by the characters alone.
 
-ghost use Rattle.std.specs.Prelude.{◌≡◌, ◌≢◌, ℕ, [], OnOk, IfErr};
+ghost use Rattle.std.specs.Prelude.{◌≡◌, ◌≢◌, ℕ, [], chars, Ok, Err, OnOk, IfOk, IfErr};
 ghost use Rattle.coll_lex.specs.Marked.{Plain};
 ghost use Rattle.coll_lex.specs.Tokens.{symbol_of, token_of};
 ghost use Rattle.coll_lex.specs.declared.faults.LexFault.TheVariants.{OutOfMemory};
@@ -10,24 +10,26 @@ ghost use Rattle.coll_lex.specs.declared.faults.LexFault.TheVariants.{OutOfMemor
 use super::{Mode, Scan};
 use crate::names::{code_point, has_name_chars};
 use crate::{LexFault, Piece, TextBuf, Token};
-use std::mem;
+use std::alloc::Global;
 
 // What a symbol stands for, by what is between its brackets.
-fn piece_of(name: TextBuf) -> Result<Piece, LexFault>
-    ensures { result ≡ symbol_of name }
+fn piece_of(alloc: Global, name: &str) -> Result<Piece, LexFault>
+    ensures ok { IfOk result (λ piece. symbol_of (chars name.now) ≡ Ok piece) }
+    ensures err { IfErr result (λ fault. fault ≢ OutOfMemory → symbol_of (chars name.now) ≡ Err fault) }
 {
     if name.is_empty() {
         return Err(LexFault::EmptySymbol);
     }
-    if let Some(number) = code_point(name.get()) {
+    if let Some(number) = code_point(name) {
         let Some(c) = char::from_u32(number) else {
             return Err(LexFault::BadCodePoint);
         };
         return Ok(Piece::Char(c));
     }
-    if !has_name_chars(name.get()) {
+    if !has_name_chars(name) {
         return Err(LexFault::BadName);
     }
+    let name = TextBuf::copied(alloc, name)?;
     Ok(Piece::Name(name))
 }
 
@@ -78,12 +80,14 @@ impl Scan {
         Ok(())
     }
 
-    // Takes the name out of the symbol that ends here, and decides what it stands for.
+    // What the symbol that ends here stands for.
     fn end_symbol(&mut self) -> Result<Piece, LexFault>
-        ensures value { result ≡ symbol_of self.old.partial }
-        ensures after { self.new ≡ record self.old { partial = [] } }
+        ensures ok { IfOk result (λ piece. symbol_of self.old.partial ≡ Ok piece) }
+        ensures err { IfErr result (λ fault. fault ≢ OutOfMemory → symbol_of self.old.partial ≡ Err fault) }
+        ensures after { OnOk result (self.new ≡ record self.old { partial = [] }) }
     {
-        let name = mem::replace(&mut self.partial, TextBuf::empty(self.alloc));
-        piece_of(name)
+        let piece = piece_of(self.alloc, self.partial.get())?;
+        self.partial.clear();
+        Ok(piece)
     }
 }

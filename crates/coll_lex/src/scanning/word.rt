@@ -11,7 +11,6 @@ use super::{Mode, Scan, is_constant};
 use crate::blanks::is_blank;
 use crate::{LexFault, ListBuf, TextBuf, Token};
 use std::alloc::AllocError;
-use std::mem;
 
 impl Scan {
     ghost use Rattle.coll_lex.specs.Scanning.{TakesMark, Refuses, Gathers, word_token};
@@ -75,8 +74,9 @@ impl Scan {
         if self.partial.is_empty() {
             return Ok(());
         }
-        let word = mem::replace(&mut self.partial, TextBuf::empty(self.alloc));
+        let word = TextBuf::copied(self.alloc, self.partial.get())?;
         self.tokens.push(Token::Word(word))?;
+        self.partial.clear();
         Ok(())
     }
 

@@ -1,6 +1,6 @@
 use Rattle.std.proofs.lemmas.Str.{IsUtf8-string_bytes}
 use Rattle.coll_lex.proofs.TextLemmas.{chars_push}
-use Rattle.coll_lex.proofs.buffers.TextBuf.push.Goals as goal
+use Rattle.coll_lex.proofs.buffers.Gathered.push.Goals as goal
 
 pub returns-clause-ok : goal.returns-clause-ok
 returns-clause-ok c =

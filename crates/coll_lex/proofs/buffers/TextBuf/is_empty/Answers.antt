@@ -1,6 +1,0 @@
-use Rattle.std.proofs.Common.{◌∙◌}
-use Rattle.coll_lex.proofs.TextLemmas.{none_chars}
-use Rattle.coll_lex.proofs.buffers.TextBuf.is_empty.Goals as goal
-
-pub returns : goal.returns
-returns c = rw (← c.get.ensures.characters) (c.is_empty.ensures ∙ none_chars c.get.result.now c.get.utf8)
