@@ -1,5 +1,5 @@
 -- The first cause among identifiers that are gathered from the members of a list, one after another.
-use Rattle.std.proofs.Common.{◌≡◌, ℕ, ◌+◌, ◌<◌, List, [], ◌∷◌, ◌++◌, length, get_or, drop, Option, Some, None, sym, ap, ◌∙◌, refl, drop-cons, add-one}
+use Rattle.std.proofs.Common.{◌≡◌, ℕ, ◌+◌, ◌<◌, zero, suc, List, [], ◌∷◌, ◌++◌, length, get_or, drop, Option, Some, None, sym, ap, ◌∙◌, refl, arith, drop-cons, add-one}
 use Rattle.std.specs.List.{flat_map}
 use Rattle.std.specs.Option.{option_or}
 
@@ -26,3 +26,14 @@ module _ {A C : Type 0} (cause : A → Option C) (first : List A → Option C) (
     -- behind one that has none it is left
     pub first_left : None ≡ first (f x) → first (flat_map f (drop (i + 1) xs)) ≡ whole
     first_left absent = ap (λ c. option_or c (first (flat_map f (drop (i + 1) xs)))) absent ∙ sym first_from
+
+  -- neither of two has one where the first of both is none
+  neither_has : (a b : Option C) → option_or a b ≡ None → (a ≡ None) × (b ≡ None)
+  neither_has None b e = (refl, e)
+  neither_has (Some x) b e = cc
+
+  -- where none among all has one, a member has none
+  pub member_absent : {X : Type 0} (f : X → List A) (xs : List X) (i : ℕ) (x : X) → first (flat_map f xs) ≡ None → i < length xs → x ≡ get_or xs i x → first (f x) ≡ None
+  member_absent f [] i x absent below read = absurd (omega arith)
+  member_absent f (y ∷ ys) zero x absent below read = ap (λ it. first (f it)) read ∙ (neither_has (first (f y)) (first (flat_map f ys)) (sym (first_append (f y) (flat_map f ys)) ∙ absent)).0
+  member_absent f (y ∷ ys) (suc i) x absent below read = member_absent f ys i x (neither_has (first (f y)) (first (flat_map f ys)) (sym (first_append (f y) (flat_map f ys)) ∙ absent)).1 (omega arith) read

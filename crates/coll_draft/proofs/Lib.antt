@@ -1,3 +1,4 @@
+pub mod AgainJudged
 pub mod BuilderSteps
 pub mod BuiltTables
 pub mod DraftSteps

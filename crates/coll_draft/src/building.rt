@@ -6,14 +6,13 @@
 //! places where the sections and the last of them end (`IsSoundBuilder` of coll_nodes, `specs/SoundBodies.antt`), so that no call
 //! walks.
 
-ghost use Rattle.std.specs.Prelude.{◌≡◌, ◌∷◌, ◌++◌, [], ◌<◌, Some, true, false, is_some, unwrap_or, IfOk, OnOk, OnErr, length, option_copied};
+ghost use Rattle.std.specs.Prelude.{◌≡◌, ◌∷◌, ◌++◌, [], ◌<◌, Some, true, false, IfOk, OnOk, OnErr, length, option_copied};
 ghost use Rattle.coll_syntax.specs.Identifier.{has_name};
 
 use crate::own_weights::give_own_weights;
 use coll_lex::TextBuf;
 use coll_nodes::{Body, Declaration, Entry, HashKeys, Walk};
 use coll_order::Place;
-use coll_statements::own_id;
 use coll_syntax::Id;
 use std::alloc::{AllocError, Global};
 use std::marker::Model;
@@ -46,9 +45,9 @@ impl Builder {
     ghost use Rattle.coll_draft.specs.Building.{no_parts, parts_at};
     ghost use Rattle.coll_draft.specs.OwnWeights.{is_equivalence};
     ghost use Rattle.coll_draft.specs.Loading.{with_last, with_section};
-    ghost use Rattle.coll_nodes.specs.Table.{name_of, text_of, texts_of, is_declared, is_known, is_symbol, is_placed_in, section_names, joined_entries};
+    ghost use Rattle.coll_nodes.specs.Table.{name_of, text_of, texts_of, is_declared, is_known, is_placed_in, section_names, joined_entries};
     ghost use Rattle.coll_nodes.specs.Table.{has_text};
-    ghost use Rattle.coll_nodes.specs.OwnNames.{declaration_of, own_id, own_sections, is_second};
+    ghost use Rattle.coll_nodes.specs.OwnNames.{declaration_of, own_sections};
     ghost use Rattle.coll_nodes.specs.Walks.{met};
 
     /// Nothing declared, and an empty first section.
@@ -106,27 +105,11 @@ impl Builder {
         self.body.is_known(id)
     }
 
-    /// Whether an identifier is a collating symbol, if it may stand in a section: both by one look-up.
-    pub(crate) fn symbol_if_known(&self, id: &Id) -> Option<bool>
-        ensures known { is_some result ≡ is_known self.now.declared id.now }
-        ensures symbol { unwrap_or result false ≡ is_symbol self.now.declared id.now }
-    {
-        self.body.symbol_if_known(id)
-    }
-
     /// The declaration of a name, if it is declared.
     pub(crate) fn declaration(&self, name: &TextBuf) -> Option<&Declaration>
         ensures { option_copied result ≡ declaration_of self.now.declared name.now }
     {
         self.body.declaration(name.get())
-    }
-
-    /// An identifier, by its own name. It takes memory for a second name.
-    pub(crate) fn own_id(&self, id: Id) -> Result<Id, AllocError>
-        ensures own { IfOk result (λ own. own ≡ own_id self.now.declared id) }
-        ensures memory { OnErr result (is_second self.now.declared id ≡ true) }
-    {
-        own_id(&self.body, id)
     }
 
     /// The number of entries, in all sections together.

@@ -15,8 +15,8 @@ ghost use Rattle.coll_draft.specs.Drafts.{is_end, levels_of, meaning_cause};
 ghost use Rattle.coll_draft.specs.Loading.{rules_after};
 ghost use Rattle.coll_draft.specs.OwnWeights.{is_equivalence};
 ghost use Rattle.coll_draft.specs.SoundDrafts.{IsSoundDraft, IsProperDeclaration, MayBePut};
-ghost use Rattle.coll_nodes.specs.Table.{name_of, text_of, is_declared, is_known, is_symbol, is_symbol_name};
-ghost use Rattle.coll_nodes.specs.OwnNames.{named_own, means_no_symbol};
+ghost use Rattle.coll_nodes.specs.Table.{name_of, text_of, is_declared, is_known, is_own_name, is_symbol, is_symbol_name};
+ghost use Rattle.coll_nodes.specs.OwnNames.{named_own, own_id, means_no_symbol};
 ghost use Rattle.coll_nodes.specs.declared.declarations.Declaration.TheVariants as declaration;
 ghost use Rattle.coll_nodes.specs.WellFormed.{IsWellFormed};
 ghost use Rattle.coll_nodes.specs.Bodies.{value_of};
@@ -24,7 +24,7 @@ ghost use Rattle.coll_nodes.specs.TableLayout.{collation};
 ghost use Rattle.coll_draft.specs.declared.load_faults.LoadCause.TheVariants.{OutOfMemory};
 
 use crate::building::Builder;
-use crate::line_weights::{given_len, kept_weights};
+use crate::line_weights::{given_len, kept_weights, name_the_same};
 use crate::{LoadCause, LoadFault};
 use coll_lex::{ListBuf, TextBuf};
 use coll_nodes::{
@@ -350,8 +350,7 @@ impl Draft {
         ensures after { OnOk result (self.new ≡ with_entry self.old number (entry_of (levels_of self.old.rules) self.old.declared (own_order self.old.declared line))) }
         ensures err { IfErr result (λ cause. cause ≢ OutOfMemory → order_cause self.old (own_order self.old.declared line) ≡ Some cause) }
     {
-        let line = self.own_order(line)?;
-        let symbol = self.builder.symbol_if_known(&line.id);
+        let (line, symbol) = self.own_order(line)?;
         if let Some(cause) = self.order_cause(&line, symbol) {
             return Err(cause);
         }
@@ -361,13 +360,50 @@ impl Draft {
         Ok(())
     }
 
-    /// An order line, with its identifier by its own name.
-    fn own_order(&self, line: OrderLine) -> Result<OrderLine, AllocError>
-        ensures { IfOk result (λ own. own ≡ own_order self.now.declared line) }
+    /// An order line, with its identifier by its own name, and whether that is a symbol, if it may stand in a section: both by one
+    /// look-up.
+    fn own_order(&self, line: OrderLine) -> Result<(OrderLine, Option<bool>), AllocError>
+        ensures own { IfOk result (λ own. own.0 ≡ own_order self.now.declared line) }
+        ensures known { IfOk result (λ own. is_some own.1 ≡ is_known self.now.declared own.0.id) }
+        ensures symbol { IfOk result (λ own. unwrap_or own.1 false ≡ is_symbol self.now.declared own.0.id) }
     {
         let OrderLine { id, weights } = line;
-        let id = self.builder.own_id(id)?;
-        Ok(OrderLine { id, weights })
+        let (id, symbol) = self.own_id(id)?;
+        Ok((OrderLine { id, weights }, symbol))
+    }
+
+    /// An identifier by its own name, and whether that is a symbol, if it may stand in a section.
+    fn own_id(&self, id: Id) -> Result<(Id, Option<bool>), AllocError>
+        ensures own { IfOk result (λ own. own.0 ≡ own_id self.now.declared id) }
+        ensures known { IfOk result (λ own. is_some own.1 ≡ is_known self.now.declared own.0) }
+        ensures symbol { IfOk result (λ own. unwrap_or own.1 false ≡ is_symbol self.now.declared own.0) }
+    {
+        match id {
+            Id::Char(c) => Ok((Id::Char(c), Some(false))),
+            Id::Named(name) => {
+                let (own, symbol) = self.own_name(name)?;
+                Ok((Id::Named(own), symbol))
+            }
+            Id::Undefined => Ok((Id::Undefined, Some(false))),
+        }
+    }
+
+    /// The own name of a name, and whether it is that of a symbol, if the own name is declared.
+    fn own_name(&self, name: TextBuf) -> Result<(TextBuf, Option<bool>), AllocError>
+        ensures own { IfOk result (λ own. own.0 ≡ named_own self.now.declared name) }
+        ensures known { IfOk result (λ own. is_some own.1 ≡ is_own_name self.now.declared own.0) }
+        ensures symbol { IfOk result (λ own. unwrap_or own.1 false ≡ is_symbol_name self.now.declared own.0) }
+    {
+        self.check();
+        match self.builder.declaration(&name) {
+            Some(Declaration::Symbol(_)) => Ok((name, Some(true))),
+            Some(Declaration::Element { .. }) => Ok((name, Some(false))),
+            Some(Declaration::Equivalence { symbol, .. }) => {
+                let own = symbol.try_copy()?;
+                Ok((own, Some(true)))
+            }
+            None => Ok((name, None)),
+        }
     }
 
     /// What holds of every draft. It does nothing; its contract says so.
@@ -457,24 +493,32 @@ impl Draft {
         None
     }
 
-    /// Why a weight is refused, if it is.
-    fn named_cause(&self, weight: &Weight) -> Option<LoadCause>
+    /// Why a weight is refused, if it is. None of the identifiers of the weight that was judged before it, if one was, is refused.
+    fn named_cause(&self, weight: &Weight, judged: Option<&Weight>) -> Option<LoadCause>
+        requires judged { IfSome judged (λ weight. ids_cause self.now.declared self.now.sections (weight_ids weight.now) ≡ None) }
         ensures cause { result ≡ ids_cause self.now.declared self.now.sections (weight_ids weight.now) }
         ensures spared { IfSome result (λ cause. cause ≢ OutOfMemory) }
     {
+        if let Some(judged) = judged {
+            if name_the_same(weight, judged) {
+                return None;
+            }
+        }
         match weight {
             Weight::Names(ids) => self.ids_cause(ids.get()),
             _ => None,
         }
     }
 
-    /// Why the first of these weights that is refused is.
-    fn weights_cause(&self, weights: &[Weight]) -> Option<LoadCause>
+    /// Why the first of these weights that is refused is. Of those of the entry before, none is refused; most name at a level what
+    /// they did there, which isn't looked up again.
+    fn weights_cause(&self, weights: &[Weight], before: &[Weight]) -> Option<LoadCause>
+        requires judged { ids_cause self.now.declared self.now.sections (flat_map weight_ids before.now) ≡ None }
         ensures cause { result ≡ ids_cause self.now.declared self.now.sections (flat_map weight_ids weights.now) }
         ensures spared { IfSome result (λ cause. cause ≢ OutOfMemory) }
     {
-        for weight in weights {
-            if let Some(cause) = self.named_cause(weight) {
+        for level in 0..weights.len() {
+            if let Some(cause) = self.named_cause(&weights[level], before.get(level)) {
                 return Some(cause);
             }
         }
@@ -491,12 +535,13 @@ impl Draft {
     }
 
     /// Judges the weights of the entries that a walk meets, each with the number of its line.
-    fn judge_met(&self, mut numbers: &[u32], walk: Walk<'_>) -> Result<(), LoadFault>
+    fn judge_met<'a>(&self, mut numbers: &[u32], walk: Walk<'a>) -> Result<(), LoadFault>
         requires { length numbers.now ≡ length (entries_met walk) }
         ensures ok { OnOk result (entries_fault self.now numbers.now (entries_met walk.entry) ≡ None) }
         ensures err { IfErr result (λ fault. entries_fault self.now numbers.now (entries_met walk.entry) ≡ Some fault) }
         ensures spared { IfErr result (λ fault. fault.cause ≢ OutOfMemory) }
     {
+        let mut before: &'a [Weight] = &[];
         for item in walk {
             let entry = match item {
                 WalkItem::Section(_) => continue,
@@ -505,13 +550,14 @@ impl Draft {
             let Some((number, later)) = numbers.split_first() else {
                 unreachable!();
             };
-            if let Some(cause) = self.weights_cause(entry.weights()) {
+            if let Some(cause) = self.weights_cause(entry.weights(), before) {
                 return Err(LoadFault {
                     line: *number,
                     cause,
                 });
             }
             numbers = later;
+            before = entry.weights();
         }
         Ok(())
     }

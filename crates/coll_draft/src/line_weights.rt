@@ -4,9 +4,9 @@
 //! at each level that the line leaves out (`kept_weights` of coll_nodes, `specs/Entries.antt`). A new rule on what an entry keeps is
 //! a case of `kept_weight` there, and of `keep` here.
 
-ghost use Rattle.std.specs.Prelude.{◌≡◌, ◌++◌, ◌-◌, length, map, replicate, IfOk, OnOk};
+ghost use Rattle.std.specs.Prelude.{◌≡◌, ◌++◌, ◌-◌, true, length, map, replicate, IfOk, OnOk};
 ghost use Rattle.coll_syntax.specs.declared.weights.Weight.TheVariants.{Own};
-ghost use Rattle.coll_nodes.specs.Entries.{kept_weight, kept_weights, names_only, given_weights};
+ghost use Rattle.coll_nodes.specs.Entries.{kept_weight, kept_weights, names_only, given_weights, weight_ids};
 
 use coll_lex::ListBuf;
 use coll_syntax::{Id, Weight};
@@ -75,6 +75,19 @@ fn is_only(id: &Id, weight: &Weight) -> bool
     };
     match ids.get() {
         [only] => id.is_same(only),
+        _ => false,
+    }
+}
+
+/// Whether two weights name one identifier each, and the same.
+pub(crate) fn name_the_same(weight: &Weight, other: &Weight) -> bool
+    ensures { result ≡ true → weight_ids weight.now ≡ weight_ids other.now }
+{
+    let Weight::Names(ids) = weight else {
+        return false;
+    };
+    match ids.get() {
+        [only] => is_only(only, other),
         _ => false,
     }
 }

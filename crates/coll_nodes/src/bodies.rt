@@ -6,7 +6,7 @@
 //! and gets declarations, sections and entries; what names stand for is in `own_names`, and what is done with one node in
 //! `linking`. A new kind of node is a new ring, and a look-up where it has a key.
 
-ghost use Rattle.std.specs.Prelude.{◌≡◌, ◌∷◌, ◌++◌, [], Some, None, false, is_some, unwrap_or, length, ◌+◌, IfOk, OnOk, OnErr, option_copied};
+ghost use Rattle.std.specs.Prelude.{◌≡◌, ◌∷◌, ◌++◌, [], Some, None, false, length, ◌+◌, IfOk, OnOk, OnErr, option_copied};
 ghost use Rattle.coll_syntax.specs.Identifier.{has_name, same_name};
 ghost use Rattle.coll_nodes.specs.SoundBodies.{entry_if};
 
@@ -205,17 +205,6 @@ impl Body {
         match id {
             Id::Named(name) => self.is_symbol_name(name),
             _ => false,
-        }
-    }
-
-    /// Whether an identifier is a collating symbol, if it may stand in a section: both by one look-up.
-    pub fn symbol_if_known(&self, id: &Id) -> Option<bool>
-        ensures known { is_some result ≡ is_known (declared_at self.now.layout) id.now }
-        ensures symbol { unwrap_or result false ≡ is_symbol (declared_at self.now.layout) id.now }
-    {
-        match id {
-            Id::Named(name) => self.symbol_if_own(name),
-            _ => Some(false),
         }
     }
 

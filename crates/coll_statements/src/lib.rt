@@ -13,6 +13,6 @@ mod own_names;
 mod own_statements;
 mod places;
 
-pub use own_names::{is_second, names_second, own_id, own_weights, second_names_are_not_placed};
+pub use own_names::{is_second, names_second, own_weights, second_names_are_not_placed};
 pub use own_statements::by_own_names;
 pub use places::Places;

@@ -2,10 +2,9 @@
 //!
 //! Orders speak of own names alone, so what is given from without is looked up here, once for each name, in what a body of nodes
 //! declares (`specs/OwnNames.antt` of coll_nodes): a second name becomes the own name of its symbol, and all else stays. What is
-//! lent is looked up first, and only its own name is copied. How much memory a copy takes may change; that `own_id` takes none
-//! but for a second name is said to callers.
+//! lent is looked up first, and only its own name is copied. How much memory a copy takes may change.
 
-ghost use Rattle.std.specs.Prelude.{◌≡◌, true, chars, map, option_copied, IfOk, OnErr};
+ghost use Rattle.std.specs.Prelude.{◌≡◌, chars, map, option_copied, IfOk};
 ghost use Rattle.coll_nodes.specs.OwnNames.{declaration_of, is_second, names_second, named_own, own_id, own_weight, own_weights};
 ghost use Rattle.coll_nodes.specs.TableLayout.{declared_at};
 ghost use Rattle.coll_statements.specs.SecondNames.{SecondNamesAreNotPlaced, symbol_meant};
@@ -44,23 +43,6 @@ pub(crate) fn symbol_meant<'a>(body: &'a Body, name: &str) -> Option<&'a TextBuf
         Some(Declaration::Element { .. }) => None,
         Some(Declaration::Equivalence { symbol, .. }) => Some(symbol),
         None => None,
-    }
-}
-
-/// An identifier, by its own name. It takes memory for a second name.
-pub fn own_id(body: &Body, id: Id) -> Result<Id, AllocError>
-    ensures own { IfOk result (λ own. own ≡ own_id (declared_at body.now.layout) id) }
-    ensures memory { OnErr result (is_second (declared_at body.now.layout) id ≡ true) }
-{
-    let Id::Named(name) = id else {
-        return Ok(id);
-    };
-    match symbol_meant(body, name.get()) {
-        Some(symbol) => {
-            let own = symbol.try_copy()?;
-            Ok(Id::Named(own))
-        }
-        None => Ok(Id::Named(name)),
     }
 }
 

@@ -4,7 +4,7 @@
 //! (`specs/OwnNames.antt`). Entries and their weights speak of own names alone, so a name that is given from without is looked up
 //! here first, by one look-up for each question. Nothing here takes memory; what makes another text is in `coll_statements`.
 
-ghost use Rattle.std.specs.Prelude.{◌≡◌, false, is_some, unwrap_or, chars, option_copied, option_map};
+ghost use Rattle.std.specs.Prelude.{◌≡◌, false, chars, option_copied, option_map};
 ghost use Rattle.coll_nodes.specs.OwnNames.{stands_for};
 ghost use Rattle.coll_nodes.specs.SoundBodies.{declaration_if};
 
@@ -97,20 +97,6 @@ impl Body {
             Some(Declaration::Element { .. }) => false,
             Some(Declaration::Equivalence { .. }) => true,
             None => false,
-        }
-    }
-
-    /// Whether a name is declared as a collating symbol, if it is declared as an own name: both by one look-up.
-    pub fn symbol_if_own(&self, name: &TextBuf) -> Option<bool>
-        ensures own { is_some result ≡ is_own_name (declared_at self.now.layout) name.now }
-        ensures symbol { unwrap_or result false ≡ is_symbol_name (declared_at self.now.layout) name.now }
-    {
-        self.check_layout();
-        match self.declaration(name.get()) {
-            Some(Declaration::Symbol(_)) => Some(true),
-            Some(Declaration::Element { .. }) => Some(false),
-            Some(Declaration::Equivalence { .. }) => None,
-            None => None,
         }
     }
 }

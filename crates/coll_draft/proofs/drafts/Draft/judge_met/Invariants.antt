@@ -1,5 +1,7 @@
-use Rattle.std.proofs.Common.{◌≡◌, length}
-use Rattle.coll_draft.specs.Drafts.{entries_fault}
+use Rattle.std.proofs.Common.{◌≡◌, length, None}
+use Rattle.std.specs.List.{flat_map}
+use Rattle.coll_draft.specs.Drafts.{entries_fault, ids_cause}
+use Rattle.coll_nodes.specs.Entries.{weight_ids}
 use Rattle.coll_nodes.specs.Walks.{entries_met}
 use Rattle.coll_draft.proofs.drafts.Draft.judge_met.Given as goal
 
@@ -7,4 +9,5 @@ abbrev pub invariant-loop-item : goal.invariant-loop-item
 invariant-loop-item l = record {
   counted : length l.numbers ≡ length (entries_met l.item-iterator);
   left : entries_fault l.self l.numbers (entries_met l.item-iterator) ≡ entries_fault l.self l.fn.numbers (entries_met l.fn.walk);
+  judged : ids_cause l.self.declared l.self.sections (flat_map weight_ids l.before) ≡ None;
 }
