@@ -1,4 +1,5 @@
 mod AdvanceLemmas
+mod LineFeeds
 mod LineReaderLemmas
 pub mod PhysicalLinesLemmas
 pub mod WritingLemmas

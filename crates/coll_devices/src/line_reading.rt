@@ -13,6 +13,7 @@ ghost use Rattle.coll_devices.specs.Devices.{CountsErr};
 ghost use Rattle.coll_devices.specs.PhysicalLines.{line_feed, IsInLine};
 
 use crate::{MOST_LINE_BYTES, ReadStop, Source};
+use memchr::memchr;
 use std::alloc::{AllocError, Global};
 use std::io;
 use std::marker::Model;
@@ -219,7 +220,7 @@ fn find_line_feed(bytes: &[u8]) -> Option<usize>
     ensures found { IfSome result (λ at. slice_index bytes.now at ≡ line_feed) }
     ensures first { IfSome result (λ at. IsInLine (take at bytes.now)) }
 {
-    bytes.iter().position(|c| *c == b'\n')
+    memchr(b'\n', bytes)
 }
 
 // Where the bytes from `start` to `end` begin, once there is room behind them: at the buffer's front
