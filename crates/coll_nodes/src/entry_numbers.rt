@@ -17,6 +17,9 @@ use coll_order::{NodeId, RingId};
 use std::alloc::{AllocError, Global};
 use std::marker::Model;
 
+/// By how many places the list of numbers grows.
+const PLACES_AT_ONCE: usize = 64;
+
 /// A number for each node that is an entry: the place of the entry, from 1.
 #[derive(Drop)]
 pub struct EntryNumbers {
@@ -62,7 +65,7 @@ impl EntryNumbers {
     }
 }
 
-// Makes a list so long that it has this place. What is new in it is 0.
+// Makes a list so long that it has this place, and some more, so that the next ones are mostly there. What is new in it is 0.
 fn make_room(numbers: &mut Vec<u32>, place: usize) -> Result<(), AllocError>
     ensures within { OnOk result (place < vec_len numbers.new) }
     ensures same { OnOk result ((other : ℕ) → slice_index_or numbers.new.items other 0 ≡ slice_index_or numbers.old.items other 0) }
@@ -70,7 +73,7 @@ fn make_room(numbers: &mut Vec<u32>, place: usize) -> Result<(), AllocError>
     if place < numbers.len() {
         return Ok(());
     }
-    let Some(wanted) = place.checked_add(1) else {
+    let Some(wanted) = place.checked_add(PLACES_AT_ONCE) else {
         return Err(AllocError);
     };
     numbers.resize(wanted, 0)?;

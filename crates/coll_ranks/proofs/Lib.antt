@@ -16,3 +16,4 @@ pub mod RowNumbers
 pub mod Tests
 pub mod TextElements
 pub mod TextRows
+pub mod WalkedRanks

@@ -60,7 +60,7 @@ behind before None = None
 behind before (Some place) = Some (before + place)
 
 -- an identifier that isn't there has no place
-no_place : (entries : List Entry) (id : Id) → list_any (same_id id) (ids_of entries) ≡ false → place_among entries id ≡ None
+pub no_place : (entries : List Entry) (id : Id) → list_any (same_id id) (ids_of entries) ≡ false → place_among entries id ≡ None
 no_place [] id h = refl
 no_place (entry ∷ entries) id h =
     by_test (λ b. (b || list_any (same_id id) (ids_of entries)) ≡ false → cond b (Some 1) (option_map (λ place. suc place) (place_among entries id)) ≡ None) (same_id id entry.id)

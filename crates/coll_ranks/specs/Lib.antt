@@ -7,6 +7,7 @@ pub mod Rank
 pub mod RankLists
 pub mod Ranking
 pub mod Ranks
+pub mod RecentRanks
 pub mod TextElements
 pub mod TextWeights
 pub mod WeightCells

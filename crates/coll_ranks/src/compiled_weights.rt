@@ -9,6 +9,7 @@ ghost use Rattle.coll_ranks.specs.Rank.{known_rank};
 ghost use Rattle.coll_ranks.specs.Ranks.{compiled_row_by};
 
 use crate::parts::{Part, PartWeight};
+use crate::recent_ranks::RecentRanks;
 use crate::table_ranks::TableRanks;
 use crate::weight_cells::WeightCells;
 use coll_syntax::{Id, Weight};
@@ -113,6 +114,21 @@ impl CompiledWeights {
         ensures { OnOk result (AddsRow self.old self.new (compiled_row_by (known_rank table.now) self.old.levels owner.now weights.now)) }
     {
         self.lists.push_row(table, owner, weights, self.levels)?;
+        Ok(())
+    }
+
+    /// The same for an entry of a table, with the ranks that are kept from one entry to the next.
+    pub(crate) fn push_entry<'a>(
+        &mut self,
+        ranks: &mut RecentRanks<'a>,
+        owner: &'a Id,
+        weights: &'a [Weight],
+    ) -> Result<(), AllocError>
+        ensures row { OnOk result (AddsRow self.old self.new (compiled_row_by (known_rank ranks.old) self.old.levels owner.now weights.now)) }
+        ensures same { ranks.new ≡ ranks.old }
+    {
+        self.lists
+            .push_entry_row(ranks, owner, weights, self.levels)?;
         Ok(())
     }
 }

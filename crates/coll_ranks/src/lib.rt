@@ -4,11 +4,12 @@
 //! weighs at a level. A way through the crate, each file with its definitions in `specs/`:
 //!
 //! - `code_points`, `name_numbers` and `id_ranks`: which rank an identifier has (`Rank`, `Ranks`, `NameMaps`);
-//! - `table_ranks`: which rank it has in a table whose entries are numbered (`Rank`);
+//! - `table_ranks`: which rank it has in a table whose entries are numbered (`Rank`), and `recent_ranks`: the same, where some ranks
+//!   are kept from one entry to the next (`RecentRanks`);
 //! - `named_elements`, `element_order` and `placed_elements`: which collating element a text begins with (`Elements`,
 //!   `NamedElements`, `ElementOrder`);
 //! - `parts`: what a text is split into (`AlikeFronts`);
-//! - `rank_lists`, `weight_cells` and `compiled_weights`: the weights of all entries as ranks, and what a part weighs by them
+//! - `rank_lists`, `weight_cells`, `entry_rows` and `compiled_weights`: the weights of all entries as ranks, and what a part weighs by them
 //!   (`RankLists`, `WeightCells`, `Ranks`, `WeightNumbers`);
 //! - `text_elements` and `text_weights`: the elements of one text, looked up by themselves, and its weights, compiled for it alone
 //!   (`TextElements`, `TextWeights`);
@@ -18,6 +19,7 @@
 mod code_points;
 mod compiled_weights;
 mod element_order;
+mod entry_rows;
 mod id_ranks;
 mod name_numbers;
 mod named_elements;
@@ -26,6 +28,7 @@ mod placed_elements;
 mod rank_lists;
 mod ranking;
 mod ranks;
+mod recent_ranks;
 mod table_ranks;
 mod text_elements;
 mod text_weights;

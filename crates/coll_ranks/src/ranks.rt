@@ -1,6 +1,6 @@
 //! The ranks of a table, with its weights compiled.
 //!
-//! A `Ranks` is made of a table in two passes, one for the rank of each identifier and one for the weights, which then stand as
+//! A `Ranks` is made of a table in one walk, which gives each identifier its rank and compiles the weights, which then stand as
 //! ranks in one list. It keeps nothing of the table itself, so it is true of each table with the same rules, declarations and
 //! sections (`AreRanksOf` of `specs/Ranks.antt`), and of a changed table it isn't.
 
@@ -12,7 +12,7 @@ use crate::compiled_weights::CompiledWeights;
 use crate::id_ranks::IdRanks;
 use crate::parts::{FirstPart, Part};
 use crate::placed_elements::PlacedElements;
-use crate::ranking::{elements_and_weights, ranked_ids};
+use crate::ranking::{ids_and_weights, ranked_elements};
 use coll_lex::TextBuf;
 use coll_syntax::Id;
 use coll_table::Table;
@@ -47,8 +47,8 @@ impl Ranks {
     pub fn new(alloc: Global, table: &Table) -> Result<Ranks, AllocError>
         ensures { IfOk result (λ ranks. AreRanksOf ranks (collation table.now)) }
     {
-        let ids = ranked_ids(alloc, table)?;
-        let (elements, weights) = elements_and_weights(alloc, table, &ids)?;
+        let (ids, weights) = ids_and_weights(alloc, table)?;
+        let elements = ranked_elements(alloc, table, &ids)?;
         Ok(Ranks {
             ids,
             elements,

@@ -67,8 +67,8 @@ impl WeightCells {
         }
     }
 
-    // Puts the ranks of a weight behind all others.
-    fn push(
+    /// Puts the ranks of a weight behind all others.
+    pub(crate) fn push(
         &mut self,
         table: &TableRanks<'_>,
         owner: &Id,
@@ -119,16 +119,16 @@ impl WeightCells {
         Ok(later)
     }
 
-    // Puts an empty list behind all others.
-    fn push_empty(&mut self) -> Result<(), AllocError>
+    /// Puts an empty list behind all others.
+    pub(crate) fn push_empty(&mut self) -> Result<(), AllocError>
         ensures { OnOk result (self.new ≡ self.old ++ [] ∷ []) }
     {
         self.cells.push(WeightCell::Empty)?;
         Ok(())
     }
 
-    // Puts a list of this rank alone behind all others.
-    fn push_single(&mut self, rank: u32) -> Result<(), AllocError>
+    /// Puts a list of this rank alone behind all others.
+    pub(crate) fn push_single(&mut self, rank: u32) -> Result<(), AllocError>
         ensures { OnOk result (self.new ≡ self.old ++ (rank ∷ []) ∷ []) }
     {
         self.cells.push(WeightCell::Single(rank))?;
@@ -175,8 +175,8 @@ fn long_list(place: u32, long: &RankLists) -> &[u32]
     long.list(place as usize)
 }
 
-// What a weight names, if it is one identifier.
-fn single_id<'a>(owner: &'a Id, weight: &'a Weight) -> Option<&'a Id>
+/// What a weight names, if it is one identifier.
+pub(crate) fn single_id<'a>(owner: &'a Id, weight: &'a Weight) -> Option<&'a Id>
     ensures { IfSome result (λ id. (rank : Id → ℕ) → compiled_by rank owner.now weight.now ≡ rank id.now ∷ []) }
 {
     match weight {

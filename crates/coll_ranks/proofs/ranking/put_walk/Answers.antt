@@ -1,0 +1,24 @@
+-- Each item that is an entry has the next rank, and its weights are put in.
+use Rattle.std.proofs.Common.{◌∙◌, sym, subst}
+use Rattle.coll_nodes.specs.Table.{Collation}
+use Rattle.coll_nodes.specs.WalkItems.{met_by}
+use Rattle.coll_ranks.specs.Ranking.{HasNextRank}
+use Rattle.coll_ranks.proofs.RankingLemmas.{counted_met, ranked_met}
+use Rattle.coll_ranks.proofs.WalkedRanks.{next_ranked, left_behind, rows_more}
+use Rattle.coll_ranks.proofs.ranking.put_walk.Goals as goal
+
+pub put_met-requires-clause-next : goal.put_met-requires-clause-next
+put_met-requires-clause-next c =
+    subst (λ (t : Collation). HasNextRank t c.walk.rank (met_by c.in-Some.item)) (sym c.walk.invariant.same)
+    (next_ranked c.args.ranks.now c.walk.rank c.walk.left c.next.new.self (met_by c.in-Some.item) c.requires.distinct c.in-Some.ensures.steps c.walk.invariant.places)
+
+pub walk-preserved : goal.walk-preserved
+walk-preserved c = record {
+  count = counted_met c.walk.left c.next.new.self (met_by c.in-Some.item) c.walk.rank _ _ c.in-Some.ensures.steps c.in_ok-rank.ensures.count c.walk.invariant.count;
+  ranks = λ id. ranked_met c.walk.left c.next.new.self (met_by c.in-Some.item) c.walk.rank _ c.walk.ids c.put_met.new.ids c.in-Some.ensures.steps c.in_ok-rank.ensures.count c.in_ok-rank.ensures.ranks id ∙ c.walk.invariant.ranks id;
+  levels = c.in_ok-rank.ensures.rows.levels_are ∙ c.walk.invariant.levels;
+  own = c.in_ok-rank.ensures.rows.own_are ∙ c.walk.invariant.own;
+  lists = rows_more c.args.ranks.now c.walk.ranks _ c.walk.left c.next.new.self (met_by c.in-Some.item) c.walk.weights c.put_met.new.weights _ c.walk.invariant.same c.walk.invariant.levels c.in-Some.ensures.steps c.in_ok-rank.ensures.rows c.walk.invariant.lists;
+  same = c.put_met.ensures.same ∙ c.walk.invariant.same;
+  places = left_behind c.args.ranks.now c.walk.rank _ c.walk.left c.next.new.self (met_by c.in-Some.item) c.in-Some.ensures.steps c.in_ok-rank.ensures.count c.walk.invariant.places;
+}
