@@ -18,7 +18,7 @@ items_by_map f [] = refl
 items_by_map f (p ∷ ps) = ap (λ xs. items_of (f p) ++ xs) (items_by_map f ps)
 
 -- with the same numbers a level has the same list
-level_list_same : {P Q : Type 0} (rule : Rule) (f : P → List ℕ) (g : Q → List ℕ) (ps : List P) (qs : List Q) → map f ps ≡ map g qs → level_list rule f ps ≡ level_list rule g qs
+pub level_list_same : {P Q : Type 0} (rule : Rule) (f : P → List ℕ) (g : Q → List ℕ) (ps : List P) (qs : List Q) → map f ps ≡ map g qs → level_list rule f ps ≡ level_list rule g qs
 level_list_same rule f g ps qs same =
     ap (λ xs. listed rule.position 0 (directed rule.backward xs)) (items_by_map f ps ∙ ap (flat_map items_of) same ∙ sym (items_by_map g qs))
 

@@ -7,5 +7,6 @@ pub mod ListedLines
 pub mod ListingLemmas
 pub mod OrderLemmas
 pub mod PushingSteps
+pub mod RowLemmas
 pub mod WritingSteps
 pub mod WrittenKeys

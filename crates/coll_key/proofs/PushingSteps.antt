@@ -1,5 +1,5 @@
 -- What is put behind a key for a part, and for a level.
-use Rattle.std.proofs.Common.{◌≡◌, ◌≤◌, ◌<◌, ◌+◌, ℕ, Bool, List, [], ◌∷◌, ◌++◌, length, map, Option, Some, true, false, refl, sym, ap, ◌∙◌, append-nil, append_assoc, arith}
+use Rattle.std.proofs.Common.{◌≡◌, ◌≤◌, ◌<◌, ◌+◌, ℕ, Bool, List, [], ◌∷◌, ◌++◌, length, map, Option, Some, true, false, refl, sym, ap, ◌∙◌, add-one, append-nil, append_assoc, arith}
 use Rattle.coll_key.specs.LevelList.{items_of, items, directed, listed, level_list, position_of}
 use Rattle.coll_key.proofs.ForwardLemmas.{none_left}
 use Rattle.coll_key.proofs.DirectionLemmas.{directed_numbers, map-directed, length-directed, items-directed}
@@ -53,3 +53,13 @@ level_ends p b gaps f parts left old now same none =
     ∙ sym (ap (λ ps. now ++ listed p gaps (items (directed_numbers b f) ps)) none)
     ∙ sym same
     ∙ ap (λ is. old ++ listed p 0 is) (sym (items-directed b f parts))
+
+-- a list of one member begins with it
+pub begins_alone : (b : Bool) (n : ℕ) → directed b (n ∷ []) ≡ n ∷ directed b []
+begins_alone true n = refl
+begins_alone false n = refl
+
+-- a part without numbers is one gap more
+pub gap_more : (p b : Bool) (gaps : ℕ) (old : List ℕ) (later : List (Option ℕ)) → old ++ listed p gaps (items_of (directed b []) ++ later) ≡ old ++ listed p (gaps + 1) later
+gap_more p true gaps old later = ap (λ n. old ++ listed p n later) (sym (add-one gaps))
+gap_more p false gaps old later = ap (λ n. old ++ listed p n later) (sym (add-one gaps))

@@ -17,7 +17,7 @@ use crate::forward_numbers::{ForwardNumbers, Step};
 use crate::key_faults::KeyFault;
 use crate::levels::with_level;
 use crate::limits::is_too_long;
-use crate::text_parts::kept_parts;
+use crate::text_parts::kept_rows;
 use coll_ranks::Ranks;
 use coll_syntax::Rule;
 use coll_table::Table;
@@ -97,8 +97,8 @@ fn backward_list(
     ensures ok { IfOk result (λ list. list.items ≡ level_list rule (part_numbers ranks.now.compiled level) (parts_of ranks.now (chars text.now))) }
     ensures err { IfErr result (λ fault. fault ≢ OutOfMemory → is_too_long (chars text.now) ≡ true) }
 {
-    let parts = kept_parts(alloc, ranks, text)?;
-    let list = with_level(Vec::new(alloc), ranks.weights(), level, rule, &parts)?;
+    let rows = kept_rows(alloc, ranks, text)?;
+    let list = with_level(Vec::new(alloc), ranks.weights(), level, rule, &rows)?;
     Ok(list)
 }
 

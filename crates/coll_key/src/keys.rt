@@ -1,6 +1,6 @@
 //! Sort keys.
 //!
-//! A key is made level by level from the parts of the text, for which room is reserved first. That keys are ordered as their
+//! A key is made level by level from the rows of the text's parts, for which room is reserved first. That keys are ordered as their
 //! texts is a law over the definitions alone.
 
 ghost use Rattle.std.specs.Prelude.{◌≡◌, ◌≢◌, ◌≤◌, ◌+◌, ◌*◌, chars, length, true, false, IfOk, IfErr};
@@ -8,15 +8,16 @@ ghost use Rattle.std.specs.List.{flat_map};
 ghost use Rattle.coll_nodes.specs.TableLayout.{collation};
 ghost use Rattle.coll_key.specs.KeyLimits.{is_too_long};
 ghost use Rattle.coll_key.specs.LevelList.{level_lists_from};
-ghost use Rattle.coll_ranks.specs.Ranks.{AreRanksOf, part_numbers};
+ghost use Rattle.coll_ranks.specs.LevelWeights.{row_numbers};
+ghost use Rattle.coll_ranks.specs.Ranks.{AreRanksOf};
 ghost use Rattle.coll_key.specs.SortKey.{ended, key_of, KeysAreOrderedAsTexts};
 ghost use Rattle.coll_key.specs.WrittenKey.{has_key_form};
 ghost use Rattle.coll_key.specs.declared.key_faults.KeyFault.TheVariants.{OutOfMemory};
 
 use crate::key_faults::KeyFault;
 use crate::levels::with_level;
-use crate::text_parts::kept_parts;
-use coll_ranks::{CompiledWeights, Part, Ranks};
+use crate::text_parts::kept_rows;
+use coll_ranks::{CompiledWeights, PartRow, Ranks};
 use coll_syntax::Rule;
 use coll_table::Table;
 use std::alloc::{AllocError, Global};
@@ -34,25 +35,24 @@ pub fn key(alloc: Global, table: &Table, ranks: &Ranks, text: &str) -> Result<Ve
     ensures memory { IfErr result (λ fault. fault ≡ OutOfMemory → is_too_long (chars text.now) ≡ false) }
 {
     table.check_table();
-    let parts = kept_parts(alloc, ranks, text)?;
-    let key = key_of_parts(alloc, ranks.weights(), table.rules(), &parts)?;
+    let rows = kept_rows(alloc, ranks, text)?;
+    let key = key_of_rows(alloc, ranks.weights(), table.rules(), &rows)?;
     Ok(key)
 }
 
-/// The sort key of a text with these parts, by compiled weights at levels with these rules.
-pub(crate) fn key_of_parts(
+/// The sort key of a text whose parts have these rows, by compiled weights at levels with these rules.
+pub(crate) fn key_of_rows(
     alloc: Global,
     weights: &CompiledWeights,
     rules: &[Rule],
-    parts: &[Part],
+    rows: &[PartRow],
 ) -> Result<Vec<u64>, AllocError>
-    requires levels { length rules.now ≤ weights.now.levels }
-    requires few { length parts.now ≤ 65_536 }
-    ensures { IfOk result (λ key. key.items ≡ flat_map ended (level_lists_from rules.now 0 (part_numbers weights.now) parts.now)) }
+    requires few { length rows.now ≤ 65_536 }
+    ensures { IfOk result (λ key. key.items ≡ flat_map ended (level_lists_from rules.now 0 (row_numbers weights.now) rows.now)) }
 {
-    let mut key = Vec::with_capacity(alloc, likely_numbers(parts.len(), rules.len()))?;
+    let mut key = Vec::with_capacity(alloc, likely_numbers(rows.len(), rules.len()))?;
     for (level, rule) in rules.iter().enumerate() {
-        key = with_level(key, weights, level, *rule, parts)?;
+        key = with_level(key, weights, level, *rule, rows)?;
         key.push_reserved(0);
     }
     Ok(key)

@@ -1,17 +1,18 @@
 //! The list of a level, put behind a key.
 //!
-//! One goes along the parts of a text in the direction of the level, and counts the gaps between numbers. Direction and `position`
-//! are told apart once for a level: what each part calls is inlined there, and what few parts call is not, so that the loop stays
-//! small. The key is handed on by value, and given back: so where it stands and how long it is are kept in registers along the
-//! loop. There is room for one number of each part that is left, with its position, and a part with more numbers makes room for
-//! them first: so no number asks for room, and none may be refused. A key of ten letters takes a fifth less time by it.
+//! One goes along the rows of the parts of a text in the direction of the level, and counts the gaps between numbers. Direction and
+//! `position` are told apart once for a level, and all that each part calls is inlined there, so that the loop stays small. The key
+//! is handed on by value, and given back: so where it stands and how long it is are kept in registers along the loop. There is
+//! room for one number of each part that is left, with its position, and a part with more numbers makes room for them first: so
+//! no number asks for room, and none may be refused.
 
 ghost use Rattle.std.specs.Prelude.{◌≡◌, ◌<◌, ◌≤◌, ◌+◌, ◌*◌, ◌^◌, ◌++◌, ◌∷◌, [], ℕ, List, Option, Some, map, length, vec_len, vec_capacity, IfOk, MatchOption};
 ghost use Rattle.coll_key.specs.LevelList.{directed, items_of, listed, level_list, position_of};
-ghost use Rattle.coll_ranks.specs.Ranks.{added_to, part_numbers};
+ghost use Rattle.coll_ranks.specs.LevelWeights.{row_numbers};
+ghost use Rattle.coll_ranks.specs.Ranks.{added_to};
 
 use crate::limits::RANK_STEP;
-use coll_ranks::{CompiledWeights, Part, PartWeight};
+use coll_ranks::{CompiledWeights, PartRow, PartWeight, WeightRanks};
 use coll_syntax::Rule;
 use std::alloc::AllocError;
 
@@ -22,19 +23,18 @@ pub(crate) fn with_level(
     weights: &CompiledWeights,
     level: usize,
     rule: Rule,
-    parts: &[Part],
+    rows: &[PartRow],
 ) -> Result<Vec<u64>, AllocError>
-    requires level { level < weights.now.levels }
-    requires few { length parts.now ≤ 65_536 }
-    ensures list { IfOk result (λ with. with.items ≡ key.items ++ level_list rule (part_numbers weights.now level) parts.now) }
+    requires few { length rows.now ≤ 65_536 }
+    ensures list { IfOk result (λ with. with.items ≡ key.items ++ level_list rule (row_numbers weights.now level) rows.now) }
     ensures room { IfOk result (λ with. vec_len with < vec_capacity with) }
 {
-    let key = with_room(key, parts.len())?;
+    let key = with_room(key, rows.len())?;
     match (rule.backward, rule.position) {
-        (false, false) => with_parts(key, weights, level, false, false, parts),
-        (false, true) => with_parts(key, weights, level, false, true, parts),
-        (true, false) => with_parts(key, weights, level, true, false, parts),
-        (true, true) => with_parts(key, weights, level, true, true, parts),
+        (false, false) => with_rows(key, weights, level, false, false, rows),
+        (false, true) => with_rows(key, weights, level, false, true, rows),
+        (true, false) => with_rows(key, weights, level, true, false, rows),
+        (true, true) => with_rows(key, weights, level, true, true, rows),
     }
 }
 
@@ -63,75 +63,58 @@ fn with_more_room(key: Vec<u64>, numbers: usize) -> Result<Vec<u64>, AllocError>
     Ok(with)
 }
 
-// Puts the numbers of parts behind a key, in a direction.
+// Puts the numbers of rows behind a key, in a direction.
 #[inline(always)]
-fn with_parts(
+fn with_rows(
     key: Vec<u64>,
     weights: &CompiledWeights,
     level: usize,
     backward: bool,
     position: bool,
-    parts: &[Part],
+    rows: &[PartRow],
 ) -> Result<Vec<u64>, AllocError>
-    requires level { level < weights.now.levels }
-    requires few { length parts.now ≤ 65_536 }
-    requires room { vec_len key + length parts.now * 2 + 1 ≤ vec_capacity key }
-    ensures list { IfOk result (λ with. with.items ≡ key.items ++ level_list (record { backward = backward; position = position }) (part_numbers weights.now level) parts.now) }
+    requires few { length rows.now ≤ 65_536 }
+    requires room { vec_len key + length rows.now * 2 + 1 ≤ vec_capacity key }
+    ensures list { IfOk result (λ with. with.items ≡ key.items ++ level_list (record { backward = backward; position = position }) (row_numbers weights.now level) rows.now) }
     ensures room { IfOk result (λ with. vec_len with < vec_capacity with) }
 {
+    let at_level = weights.at_level(level);
     let mut with = key;
-    let mut left = parts;
+    let mut left = rows;
     let mut gaps = 0;
-    'parts: while let Some((part, later)) = split_towards(left, backward) {
-        let weight = weights.weight(part, level);
-        if weight.ranks.len() > 1 {
-            let (longer, after) = with_long_part(
-                with,
-                weight,
-                backward,
-                position,
-                gaps,
-                later.len(),
-            )?;
-            with = longer;
-            gaps = after;
-            left = later;
-            continue;
-        }
-        let (longer, after) = with_short_part(with, weight, backward, position, gaps);
-        with = longer;
-        gaps = after;
+    'rows: while let Some((row, later)) = split_towards(left, backward) {
         left = later;
+        match at_level.ranks(row) {
+            WeightRanks::Ignored => gaps += 1,
+            WeightRanks::Single(rank) => {
+                let number = number_of(rank, at_level.added(row));
+                with = with_number(with, position, gaps, number);
+                gaps = 0;
+            }
+            WeightRanks::Several(ranks) => {
+                let weight = PartWeight {
+                    ranks,
+                    added: at_level.added(row),
+                };
+                let (longer, after) = with_long_part(
+                    with,
+                    weight,
+                    backward,
+                    position,
+                    gaps,
+                    later.len(),
+                )?;
+                with = longer;
+                gaps = after;
+            }
+        }
     }
     Ok(with)
 }
 
-// Puts the number of a part that has one at most behind a key, with so many gaps before it, and gives the gaps behind it too.
+// Puts the numbers of a part behind a key, with so many gaps before it, and makes room for those of so many later parts; gives the
+// gaps behind it too. Few parts have several.
 #[inline(always)]
-fn with_short_part(
-    key: Vec<u64>,
-    weight: PartWeight<'_>,
-    backward: bool,
-    position: bool,
-    gaps: u64,
-) -> (Vec<u64>, u64)
-    requires few { gaps < 65_536 }
-    requires short { length weight.ranks.now ≤ 1 }
-    requires room { vec_len key + 2 ≤ vec_capacity key }
-    ensures few { result.1 ≤ gaps + 1 }
-    ensures numbers { (later : List (Option ℕ)) → key.items ++ listed position gaps (items_of (directed backward (map (added_to weight.entry.added) weight.entry.ranks.now)) ++ later) ≡ result.0.items ++ listed position result.1 later }
-    ensures capacity { vec_capacity result.0 ≡ vec_capacity key }
-    ensures len { vec_len result.0 ≤ vec_len key + 2 }
-{
-    let Some((first, _)) = split_towards(weight.ranks, backward) else {
-        return (key, gaps + 1);
-    };
-    let with = with_number(key, position, gaps, number_of(first, weight.added));
-    (with, 0)
-}
-
-// Puts the numbers of a part behind a key in the same way, and makes room for those of so many later parts. Few parts have several.
-#[inline(never)]
 fn with_long_part(
     key: Vec<u64>,
     weight: PartWeight<'_>,
@@ -156,6 +139,7 @@ fn with_long_part(
 }
 
 // Puts the later numbers of a part behind a key.
+#[inline(always)]
 fn with_others(key: Vec<u64>, ranks: &[u32], added: u32, backward: bool, position: bool) -> Vec<u64>
     requires room { vec_len key + length ranks.now * 2 ≤ vec_capacity key }
     ensures numbers { (later : List (Option ℕ)) → key.items ++ listed position 0 (map Some (map (added_to added) (directed backward ranks.now)) ++ later) ≡ result.items ++ listed position 0 later }

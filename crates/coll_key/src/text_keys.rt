@@ -3,9 +3,10 @@
 //! What a text meets of a table is looked up for the text alone, so a changed table costs nothing but new numbers of its entries.
 //! For many texts or long ones `Ranks` serve better.
 
-ghost use Rattle.std.specs.Prelude.{◌≡◌, ◌≢◌, ◌||◌, chars, true, false, IfOk, IfErr};
+ghost use Rattle.std.specs.Prelude.{◌≡◌, ◌≢◌, ◌||◌, chars, map, true, false, IfOk, IfErr};
 ghost use Rattle.coll_nodes.specs.NodeNumbers.{AreNumbersOf};
 ghost use Rattle.coll_nodes.specs.TableLayout.{collation};
+ghost use Rattle.coll_ranks.specs.LevelWeights.{row_of};
 ghost use Rattle.coll_key.specs.KeyLimits.{is_too_long};
 ghost use Rattle.coll_key.specs.SortKey.{key_of};
 ghost use Rattle.coll_key.specs.TextOrder.{order_of};
@@ -13,9 +14,9 @@ ghost use Rattle.coll_key.specs.WrittenKey.{has_key_form};
 ghost use Rattle.coll_key.specs.declared.key_faults.KeyFault.TheVariants.{OutOfMemory};
 
 use crate::key_faults::KeyFault;
-use crate::keys::{key_of_parts, keys_are_ordered_as_texts};
+use crate::keys::{key_of_rows, keys_are_ordered_as_texts};
 use crate::limits::is_too_long;
-use coll_ranks::TextWeights;
+use coll_ranks::{CompiledWeights, Part, PartRow, TextWeights};
 use coll_table::{EntryNumbers, Table};
 use std::alloc::{AllocError, Global};
 use std::cmp::Ordering;
@@ -87,5 +88,18 @@ fn short_key(
     ensures { IfOk result (λ key. key.items ≡ key_of (collation table.now) (chars text.now)) }
 {
     let made = TextWeights::new(alloc, table, numbers, text)?;
-    key_of_parts(alloc, made.weights(), table.rules(), made.parts())
+    let weights = made.weights();
+    let rows = rows_of(alloc, weights, made.parts())?;
+    key_of_rows(alloc, weights, table.rules(), &rows)
+}
+
+// The rows of parts.
+fn rows_of(
+    alloc: Global,
+    weights: &CompiledWeights,
+    parts: &[Part],
+) -> Result<Vec<PartRow>, AllocError>
+    ensures { IfOk result (λ rows. rows.items ≡ map (row_of weights.now) parts.now) }
+{
+    parts.iter().map(|part| weights.row(*part)).collect(alloc)
 }

@@ -1,26 +1,27 @@
-//! The parts of a text, kept in a list.
+//! The rows of the parts of a text, kept in a list.
 
-ghost use Rattle.std.specs.Prelude.{◌≡◌, ◌≢◌, ◌≤◌, ℕ, chars, true, false, IfOk, IfErr, IfSome, MatchOption};
+ghost use Rattle.std.specs.Prelude.{◌≡◌, ◌≢◌, ◌≤◌, ℕ, chars, map, true, false, IfOk, IfErr, IfSome, MatchOption};
 ghost use Rattle.coll_key.specs.KeyLimits.{is_too_long};
+ghost use Rattle.coll_ranks.specs.LevelWeights.{row_of};
 ghost use Rattle.coll_ranks.specs.Ranks.{parts_of};
 ghost use Rattle.coll_key.specs.declared.key_faults.KeyFault.TheVariants.{OutOfMemory};
 
 use crate::key_faults::KeyFault;
 use crate::limits::{MOST_TEXT_CHARACTERS, is_too_long};
-use coll_ranks::{Part, Ranks};
+use coll_ranks::{PartRow, Ranks};
 use std::alloc::{AllocError, Global};
 
-/// The parts of a text that isn't too long.
+/// The rows of the parts of a text that isn't too long.
 ///
 /// Want of memory hides no text that is too long: where memory is refused, the text is judged by itself.
-pub(crate) fn kept_parts(alloc: Global, ranks: &Ranks, text: &str) -> Result<Vec<Part>, KeyFault>
-    ensures ok { IfOk result (λ parts. parts.items ≡ parts_of ranks.now (chars text.now)) }
+pub(crate) fn kept_rows(alloc: Global, ranks: &Ranks, text: &str) -> Result<Vec<PartRow>, KeyFault>
+    ensures ok { IfOk result (λ rows. rows.items ≡ map (row_of ranks.now.compiled) (parts_of ranks.now (chars text.now))) }
     ensures short { IfOk result (λ _. is_too_long (chars text.now) ≡ false) }
     ensures err { IfErr result (λ fault. fault ≢ OutOfMemory → is_too_long (chars text.now) ≡ true) }
     ensures memory { IfErr result (λ fault. fault ≡ OutOfMemory → is_too_long (chars text.now) ≡ false) }
 {
-    match split_parts(alloc, ranks, text) {
-        Ok(Some(parts)) => Ok(parts),
+    match split_rows(alloc, ranks, text) {
+        Ok(Some(rows)) => Ok(rows),
         Ok(None) => Err(KeyFault::TextTooLong),
         Err(_) => Err(fault_without_memory(text)),
     }
@@ -38,14 +39,14 @@ fn fault_without_memory(text: &str) -> KeyFault
     }
 }
 
-// The parts of a text, or nothing where it is too long.
+// The rows of the parts of a text, or nothing where it is too long.
 //
 // Its characters are counted as it is split, since a long text would take a tenth more time if they were counted before.
-fn split_parts(alloc: Global, ranks: &Ranks, text: &str) -> Result<Option<Vec<Part>>, AllocError>
-    ensures long { IfOk result (λ kept. MatchOption kept (is_too_long (chars text.now) ≡ true) (λ parts. is_too_long (chars text.now) ≡ false)) }
-    ensures parts { IfOk result (λ kept. IfSome kept (λ parts. parts.items ≡ parts_of ranks.now (chars text.now))) }
+fn split_rows(alloc: Global, ranks: &Ranks, text: &str) -> Result<Option<Vec<PartRow>>, AllocError>
+    ensures long { IfOk result (λ kept. MatchOption kept (is_too_long (chars text.now) ≡ true) (λ rows. is_too_long (chars text.now) ≡ false)) }
+    ensures rows { IfOk result (λ kept. IfSome kept (λ rows. rows.items ≡ map (row_of ranks.now.compiled) (parts_of ranks.now (chars text.now)))) }
 {
-    let mut parts = Vec::with_capacity(alloc, most_parts(text.len()))?;
+    let mut rows = Vec::with_capacity(alloc, most_parts(text.len()))?;
     let mut left = text;
     let mut room = MOST_TEXT_CHARACTERS;
     'parts: while let Some(first) = ranks.first_part(left) {
@@ -53,10 +54,10 @@ fn split_parts(alloc: Global, ranks: &Ranks, text: &str) -> Result<Option<Vec<Pa
             return Ok(None);
         }
         room -= first.characters;
-        parts.push_reserved(first.part);
+        rows.push_reserved(ranks.weights().row(first.part));
         left = first.rest;
     }
-    Ok(Some(parts))
+    Ok(Some(rows))
 }
 
 // The number of parts of a text of so many bytes, at most, where the text isn't too long.

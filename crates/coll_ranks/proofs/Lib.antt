@@ -4,6 +4,7 @@ pub mod ElementBeginnings
 pub mod ElementOrder
 pub mod ElementOrderGrowth
 pub mod FoundElements
+pub mod LevelRows
 pub mod LongestElements
 pub mod SortedStrings
 pub mod StringOrder

@@ -1,6 +1,7 @@
 pub mod AlikeFronts
 pub mod ElementOrder
 pub mod Elements
+pub mod LevelWeights
 pub mod NameMaps
 pub mod NamedElements
 pub mod Rank

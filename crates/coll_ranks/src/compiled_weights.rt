@@ -2,13 +2,14 @@
 //!
 //! They stand in the order in which weights are put in, level by level, so those of an entry are found by its rank.
 
-ghost use Rattle.std.specs.Prelude.{◌≡◌, ◌<◌, ◌≤◌, ◌+◌, ◌*◌, map, IfOk, OnOk, false, slice_index_or};
+ghost use Rattle.std.specs.Prelude.{◌≡◌, ◌<◌, ◌≤◌, ◌+◌, ◌*◌, map, IfOk, OnOk, false, if◌then◌else◌, slice_index_or};
 ghost use Rattle.coll_print.specs.CanonicalText.{is_own};
 ghost use Rattle.coll_syntax.specs.declared.identifiers.Id.TheVariants.{Undefined};
 ghost use Rattle.coll_ranks.specs.Rank.{known_rank};
 ghost use Rattle.coll_ranks.specs.Ranks.{compiled_row_by};
 
-use crate::parts::{Part, PartWeight};
+use crate::level_weights::LevelWeights;
+use crate::parts::{Part, PartRow, PartWeight};
 use crate::recent_ranks::RecentRanks;
 use crate::table_ranks::TableRanks;
 use crate::weight_cells::WeightCells;
@@ -38,7 +39,9 @@ impl Model for CompiledWeights {
 
 impl CompiledWeights {
     ghost use Rattle.coll_ranks.specs.RankLists.{AddsRow};
+    ghost use Rattle.coll_ranks.specs.LevelWeights.{level_numbers, row_numbers, row_of};
     ghost use Rattle.coll_ranks.specs.Ranks.{compiled_weight, part_numbers, added_to, added_at};
+    ghost use Rattle.coll_ranks.specs.declared.parts.PartRow.{PartRow};
 
     /// The weights of `UNDEFINED` at so many levels, with room for those of so many entries.
     pub(crate) fn new(
@@ -67,6 +70,44 @@ impl CompiledWeights {
         ensures { result.now ≡ compiled_weight self.now rank level }
     {
         self.lists.list(rank as usize * self.levels + level)
+    }
+
+    /// The row of a part.
+    #[inline(always)]
+    pub fn row(&self, part: Part) -> PartRow
+        ensures { result ≡ row_of self.now part }
+    {
+        match part {
+            Part::Placed(rank) => PartRow {
+                first: rank as usize * self.levels,
+                code: 0,
+            },
+            Part::Absent(c) => PartRow {
+                first: 0,
+                code: c as u32,
+            },
+        }
+    }
+
+    /// The weights of a level.
+    #[inline(always)]
+    pub fn at_level(&self, level: usize) -> LevelWeights<'_>
+        ensures { (row : PartRow) → level_numbers result row ≡ row_numbers self.now level row }
+    {
+        let (cells, long) = self.lists.from_place(level);
+        LevelWeights {
+            cells,
+            long,
+            times: self.times(level),
+        }
+    }
+
+    // How often the code point of a character without an entry is added at a level.
+    fn times(&self, level: usize) -> u32
+        ensures count { result ≡ (if slice_index_or self.now.own level false then 1 else 0) }
+        ensures few { result ≤ 1 }
+    {
+        if self.is_own(level) { 1 } else { 0 }
     }
 
     /// What a part weighs at a level.

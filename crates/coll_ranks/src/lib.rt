@@ -11,6 +11,7 @@
 //! - `parts`: what a text is split into (`AlikeFronts`);
 //! - `rank_lists`, `weight_cells`, `entry_rows` and `compiled_weights`: the weights of all entries as ranks, and what a part weighs by them
 //!   (`RankLists`, `WeightCells`, `Ranks`, `WeightNumbers`);
+//! - `level_weights`: the same at one level, for part after part (`LevelWeights`);
 //! - `text_elements` and `text_weights`: the elements of one text, looked up by themselves, and its weights, compiled for it alone
 //!   (`TextElements`, `TextWeights`);
 //! - `ranks`, and `ranking`: the whole, made of a table (`Ranks`, `Ranking`).
@@ -21,6 +22,7 @@ mod compiled_weights;
 mod element_order;
 mod entry_rows;
 mod id_ranks;
+mod level_weights;
 mod name_numbers;
 mod named_elements;
 mod parts;
@@ -35,6 +37,7 @@ mod text_weights;
 mod weight_cells;
 
 pub use compiled_weights::CompiledWeights;
-pub use parts::{FirstPart, Part, PartWeight};
+pub use level_weights::LevelWeights;
+pub use parts::{FirstPart, Part, PartRow, PartWeight, WeightRanks};
 pub use ranks::Ranks;
 pub use text_weights::TextWeights;

@@ -1,7 +1,7 @@
 //! The parts of a text, and what a part weighs at a level.
 //!
-//! A part is small and plain, so that a list of them can be kept. What a part is, is found in `Ranks`; what it weighs, in
-//! `CompiledWeights`.
+//! A part is small and plain, and so is its row, so that a list of them can be kept. What a part is, is found in `Ranks`; what it
+//! weighs, in `CompiledWeights`, or level by level in `LevelWeights`.
 
 ghost use Rattle.std.specs.Prelude.{◌≡◌, ℕ, map};
 
@@ -34,4 +34,24 @@ pub struct PartWeight<'a> {
     pub ranks: &'a [u32],
     /// What is added to the number of each.
     pub added: u32,
+}
+
+/// A part by where its weights stand among compiled ones. It serves each level.
+#[derive(Clone, Copy)]
+pub struct PartRow {
+    /// The place of its weight at the first level.
+    pub first: usize,
+    /// The code point of a character without an entry, which is added where `UNDEFINED` stands for itself. Of others it is 0.
+    pub code: u32,
+}
+
+/// The ranks of a weight.
+#[derive(Clone, Copy)]
+pub enum WeightRanks<'a> {
+    /// It has none.
+    Ignored,
+    /// It is this one.
+    Single(u32),
+    /// It is one of the few that have several.
+    Several(&'a [u32]),
 }

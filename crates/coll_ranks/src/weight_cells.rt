@@ -3,11 +3,13 @@
 //! Most weights are one rank, and some are ignored. Such a weight is told by its cell alone; a list of several ranks stands apart, among
 //! the long ones. So the weights of an entry lie together, and a look-up mostly reads one cell.
 
-ghost use Rattle.std.specs.Prelude.{◌≡◌, ◌<◌, ◌++◌, ◌∷◌, [], ℕ, suc, IfOk, IfSome, OnOk, slice_index_or};
+ghost use Rattle.std.specs.Prelude.{◌≡◌, ◌<◌, ◌++◌, ◌∷◌, [], ℕ, suc, map, drop, IfOk, IfSome, OnOk, slice_index_or};
 ghost use Rattle.coll_ranks.specs.Rank.{known_rank};
 ghost use Rattle.coll_ranks.specs.Ranks.{compiled_by, compiled_row_by};
 ghost use Rattle.coll_ranks.specs.WeightCells.{cell_list};
+ghost use Rattle.coll_ranks.specs.LevelWeights.{ranks_in};
 
+use crate::parts::WeightRanks;
 use crate::rank_lists::RankLists;
 use crate::table_ranks::TableRanks;
 use coll_syntax::{Id, Weight};
@@ -18,10 +20,10 @@ use std::slice;
 /// A weight as ranks.
 #[derive(Clone, Copy)]
 pub(crate) enum WeightCell {
-    /// It has none.
-    Empty,
     /// It is this one.
     Single(u32),
+    /// It has none.
+    Empty,
     /// They stand at this place among the long lists.
     Long(u32),
 }
@@ -64,6 +66,17 @@ impl WeightCells {
         match self.cells.get(place) {
             Some(cell) => list_of(cell, &self.long),
             None => &[],
+        }
+    }
+
+    /// The cells from a place on, and the long lists.
+    #[inline(always)]
+    pub(crate) fn from_place(&self, place: usize) -> (&[WeightCell], &RankLists)
+        ensures { map (cell_list result.1.now) result.0.now ≡ drop place self.now }
+    {
+        match self.cells.split_at_checked(place) {
+            Some((_, cells)) => (cells, &self.long),
+            None => (&[], &self.long),
         }
     }
 
@@ -152,6 +165,23 @@ impl WeightCells {
         self.long.push(table, owner, weight)?;
         self.cells.push_reserved(WeightCell::Long(place as u32));
         Ok(())
+    }
+}
+
+/// The ranks of the weight in a cell at a place; where there is none there are none.
+#[inline(always)]
+pub(crate) fn ranks_at<'a>(
+    cells: &'a [WeightCell],
+    long: &'a RankLists,
+    place: usize,
+) -> WeightRanks<'a>
+    ensures { ranks_in result ≡ slice_index_or (map (cell_list long.now) cells.now) place [] }
+{
+    match cells.get(place) {
+        Some(WeightCell::Single(rank)) => WeightRanks::Single(*rank),
+        Some(WeightCell::Long(place)) => WeightRanks::Several(long_list(*place, long)),
+        Some(WeightCell::Empty) => WeightRanks::Ignored,
+        None => WeightRanks::Ignored,
     }
 }
 
