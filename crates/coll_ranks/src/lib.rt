@@ -9,8 +9,8 @@
 //! - `named_elements`, `element_order` and `placed_elements`: which collating element a text begins with (`Elements`,
 //!   `NamedElements`, `ElementOrder`);
 //! - `parts`: what a text is split into (`AlikeFronts`);
-//! - `rank_lists`, `weight_cells`, `entry_rows` and `compiled_weights`: the weights of all entries as ranks, and what a part weighs by them
-//!   (`RankLists`, `WeightCells`, `Ranks`, `WeightNumbers`);
+//! - `rank_lists`, `weight_cells`, `entry_rows` and `compiled_weights`: the weights of all entries as ranks, and what a part weighs
+//!   by them (`RankLists`, `WeightCells`, `Ranks`, `WeightNumbers`);
 //! - `level_weights`: the same at one level, for part after part (`LevelWeights`);
 //! - `text_elements` and `text_weights`: the elements of one text, looked up by themselves, and its weights, compiled for it alone
 //!   (`TextElements`, `TextWeights`);
