@@ -92,20 +92,11 @@ fn with_rows(
                 gaps = 0;
             }
             WeightRanks::Several(ranks) => {
-                let weight = PartWeight {
-                    ranks,
-                    added: at_level.added(row),
-                };
-                let (longer, after) = with_long_part(
-                    with,
-                    weight,
-                    backward,
-                    position,
-                    gaps,
-                    later.len(),
-                )?;
-                with = longer;
-                gaps = after;
+                let added = at_level.added(row);
+                let weight = PartWeight { ranks, added };
+                let long = with_long_part(with, weight, backward, position, gaps, later.len())?;
+                with = long.0;
+                gaps = long.1;
             }
         }
     }

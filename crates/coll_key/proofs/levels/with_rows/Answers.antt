@@ -44,12 +44,12 @@ rows-preserved c =
     let b = c.args.backward in
     let f = row_numbers c.args.weights.now c.args.level in
     let at = c.at_level-at_level.result in
-    let put = c.in_ok-longer-in-Several.ensures in
-    let numbers = ap (map (added_to c.added-in-Several.result)) c.in-Several.ensures ∙ ap (λ n. map (added_to n) (level_ranks at c.in-Some.row)) c.added-in-Several.ensures ∙ c.at_level-at_level.ensures c.in-Some.row in
+    let put = c.in_ok-long-in-Several.ensures in
+    let numbers = ap (map (added_to c.added-added.result)) c.in-Several.ensures ∙ ap (λ n. map (added_to n) (level_ranks at c.in-Some.row)) c.added-added.ensures ∙ c.at_level-at_level.ensures c.in-Some.row in
     record {
       room = put.room;
-      few = fewer_left b c.rows.left.now c.in-Some.later.now c.in-Some.row c.in-Some.ensures c.rows.gaps c.in_ok-longer-in-Several.after 65_536 put.few c.rows.invariant.few;
-      same = level_goes_on b c.rows.left.now c.in-Some.later.now c.in-Some.row c.in-Some.ensures c.rows.gaps c.in_ok-longer-in-Several.after c.args.position f _ _ c.rows.with.items c.in_ok-longer-in-Several.longer.items numbers put.numbers c.rows.invariant.same;
+      few = fewer_left b c.rows.left.now c.in-Some.later.now c.in-Some.row c.in-Some.ensures c.rows.gaps c.in_ok-long-in-Several.long.1 65_536 put.few c.rows.invariant.few;
+      same = level_goes_on b c.rows.left.now c.in-Some.later.now c.in-Some.row c.in-Some.ensures c.rows.gaps c.in_ok-long-in-Several.long.1 c.args.position f _ _ c.rows.with.items c.in_ok-long-in-Several.long.0.items numbers put.numbers c.rows.invariant.same;
     }
 
 pub returns-clause-list : goal.returns-clause-list

@@ -1,5 +1,5 @@
 -- The lists of later cells are the later lists.
-use Rattle.std.proofs.Common.{◌≡◌, ◌∙◌, map, drop, sym, ap}
+use Rattle.std.proofs.Common.{◌∙◌, map, drop, sym, ap}
 use Rattle.std.proofs.lemmas.List.{drop-map}
 use Rattle.coll_ranks.specs.WeightCells.{cell_list}
 use Rattle.coll_ranks.proofs.weight_cells.WeightCells.from_place.Goals as goal
