@@ -1,17 +1,17 @@
--- What look-ups of nodes keep: maps from texts and from characters to nodes.
-use Rattle.std.specs.Prelude.{◌≡◌, ℕ, List, [], ◌∷◌, Option, map, encode_utf8_all, string_bytes}
-use Rattle.std.specs.declared.string.String.{String}
+-- What look-ups of nodes keep: maps from names and from characters to nodes.
+use Rattle.std.specs.Prelude.{ℕ, List, [], ◌∷◌, Option, map}
 use Rattle.coll_order.specs.declared.places.NodeId.{NodeId}
-use Rattle.coll_nodes.specs.LookUps.{characters_of}
+use Rattle.coll_nodes.specs.NameKeys.{name_of_key}
 use Rattle.coll_nodes.specs.NodeLookUps.{Leading}
+use Rattle.coll_nodes.specs.declared.name_keys.NameKey.{NameKey}
 
 -- the keys of a map as contracts see them, and where they lead
 abbrev pub leads : {K Key : Type 0} → (K → Key) → List (K × Option NodeId) → List (Leading Key)
 leads key entries = map (λ e. record { key = key e.0; node = e.1 }) entries
 
 -- the names of a map, and where they lead
-abbrev pub names_lead : {Y : Type 0} → List (String Y × Option NodeId) → List (Leading (List ℕ))
-names_lead entries = leads characters_of entries
+abbrev pub names_lead : List (NameKey × Option NodeId) → List (Leading (List ℕ))
+names_lead entries = leads name_of_key entries
 
 -- the characters of a map, and where they lead
 abbrev pub chars_lead : List (ℕ × Option NodeId) → List (Leading ℕ)
@@ -21,7 +21,3 @@ chars_lead entries = leads (λ c. c) entries
 abbrev pub AreKeys : {K : Type 0} → (K → Type 0) → List (K × Option NodeId) → Type 0
 AreKeys good [] = Unit {0}
 AreKeys good (e ∷ es) = good e.0 × AreKeys good es
-
--- the characters of a text are those of its bytes, and no others
-abbrev pub IsText : {Y : Type 0} → String Y → Type 0
-IsText text = encode_utf8_all (characters_of text) ≡ string_bytes text

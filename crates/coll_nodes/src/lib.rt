@@ -25,6 +25,7 @@ mod entry_numbers;
 mod hash_keys;
 mod limits;
 mod met_nodes;
+mod name_keys;
 mod node_ids;
 mod node_keys;
 mod node_names;

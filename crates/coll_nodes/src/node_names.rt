@@ -6,6 +6,7 @@
 ghost use Rattle.std.specs.Prelude.{◌≡◌, [], true, None, Some, chars, IfOk, OnOk, OnErr};
 
 use crate::HashKeys;
+use crate::name_keys::NameKey;
 use coll_lex::TextBuf;
 use coll_order::NodeId;
 use indexmap::IndexMap;
@@ -15,14 +16,15 @@ use std::marker::Model;
 /// Nodes by name.
 #[derive(Drop)]
 pub(crate) struct NodeNames {
-    names: IndexMap<String, Option<NodeId>, HashKeys>,
+    names: IndexMap<NameKey, Option<NodeId>, HashKeys>,
     alloc: Global,
 }
 
 impl Model for NodeNames {
     ghost use Rattle.std.specs.Prelude.{List, ℕ};
+    ghost use Rattle.coll_nodes.specs.NameKeys.{IsText};
     ghost use Rattle.coll_nodes.specs.NodeLookUps.{Leading};
-    ghost use Rattle.coll_nodes.specs.NodeMaps.{names_lead, AreKeys, IsText};
+    ghost use Rattle.coll_nodes.specs.NodeMaps.{names_lead, AreKeys};
 
     ghost Value = { List (Leading (List ℕ)) };
 
@@ -77,9 +79,8 @@ impl NodeNames {
         ensures keys { OnOk result (AddsNameKey self.old self.new name.now) }
         ensures err { OnErr result (self.new ≡ self.old) }
     {
-        match self.put(name, None)? {
-            Some(node) => self.set(name, Some(node)),
-            None => (),
+        if let Some(node) = self.put(name, None)? {
+            self.set(name, Some(node));
         }
         Ok(())
     }
@@ -105,15 +106,15 @@ impl NodeNames {
         Ok(NodeNames { names, alloc })
     }
 
-    // Makes a name a key, and lead to this. Answers the node that it led to.
-    fn put(&mut self, name: &TextBuf, node: Option<NodeId>) -> Result<Option<NodeId>, AllocError>
+    /// Makes a name a key, and lead to this. Answers the node that it led to.
+    pub(crate) fn put(&mut self, name: &TextBuf, node: Option<NodeId>) -> Result<Option<NodeId>, AllocError>
         ensures ok { OnOk result (SetsName self.old self.new name.now node) }
         ensures keys { OnOk result (AddsNameKey self.old self.new name.now) }
         ensures led { IfOk result (λ led. led ≡ node_named self.old name.now) }
         ensures err { OnErr result (self.new ≡ self.old) }
     {
-        let text = String::from_str(self.alloc, name.get())?;
-        let led = self.names.insert(text, node)?;
+        let key = NameKey::copied(name)?;
+        let led = self.names.insert(key, node)?;
         Ok(led.unwrap_or(None))
     }
 }

@@ -1,7 +1,6 @@
 -- The names of a clone lead to where they led.
-use Rattle.std.proofs.Common.{◌∙◌, ap, chars}
-use Rattle.coll_nodes.specs.LookUps.{characters_of}
-use Rattle.coll_nodes.specs.NodeMaps.{IsText}
+use Rattle.std.proofs.Common.{◌∙◌}
+use Rattle.coll_nodes.specs.NameKeys.{name_of_key, IsText}
 use Rattle.coll_nodes.proofs.NodeLookUps.{same_if_any, copied_leads, copied_good}
 use Rattle.coll_nodes.proofs.NameNodes.{same_is_text}
 use Rattle.coll_nodes.proofs.node_names.NodeNames.try_copy.Goals as goal
@@ -11,4 +10,4 @@ invariant_of-result c = copied_good _ _ IsText same_is_text c.self.inside.names.
 
 pub returns : goal.returns
 returns c =
-    copied_leads _ _ characters_of (same_if_any _ (λ y h. absurd h) (λ x h. absurd h) (λ x y h. h)) (λ a b e. ap chars e) c.self.inside.names.entries c.in_ok-names.names.entries c.in_ok-names.ensures.cases ∙ c.self.view_is
+    copied_leads _ _ name_of_key (same_if_any _ (λ y h. absurd h) (λ x h. absurd h) (λ x y h. h)) (λ a b e. e) c.self.inside.names.entries c.in_ok-names.names.entries c.in_ok-names.ensures.cases ∙ c.self.view_is
