@@ -9,7 +9,7 @@ use Rattle.coll_syntax.specs.declared.identifiers.Id.{Id}
 use Rattle.coll_syntax.specs.declared.identifiers.Id.TheVariants.{Char, Named, Undefined}
 use Rattle.coll_nodes.proofs.Sameness.{same_id_decides}
 use Rattle.coll_nodes.proofs.NodeLookUps.{found, found_node, found_key, inserted_leads, inserted_keys, set_leads, set_keys}
-use Rattle.coll_nodes.specs.NodeLookUps.{Leading, NodesById, node_of_char, is_char_key, node_with, SetsId, AddsIdKey, LeadAlike, LeadNamesAlike, KeepIdKeys}
+use Rattle.coll_nodes.specs.NodeLookUps.{Leading, NodesById, node_of_char, is_char_key, node_with, SetsId, AddsIdKey, LeadAlike, KeepIdKeys}
 use Rattle.coll_nodes.specs.NodeMaps.{chars_lead, AreKeys}
 
 -- every character may be a key
@@ -60,9 +60,3 @@ leads_alike old new id node e sets other = sets other ∙ by (same_id other id) 
   by : (b : Bool) → same_id other id ≡ b → cond b node (node_with old other) ≡ node_with old other
   by true t = e ∙ sym (ap (node_with old) ((same_id_decides other id).0 t))
   by false t = refl
-
--- where names lead alike, so do identifiers
-pub names_lead_alike : (old new : NodesById) → LeadNamesAlike old.names new.names → old.characters ≡ new.characters → old.undefined ≡ new.undefined → LeadAlike old new
-names_lead_alike old new names characters undefined (Char c) = ap (λ cs. node_of_char cs c) (sym characters)
-names_lead_alike old new names characters undefined (Named name) = names name
-names_lead_alike old new names characters undefined Undefined = sym undefined

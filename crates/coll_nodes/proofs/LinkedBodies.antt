@@ -19,7 +19,7 @@ use Rattle.coll_nodes.specs.KeyedNodes.{FindsAll, KeepsKeys, SetsKeys}
 use Rattle.coll_nodes.specs.NodeLookUps.{node_named, node_with}
 use Rattle.coll_nodes.specs.SoundBodies.{read_at, ring_at, names_in, texts_in, section_names_in, rings_in, ids_in, same_ring, IsEntry, IsOwned, IsPlaceIn, IsShaped, Finds, Adds}
 use Rattle.coll_nodes.specs.Table.{Section, joined_entries}
-use Rattle.coll_nodes.specs.TableLayout.{TableLayout, MadeNode, content_of, entry_in, entries_in}
+use Rattle.coll_nodes.specs.TableLayout.{TableLayout, MadeNode, content_of, declarations_ring, entry_in, entries_in, sections_ring}
 use Rattle.coll_nodes.specs.Moving.{AreNew, IsApart, IsPlaceFor}
 use Rattle.coll_nodes.specs.declared.contents.Content.{Content}
 use Rattle.coll_nodes.specs.declared.contents.Content.TheVariants as content
@@ -29,7 +29,7 @@ use Rattle.coll_nodes.specs.declared.entries.Entry.{Entry}
 use Rattle.coll_nodes.specs.declared.node_keys.NodeKeys.{NodeKeys}
 use Rattle.coll_nodes.proofs.AlikeLayouts.{AreAlike, names_stay, texts_stay, section_names_stay, rings_stay, ids_stay, key_alike, owned_alike, shaped_alike, found_alike, counts_alike, same_counts}
 use Rattle.coll_nodes.proofs.ChangedNodes.{bare, bare_alike, adds_bare}
-use Rattle.coll_nodes.proofs.KeyedNodes.{keys_stay}
+use Rattle.coll_nodes.proofs.KeyedNodes.{all_kept, keys_stay}
 use Rattle.coll_nodes.proofs.LayoutLists.{declared_same, sections_same, declared_longer, sections_longer, entries_begun, as_many_sections, entries_longer}
 use Rattle.coll_nodes.proofs.LayoutReads.{owned_high, entries_read}
 use Rattle.coll_nodes.proofs.LayoutSteps.{finds_more, shaped_more, ring_other}
@@ -159,27 +159,44 @@ reserved_linked layout rings keys keys_new same kept reserved = record {
   ring_of = λ node it is. subst (λ n. HasItsRing n it) (sym same) (reserved.ring_of node it is);
 }
 
+-- a body is sound with a node put in, where the look-ups found what stood before, and now have the keys of all nodes
+pub linked_sound : (layout : TableLayout) (node : NodeId) (it : Content) (place : Place) (declarations sections : RingId) (keys keys_new : NodeKeys) (counts counts_new : Counts)
+    → declarations ≡ declarations_ring → sections ≡ sections_ring → IsShaped layout → FindsAll layout keys → IsReserved layout keys_new → counts ≡ counts_at layout
+    → StandOnce layout.rings → content_of layout node ≡ Some it → is_in layout.rings node ≡ false → IsPlaceFor layout place it → IsApart layout it
+    → SetsKeys keys keys_new it (Some node) → counts_new ≡ counts_with it counts
+    → IsSoundBody (with_link layout node place) declarations sections keys_new counts_new
+linked_sound layout node it place declarations sections keys keys_new counts counts_new first second shaped_was found reserved counted_was once is loose fits apart sets counted =
+    let alike = bare_alike layout node loose in
+    let nodes = (bare layout node).nodes in
+    let old = bare layout node in
+    let new = with_link layout node place in
+    let adds = adds_bare new layout.rings node it place is loose refl in
+    let shaped = shaped_alike layout nodes alike shaped_was in
+    let fits_old = fits_alike layout nodes alike place it fits in
+    let apart_old = apart_alike layout nodes alike it apart in
+    let put = put_any old new node place once shaped it adds fits_old (reserved.ring_of node it is) apart_old in
+    let at = ring_for old place it fits_old in
+    record {
+      declarations = first;
+      begun = second;
+      shaped = put.shaped;
+      found = found_put old new node it place at.0 keys keys_new adds at.1 once apart_old (found_alike layout nodes alike keys found) sets;
+      reserved = reserved_linked layout new.rings keys_new keys_new (length_rings_with place node 0 layout.rings) (all_kept keys_new) reserved;
+      counted = counted ∙ (ap (counts_with it) (counted_was ∙ sym (counts_alike layout nodes alike shaped_was)) ∙ sym put.counted);
+    }
+
+-- what is reserved stays so where all keys are kept
+pub reserved_kept : (layout : TableLayout) (keys keys_new : NodeKeys) → KeepsKeys keys keys_new → IsReserved layout keys → IsReserved layout keys_new
+reserved_kept layout keys keys_new kept reserved = record {
+  keys_of = λ node it is. keys_stay keys keys_new it kept (reserved.keys_of node it is);
+  ring_of = reserved.ring_of;
+}
+
 -- the body is sound
 pub put_sound : (layout : TableLayout) (node : NodeId) (it : Content) (place : Place) (declarations sections : RingId) (keys keys_new : NodeKeys) (counts counts_new : Counts)
     → IsSoundBody layout declarations sections keys counts → StandOnce layout.rings → content_of layout node ≡ Some it → is_in layout.rings node ≡ false → IsPlaceFor layout place it → IsApart layout it
     → SetsKeys keys keys_new it (Some node) → KeepsKeys keys keys_new → counts_new ≡ counts_with it counts
     → IsSoundBody (with_link layout node place) declarations sections keys_new counts_new
 put_sound layout node it place declarations sections keys keys_new counts counts_new sound once is loose fits apart sets kept counted =
-    let alike = bare_alike layout node loose in
-    let nodes = (bare layout node).nodes in
-    let old = bare layout node in
-    let new = with_link layout node place in
-    let adds = adds_bare new layout.rings node it place is loose refl in
-    let shaped = shaped_alike layout nodes alike sound.shaped in
-    let fits_old = fits_alike layout nodes alike place it fits in
-    let apart_old = apart_alike layout nodes alike it apart in
-    let put = put_any old new node place once shaped it adds fits_old (sound.reserved.ring_of node it is) apart_old in
-    let at = ring_for old place it fits_old in
-    record {
-      declarations = sound.declarations;
-      begun = sound.begun;
-      shaped = put.shaped;
-      found = found_put old new node it place at.0 keys keys_new adds at.1 once apart_old (found_alike layout nodes alike keys sound.found) sets;
-      reserved = reserved_linked layout new.rings keys keys_new (length_rings_with place node 0 layout.rings) kept sound.reserved;
-      counted = counted ∙ (ap (counts_with it) (sound.counted ∙ sym (counts_alike layout nodes alike sound.shaped)) ∙ sym put.counted);
-    }
+    linked_sound layout node it place declarations sections keys keys_new counts counts_new sound.declarations sound.begun sound.shaped sound.found
+    (reserved_kept layout keys keys_new kept sound.reserved) sound.counted once is loose fits apart sets counted

@@ -1,20 +1,22 @@
 -- Bodies in which nodes that stand nowhere are made or dropped, keys are reserved, or weights are exchanged, are sound.
-use Rattle.std.proofs.Common.{◌≡◌, ℕ, ◌≤◌, ◌++◌, ◌||◌, Bool, true, false, cond, is_some, IfOk, OnErr, Result, Ok, Err, List, [], ◌∷◌, Option, Some, None, length, sym, ap, subst, ◌∙◌, refl, arith}
+use Rattle.std.proofs.Common.{◌≡◌, ℕ, ◌≤◌, ◌++◌, ◌||◌, Bool, true, false, cond, is_some, IfOk, OnErr, Result, Ok, Err, List, [], ◌∷◌, Option, Some, None, length, sym, ap, ap₂, subst, ◌∙◌, refl, arith}
 use Rattle.std.specs.List.{list_any}
 use Rattle.std.proofs.lemmas.Bool.Decides.{Decides-eqb}
 use Rattle.coll_order.specs.Layout.{is_in}
 use Rattle.coll_order.specs.Lists.{same_node}
 use Rattle.coll_order.specs.declared.places.NodeId.{NodeId}
 use Rattle.coll_order.specs.declared.places.RingId.{RingId}
+use Rattle.coll_order.specs.Sound.{StandOnce}
 use Rattle.coll_order.specs.declared.places.Place.{Place}
 use Rattle.coll_order.proofs.RingLemmas.{is_in_push}
 use Rattle.coll_order.proofs.Sameness.{by_test, not_both, same_node_is, same_node_itself}
 use Rattle.coll_syntax.specs.declared.weights.Weight.{Weight}
-use Rattle.coll_nodes.specs.Bodies.{BodyValue, Makes, MakesSection, IsLooseNode}
+use Rattle.coll_nodes.specs.Bodies.{BodyValue, Makes, MakesSection, IsLaidOut, IsLooseNode, with_link}
 use Rattle.coll_nodes.specs.BodyInvariant.{HasItsRing, IsReserved, IsSoundBody}
-use Rattle.coll_nodes.specs.KeyedNodes.{HasKeysOf, HasKeyOfSection, KeepsKeys, LeadsAlike}
+use Rattle.coll_nodes.specs.Counting.{AreFew, HasRoomFor, counts_at, counts_with}
+use Rattle.coll_nodes.specs.KeyedNodes.{HasKeysOf, HasKeyOfSection, KeepsKeys, LeadsAlike, SetsKeys}
 use Rattle.coll_nodes.specs.Linking.{nodes_without}
-use Rattle.coll_nodes.specs.SoundBodies.{same_ring, Finds, with_empty_ring}
+use Rattle.coll_nodes.specs.SoundBodies.{same_ring, Finds, IsShaped, with_empty_ring}
 use Rattle.coll_nodes.specs.Table.{Section, joined_entries}
 use Rattle.coll_nodes.specs.TableLayout.{TableLayout, MadeNode, content_of}
 use Rattle.coll_nodes.specs.Moving.{IsApart, IsPlaceFor, MayBeLoose, Suits, weighed, weighed_nodes}
@@ -27,7 +29,8 @@ use Rattle.coll_nodes.proofs.AlikeLayouts.{AreAlike, reweighed, names_stay, text
 use Rattle.coll_nodes.proofs.ChangedNodes.{bare, bare_alike, content_dropped, content_weighed, weighed_alike, kept_weights}
 use Rattle.coll_nodes.proofs.EmptyRings.{one_ring_more, finds_push, shaped_push, declared_push, sections_push}
 use Rattle.coll_nodes.proofs.KeyedNodes.{keys_stay, section_keys}
-use Rattle.coll_nodes.proofs.LinkedBodies.{fits_alike, apart_alike}
+use Rattle.coll_nodes.proofs.LinkedBodies.{fits_alike, apart_alike, linked_sound, reserved_kept}
+use Rattle.coll_nodes.proofs.NodeCounts.{has_room}
 use Rattle.coll_nodes.proofs.TakenBodies.{loose_ringless}
 
 -- keys that lead alike find alike
@@ -51,10 +54,7 @@ module _ (declarations sections : RingId) (counts : Counts) where
       sections = finds_led _ _ layout _ _ alike.sections sound.found.sections;
       ids = finds_led _ _ layout _ _ alike.ids sound.found.ids;
     };
-    reserved = record {
-      keys_of = λ node it is. keys_stay keys keys_new it kept (sound.reserved.keys_of node it is);
-      ring_of = sound.reserved.ring_of;
-    };
+    reserved = reserved_kept layout keys keys_new kept sound.reserved;
     counted = sound.counted;
   }
 
@@ -134,17 +134,42 @@ module _ (old mid : TableLayout) (node : NodeId) (it : Content) (makes : Makes o
     ),
   )
 
+  -- what is reserved for the nodes that were there, and for this one
+  reserved_made : (keys : NodeKeys) → IsReserved old keys → HasKeysOf keys it → HasItsRing (length old.rings) it → IsReserved (record old { nodes = mid.nodes }) keys
+  reserved_made keys reserved has its = record {
+    keys_of = λ other known is. by_made other known is (λ known. HasKeysOf keys known) has (λ e. reserved.keys_of other known e);
+    ring_of = λ other known is. by_made other known is (λ known. HasItsRing (length old.rings) known) its (λ e. reserved.ring_of other known e);
+  } where
+    by_made : (other : NodeId) (known : Content) → content_of mid other ≡ Some known → (P : Content → Type 0) → P it → (content_of old other ≡ Some known → P known) → P known
+    by_made other known is P mine was = by_test (λ b. cond b (Some it) (content_of old other) ≡ Some known → P known) (same_node other node)
+        (λ on e. let same : it ≡ known = cc in subst P same mine) (λ off e. was e) (sym (makes.contents other) ∙ is)
+
+  -- there is room to count it
+  pub made_room : IsShaped old → IsLaidOut mid → AreFew mid → HasRoomFor it (counts_at old)
+  made_room shaped laid few =
+      let counts_same : counts_at mid ≡ counts_at old = ap counts_at (sym same_layout) ∙ counts_alike old mid.nodes made_alike shaped in
+      subst (HasRoomFor it) counts_same (has_room mid node laid (subst IsShaped same_layout (shaped_alike old mid.nodes made_alike shaped)) few made_loose it)
+
   -- the body is sound
   pub made_sound : (declarations sections : RingId) (counts : Counts) (keys : NodeKeys) → IsSoundBody old declarations sections keys counts → HasKeysOf keys it → HasItsRing (length old.rings) it
       → IsSoundBody mid declarations sections keys counts
   made_sound declarations sections counts keys sound has its = subst (λ (layout : TableLayout). IsSoundBody layout declarations sections keys counts) same_layout
-      (alike_sound declarations sections counts old mid.nodes keys sound made_alike (record {
-        keys_of = λ other known is. by_made other known is (λ known. HasKeysOf keys known) has (λ e. sound.reserved.keys_of other known e);
-        ring_of = λ other known is. by_made other known is (λ known. HasItsRing (length old.rings) known) its (λ e. sound.reserved.ring_of other known e);
-      })) where
-        by_made : (other : NodeId) (known : Content) → content_of mid other ≡ Some known → (P : Content → Type 0) → P it → (content_of old other ≡ Some known → P known) → P known
-        by_made other known is P mine was = by_test (λ b. cond b (Some it) (content_of old other) ≡ Some known → P known) (same_node other node)
-            (λ on e. let same : it ≡ known = cc in subst P same mine) (λ off e. was e) (sym (makes.contents other) ∙ is)
+      (alike_sound declarations sections counts old mid.nodes keys sound made_alike (reserved_made keys sound.reserved has its))
+
+  -- and so is the body with the node put in, where its keys lead to it at once
+  pub put_new_sound : (place : Place) (declarations sections : RingId) (keys keys_new : NodeKeys) (counts counts_new : Counts) → IsSoundBody old declarations sections keys counts → StandOnce old.rings → IsPlaceFor old place it → IsApart old it
+      → HasItsRing (length old.rings) it → SetsKeys keys keys_new it (Some node) → HasKeysOf keys_new it → KeepsKeys keys keys_new → counts_new ≡ counts_with it counts
+      → IsSoundBody (with_link mid node place) declarations sections keys_new counts_new
+  put_new_sound place declarations sections keys keys_new counts counts_new sound once fits free its sets has kept counted =
+      subst (λ (layout : TableLayout). IsSoundBody (with_link layout node place) declarations sections keys_new counts_new) same_layout
+      (linked_sound (record old { nodes = mid.nodes }) node it place declarations sections keys keys_new counts counts_new sound.declarations sound.begun
+      (shaped_alike old mid.nodes made_alike sound.shaped) (found_alike old mid.nodes made_alike keys sound.found)
+      (reserved_made keys_new (reserved_kept old keys keys_new kept sound.reserved) has its) (sound.counted ∙ sym (counts_alike old mid.nodes made_alike sound.shaped))
+      once made_known apart (fits_alike old mid.nodes made_alike place it fits) (apart_alike old mid.nodes made_alike it free) sets counted)
+
+-- a layout with a node made and dropped is the one that was
+pub dropped_again : (old mid : TableLayout) (node : NodeId) → mid.rings ≡ old.rings → nodes_without (node ∷ []) mid.nodes ≡ old.nodes → record mid { nodes = nodes_without (node ∷ []) mid.nodes } ≡ old
+dropped_again old mid node rings nodes = ap₂ (λ (rings : List (List NodeId)) (nodes : List MadeNode). record { rings = rings; nodes = nodes }) rings nodes
 
 -- what may be loose needs no ring
 pub no_ring : (it : Content) (rings : ℕ) → MayBeLoose it → HasItsRing rings it

@@ -250,9 +250,7 @@ impl Body {
         ensures err { OnErr result (self.new ≡ self.old) }
     {
         self.check_layout();
-        let node = self.make(Content::Declared(new))?;
-        self.put_in(node, place);
-        Ok(node)
+        self.put_new(Content::Declared(new), place)
     }
 
     /// Begins a section without a name directly after a place, and answers its node and its ring.
@@ -293,8 +291,6 @@ impl Body {
         ensures err { OnErr result (self.new ≡ self.old) }
     {
         self.check_layout();
-        let node = self.make(Content::Placed(entry))?;
-        self.put_in(node, place);
-        Ok(node)
+        self.put_new(Content::Placed(entry), place)
     }
 }

@@ -73,13 +73,25 @@ impl NodeIds {
         ensures keys { OnOk result (AddsIdKey self.old self.new id.now) }
         ensures err { OnErr result (self.new ≡ self.old) }
     {
+        let node = self.find(id);
+        self.put(id, node)?;
+        Ok(())
+    }
+
+    /// Makes an identifier a key, and lead to a node, or to none.
+    pub(crate) fn put(&mut self, id: &Id, node: Option<NodeId>) -> Result<(), AllocError>
+        ensures ok { OnOk result (SetsId self.old self.new id.now node) }
+        ensures keys { OnOk result (AddsIdKey self.old self.new id.now) }
+        ensures err { OnErr result (self.new ≡ self.old) }
+    {
         match id {
             Id::Char(c) => {
-                let node = self.find(id);
                 self.characters.insert(*c, node)?;
             }
-            Id::Named(name) => self.names.reserve(name)?,
-            Id::Undefined => (),
+            Id::Named(name) => {
+                self.names.put(name, node)?;
+            }
+            Id::Undefined => self.undefined = node,
         }
         Ok(())
     }

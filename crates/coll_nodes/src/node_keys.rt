@@ -6,6 +6,7 @@
 
 ghost use Rattle.std.specs.Prelude.{◌≡◌, IfOk, OnOk, OnErr};
 ghost use Rattle.coll_nodes.specs.KeyedNodes.{no_keys, HasKeysOf, HasKeyOfSection, KeepsKeys, LeadsAlike, SetsKeys, SetsSection};
+ghost use Rattle.coll_nodes.specs.NodeLookUps.{AddsNameKey, SetsName};
 
 use crate::contents::Content;
 use crate::node_ids::NodeIds;
@@ -89,6 +90,35 @@ impl NodeKeys {
         }
     }
 
+    /// Makes what a node is found by keys, and lead to a node, or to none.
+    pub(crate) fn put(
+        &mut self,
+        content: &Content,
+        node: Option<NodeId>,
+    ) -> Result<(), AllocError>
+        ensures ok { OnOk result (SetsKeys self.old self.new content.now node) }
+        ensures keys { OnOk result (HasKeysOf self.new content.now) }
+        ensures keeps { KeepsKeys self.old self.new }
+        ensures err { OnErr result (LeadsAlike self.old self.new) }
+    {
+        match content {
+            Content::Declared(Declaration::Symbol(name)) => self.put_name(name, node),
+            Content::Declared(Declaration::Element { name, text }) => {
+                self.texts.reserve(text)?;
+                self.put_name(name, node)?;
+                self.texts.set(text, node);
+                Ok(())
+            }
+            Content::Declared(Declaration::Equivalence { name, .. }) => self.put_name(name, node),
+            Content::Begun { name, .. } => {
+                self.reserve_section(name)?;
+                self.set_section(name, node);
+                Ok(())
+            }
+            Content::Placed(entry) => self.placed.put(&entry.id, node),
+        }
+    }
+
     /// Makes what a node is found by lead to a node, or to none. It takes no memory.
     pub(crate) fn set(&mut self, content: &Content, node: Option<NodeId>)
         requires keys { HasKeysOf self.old content.now }
@@ -105,6 +135,17 @@ impl NodeKeys {
             Content::Begun { name, .. } => self.set_section(name, node),
             Content::Placed(entry) => self.placed.set(&entry.id, node),
         }
+    }
+
+    // Makes the name of a declaration a key, and lead to a node, or to none.
+    fn put_name(&mut self, name: &TextBuf, node: Option<NodeId>) -> Result<(), AllocError>
+        ensures ok { OnOk result (SetsName self.old.names self.new.names name.now node) }
+        ensures keys { OnOk result (AddsNameKey self.old.names self.new.names name.now) }
+        ensures others { self.new ≡ record self.old { names = self.new.names } }
+        ensures err { OnErr result (self.new ≡ self.old) }
+    {
+        self.names.put(name, node)?;
+        Ok(())
     }
 
     // Makes the name of a section lead to a node, or to none, if it has one.

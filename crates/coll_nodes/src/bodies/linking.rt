@@ -4,7 +4,7 @@
 //! memory: a key that came into a look-up stays for good. Whoever puts a node in or takes it out sets the look-ups with it; a
 //! node that is moved keeps them. A section is moved, and never loose.
 
-ghost use Rattle.std.specs.Prelude.{◌≡◌, ◌∷◌, [], Some, None, IsSome, false, true, IfOk, OnErr};
+ghost use Rattle.std.specs.Prelude.{◌≡◌, ◌∷◌, [], Some, None, IsSome, false, true, IfOk, OnErr, OnOk};
 ghost use Rattle.coll_order.specs.Changes.{one_step_more};
 ghost use Rattle.coll_order.specs.Layout.{is_in, place_from};
 
@@ -19,9 +19,9 @@ impl Body {
     ghost use Rattle.coll_syntax.specs.Identifier.{same_id, same_name};
     ghost use Rattle.coll_nodes.specs.Bodies.{IsLooseNode, Makes, MakesSection, with_link, without_link};
     ghost use Rattle.coll_nodes.specs.Linking.{IsFoundBy, end_of_declarations, nodes_without};
-    ghost use Rattle.coll_nodes.specs.SoundBodies.{ids_in, section_names_in};
+    ghost use Rattle.coll_nodes.specs.SoundBodies.{Adds, ids_in, section_names_in};
     ghost use Rattle.coll_nodes.specs.TableLayout.{content_of};
-    ghost use Rattle.coll_nodes.specs.Moving.{MayBeLoose, Suits, exchanged, weighed_nodes};
+    ghost use Rattle.coll_nodes.specs.Moving.{IsApart, IsPlaceFor, MayBeLoose, Suits, exchanged, weighed_nodes};
 
     /// The node of an identifier that stands in a section.
     pub fn entry_node(&self, id: &Id) -> Option<NodeId>
@@ -71,6 +71,27 @@ impl Body {
         self.nodes.check_layout();
         self.keys.reserve_section(&name)?;
         self.nodes.make_section(name)
+    }
+
+    /// Makes a node, and puts it directly after a place. Its keys are made and lead to it at once.
+    pub(super) fn put_new(&mut self, content: Content, place: Place) -> Result<NodeId, AllocError>
+        requires may { MayBeLoose content }
+        requires fits { IsPlaceFor self.old.layout place content }
+        requires apart { IsApart self.old.layout content }
+        ensures ok { IfOk result (λ node. Adds self.old.layout self.new.layout node content place) }
+        ensures steps { OnOk result (self.new.steps ≡ one_step_more self.old.steps) }
+        ensures err { OnErr result (self.new ≡ self.old) }
+    {
+        let node = self.nodes.make(content)?;
+        if let Err(refusal) = self.keys.put(self.nodes.content(node), Some(node)) {
+            self.nodes.drop_loose(node);
+            return Err(refusal);
+        }
+        self.nodes.check_layout();
+        self.nodes.check_few();
+        self.counts = self.counts.with(self.nodes.content(node));
+        self.nodes.link(node, place);
+        Ok(node)
     }
 
     /// Puts a loose node directly after a place.
