@@ -91,11 +91,7 @@ impl NodeKeys {
     }
 
     /// Makes what a node is found by keys, and lead to a node, or to none.
-    pub(crate) fn put(
-        &mut self,
-        content: &Content,
-        node: Option<NodeId>,
-    ) -> Result<(), AllocError>
+    pub(crate) fn put(&mut self, content: &Content, node: Option<NodeId>) -> Result<(), AllocError>
         ensures ok { OnOk result (SetsKeys self.old self.new content.now node) }
         ensures keys { OnOk result (HasKeysOf self.new content.now) }
         ensures keeps { KeepsKeys self.old self.new }

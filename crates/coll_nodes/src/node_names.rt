@@ -107,7 +107,11 @@ impl NodeNames {
     }
 
     /// Makes a name a key, and lead to this. Answers the node that it led to.
-    pub(crate) fn put(&mut self, name: &TextBuf, node: Option<NodeId>) -> Result<Option<NodeId>, AllocError>
+    pub(crate) fn put(
+        &mut self,
+        name: &TextBuf,
+        node: Option<NodeId>,
+    ) -> Result<Option<NodeId>, AllocError>
         ensures ok { OnOk result (SetsName self.old self.new name.now node) }
         ensures keys { OnOk result (AddsNameKey self.old self.new name.now) }
         ensures led { IfOk result (λ led. led ≡ node_named self.old name.now) }

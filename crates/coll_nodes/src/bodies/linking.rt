@@ -82,16 +82,16 @@ impl Body {
         ensures steps { OnOk result (self.new.steps ≡ one_step_more self.old.steps) }
         ensures err { OnErr result (self.new ≡ self.old) }
     {
-        let node = self.nodes.make(content)?;
-        if let Err(refusal) = self.keys.put(self.nodes.content(node), Some(node)) {
-            self.nodes.drop_loose(node);
+        let made = self.nodes.make(content)?;
+        if let Err(refusal) = self.keys.put(self.nodes.content(made), Some(made)) {
+            self.nodes.drop_loose(made);
             return Err(refusal);
         }
         self.nodes.check_layout();
         self.nodes.check_few();
-        self.counts = self.counts.with(self.nodes.content(node));
-        self.nodes.link(node, place);
-        Ok(node)
+        self.counts = self.counts.with(self.nodes.content(made));
+        self.nodes.link(made, place);
+        Ok(made)
     }
 
     /// Puts a loose node directly after a place.
