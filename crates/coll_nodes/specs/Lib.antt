@@ -9,6 +9,7 @@ pub mod Limits
 pub mod Linking
 pub mod LookUps
 pub mod Moving
+pub mod NamePlaces
 pub mod NodeLookUps
 pub mod NodeMaps
 pub mod NodeNumbers
