@@ -45,8 +45,9 @@ pub(crate) fn ids_and_weights(
 {
     let mut numbers = EntryNumbers::new(alloc);
     table.number_entries(&mut numbers)?;
-    let undefined = TableRanks::new(table, &numbers).known_rank(&Id::Undefined);
-    let (characters, weights) = ranked_and_compiled(alloc, table, &TableRanks::new(table, &numbers))?;
+    let ranks = TableRanks::new(table, &numbers);
+    let undefined = ranks.known_rank(&Id::Undefined);
+    let (characters, weights) = ranked_and_compiled(alloc, table, &ranks)?;
     let names = table.name_places(alloc, numbers)?;
     Ok((IdRanks::new(names, characters, undefined), weights))
 }
