@@ -1,5 +1,5 @@
 -- Numbers that nodes get one after another are the places of their entries.
-use Rattle.std.proofs.Common.{◌≡◌, ◌≤◌, ℕ, zero, suc, ◌+◌, Bool, true, false, ◌||◌, cond, List, [], ◌∷◌, ◌++◌, Option, Some, None, length, flat_map, sym, ap, ap₂, subst, ◌∙◌, refl, arith}
+use Rattle.std.proofs.Common.{◌≡◌, ◌≤◌, ℕ, zero, suc, ◌+◌, Bool, true, false, ◌||◌, cond, List, [], ◌∷◌, ◌++◌, Option, Some, None, is_some, length, flat_map, sym, ap, ap₂, subst, ◌∙◌, refl, arith}
 use Rattle.std.specs.List.{list_any}
 use Rattle.std.specs.Option.{option_or, option_map, unwrap_or}
 use Rattle.coll_order.specs.Layout.{is_in}
@@ -12,14 +12,14 @@ use Rattle.coll_syntax.specs.Identifier.{same_id}
 use Rattle.coll_syntax.specs.declared.identifiers.Id.{Id}
 use Rattle.coll_nodes.specs.NodeNumbers.{number_at, entry_nodes, entry_nodes_in, last_number, AreNumbersOf}
 use Rattle.coll_nodes.specs.Placement.{place_among}
-use Rattle.coll_nodes.specs.SoundBodies.{has_key, ids_in, read_at, ring_at, IsEntry, IsShaped}
+use Rattle.coll_nodes.specs.SoundBodies.{has_key, ids_in, read_at, ring_at, Finds, IsEntry, IsShaped}
 use Rattle.coll_nodes.specs.SoundLayouts.{AreOnce, IsSoundLayout}
 use Rattle.coll_nodes.specs.Table.{ids_of, joined_entries}
 use Rattle.coll_nodes.specs.TableLayout.{TableLayout, content_of, entry_in, nodes_in, sections_at}
 use Rattle.coll_nodes.specs.WellFormed as are
 use Rattle.coll_nodes.specs.declared.contents.Content.TheVariants as content
 use Rattle.coll_nodes.specs.declared.entries.Entry.{Entry}
-use Rattle.coll_nodes.proofs.BodyReads.{ids_of_node, one}
+use Rattle.coll_nodes.proofs.BodyReads.{id_found, ids_of_node, one}
 use Rattle.coll_nodes.proofs.LayoutReads.{and_true, both_true, entries_read, entry_is, in_rings, joined_at, joined_known, joined_read, placed_to, read_known, section_at}
 use Rattle.coll_nodes.proofs.Sameness.{same_id_decides}
 use Rattle.coll_nodes.proofs.NodeLists.{any_from, read_twice, same_read}
@@ -41,7 +41,7 @@ one_behind before None = refl
 one_behind before (Some n) = ap Some (let one : suc before + n ≡ before + suc n = omega arith in one)
 
 -- an identifier that isn't there has no place
-pub no_place : (entries : List Entry) (id : Id) → list_any (same_id id) (ids_of entries) ≡ false → place_among entries id ≡ None
+no_place : (entries : List Entry) (id : Id) → list_any (same_id id) (ids_of entries) ≡ false → place_among entries id ≡ None
 no_place [] id h = refl
 no_place (entry ∷ entries) id h =
     by_test (λ b. (b || list_any (same_id id) (ids_of entries)) ≡ false → cond b (Some 1) (option_map (λ place. suc place) (place_among entries id)) ≡ None) (same_id id entry.id)
@@ -131,6 +131,13 @@ placed_at : (layout : TableLayout) → IsShaped layout → (id : Id) (node : Nod
 placed_at layout shaped id node has =
     let both = both_true _ _ has in
     placed_to layout shaped (λ (entry : Entry). same_id id entry.id) node both.0 (sym (ids_of_node layout shaped id (content_of layout node)) ∙ both.1)
+
+-- the number of the node that is found is the place of its identifier
+pub found_place : (layout : TableLayout) (numbers : List ℕ) (find : Id → Option NodeId) (id : Id) → IsShaped layout → Finds same_id ids_in layout find → AreNumbersOf numbers layout → option_map (number_at numbers) (find id) ≡ place_among (joined_entries (sections_at layout)) id
+found_place layout numbers find id shaped sound numbered = by (find id) refl where
+  by : (node : Option NodeId) → find id ≡ node → option_map (number_at numbers) node ≡ place_among (joined_entries (sections_at layout)) id
+  by None none = sym (no_place (joined_entries (sections_at layout)) id (id_found layout shaped find id sound ∙ ap is_some none))
+  by (Some node) is = sym (numbered id node (sound.leads id node is))
 
 -- numbers that all entries were given are those of a layout
 pub are_numbers : (layout : TableLayout) (old new : List ℕ) → IsSoundLayout layout → are.AreDistinct same_id (ids_of (joined_entries (sections_at layout)))

@@ -10,6 +10,7 @@ pub mod Linking
 pub mod LookUps
 pub mod Moving
 pub mod NameKeys
+pub mod NamePlaces
 pub mod NodeLookUps
 pub mod NodeMaps
 pub mod NodeNumbers

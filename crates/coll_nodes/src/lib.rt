@@ -11,8 +11,8 @@
 //! - `bodies`, `bodies/own_names` and `bodies/linking`: the whole, with its look-ups and `counts`, what names stand for, and what
 //!   is put in, moved and taken out (`SoundBodies`, `SoundLayouts`, `BodyInvariant`, `Counting`, `OwnNames`, `Linking`);
 //! - `walks` and `met_nodes`: a body, read in order (`Walks`, `WalkStates`, `WalkItems`);
-//! - `entry_numbers` and `bodies/numbering`: the places of entries, kept beside a body (`NodeNumbers`); `bodies/elements`: elements
-//!   by their strings (`ElementTexts`);
+//! - `entry_numbers` and `bodies/numbering`: the places of entries, kept beside a body (`NodeNumbers`); `name_places`: those of names,
+//!   kept apart from it (`NamePlaces`); `bodies/elements`: elements by their strings (`ElementTexts`);
 //! - and, for the look-ups of blocks in `coll_statements`, `LookUps`.
 #![tactic(auto)]
 
@@ -26,6 +26,7 @@ mod hash_keys;
 mod limits;
 mod met_nodes;
 mod name_keys;
+mod name_places;
 mod node_ids;
 mod node_keys;
 mod node_names;
@@ -39,4 +40,5 @@ pub use entries::Entry;
 pub use entry_numbers::EntryNumbers;
 pub use hash_keys::HashKeys;
 pub use limits::{MOST_DECLARATIONS, MOST_ENTRIES, MOST_SECTIONS, limits_are_stated};
+pub use name_places::NamePlaces;
 pub use walks::{Declared, DeclaredItem, Walk, WalkItem};

@@ -114,6 +114,13 @@ impl NodeIds {
         }
     }
 
+    /// A copy of the look-up of names, in new memory.
+    pub(crate) fn copied_names(&self, alloc: Global) -> Result<NodeNames, AllocError>
+        ensures { IfOk result (λ names. names ≡ self.now.names) }
+    {
+        self.names.try_copy(alloc)
+    }
+
     /// A copy, in new memory.
     pub(crate) fn try_copy(&self, alloc: Global) -> Result<NodeIds, AllocError>
         ensures { IfOk result (λ copy. copy ≡ self.now) }

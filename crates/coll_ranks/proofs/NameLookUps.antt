@@ -10,8 +10,7 @@ use Rattle.coll_syntax.proofs.Spellings.{same_spelling}
 use Rattle.coll_syntax.specs.Identifier.{same_name}
 use Rattle.coll_nodes.proofs.Sameness.{same_name_decides, same_name_symmetric}
 use Rattle.coll_nodes.specs.LookUps.{characters_of}
-use Rattle.coll_ranks.specs.NameMaps.{named_numbers, AreKeys, IsText}
-use Rattle.coll_ranks.specs.Ranks.{number_named}
+use Rattle.coll_ranks.specs.NameMaps.{named_numbers, number_named, AreKeys, IsText}
 
 -- the first name of a list has another number
 here : (first wanted : List ℕ) → first ≡ wanted → (other : List ℕ) (v w later : Option ℕ) → cond (same_name other first) v later ≡ cond (same_name other wanted) v (cond (same_name other first) w later)

@@ -8,7 +8,8 @@ use Rattle.std.proofs.lemmas.Option.{slice_get-get_or}
 use Rattle.std.specs.Prelude.{slice_get}
 use Rattle.std.specs.Option.{option_map, option_or}
 use Rattle.coll_syntax.specs.Identifier.{same_name}
-use Rattle.coll_ranks.specs.Ranks.{NamedNumber, RankedElement, ranked_text, number_named, last_string}
+use Rattle.coll_ranks.specs.NameMaps.{NamedNumber, number_named}
+use Rattle.coll_ranks.specs.Ranks.{RankedElement, ranked_text, last_string}
 use Rattle.coll_ranks.specs.NamedElements.{kept_element, elements_in, string_at, AreNamed, IsKept, IsKeptWell}
 use Rattle.coll_ranks.specs.declared.named_elements.PlacedElement.{PlacedElement}
 use Rattle.coll_ranks.proofs.Tests.{by_test}

@@ -9,6 +9,7 @@ use Rattle.coll_syntax.specs.Identifier.{same_id, has_id}
 use Rattle.coll_syntax.specs.Proper.{IsElementText}
 use Rattle.coll_syntax.specs.declared.identifiers.Id.{Id}
 use Rattle.coll_syntax.specs.declared.identifiers.Id.TheVariants.{Char, Named, Undefined}
+use Rattle.coll_nodes.specs.NamePlaces.{place_named}
 use Rattle.coll_nodes.specs.Placement.{place_among}
 use Rattle.coll_nodes.specs.Table.{Collation, entries_of, ids_of, texts_of}
 use Rattle.coll_nodes.specs.Walks.{Met, MetSection, MetEntry, met, entry_met, entries_met}
@@ -20,9 +21,9 @@ use Rattle.coll_draft.proofs.MetEntries.{met_all}
 use Rattle.coll_nodes.proofs.Sameness.{same_id_decides}
 use Rattle.coll_ranks.specs.Elements.{element_placed}
 use Rattle.coll_ranks.specs.WeightNumbers.{undefined_weights}
-use Rattle.coll_ranks.specs.Rank.{rank_unplaced, known_rank}
-use Rattle.coll_ranks.specs.Ranking.{last_place, AreIdRanksOf, ranked_if_any, ranked_declared, HasString}
-use Rattle.coll_ranks.specs.Ranks.{RanksById, RankedElement, no_ranks, rank_with, ranked_in, compiled_row_by, compiled_entry, compiled_weights}
+use Rattle.coll_ranks.specs.Rank.{known_rank}
+use Rattle.coll_ranks.specs.Ranking.{last_place, AreCharRanksOf, AreIdRanksOf, ranked_if_any, ranked_declared, HasString}
+use Rattle.coll_ranks.specs.Ranks.{RanksById, RankedElement, rank_of_char, rank_with, ranked_in, compiled_row_by, compiled_entry, compiled_weights}
 use Rattle.coll_ranks.proofs.Tests.{by_test}
 
 -- What one meets.
@@ -46,11 +47,12 @@ last_of_met : (item : Met) (rank : ℕ) (entries : List Entry) (id : Id) → las
 last_of_met (MetSection name) rank entries id = ap (λ n. last_place n entries id) (let same : rank ≡ rank + 0 = omega arith in same) ∙ sym (or_none (last_place (rank + 0) entries id))
 last_of_met (MetEntry entry) rank entries id = ap (λ n. option_or (last_place n entries id) (cond (same_id id entry.id) (Some (suc rank)) None)) (let same : suc rank ≡ rank + 1 = omega arith in same)
 
-pub ranked_met : (left later : List Met) (item : Met) (rank next : ℕ) (old new : RanksById) → left ≡ item ∷ later → next ≡ rank + length (entry_met item) → ((id : Id) → rank_with new id ≡ option_or (last_place rank (entry_met item) id) (rank_with old id)) → (id : Id) → option_or (last_place next (entries_met later) id) (rank_with new id) ≡ option_or (last_place rank (entries_met left) id) (rank_with old id)
-ranked_met left later item rank next old new first count ranks id =
-    ap₂ (λ (n : ℕ) (r : Option ℕ). option_or (last_place n (entries_met later) id) r) count (ranks id)
-    ∙ (sym (or_all (last_place (rank + length (entry_met item)) (entries_met later) id) (last_place rank (entry_met item) id) (rank_with old id))
-    ∙ ap (λ p. option_or p (rank_with old id)) (sym (ap (λ items. last_place rank (entries_met items) id) first ∙ last_of_met item rank (entries_met later) id)))
+-- the last place of what has a rank, or else the one it had
+pub ranked_met : (left later : List Met) (item : Met) (rank next : ℕ) (id : Id) (old new : Option ℕ) → left ≡ item ∷ later → next ≡ rank + length (entry_met item) → new ≡ option_or (last_place rank (entry_met item) id) old → option_or (last_place next (entries_met later) id) new ≡ option_or (last_place rank (entries_met left) id) old
+ranked_met left later item rank next id old new first count ranks =
+    ap₂ (λ (n : ℕ) (r : Option ℕ). option_or (last_place n (entries_met later) id) r) count ranks
+    ∙ (sym (or_all (last_place (rank + length (entry_met item)) (entries_met later) id) (last_place rank (entry_met item) id) old)
+    ∙ ap (λ p. option_or p old) (sym (ap (λ items. last_place rank (entries_met items) id) first ∙ last_of_met item rank (entries_met later) id)))
 
 -- Places.
 
@@ -82,27 +84,25 @@ only_place before (entry ∷ entries) id h =
       moved None = refl
       moved (Some place) = ap Some (let one : suc before + place ≡ before + suc place = omega arith in one)
 
--- before the first walk nothing has a rank
-pub none_ranked : (id : Id) → rank_with no_ranks id ≡ None
-none_ranked (Char c) = refl
-none_ranked (Named name) = refl
-none_ranked Undefined = refl
-
--- what the walk gives, with UNDEFINED behind all entries, are the ranks of the table
-pub ranks_of_table : (table : Collation) (walked ids : RanksById) (items : List Met) (count : ℕ) → IsWellFormed table → items ≡ met table.sections → count ≡ length (entries_met items) → ((id : Id) → rank_with walked id ≡ option_or (last_place 0 (entries_met items) id) (rank_with no_ranks id)) → ((id : Id) → rank_with ids id ≡ option_or (rank_with walked id) (rank_unplaced count id)) → AreIdRanksOf ids table
-ranks_of_table table walked ids items count well all counted ranks last id =
-    last id ∙ ap₂ (λ (p : Option ℕ) (n : ℕ). option_or p (rank_unplaced n id)) place (counted ∙ ap length entries) where
-      entries : entries_met items ≡ entries_of table
-      entries = ap entries_met all ∙ met_all table.sections
-
+-- what the walk gives the characters are their ranks in the table
+pub characters_of_table : (table : Collation) (characters : List ℕ) (items : List Met) → IsWellFormed table → items ≡ met table.sections → ((c : ℕ) → rank_of_char characters c ≡ last_place 0 (entries_met items) (Char c)) → AreCharRanksOf characters table
+characters_of_table table characters items well all ranks c =
+    ranks c
+    ∙ (ap (λ es. last_place 0 es (Char c)) (ap entries_met all ∙ met_all table.sections)
+    ∙ (only_place 0 (entries_of table) (Char c) well.built.distinct_entries
+    ∙ (at_first (place_among (entries_of table) (Char c)) ∙ sym (or_none (place_among (entries_of table) (Char c)))))) where
       at_first : (p : Option ℕ) → behind 0 p ≡ p
       at_first None = refl
       at_first (Some n) = ap Some (let same : 0 + n ≡ n = omega arith in same)
 
-      place : rank_with walked id ≡ place_among (entries_of table) id
-      place =
-          ranks id ∙ (ap (option_or (last_place 0 (entries_met items) id)) (none_ranked id) ∙ (or_none (last_place 0 (entries_met items) id)
-          ∙ (ap (λ es. last_place 0 es id) entries ∙ (only_place 0 (entries_of table) id well.built.distinct_entries ∙ at_first (place_among (entries_of table) id)))))
+-- the places of names, the ranks of characters and that of UNDEFINED are the ranks of the table
+pub ranks_of_table : (table : Collation) (ids : RanksById) → ((name : List ℕ) → place_named ids.names name ≡ place_among (entries_of table) (Named name)) → AreCharRanksOf ids.characters table → ids.undefined ≡ known_rank table Undefined → AreIdRanksOf ids table
+ranks_of_table table ids names characters undefined (Char c) = characters c
+ranks_of_table table ids names characters undefined (Named name) = names name ∙ sym (or_none (place_among (entries_of table) (Named name)))
+ranks_of_table table ids names characters undefined Undefined = ap Some undefined ∙ known (place_among (entries_of table) Undefined) (suc (length (entries_of table))) where
+  known : (place : Option ℕ) (last : ℕ) → Some (unwrap_or (option_or place (Some last)) 0) ≡ option_or place (Some last)
+  known None last = refl
+  known (Some n) last = refl
 
 -- Elements.
 

@@ -1,8 +1,18 @@
 -- Maps from texts to numbers, as look-ups by name keep them.
-use Rattle.std.specs.Prelude.{◌≡◌, ℕ, List, [], ◌∷◌, map, encode_utf8_all, string_bytes}
+use Rattle.std.specs.Prelude.{◌≡◌, ℕ, if◌then◌else◌, List, [], ◌∷◌, Option, Some, None, map, encode_utf8_all, string_bytes}
 use Rattle.std.specs.declared.string.String.{String}
+use Rattle.coll_syntax.specs.Identifier.{same_name}
 use Rattle.coll_nodes.specs.LookUps.{characters_of}
-use Rattle.coll_ranks.specs.Ranks.{NamedNumber}
+
+-- a name and its number
+pub record NamedNumber : Type 0 where
+  pub name : List ℕ
+  pub number : ℕ
+
+-- the number of a name
+abbrev pub number_named : List NamedNumber → List ℕ → Option ℕ
+number_named [] name = None
+number_named (first ∷ later) name = if same_name name first.name then Some first.number else number_named later name
 
 -- the names of a map, and their numbers
 abbrev pub named_numbers : {Y : Type 0} → List (String Y × ℕ) → List NamedNumber

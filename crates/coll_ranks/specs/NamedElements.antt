@@ -3,7 +3,8 @@ use Rattle.std.specs.Prelude.{◌≡◌, ◌<◌, ℕ, if◌then◌else◌, List
 use Rattle.std.specs.List.{All}
 use Rattle.std.specs.Option.{option_map}
 use Rattle.coll_ranks.specs.Elements.{begins_with}
-use Rattle.coll_ranks.specs.Ranks.{NamedNumber, RankedElement, number_named, ranked_text, last_string}
+use Rattle.coll_ranks.specs.NameMaps.{NamedNumber, number_named}
+use Rattle.coll_ranks.specs.Ranks.{RankedElement, ranked_text, last_string}
 use Rattle.coll_ranks.specs.declared.named_elements.PlacedElement.{PlacedElement}
 use Rattle.coll_ranks.specs.declared.named_elements.FoundElement.{FoundElement}
 

@@ -3,7 +3,7 @@ use Rattle.std.specs.Prelude.{◌≡◌, ◌<◌, ◌+◌, ℕ, suc, if◌then�
 use Rattle.std.specs.Option.{option_or}
 use Rattle.coll_syntax.specs.Identifier.{same_id}
 use Rattle.coll_syntax.specs.declared.identifiers.Id.{Id}
-use Rattle.coll_syntax.specs.declared.identifiers.Id.TheVariants.{Named}
+use Rattle.coll_syntax.specs.declared.identifiers.Id.TheVariants.{Char, Named}
 use Rattle.coll_nodes.specs.Table.{Collation}
 use Rattle.coll_nodes.specs.Walks.{Met, MetSection, MetEntry}
 use Rattle.coll_nodes.specs.declared.declarations.Declaration.{Declaration}
@@ -11,7 +11,7 @@ use Rattle.coll_nodes.specs.declared.declarations.Declaration.TheVariants as dec
 use Rattle.coll_nodes.specs.declared.entries.Entry.{Entry}
 use Rattle.coll_ranks.specs.NamedElements.{ranked_element}
 use Rattle.coll_ranks.specs.Rank.{rank_of, known_rank}
-use Rattle.coll_ranks.specs.Ranks.{RanksById, RankedElement, rank_with}
+use Rattle.coll_ranks.specs.Ranks.{RanksById, RankedElement, rank_of_char, rank_with}
 
 -- the last place of an identifier among entries, before which so many others stand
 abbrev pub last_place : (before : ℕ) → List Entry → Id → Option ℕ
@@ -22,6 +22,10 @@ last_place before (entry ∷ entries) id = option_or (last_place (suc before) en
 abbrev pub HasNextRank : Collation → (before : ℕ) → Met → Type 0
 HasNextRank table before (MetSection name) = Unit {0}
 HasNextRank table before (MetEntry entry) = known_rank table entry.id ≡ before + 1
+
+-- these are the ranks of the characters of a table
+abbrev pub AreCharRanksOf : (characters : List ℕ) → Collation → Type 0
+AreCharRanksOf characters table = (c : ℕ) → rank_of_char characters c ≡ rank_of table (Char c)
 
 -- these are the ranks of the identifiers of a table
 abbrev pub AreIdRanksOf : RanksById → Collation → Type 0

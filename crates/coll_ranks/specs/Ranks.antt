@@ -8,6 +8,7 @@ use Rattle.coll_syntax.specs.declared.identifiers.Id.TheVariants.{Char, Named, U
 use Rattle.coll_syntax.specs.declared.weights.Weight.{Weight}
 use Rattle.coll_syntax.specs.declared.weights.Weight.TheVariants.{Ignore, Own, Names}
 use Rattle.coll_print.specs.CanonicalText.{is_own}
+use Rattle.coll_nodes.specs.NamePlaces.{NamedPlaces, place_named}
 use Rattle.coll_nodes.specs.Table.{Collation, entries_of}
 use Rattle.coll_nodes.specs.declared.entries.Entry.{Entry}
 use Rattle.coll_ranks.specs.Elements.{Element, elements_placed, split}
@@ -17,21 +18,12 @@ use Rattle.coll_ranks.specs.Rank.{rank_of, known_rank}
 use Rattle.coll_ranks.specs.declared.parts.Part.{Part}
 use Rattle.coll_ranks.specs.declared.parts.Part.TheVariants.{Placed, Absent}
 
--- a name and its number
-pub record NamedNumber : Type 0 where
-  pub name : List ℕ
-  pub number : ℕ
-
--- the ranks of identifiers: those of names, a list with a number for each code point, 0 for a character that has none, and
--- the rank of UNDEFINED, which may have none while they are made
+-- the ranks of identifiers: the places of names, a list with a number for each code point, 0 for a character that has none, and the
+-- rank of UNDEFINED
 pub record RanksById : Type 0 where
-  pub names : List NamedNumber
+  pub names : NamedPlaces
   pub characters : List ℕ
-  pub undefined : Option ℕ
-
--- no ranks
-abbrev pub no_ranks : RanksById
-no_ranks = record { names = []; characters = []; undefined = None }
+  pub undefined : ℕ
 
 -- a collating element that is placed, and its rank
 pub record RankedElement : Type 0 where
@@ -46,21 +38,20 @@ pub record RanksValue : Type 0 where
 
 -- What look-ups find.
 
--- the number of a name
-abbrev pub number_named : List NamedNumber → List ℕ → Option ℕ
-number_named [] name = None
-number_named (first ∷ later) name = if same_name name first.name then Some first.number else number_named later name
-
 -- a number as a rank; 0 is none
 abbrev pub rank_if_any : ℕ → Option ℕ
 rank_if_any zero = None
 rank_if_any (suc n) = Some (suc n)
 
+-- the rank of a character
+abbrev pub rank_of_char : List ℕ → ℕ → Option ℕ
+rank_of_char characters c = rank_if_any (slice_index_or characters c 0)
+
 -- the rank of an identifier
 abbrev pub rank_with : RanksById → Id → Option ℕ
-rank_with ids (Char c) = rank_if_any (slice_index_or ids.characters c 0)
-rank_with ids (Named name) = number_named ids.names name
-rank_with ids Undefined = ids.undefined
+rank_with ids (Char c) = rank_of_char ids.characters c
+rank_with ids (Named name) = place_named ids.names name
+rank_with ids Undefined = Some ids.undefined
 
 -- the string of a ranked element
 abbrev pub ranked_text : RankedElement → List ℕ

@@ -1,27 +1,23 @@
 //! Ranks by identifier.
 //!
-//! An `IdRanks` finds a name by hash and a character by its code point. While it is made, `UNDEFINED` may have no rank yet.
+//! An `IdRanks` finds a name by hash, in a copy of the look-up that the table has itself, and a character by its code point. A new
+//! kind of identifier is a field more.
 
-ghost use Rattle.std.specs.Prelude.{◌≡◌, ◌<◌, ℕ, None, Some, cond, chars, IfOk, OnOk};
-ghost use Rattle.std.specs.Option.{option_or};
-ghost use Rattle.coll_syntax.specs.Identifier.{same_id};
-ghost use Rattle.coll_syntax.specs.declared.identifiers.Id.{Id};
+ghost use Rattle.std.specs.Prelude.{◌≡◌, chars};
 ghost use Rattle.coll_syntax.specs.declared.identifiers.Id.TheVariants.{Char, Named};
 
 use crate::code_points::CodePoints;
-use crate::name_numbers::NameNumbers;
 use crate::parts::Part;
 use coll_syntax::Id;
-use coll_table::HashKeys;
-use std::alloc::{AllocError, Global};
+use coll_table::NamePlaces;
 use std::marker::Model;
 
 /// Ranks by identifier.
 #[derive(Drop)]
 pub(crate) struct IdRanks {
-    names: NameNumbers,
+    names: NamePlaces,
     characters: CodePoints,
-    undefined: Option<u32>,
+    undefined: u32,
 }
 
 impl Model for IdRanks {
@@ -33,23 +29,17 @@ impl Model for IdRanks {
 }
 
 impl IdRanks {
-    ghost use Rattle.coll_ranks.specs.Rank.{rank_unplaced};
-    ghost use Rattle.coll_ranks.specs.Ranks.{no_ranks, rank_with, character_part};
+    ghost use Rattle.coll_ranks.specs.Ranks.{rank_with, character_part};
 
-    /// No identifiers, with room for so many names.
-    pub(crate) fn with_room(
-        alloc: Global,
-        keys: HashKeys,
-        names: usize,
-    ) -> Result<IdRanks, AllocError>
-        ensures { IfOk result (λ made. made ≡ no_ranks) }
+    /// The ranks of names, of characters, and that of `UNDEFINED`.
+    pub(crate) fn new(names: NamePlaces, characters: CodePoints, undefined: u32) -> IdRanks
+        ensures { result ≡ record { names = names; characters = characters; undefined = undefined } }
     {
-        let names = NameNumbers::with_room(alloc, keys, names)?;
-        Ok(IdRanks {
+        IdRanks {
             names,
-            characters: CodePoints::new(alloc),
-            undefined: None,
-        })
+            characters,
+            undefined,
+        }
     }
 
     /// The rank of an identifier, if it has one.
@@ -59,7 +49,7 @@ impl IdRanks {
         match id {
             Id::Char(c) => self.rank_of_character(*c),
             Id::Named(name) => self.rank_of_name(name.get()),
-            Id::Undefined => self.undefined,
+            Id::Undefined => Some(self.undefined),
         }
     }
 
@@ -67,7 +57,7 @@ impl IdRanks {
     pub(crate) fn rank_of_name(&self, name: &str) -> Option<u32>
         ensures { result ≡ rank_with self.now (Named (chars name.now)) }
     {
-        self.names.get(name)
+        self.names.place(name)
     }
 
     /// The rank of a character, if it has one.
@@ -87,29 +77,6 @@ impl IdRanks {
         match self.rank_of_character(c) {
             Some(rank) => Part::Placed(rank),
             None => Part::Absent(c),
-        }
-    }
-
-    /// Gives an identifier a rank.
-    pub(crate) fn set(&mut self, id: &Id, rank: u32) -> Result<(), AllocError>
-        requires { 0 < rank }
-        ensures { OnOk result ((other : Id) → rank_with self.new other ≡ cond (same_id other id.now) (Some rank) (rank_with self.old other)) }
-    {
-        match id {
-            Id::Char(c) => self.characters.set(*c, rank)?,
-            Id::Named(name) => self.names.set(name.get(), rank)?,
-            Id::Undefined => self.undefined = Some(rank),
-        }
-        Ok(())
-    }
-
-    /// Gives `UNDEFINED` the rank behind so many entries, where it has none.
-    pub(crate) fn set_last(&mut self, entries: u32)
-        requires { entries < 1_000_000 }
-        ensures { (other : Id) → rank_with self.new other ≡ option_or (rank_with self.old other) (rank_unplaced entries other) }
-    {
-        if self.undefined.is_none() {
-            self.undefined = Some(entries + 1);
         }
     }
 }

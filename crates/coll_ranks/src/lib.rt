@@ -3,11 +3,11 @@
 //! `Ranks` is a table, compiled once and asked often: which rank an identifier has, which part a text begins with, and what a part
 //! weighs at a level. A way through the crate, each file with its definitions in `specs/`:
 //!
-//! - `code_points`, `name_numbers` and `id_ranks`: which rank an identifier has (`Rank`, `Ranks`, `NameMaps`);
+//! - `code_points` and `id_ranks`: which rank an identifier has (`Rank`, `Ranks`);
 //! - `table_ranks`: which rank it has in a table whose entries are numbered (`Rank`), and `recent_ranks`: the same, where some ranks
 //!   are kept from one entry to the next (`RecentRanks`);
-//! - `named_elements`, `element_order` and `placed_elements`: which collating element a text begins with (`Elements`,
-//!   `NamedElements`, `ElementOrder`);
+//! - `name_numbers`, `named_elements`, `element_order` and `placed_elements`: which collating element a text begins with
+//!   (`Elements`, `NameMaps`, `NamedElements`, `ElementOrder`);
 //! - `parts`: what a text is split into (`AlikeFronts`);
 //! - `rank_lists`, `weight_cells`, `entry_rows` and `compiled_weights`: the weights of all entries as ranks, and what a part weighs
 //!   by them (`RankLists`, `WeightCells`, `Ranks`, `WeightNumbers`);

@@ -1,6 +1,6 @@
-//! A number for each name, found by hash.
+//! A number for each name, found by hash: the place of each collating element by its name.
 
-ghost use Rattle.std.specs.Prelude.{◌≡◌, [], ℕ, List, Some, cond, chars, IfOk, OnOk};
+ghost use Rattle.std.specs.Prelude.{◌≡◌, [], ℕ, List, Some, cond, chars, OnOk};
 ghost use Rattle.coll_syntax.specs.Identifier.{same_name};
 
 use coll_table::HashKeys;
@@ -17,8 +17,7 @@ pub(crate) struct NameNumbers {
 
 impl Model for NameNumbers {
     ghost use Rattle.std.specs.Prelude.{List};
-    ghost use Rattle.coll_ranks.specs.Ranks.{NamedNumber};
-    ghost use Rattle.coll_ranks.specs.NameMaps.{named_numbers, AreKeys, IsText};
+    ghost use Rattle.coll_ranks.specs.NameMaps.{NamedNumber, named_numbers, AreKeys, IsText};
 
     ghost Value = { List NamedNumber };
 
@@ -28,7 +27,7 @@ impl Model for NameNumbers {
 }
 
 impl NameNumbers {
-    ghost use Rattle.coll_ranks.specs.Ranks.{number_named};
+    ghost use Rattle.coll_ranks.specs.NameMaps.{number_named};
 
     /// No names. It takes no memory.
     pub(crate) fn new(alloc: Global, keys: HashKeys) -> NameNumbers
@@ -38,18 +37,6 @@ impl NameNumbers {
             numbers: IndexMap::with_hasher(alloc, keys),
             alloc,
         }
-    }
-
-    /// No names, with room for so many.
-    pub(crate) fn with_room(
-        alloc: Global,
-        keys: HashKeys,
-        names: usize,
-    ) -> Result<NameNumbers, AllocError>
-        ensures { IfOk result (λ made. made ≡ []) }
-    {
-        let numbers = IndexMap::with_capacity_and_hasher(alloc, names, keys)?;
-        Ok(NameNumbers { numbers, alloc })
     }
 
     /// The number of a name, if it has one.

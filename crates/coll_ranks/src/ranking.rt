@@ -1,14 +1,13 @@
 //! Ranks and weights of a table, found on walks through it.
 //!
-//! Once the entries of the table are numbered, so that it tells each rank itself, one walk gives each identifier its rank and
-//! compiles the weights. Another one goes over the declarations, for the elements that are placed.
+//! Once the entries of the table are numbered, so that it tells each rank itself, one walk gives each character its rank and compiles
+//! the weights; names have their ranks by these numbers. Another walk goes over the declarations, for the elements that are placed.
 
-ghost use Rattle.std.specs.Prelude.{◌≡◌, ◌<◌, ◌≤◌, ◌+◌, ◌++◌, length, map, replicate, IfOk, OnOk};
+ghost use Rattle.std.specs.Prelude.{◌≡◌, ◌<◌, ◌+◌, ◌++◌, ℕ, Some, cond, length, map, replicate, IfOk, OnOk};
 ghost use Rattle.std.specs.List.{flat_map, All};
 ghost use Rattle.std.specs.Option.{option_or};
 ghost use Rattle.coll_syntax.specs.Identifier.{same_id};
-ghost use Rattle.coll_syntax.specs.declared.identifiers.Id.{Id};
-ghost use Rattle.coll_syntax.specs.declared.identifiers.Id.TheVariants.{Undefined};
+ghost use Rattle.coll_syntax.specs.declared.identifiers.Id.TheVariants.{Char, Undefined};
 ghost use Rattle.coll_syntax.specs.declared.weights.Weight.TheVariants.{Own};
 ghost use Rattle.coll_print.specs.CanonicalText.{is_own};
 ghost use Rattle.coll_nodes.specs.Table.{entries_of, ids_of};
@@ -18,11 +17,12 @@ ghost use Rattle.coll_nodes.specs.Walks.{entry_met, entries_met};
 ghost use Rattle.coll_nodes.specs.WellFormed.{AreDistinct};
 ghost use Rattle.coll_ranks.specs.Elements.{elements_placed};
 ghost use Rattle.coll_ranks.specs.WeightNumbers.{undefined_weights};
-ghost use Rattle.coll_ranks.specs.Ranking.{last_place, ranked_declared, AreIdRanksOf, HasNextRank, HasString};
+ghost use Rattle.coll_ranks.specs.Ranking.{last_place, ranked_declared, AreCharRanksOf, AreIdRanksOf, HasNextRank, HasString};
 ghost use Rattle.coll_ranks.specs.RankLists.{AddsRow};
 ghost use Rattle.coll_ranks.specs.Rank.{known_rank};
-ghost use Rattle.coll_ranks.specs.Ranks.{rank_with, ranked_in, compiled_row_by, compiled_entry, compiled_weights};
+ghost use Rattle.coll_ranks.specs.Ranks.{rank_of_char, ranked_in, compiled_row_by, compiled_entry, compiled_weights};
 
+use crate::code_points::CodePoints;
 use crate::compiled_weights::CompiledWeights;
 use crate::id_ranks::IdRanks;
 use crate::named_elements::NamedElements;
@@ -45,55 +45,58 @@ pub(crate) fn ids_and_weights(
 {
     let mut numbers = EntryNumbers::new(alloc);
     table.number_entries(&mut numbers)?;
-    ranked_and_compiled(alloc, table, &TableRanks::new(table, &numbers))
+    let ranks = TableRanks::new(table, &numbers);
+    let undefined = ranks.known_rank(&Id::Undefined);
+    let (characters, weights) = ranked_and_compiled(alloc, table, &ranks)?;
+    let names = table.name_places(alloc, numbers)?;
+    Ok((IdRanks::new(names, characters, undefined), weights))
 }
 
-// The same, by the ranks of the table.
+// The ranks of the characters of a table, and its compiled weights, by the ranks of all identifiers.
 fn ranked_and_compiled<'a>(
     alloc: Global,
     table: &'a Table,
     ranks: &'a TableRanks<'a>,
-) -> Result<(IdRanks, CompiledWeights), AllocError>
+) -> Result<(CodePoints, CompiledWeights), AllocError>
     requires { ranks.now ≡ collation table.now }
-    ensures ids { IfOk result (λ made. AreIdRanksOf made.0 (collation table.now)) }
+    ensures characters { IfOk result (λ made. AreCharRanksOf made.0 (collation table.now)) }
     ensures levels { IfOk result (λ made. made.1.levels ≡ length (collation table.now).rules) }
     ensures lists { IfOk result (λ made. made.1.lists ≡ compiled_weights (collation table.now)) }
     ensures own { IfOk result (λ made. made.1.own ≡ map is_own (undefined_weights (collation table.now))) }
 {
     table.check_table();
-    let mut ids = IdRanks::with_room(alloc, table.hash_keys(), table.declared_len())?;
     let mut weights = compiled_undefined(alloc, table, ranks, table.len())?;
     let mut recent = RecentRanks::new(ranks);
-    let entries = put_walk(&mut ids, &mut weights, &mut recent, table.walk())?;
-    ids.set_last(entries);
-    Ok((ids, weights))
+    let characters = put_walk(alloc, &mut weights, &mut recent, table.walk())?;
+    Ok((characters, weights))
 }
 
-// Gives each entry on a walk its rank, puts its compiled weights behind others, and gives the number of entries.
+// Puts the compiled weights of each entry on a walk behind others, and gives the ranks of the characters among them.
 fn put_walk<'a>(
-    ids: &mut IdRanks,
+    alloc: Global,
     weights: &mut CompiledWeights,
     ranks: &mut RecentRanks<'a>,
     walk: Walk<'a>,
-) -> Result<u32, AllocError>
+) -> Result<CodePoints, AllocError>
     requires few { length (entries_met walk) < 1_000_000 }
     requires whole { entries_met walk ≡ entries_of ranks.old }
     requires distinct { AreDistinct same_id (ids_of (entries_of ranks.old)) }
-    ensures count { IfOk result (λ entries. entries ≡ length (entries_met walk.entry)) }
-    ensures ranks { OnOk result ((id : Id) → rank_with ids.new id ≡ option_or (last_place 0 (entries_met walk.entry) id) (rank_with ids.old id)) }
+    ensures ranks { IfOk result (λ characters. (c : ℕ) → rank_of_char characters c ≡ last_place 0 (entries_met walk.entry) (Char c)) }
     ensures rows { OnOk result (AddsRow weights.old weights.new (flat_map (compiled_entry (known_rank ranks.old) weights.old.levels) (entries_met walk.entry))) }
 {
+    let mut characters = CodePoints::new(alloc);
     let mut left = walk;
     let mut rank = 0;
     'walk: while let Some(item) = left.next() {
-        rank = put_met(ids, weights, ranks, item, rank)?;
+        rank = put_met(&mut characters, weights, ranks, item, rank)?;
     }
-    Ok(rank)
+    Ok(characters)
 }
 
-// Gives what one meets the next rank, and puts its compiled weights behind others, if it is an entry; and gives the last rank.
+// Gives what one meets the next rank, if it is a character, and puts its compiled weights behind others, if it is an entry; and gives
+// the last rank.
 fn put_met<'a>(
-    ids: &mut IdRanks,
+    characters: &mut CodePoints,
     weights: &mut CompiledWeights,
     ranks: &mut RecentRanks<'a>,
     item: WalkItem<'a>,
@@ -102,18 +105,29 @@ fn put_met<'a>(
     requires few { rank < 1_000_000 }
     requires next { HasNextRank ranks.old rank (met_by item) }
     ensures count { IfOk result (λ last. last ≡ rank + length (entry_met (met_by item.entry))) }
-    ensures ranks { OnOk result ((id : Id) → rank_with ids.new id ≡ option_or (last_place rank (entry_met (met_by item.entry)) id) (rank_with ids.old id)) }
+    ensures ranks { OnOk result ((c : ℕ) → rank_of_char characters.new c ≡ option_or (last_place rank (entry_met (met_by item.entry)) (Char c)) (rank_of_char characters.old c)) }
     ensures rows { OnOk result (AddsRow weights.old weights.new (flat_map (compiled_entry (known_rank ranks.old) weights.old.levels) (entry_met (met_by item.entry)))) }
     ensures same { ranks.new ≡ ranks.old }
 {
     match item {
         WalkItem::Section(_) => Ok(rank),
         WalkItem::Entry(entry) => {
-            ids.set(entry.id(), rank + 1)?;
+            put_character(characters, entry.id(), rank + 1)?;
             ranks.begin(entry.id(), rank + 1);
             weights.push_entry(ranks, entry.id(), entry.weights())?;
             Ok(rank + 1)
         }
+    }
+}
+
+// Gives an identifier a rank, if it is a character.
+fn put_character(characters: &mut CodePoints, id: &Id, rank: u32) -> Result<(), AllocError>
+    requires { 0 < rank }
+    ensures { OnOk result ((c : ℕ) → rank_of_char characters.new c ≡ cond (same_id (Char c) id.now) (Some rank) (rank_of_char characters.old c)) }
+{
+    match id {
+        Id::Char(c) => characters.set(*c, rank),
+        Id::Named(_) | Id::Undefined => Ok(()),
     }
 }
 

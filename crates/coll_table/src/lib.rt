@@ -26,7 +26,7 @@ mod turning;
 pub use coll_draft::{LoadCause, LoadFault};
 pub use coll_nodes::{
     Declaration, Declared, DeclaredItem, Entry, EntryNumbers, HashKeys, MOST_DECLARATIONS,
-    MOST_ENTRIES, MOST_SECTIONS, Walk, WalkItem, limits_are_stated,
+    MOST_ENTRIES, MOST_SECTIONS, NamePlaces, Walk, WalkItem, limits_are_stated,
 };
 pub use coll_print::{printed_tables_are_read_back, write_id};
 pub use coll_statements::second_names_are_not_placed;

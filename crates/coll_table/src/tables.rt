@@ -4,9 +4,10 @@
 //! read it through `collation`, which is the table that the layout stands for; every table is well formed (`WellFormed` there).
 //! What is read here takes no memory. How a body holds its nodes may change without a clause here.
 
-ghost use Rattle.std.specs.Prelude.{◌≡◌, chars, length, option_copied, option_map, IfOk, OnOk};
+ghost use Rattle.std.specs.Prelude.{◌≡◌, ℕ, List, chars, length, option_copied, option_map, IfOk, OnOk};
+ghost use Rattle.coll_syntax.specs.declared.identifiers.Id.TheVariants.{Named};
 
-use coll_nodes::{Body, Declared, Entry, EntryNumbers, HashKeys, Walk};
+use coll_nodes::{Body, Declared, Entry, EntryNumbers, HashKeys, NamePlaces, Walk};
 use coll_syntax::{Id, Rule, Rules};
 use std::alloc::{AllocError, Global};
 use std::marker::Model;
@@ -40,6 +41,7 @@ impl Model for Table {
 
 impl Table {
     ghost use Rattle.coll_nodes.specs.ElementTexts.{element_entry};
+    ghost use Rattle.coll_nodes.specs.NamePlaces.{place_named};
     ghost use Rattle.coll_nodes.specs.NodeNumbers.{AreNumbersOf};
     ghost use Rattle.coll_nodes.specs.OwnNames.{own_name};
     ghost use Rattle.coll_nodes.specs.Placement.{entry_at, place_among};
@@ -121,6 +123,21 @@ impl Table {
         ensures { result ≡ place_among (entries_of (collation self.now)) id.now }
     {
         self.body.entry_number(numbers, id)
+    }
+
+    /// The places of its names among all entries, from 1, by the numbers of its entries, in new memory. It hashes no name.
+    ///
+    /// They are those of the table as it stands, and stay so when it changes.
+    #[tactic(auto, unfolding(coll_nodes::specs::TableLayout::collation))]
+    pub fn name_places(
+        &self,
+        alloc: Global,
+        numbers: EntryNumbers,
+    ) -> Result<NamePlaces, AllocError>
+        requires { AreNumbersOf numbers self.now.layout }
+        ensures { IfOk result (λ places. (name : List ℕ) → place_named places name ≡ place_among (entries_of (collation self.now)) (Named name)) }
+    {
+        self.body.name_places(alloc, numbers)
     }
 
     /// The own name of a declared name: for a second name that of its symbol. It takes no memory.

@@ -1,16 +1,19 @@
 //! The places of a body's entries, kept beside it.
 //!
-//! A caller keeps an `EntryNumbers`, has it filled when the body has changed, and then asks it for places.
+//! A caller keeps an `EntryNumbers`, has it filled when the body has changed, and then asks it for places. Where the numbers are
+//! given up to it, they make a `NamePlaces`, which needs the body no more.
 
-ghost use Rattle.std.specs.Prelude.{◌≡◌, ◌<◌, length, OnOk};
+ghost use Rattle.std.specs.Prelude.{◌≡◌, ◌<◌, length, IfOk, OnOk};
 
 use super::Body;
 use crate::entry_numbers::{EntryNumbers, number_sections};
+use crate::name_places::NamePlaces;
 use coll_syntax::Id;
-use std::alloc::AllocError;
+use std::alloc::{AllocError, Global};
 
 impl Body {
     ghost use Rattle.coll_syntax.specs.Identifier.{same_id};
+    ghost use Rattle.coll_nodes.specs.NamePlaces.{ArePlacesOf};
     ghost use Rattle.coll_nodes.specs.NodeNumbers.{AreNumbersOf};
     ghost use Rattle.coll_nodes.specs.Placement.{place_among};
     ghost use Rattle.coll_nodes.specs.Table.{ids_of, joined_entries};
@@ -39,5 +42,17 @@ impl Body {
             Some(node) => Some(numbers.get(node)),
             None => None,
         }
+    }
+    /// The places of its names, apart from it, in new memory. It hashes no name.
+    pub fn name_places(
+        &self,
+        alloc: Global,
+        numbers: EntryNumbers,
+    ) -> Result<NamePlaces, AllocError>
+        requires { AreNumbersOf numbers self.now.layout }
+        ensures { IfOk result (λ places. ArePlacesOf places self.now.layout) }
+    {
+        let names = self.keys.placed.copied_names(alloc)?;
+        Ok(NamePlaces::new(names, numbers))
     }
 }

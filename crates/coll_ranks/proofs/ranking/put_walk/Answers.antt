@@ -1,8 +1,10 @@
 -- Each item that is an entry has the next rank, and its weights are put in.
 use Rattle.std.proofs.Common.{◌∙◌, sym, subst}
+use Rattle.coll_syntax.specs.declared.identifiers.Id.TheVariants.{Char}
 use Rattle.coll_nodes.specs.Table.{Collation}
 use Rattle.coll_nodes.specs.WalkItems.{met_by}
 use Rattle.coll_ranks.specs.Ranking.{HasNextRank}
+use Rattle.coll_ranks.specs.Ranks.{rank_of_char}
 use Rattle.coll_ranks.proofs.RankingLemmas.{counted_met, ranked_met}
 use Rattle.coll_ranks.proofs.WalkedRanks.{next_ranked, left_behind, rows_more}
 use Rattle.coll_ranks.proofs.ranking.put_walk.Goals as goal
@@ -15,7 +17,7 @@ put_met-requires-clause-next c =
 pub walk-preserved : goal.walk-preserved
 walk-preserved c = record {
   count = counted_met c.walk.left c.next.new.self (met_by c.in-Some.item) c.walk.rank _ _ c.in-Some.ensures.steps c.in_ok-rank.ensures.count c.walk.invariant.count;
-  ranks = λ id. ranked_met c.walk.left c.next.new.self (met_by c.in-Some.item) c.walk.rank _ c.walk.ids c.put_met.new.ids c.in-Some.ensures.steps c.in_ok-rank.ensures.count c.in_ok-rank.ensures.ranks id ∙ c.walk.invariant.ranks id;
+  ranks = λ character. ranked_met c.walk.left c.next.new.self (met_by c.in-Some.item) c.walk.rank _ (Char character) (rank_of_char c.walk.characters character) (rank_of_char c.put_met.new.characters character) c.in-Some.ensures.steps c.in_ok-rank.ensures.count (c.in_ok-rank.ensures.ranks character) ∙ c.walk.invariant.ranks character;
   levels = c.in_ok-rank.ensures.rows.levels_are ∙ c.walk.invariant.levels;
   own = c.in_ok-rank.ensures.rows.own_are ∙ c.walk.invariant.own;
   lists = rows_more c.args.ranks.now c.walk.ranks _ c.walk.left c.next.new.self (met_by c.in-Some.item) c.walk.weights c.put_met.new.weights _ c.walk.invariant.same c.walk.invariant.levels c.in-Some.ensures.steps c.in_ok-rank.ensures.rows c.walk.invariant.lists;

@@ -1,20 +1,20 @@
 -- What is counted, ranked and put in, and what is left, is the whole; and what is left has its places in the table.
-use Rattle.std.proofs.Common.{◌≡◌, ◌+◌, ◌++◌, length, drop}
+use Rattle.std.proofs.Common.{◌≡◌, ℕ, ◌+◌, ◌++◌, length, drop}
 use Rattle.std.specs.List.{flat_map}
 use Rattle.std.specs.Option.{option_or}
-use Rattle.coll_syntax.specs.declared.identifiers.Id.{Id}
+use Rattle.coll_syntax.specs.declared.identifiers.Id.TheVariants.{Char}
 use Rattle.coll_nodes.specs.Table.{entries_of}
 use Rattle.coll_nodes.specs.Walks.{entries_met}
 use Rattle.coll_ranks.specs.Rank.{known_rank}
 use Rattle.coll_ranks.specs.Ranking.{last_place}
-use Rattle.coll_ranks.specs.Ranks.{rank_with, compiled_entry}
+use Rattle.coll_ranks.specs.Ranks.{rank_of_char, compiled_entry}
 use Rattle.coll_ranks.proofs.ranking.put_walk.Given as goal
 
 abbrev pub invariant-walk : goal.invariant-walk
 invariant-walk l =
     record {
       count : l.rank + length (entries_met l.left) ≡ length (entries_met l.initial.left);
-      ranks : (id : Id) → option_or (last_place l.rank (entries_met l.left) id) (rank_with l.ids id) ≡ option_or (last_place 0 (entries_met l.initial.left) id) (rank_with l.initial.ids id);
+      ranks : (c : ℕ) → option_or (last_place l.rank (entries_met l.left) (Char c)) (rank_of_char l.characters c) ≡ last_place 0 (entries_met l.initial.left) (Char c);
       levels : l.weights.levels ≡ l.initial.weights.levels;
       own : l.weights.own ≡ l.initial.weights.own;
       lists : l.weights.lists ++ flat_map (compiled_entry (known_rank l.initial.ranks) l.initial.weights.levels) (entries_met l.left) ≡ l.initial.weights.lists ++ flat_map (compiled_entry (known_rank l.initial.ranks) l.initial.weights.levels) (entries_met l.initial.left);

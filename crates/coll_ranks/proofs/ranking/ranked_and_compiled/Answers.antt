@@ -1,8 +1,6 @@
 -- What the walk gives are the ranks of the table, and its weights: those of UNDEFINED, and then those of all entries.
-use Rattle.std.proofs.Common.{◌<◌, length, sym, ap, subst, ◌∙◌}
-use Rattle.std.specs.Option.{option_or}
+use Rattle.std.proofs.Common.{length, sym, ap, subst, ◌∙◌}
 use Rattle.coll_syntax.specs.Identifier.{same_id}
-use Rattle.coll_syntax.specs.declared.identifiers.Id.{Id}
 use Rattle.coll_syntax.specs.declared.identifiers.Id.TheVariants.{Undefined}
 use Rattle.coll_nodes.specs.Table.{Collation, entries_of, ids_of}
 use Rattle.coll_nodes.specs.TableLayout.{collation}
@@ -10,10 +8,9 @@ use Rattle.coll_nodes.specs.Walks.{entries_met}
 use Rattle.coll_nodes.specs.WellFormed.{AreDistinct}
 use Rattle.coll_draft.proofs.MetEntries.{met_all}
 use Rattle.coll_ranks.specs.Rank.{known_rank}
-use Rattle.coll_ranks.specs.Ranking.{last_place}
-use Rattle.coll_ranks.specs.Ranks.{RanksById, rank_with, compiled_row_by}
+use Rattle.coll_ranks.specs.Ranks.{compiled_row_by}
 use Rattle.coll_ranks.specs.WeightNumbers.{undefined_weights}
-use Rattle.coll_ranks.proofs.RankingLemmas.{few_met, ranks_of_table, weights_of_table}
+use Rattle.coll_ranks.proofs.RankingLemmas.{few_met, characters_of_table, weights_of_table}
 use Rattle.coll_ranks.proofs.ranking.ranked_and_compiled.Goals as goal
 
 pub put_walk-requires-clause-few : goal.put_walk-requires-clause-few
@@ -27,15 +24,11 @@ pub put_walk-requires-clause-distinct : goal.put_walk-requires-clause-distinct
 put_walk-requires-clause-distinct c =
     subst (λ (t : Collation). AreDistinct same_id (ids_of (entries_of t))) (sym (c.new-recent.ensures ∙ c.requires)) c.check_table.ensures.well_formed.built.distinct_entries
 
-pub set_last-requires : goal.set_last-requires
-set_last-requires c = subst (λ n. n < 1_000_000) (sym c.in_ok-entries.ensures.count) (few_met _ _ c.check_table.ensures.well_formed c.walk.ensures)
-
-pub returns-clause-ids : goal.returns-clause-ids
-returns-clause-ids c =
-    let none = λ (id : Id). ap (λ (ids : RanksById). option_or (last_place 0 (entries_met c.walk.result) id) (rank_with ids id)) c.in_ok-ids.ensures in
-    ranks_of_table (collation c.args.table.now) c.put_walk.new.ids c.set_last.new.self c.walk.result c.in_ok-entries.entries c.check_table.ensures.well_formed c.walk.ensures c.in_ok-entries.ensures.count (λ id. c.in_ok-entries.ensures.ranks id ∙ none id) c.set_last.ensures
+pub returns-clause-characters : goal.returns-clause-characters
+returns-clause-characters c =
+    characters_of_table (collation c.args.table.now) c.in_ok-characters.characters c.walk.result c.check_table.ensures.well_formed c.walk.ensures c.in_ok-characters.ensures.ranks
 
 pub returns-clause-lists : goal.returns-clause-lists
 returns-clause-lists c =
     let same = ap (λ (t : Collation). compiled_row_by (known_rank t) (length (collation c.args.table.now).rules) Undefined (undefined_weights (collation c.args.table.now))) (sym c.new-recent.ensures) in
-    weights_of_table (collation c.args.table.now) c.new-recent.result c.walk.result _ _ _ (c.new-recent.ensures ∙ c.requires) c.walk.ensures c.in_ok-weights.ensures.levels (c.in_ok-weights.ensures.lists ∙ same) c.in_ok-entries.ensures.rows.lists_are
+    weights_of_table (collation c.args.table.now) c.new-recent.result c.walk.result _ _ _ (c.new-recent.ensures ∙ c.requires) c.walk.ensures c.in_ok-weights.ensures.levels (c.in_ok-weights.ensures.lists ∙ same) c.in_ok-characters.ensures.rows.lists_are

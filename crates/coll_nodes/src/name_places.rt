@@ -1,0 +1,47 @@
+//! The places of names among all entries, kept apart from their table.
+//!
+//! A `NamePlaces` has a copy of a table's look-up of placed names, for which nothing is hashed, and the numbers of their nodes. So it
+//! tells the place of a name, from 1, as the table stood when it was made, also when the table has changed or is gone. What else is
+//! kept of a node may come beside the numbers.
+
+ghost use Rattle.std.specs.Prelude.{◌≡◌, chars};
+
+use crate::entry_numbers::EntryNumbers;
+use crate::node_names::NodeNames;
+use std::marker::Model;
+
+/// The places of names among all entries of a table.
+#[derive(Drop)]
+pub struct NamePlaces {
+    names: NodeNames,
+    numbers: EntryNumbers,
+}
+
+impl Model for NamePlaces {
+    ghost use Rattle.coll_nodes.specs.NamePlaces.{NamedPlaces};
+
+    ghost Value = { NamedPlaces };
+
+    ghost view = { λ p. record { names = p.names; numbers = p.numbers } };
+}
+
+impl NamePlaces {
+    ghost use Rattle.coll_nodes.specs.NamePlaces.{place_named};
+
+    /// The places of names, by the numbers of their nodes.
+    pub(crate) fn new(names: NodeNames, numbers: EntryNumbers) -> NamePlaces
+        ensures { result ≡ record { names = names; numbers = numbers } }
+    {
+        NamePlaces { names, numbers }
+    }
+
+    /// The place of a name among all entries, from 1, if it has an entry. It takes no memory.
+    pub fn place(&self, name: &str) -> Option<u32>
+        ensures { result ≡ place_named self.now (chars name.now) }
+    {
+        match self.names.find_text(name) {
+            Some(node) => Some(self.numbers.get(node)),
+            None => None,
+        }
+    }
+}
