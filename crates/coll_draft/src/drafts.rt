@@ -5,7 +5,7 @@
 //! of line, as `cause_after` does. After a refusal the draft is given up. What may stand where is changed in
 //! `specs/Drafts.antt` first.
 
-ghost use Rattle.std.specs.Prelude.{◌≡◌, ◌≢◌, ℕ, List, true, false, is_some, unwrap_or, [], length, Some, None, IfOk, IfErr, IfSome, OnOk};
+ghost use Rattle.std.specs.Prelude.{◌≡◌, ◌≢◌, ℕ, List, true, false, is_some, unwrap_or, [], length, Some, None, IfOk, IfErr, IfSome, OnOk, OnErr};
 ghost use Rattle.std.specs.List.{flat_map, list_any};
 ghost use Rattle.coll_lex.specs.Names.{IsName};
 ghost use Rattle.coll_syntax.specs.Proper.{IsElementText, IsProperTableLine, IsProperLine, IsNameIfGiven, AreRulesIfGiven};
@@ -16,7 +16,7 @@ ghost use Rattle.coll_draft.specs.Loading.{rules_after};
 ghost use Rattle.coll_draft.specs.OwnWeights.{is_equivalence};
 ghost use Rattle.coll_draft.specs.SoundDrafts.{IsSoundDraft, IsProperDeclaration, MayBePut};
 ghost use Rattle.coll_nodes.specs.Table.{name_of, text_of, is_declared, is_known, is_own_name, is_symbol, is_symbol_name};
-ghost use Rattle.coll_nodes.specs.OwnNames.{named_own, own_id, means_no_symbol};
+ghost use Rattle.coll_nodes.specs.OwnNames.{declares_second, is_second, named_own, own_id, means_no_symbol};
 ghost use Rattle.coll_nodes.specs.declared.declarations.Declaration.TheVariants as declaration;
 ghost use Rattle.coll_nodes.specs.WellFormed.{IsWellFormed};
 ghost use Rattle.coll_nodes.specs.Bodies.{value_of};
@@ -192,6 +192,7 @@ impl Draft {
         ensures own { IfOk result (λ own. own ≡ named_own self.now.declared symbol) }
         ensures symbol { IfOk result (λ own. is_symbol_name self.now.declared own ≡ true) }
         ensures err { IfErr result (λ cause. cause ≢ OutOfMemory → (name : List ℕ) → meaning_cause self.now.declared (second_name self.now.declared name symbol) ≡ Some cause) }
+        ensures memory { IfErr result (λ cause. cause ≡ OutOfMemory → list_any (declares_second symbol) self.now.declared ≡ true) }
     {
         self.check();
         match self.builder.declaration(&symbol) {
@@ -361,22 +362,24 @@ impl Draft {
     }
 
     /// An order line, with its identifier by its own name, and whether that is a symbol, if it may stand in a section: both by one
-    /// look-up.
+    /// look-up. It takes memory for a second name.
     fn own_order(&self, line: OrderLine) -> Result<(OrderLine, Option<bool>), AllocError>
         ensures own { IfOk result (λ own. own.0 ≡ own_order self.now.declared line) }
         ensures known { IfOk result (λ own. is_some own.1 ≡ is_known self.now.declared own.0.id) }
         ensures symbol { IfOk result (λ own. unwrap_or own.1 false ≡ is_symbol self.now.declared own.0.id) }
+        ensures memory { OnErr result (is_second self.now.declared line.id ≡ true) }
     {
         let OrderLine { id, weights } = line;
         let (id, symbol) = self.own_id(id)?;
         Ok((OrderLine { id, weights }, symbol))
     }
 
-    /// An identifier by its own name, and whether that is a symbol, if it may stand in a section.
+    /// An identifier by its own name, and whether that is a symbol, if it may stand in a section. It takes memory for a second name.
     fn own_id(&self, id: Id) -> Result<(Id, Option<bool>), AllocError>
         ensures own { IfOk result (λ own. own.0 ≡ own_id self.now.declared id) }
         ensures known { IfOk result (λ own. is_some own.1 ≡ is_known self.now.declared own.0) }
         ensures symbol { IfOk result (λ own. unwrap_or own.1 false ≡ is_symbol self.now.declared own.0) }
+        ensures memory { OnErr result (is_second self.now.declared id ≡ true) }
     {
         match id {
             Id::Char(c) => Ok((Id::Char(c), Some(false))),
@@ -388,11 +391,12 @@ impl Draft {
         }
     }
 
-    /// The own name of a name, and whether it is that of a symbol, if the own name is declared.
+    /// The own name of a name, and whether it is that of a symbol, if the own name is declared. It takes memory for a second name.
     fn own_name(&self, name: TextBuf) -> Result<(TextBuf, Option<bool>), AllocError>
         ensures own { IfOk result (λ own. own.0 ≡ named_own self.now.declared name) }
         ensures known { IfOk result (λ own. is_some own.1 ≡ is_own_name self.now.declared own.0) }
         ensures symbol { IfOk result (λ own. unwrap_or own.1 false ≡ is_symbol_name self.now.declared own.0) }
+        ensures memory { OnErr result (list_any (declares_second name) self.now.declared ≡ true) }
     {
         self.check();
         match self.builder.declaration(&name) {

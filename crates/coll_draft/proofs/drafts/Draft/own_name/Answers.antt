@@ -1,4 +1,4 @@
--- The declaration of a name tells its own name, and whether that is a symbol's.
+-- The declaration of a name tells its own name, whether that is a symbol's, and whether the name is a second one.
 use Rattle.std.proofs.Common.{Option, Some, ap, sym, ◌∙◌}
 use Rattle.std.specs.Prelude.{option_copied, option_map, unwrap_or}
 use Rattle.coll_draft.specs.Drafts.{DraftState}
@@ -6,6 +6,7 @@ use Rattle.coll_nodes.specs.OwnNames.{declaration_of, stands_for}
 use Rattle.coll_nodes.specs.Table.{is_own_name, is_symbol_name}
 use Rattle.coll_nodes.specs.declared.declarations.Declaration.{Declaration}
 use Rattle.coll_nodes.proofs.OwnNames.{named_own_same, own_told, second_is_symbol, second_told, symbol_own, symbol_told}
+use Rattle.coll_statements.proofs.SecondNames.{on_err}
 use Rattle.coll_draft.proofs.drafts.Draft.own_name.Goals as goal
 
 pub returns-in-Some-Symbol-clause-own : goal.returns-in-Some-Symbol-clause-own
@@ -59,6 +60,12 @@ returns-in_ok-own-in-Some-Equivalence-clause-symbol c =
     let found = sym (c.declaration.ensures ∙ ap (λ (it : DraftState). declaration_of it.declared c.args.name) c.self.view_is) ∙ (ap option_copied c.in-Some-Equivalence.is ∙ ap Some c.in-Some-Equivalence.field-0-is) in
     let own = c.in_ok-own-in-Some-Equivalence.ensures ∙ sym (ap (λ (it : Option Declaration). unwrap_or (option_map stands_for it) c.args.name) found) in
     sym (ap (is_symbol_name d.declared) own ∙ second_is_symbol d.declared c.args.name c.check.ensures.built.meant distinct (second_told d.declared c.args.name distinct _ found))
+
+pub returns-in_err-own-in-Some-Equivalence-clause-memory : goal.returns-in_err-own-in-Some-Equivalence-clause-memory
+returns-in_err-own-in-Some-Equivalence-clause-memory c =
+    let d = c.args.self.now in
+    let found = sym (c.declaration.ensures ∙ ap (λ (it : DraftState). declaration_of it.declared c.args.name) c.self.view_is) ∙ (ap option_copied c.in-Some-Equivalence.is ∙ ap Some c.in-Some-Equivalence.field-0-is) in
+    on_err _ _ (second_told d.declared c.args.name c.check.ensures.built.distinct_names _ found)
 
 pub returns-in-None-clause-known : goal.returns-in-None-clause-known
 returns-in-None-clause-known c =
