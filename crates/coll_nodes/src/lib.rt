@@ -6,8 +6,8 @@
 //!
 //! - `declarations`, `entries` and `limits`: what a table is made of (`Table`, `Entries`, `WellFormed`, `Limits`, `Placement`);
 //! - `contents` and `nodes`: rings of nodes, and what each node is (`TableLayout`, `Bodies`, `Moving`);
-//! - `node_names`, `node_ids` and `node_keys`: which node has a name, and which an identifier (`NodeLookUps`, `NodeMaps`,
-//!   `KeyedNodes`), under keys, `hash_keys`;
+//! - `name_keys`, `node_names`, `node_ids` and `node_keys`: which node has a name, and which an identifier (`NameKeys`,
+//!   `NodeLookUps`, `NodeMaps`, `KeyedNodes`), under keys, `hash_keys`;
 //! - `bodies`, `bodies/own_names` and `bodies/linking`: the whole, with its look-ups and `counts`, what names stand for, and what
 //!   is put in, moved and taken out (`SoundBodies`, `SoundLayouts`, `BodyInvariant`, `Counting`, `OwnNames`, `Linking`);
 //! - `walks` and `met_nodes`: a body, read in order (`Walks`, `WalkStates`, `WalkItems`);
