@@ -1,8 +1,8 @@
 //! The places of names among all entries, kept apart from their table.
 //!
-//! A `NamePlaces` has a copy of a table's look-up of placed names, for which nothing is hashed, and the numbers of their nodes. So it
-//! tells the place of a name, from 1, as the table stood when it was made, also when the table has changed or is gone. What else is
-//! kept of a node may come beside the numbers.
+//! A `NamePlaces` has a copy of a table's look-up of placed names, and the numbers of their nodes. So it tells the place of a name,
+//! from 1, as the table stood when it was made, also when the table has changed or is gone. What else is kept of a node may come
+//! beside the numbers.
 
 ghost use Rattle.std.specs.Prelude.{◌≡◌, chars};
 

@@ -125,7 +125,7 @@ impl Table {
         self.body.entry_number(numbers, id)
     }
 
-    /// The places of its names among all entries, from 1, by the numbers of its entries, in new memory. It hashes no name.
+    /// The places of its names among all entries, from 1, by the numbers of its entries, in new memory.
     ///
     /// They are those of the table as it stands, and stay so when it changes.
     #[tactic(auto, unfolding(coll_nodes::specs::TableLayout::collation))]

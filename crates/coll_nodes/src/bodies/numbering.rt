@@ -43,7 +43,7 @@ impl Body {
             None => None,
         }
     }
-    /// The places of its names, apart from it, in new memory. It hashes no name.
+    /// The places of its names, apart from it, in new memory.
     pub fn name_places(
         &self,
         alloc: Global,
