@@ -29,25 +29,37 @@ def word(number, entries):
     return "".join(chr(0x10000 + (number * LETTERS + letter) % (entries // 2)) for letter in range(LETTERS))
 
 
-def lines(entries, is_asked):
-    """The lines of a session on a table of so many entries, with looks or without."""
-    look = [f':key "{word(number, entries)}"\n' if is_asked else "" for number in range(2 * TURNS)]
-    return "".join(f"{one_line(number, entries)}{look[2 * number]}:undo\n{look[2 * number + 1]}" for number in range(TURNS))
+def looked_over(work):
+    """The tables, each with its name, the blocks that change it, and the words that are looked up."""
+    for entries in (SMALL, ENTRIES):
+        table = written(work, f"table{entries}", entries, DECLARATIONS * entries // ENTRIES)
+        blocks = [one_line(number, entries) for number in range(TURNS)]
+        yield f"{entries:,} entries", table, blocks, [word(number, entries) for number in range(2 * TURNS)]
 
 
-def per_look(programs, table, entries):
+def lines(blocks, looks):
+    """The lines of a session of these blocks, with a look behind each, and one behind its `:undo`."""
+    return "".join(f"{block}{looks[2 * number]}:undo\n{looks[2 * number + 1]}" for number, block in enumerate(blocks))
+
+
+def least(programs, table, texts):
+    """The least times of sessions of these texts, in turns: of each text those of all programs."""
+    runs = [[session(program, table, text) for text in texts for program in programs] for _ in range(RUNS)]
+    times = [min(each) for each in zip(*runs)]
+    return [times[first : first + len(programs)] for first in range(0, len(times), len(programs))]
+
+
+def per_look(programs, table, blocks, words):
     """The least time of a look with each program, in seconds."""
-    texts = [lines(entries, is_asked) for is_asked in (True, False)]
-    runs = [[session(program, table, text) for program in programs for text in texts] for _ in range(RUNS)]
-    least = [min(times) for times in zip(*runs)]
-    return [(asked - alone) / (2 * TURNS) for asked, alone in zip(least[::2], least[1::2])]
+    looks = [f':key "{word}"\n' for word in words]
+    asked, alone = least(programs, table, [lines(blocks, looks), lines(blocks, [""] * len(looks))])
+    return [(time - other) / len(looks) for time, other in zip(asked, alone)]
 
 
 def main(programs, work):
-    for entries in (SMALL, ENTRIES):
-        table = written(work, f"table{entries}", entries, DECLARATIONS * entries // ENTRIES)
-        for program, time in zip(programs, per_look(programs, table, entries)):
-            print(f"{entries:,} entries, {os.path.relpath(program, ROOT)}: {time * 1e6:.1f} microseconds a look")
+    for name, table, blocks, words in looked_over(work):
+        for program, time in zip(programs, per_look(programs, table, blocks, words)):
+            print(f"{name}, {os.path.relpath(program, ROOT)}: {time * 1e6:.1f} microseconds a look")
 
 
 if __name__ == "__main__":

@@ -34,8 +34,13 @@ def identifier(number):
 
 
 def block(target, entries):
-    """The lines of a block that puts entries behind a target."""
-    return "".join(f"{line}\n" for line in (f"reorder-after {identifier(target)}", *map(identifier, entries), "reorder-end"))
+    """The lines of a block that puts entries behind a target, by their numbers."""
+    return block_by_names(identifier(target), map(identifier, entries))
+
+
+def block_by_names(target, entries):
+    """The lines of a block that puts entries behind a target, by their identifiers."""
+    return "".join(f"{line}\n" for line in (f"reorder-after {target}", *entries, "reorder-end"))
 
 
 def blocks(count, least, most):
