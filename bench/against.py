@@ -10,10 +10,10 @@ that has the weights of a real one. TABLE is a file that stands in their place, 
 table are printed, for PROGRAM and for OTHER, the least of ten runs, and how many times that of OTHER the first takes:
 
 - `check`;
-- the first look: the `:key` of a text too long for a short look (`kept_ranks.rt` of coll_replies), which makes all ranks, beyond a
-  session without lines;
-- a `:key` and a `:compare` line, of 4,000 words of ten letters twenty-five times over, beyond a session of the first look alone;
-- a look behind a change, as looks.py measures it, on its two tables, or on TABLE.
+- a `:key` and a `:compare` line, of 4,000 words of ten letters twenty-five times over, beyond a session of a first look alone;
+- a look behind a change, as looks.py measures it, on its two tables, or on TABLE;
+- a first look: fifty such looks at a text that is too long for a short look (`kept_ranks.rt` of coll_replies), each of which makes all
+  ranks.
 
 Whatever else the machine does slows both alike. What is told apart so is a hundredth or two of a load, and more of the others.
 """
@@ -34,6 +34,7 @@ from withdrawals import timed
 WORDS = 4_000
 TIMES = 25
 LONG = 65
+FIRST_LOOKS = 50
 UNITS = {"s": 1, "ms": 1e-3, "microseconds": 1e-6, "ns": 1e-9}
 
 
@@ -49,7 +50,7 @@ def show(what, times, unit):
     print(f"{what}: {first / UNITS[unit]:.4g} and {other / UNITS[unit]:.4g} {unit}, {first / other:.3f} times", flush=True)
 
 
-def beyond(times, less, count=1):
+def beyond(times, less, count):
     """What each of so many took with each program, beyond what is there without them."""
     return [(time - other) / count for time, other in zip(times, less)]
 
@@ -61,13 +62,12 @@ def show_checks(name, programs, table):
 
 
 def show_sessions(name, programs, table, letters):
-    """Prints what a first look takes, and lines behind it."""
+    """Prints what lines behind a first look take."""
     words = words_of(letters, WORDS)
     first = f':key "{letters[0] * LONG}"\n'
     keys = "".join(f':key "{word}"\n' for word in words) * TIMES
     orders = "".join(f':compare "{word}" "{other}"\n' for word, other in zip(words, words[1:] + words[:1])) * TIMES
-    none, looked, keyed, compared = least(programs, table, ["", first, first + keys, first + orders])
-    show(f"{name}, the first look", beyond(looked, none), "ms")
+    looked, keyed, compared = least(programs, table, [first, first + keys, first + orders])
     show(f"{name}, a :key line", beyond(keyed, looked, WORDS * TIMES), "ns")
     show(f"{name}, a :compare line", beyond(compared, looked, WORDS * TIMES), "ns")
 
@@ -99,6 +99,8 @@ def main(programs, given, work):
         show_sessions(name, programs, table, letters)
     for name, table, blocks, words in looked_over_alone(programs[0], given) if given else looked_over(work):
         show(f"{name}, a look behind a change", per_look(programs, table, blocks, words), "microseconds")
+        long = [word[0] * LONG for word in words[:FIRST_LOOKS]]
+        show(f"{name}, a first look", per_look(programs, table, blocks[: FIRST_LOOKS // 2], long), "ms")
 
 
 if __name__ == "__main__":
