@@ -187,7 +187,8 @@ impl Draft {
         }
     }
 
-    /// The own name of what a second name is for, which has to be a collating symbol. It takes memory for a second name.
+    /// The own name of what a second name is for, which has to be a collating symbol. Want of memory is
+    /// answered for a second name alone.
     fn own_symbol(&self, symbol: TextBuf) -> Result<TextBuf, LoadCause>
         ensures own { IfOk result (λ own. own ≡ named_own self.now.declared symbol) }
         ensures symbol { IfOk result (λ own. is_symbol_name self.now.declared own ≡ true) }
@@ -362,7 +363,7 @@ impl Draft {
     }
 
     /// An order line, with its identifier by its own name, and whether that is a symbol, if it may stand in a section: both by one
-    /// look-up. It takes memory for a second name.
+    /// look-up. Want of memory is answered for a second name alone.
     fn own_order(&self, line: OrderLine) -> Result<(OrderLine, Option<bool>), AllocError>
         ensures own { IfOk result (λ own. own.0 ≡ own_order self.now.declared line) }
         ensures known { IfOk result (λ own. is_some own.1 ≡ is_known self.now.declared own.0.id) }
@@ -374,7 +375,8 @@ impl Draft {
         Ok((OrderLine { id, weights }, symbol))
     }
 
-    /// An identifier by its own name, and whether that is a symbol, if it may stand in a section. It takes memory for a second name.
+    /// An identifier by its own name, and whether that is a symbol, if it may stand in a section. Want of memory is
+    /// answered for a second name alone.
     fn own_id(&self, id: Id) -> Result<(Id, Option<bool>), AllocError>
         ensures own { IfOk result (λ own. own.0 ≡ own_id self.now.declared id) }
         ensures known { IfOk result (λ own. is_some own.1 ≡ is_known self.now.declared own.0) }
@@ -391,7 +393,8 @@ impl Draft {
         }
     }
 
-    /// The own name of a name, and whether it is that of a symbol, if the own name is declared. It takes memory for a second name.
+    /// The own name of a name, and whether it is that of a symbol, if the own name is declared. Want of memory is
+    /// answered for a second name alone.
     fn own_name(&self, name: TextBuf) -> Result<(TextBuf, Option<bool>), AllocError>
         ensures own { IfOk result (λ own. own.0 ≡ named_own self.now.declared name) }
         ensures known { IfOk result (λ own. is_some own.1 ≡ is_own_name self.now.declared own.0) }

@@ -28,7 +28,7 @@ use Rattle.coll_nodes.specs.declared.node_keys.NodeKeys.{NodeKeys}
 use Rattle.coll_nodes.proofs.AlikeLayouts.{AreAlike, reweighed, names_stay, texts_stay, section_names_stay, rings_stay, ids_stay, shaped_alike, found_alike, counts_alike, same_counts}
 use Rattle.coll_nodes.proofs.ChangedNodes.{bare, bare_alike, content_dropped, content_weighed, weighed_alike, kept_weights}
 use Rattle.coll_nodes.proofs.EmptyRings.{one_ring_more, finds_push, shaped_push, declared_push, sections_push}
-use Rattle.coll_nodes.proofs.KeyedNodes.{keys_stay, section_keys}
+use Rattle.coll_nodes.proofs.KeyedNodes.{section_keys}
 use Rattle.coll_nodes.proofs.LinkedBodies.{fits_alike, apart_alike, linked_sound, reserved_kept}
 use Rattle.coll_nodes.proofs.NodeCounts.{has_room}
 use Rattle.coll_nodes.proofs.TakenBodies.{loose_ringless}

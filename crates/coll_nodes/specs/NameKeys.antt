@@ -10,6 +10,6 @@ name_of_key key = key.name
 abbrev pub bytes_of : NameKey → List ℕ
 bytes_of key = encode_utf8_all key.name
 
--- the bytes of a key are those of its characters, and of no others
-abbrev pub IsText : NameKey → Type 0
-IsText key = chars (bytes_of key) ≡ key.name
+-- the characters of a key are read back from its bytes
+abbrev pub IsReadBack : NameKey → Type 0
+IsReadBack key = chars (bytes_of key) ≡ key.name

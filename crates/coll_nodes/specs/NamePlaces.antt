@@ -9,14 +9,14 @@ use Rattle.coll_nodes.specs.Table.{joined_entries}
 use Rattle.coll_nodes.specs.TableLayout.{TableLayout, sections_at}
 
 -- the node of each name, and the number of each node
-pub record NamedPlaces : Type 0 where
+pub record NamePlacesValue : Type 0 where
   pub names : List (Leading (List ℕ))
   pub numbers : List ℕ
 
 -- the place of a name
-abbrev pub place_named : NamedPlaces → List ℕ → Option ℕ
+abbrev pub place_named : NamePlacesValue → List ℕ → Option ℕ
 place_named places name = option_map (number_at places.numbers) (node_named places.names name)
 
--- each name has its place among all entries, from 1
-abbrev pub ArePlacesOf : NamedPlaces → TableLayout → Type 0
+-- each name that has an entry has the place of that among all, from 1, and no other name has one
+abbrev pub ArePlacesOf : NamePlacesValue → TableLayout → Type 0
 ArePlacesOf places layout = (name : List ℕ) → place_named places name ≡ place_among (joined_entries (sections_at layout)) (Named name)

@@ -1,7 +1,7 @@
 //! A name as the key of a look-up by hash.
 //!
-//! A `NameKey` is compared and hashed by the bytes of its name, and so it is found by a `&str` too (`specs/NameKeys.antt`). A
-//! short name lies in the key itself, so that most keys take no memory. What is hashed may change, for both alike.
+//! A `NameKey` is compared and hashed by the bytes of its name, and so it is found by a `&str` too (`specs/NameKeys.antt`). A name
+//! that lies in its value lies in the key itself, so that most keys take no memory. What is hashed may change, for both alike.
 
 ghost use Rattle.std.specs.Prelude.{◌≡◌, IfOk};
 ghost use Rattle.std.specs.Cmp.Lexicographic.{bytes_decides, nat_list_eq_equiv};
@@ -9,7 +9,7 @@ ghost use Rattle.std.specs.Cmp.{on_equiv, on_per, partial_equiv_from_equiv};
 ghost use Rattle.std.specs.Hash as fed;
 ghost use Rattle.std.specs.Str.{bytes_eq};
 ghost use Rattle.std.proofs.Common.{ap};
-ghost use Rattle.coll_nodes.specs.NameKeys.{bytes_of, IsText};
+ghost use Rattle.coll_nodes.specs.NameKeys.{bytes_of, IsReadBack};
 
 use coll_lex::TextBuf;
 use indexmap::Equivalent;
@@ -23,12 +23,12 @@ pub(crate) struct NameKey {
 }
 
 impl NameKey {
-    /// A copy of a name. A short one takes no memory.
+    /// A copy of a name. One that lies in its value takes no memory.
     pub(crate) fn copied(name: &TextBuf) -> Result<NameKey, AllocError>
         ensures name { IfOk result (λ key. key.name ≡ name.now) }
-        ensures text { IfOk result IsText }
+        ensures text { IfOk result IsReadBack }
     {
-        // The name is lent for what is then known of it: its bytes are those of its characters.
+        // The name is lent for what is then known of it: its characters are read back from its bytes.
         let _bytes = name.get();
         let name = name.try_copy()?;
         Ok(NameKey { name })

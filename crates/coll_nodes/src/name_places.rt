@@ -1,8 +1,8 @@
 //! The places of names among all entries, kept apart from their table.
 //!
-//! A `NamePlaces` has a copy of a table's look-up of placed names, and the numbers of their nodes. So it tells the place of a name,
-//! from 1, as the table stood when it was made, also when the table has changed or is gone. What else is kept of a node may come
-//! beside the numbers.
+//! A `NamePlaces` has a copy of a table's look-up of placed names, and the numbers of all nodes that are entries. So it tells the
+//! place of a name, from 1, as the table stood when it was made, also when the table has changed or is gone. How a name is found may
+//! change.
 
 ghost use Rattle.std.specs.Prelude.{◌≡◌, chars};
 
@@ -18,9 +18,9 @@ pub struct NamePlaces {
 }
 
 impl Model for NamePlaces {
-    ghost use Rattle.coll_nodes.specs.NamePlaces.{NamedPlaces};
+    ghost use Rattle.coll_nodes.specs.NamePlaces.{NamePlacesValue};
 
-    ghost Value = { NamedPlaces };
+    ghost Value = { NamePlacesValue };
 
     ghost view = { λ p. record { names = p.names; numbers = p.numbers } };
 }

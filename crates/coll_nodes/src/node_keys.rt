@@ -90,7 +90,8 @@ impl NodeKeys {
         }
     }
 
-    /// Makes what a node is found by keys, and lead to a node, or to none.
+    /// Makes keys of what a node is found by, and lets them lead to a node, or to none. Where memory is refused, each key leads to
+    /// where it led, and some may have come in.
     pub(crate) fn put(&mut self, content: &Content, node: Option<NodeId>) -> Result<(), AllocError>
         ensures ok { OnOk result (SetsKeys self.old self.new content.now node) }
         ensures keys { OnOk result (HasKeysOf self.new content.now) }

@@ -22,7 +22,7 @@ pub(crate) struct NodeNames {
 
 impl Model for NodeNames {
     ghost use Rattle.std.specs.Prelude.{List, ℕ};
-    ghost use Rattle.coll_nodes.specs.NameKeys.{IsText};
+    ghost use Rattle.coll_nodes.specs.NameKeys.{IsReadBack};
     ghost use Rattle.coll_nodes.specs.NodeLookUps.{Leading};
     ghost use Rattle.coll_nodes.specs.NodeMaps.{names_lead, AreKeys};
 
@@ -30,7 +30,7 @@ impl Model for NodeNames {
 
     ghost view = { λ n. names_lead n.names.entries };
 
-    ghost invariant = { λ n. AreKeys IsText n.names.entries };
+    ghost invariant = { λ n. AreKeys IsReadBack n.names.entries };
 }
 
 impl NodeNames {

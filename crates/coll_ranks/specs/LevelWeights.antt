@@ -29,6 +29,6 @@ row_numbers weights level row = map (added_to (added_at weights level row.code))
 abbrev pub level_ranks : LevelWeights → PartRow → List ℕ
 level_ranks weights row = slice_index_or (map (cell_list weights.long.now) weights.cells.now) row.first []
 
--- and its numbers
+-- and the numbers of a row, by the weights of one level
 abbrev pub level_numbers : LevelWeights → PartRow → List ℕ
 level_numbers weights row = map (added_to (weights.times * row.code)) (level_ranks weights row)

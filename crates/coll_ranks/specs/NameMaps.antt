@@ -18,7 +18,7 @@ number_named (first ∷ later) name = if same_name name first.name then Some fir
 abbrev pub named_numbers : {Y : Type 0} → List (String Y × ℕ) → List NamedNumber
 named_numbers entries = map (λ e. record { name = characters_of e.0; number = e.1 }) entries
 
--- the characters of a text are those of its bytes, and no others
+-- the bytes of a text are those of its characters, and no others
 abbrev pub IsText : {Y : Type 0} → String Y → Type 0
 IsText text = encode_utf8_all (characters_of text) ≡ string_bytes text
 

@@ -21,6 +21,6 @@ rank_among entries id = option_or (place_among entries id) (rank_unplaced (lengt
 abbrev pub rank_of : Collation → Id → Option ℕ
 rank_of table id = rank_among (entries_of table) id
 
--- the rank of an identifier that has one
+-- the rank of an identifier, and 0 for one that has none
 abbrev pub known_rank : Collation → Id → ℕ
 known_rank table id = unwrap_or (rank_of table id) 0

@@ -8,7 +8,7 @@ use Rattle.coll_syntax.specs.declared.identifiers.Id.TheVariants.{Char, Named, U
 use Rattle.coll_syntax.specs.declared.weights.Weight.{Weight}
 use Rattle.coll_syntax.specs.declared.weights.Weight.TheVariants.{Ignore, Own, Names}
 use Rattle.coll_print.specs.CanonicalText.{is_own}
-use Rattle.coll_nodes.specs.NamePlaces.{NamedPlaces, place_named}
+use Rattle.coll_nodes.specs.NamePlaces.{NamePlacesValue, place_named}
 use Rattle.coll_nodes.specs.Table.{Collation, entries_of}
 use Rattle.coll_nodes.specs.declared.entries.Entry.{Entry}
 use Rattle.coll_ranks.specs.Elements.{Element, elements_placed, split}
@@ -21,7 +21,7 @@ use Rattle.coll_ranks.specs.declared.parts.Part.TheVariants.{Placed, Absent}
 -- the ranks of identifiers: the places of names, a list with a number for each code point, 0 for a character that has none, and the
 -- rank of UNDEFINED
 pub record RanksById : Type 0 where
-  pub names : NamedPlaces
+  pub names : NamePlacesValue
   pub characters : List ℕ
   pub undefined : ℕ
 

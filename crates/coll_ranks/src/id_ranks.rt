@@ -1,6 +1,6 @@
 //! Ranks by identifier.
 //!
-//! An `IdRanks` finds a name by hash, in a copy of the look-up that the table has itself, and a character by its code point. A new
+//! An `IdRanks` finds a name by hash, in a copy of the look-up that the table has itself, with the names that it once had, and a character by its code point. A new
 //! kind of identifier is a field more.
 
 ghost use Rattle.std.specs.Prelude.{◌≡◌, chars};

@@ -1,8 +1,8 @@
 //! The ranks of a table, with its weights compiled.
 //!
-//! A `Ranks` is made of a table in one walk, which gives each character its rank and compiles the weights, which then stand as ranks
-//! in one list; names are found in a copy of the table's own look-up. It keeps nothing of the table itself, so it is true of each
-//! table with the same rules, declarations and sections (`AreRanksOf` of `specs/Ranks.antt`), and of a changed table it isn't.
+//! The entries of a table are numbered; then one walk over them gives each character its rank and compiles the weights, which stand
+//! as ranks in one list, and one over the declarations takes the placed elements. Names are found in a copy of the table's own
+//! look-up. A `Ranks` keeps nothing of the table itself, so it is true of each table with the same rules, declarations and sections (`AreRanksOf` of `specs/Ranks.antt`), and of a changed table it isn't.
 
 ghost use Rattle.std.specs.Prelude.{◌≡◌, ◌<◌, ◌≤◌, ◌+◌, ◌∷◌, ℕ, [], chars, length, map, option_copied, Option, IfOk, IfSome, MatchOption};
 ghost use Rattle.coll_nodes.specs.TableLayout.{collation};

@@ -102,10 +102,9 @@ impl Table {
         }
     }
 
-    /// Gives each entry its place among all, from 1, for `entry_number`. It takes memory only for entries that the numbers have no
-    /// room for yet.
+    /// Gives each entry its place among all, from 1, for `entry_number`.
     ///
-    /// The numbers are those of the table as it stands. After an `apply` or a `flip` they are to be given anew; so are they where
+    /// It takes memory for entries that the numbers have no room for yet, which no clause says. The numbers are those of the table as it stands. After an `apply` or a `flip` they are to be given anew; so are they where
     /// memory was refused, since part of them is then written over.
     #[tactic(auto, unfolding(coll_nodes::specs::TableLayout::collation))]
     pub fn number_entries(&self, numbers: &mut EntryNumbers) -> Result<(), AllocError>
@@ -125,7 +124,8 @@ impl Table {
         self.body.entry_number(numbers, id)
     }
 
-    /// The places of its names among all entries, from 1, by the numbers of its entries, in new memory.
+    /// The places of the names that have entries, from 1, kept apart from the table: its look-up is copied, and the numbers of its
+    /// entries are taken over, also where memory is refused.
     ///
     /// They are those of the table as it stands, and stay so when it changes.
     #[tactic(auto, unfolding(coll_nodes::specs::TableLayout::collation))]

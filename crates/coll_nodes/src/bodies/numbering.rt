@@ -1,7 +1,7 @@
 //! The places of a body's entries, kept beside it.
 //!
-//! A caller keeps an `EntryNumbers`, has it filled when the body has changed, and then asks it for places. Where the numbers are
-//! given up to it, they make a `NamePlaces`, which needs the body no more.
+//! A caller keeps an `EntryNumbers`, has it filled when the body has changed, and then asks it for places. From numbers that are
+//! handed over a `NamePlaces` is made, which needs the body no more.
 
 ghost use Rattle.std.specs.Prelude.{◌≡◌, ◌<◌, length, IfOk, OnOk};
 
@@ -20,9 +20,10 @@ impl Body {
     ghost use Rattle.coll_nodes.specs.TableLayout.{sections_at};
     ghost use Rattle.coll_nodes.specs.WellFormed.{AreDistinct};
 
-    /// Gives each entry its place, from 1. It takes memory only for nodes that the numbers have no room for yet.
+    /// Gives each entry its place, from 1.
     ///
-    /// Where memory is refused, the numbers are those of no table, and are to be given anew.
+    /// It takes memory for nodes that the numbers have no room for yet, which no clause says. Where memory is refused, nothing is known
+    /// of the numbers, and they are to be given anew.
     pub fn number_entries(&self, numbers: &mut EntryNumbers) -> Result<(), AllocError>
         requires few { length (joined_entries (sections_at self.now.layout)) < 1_000_000 }
         requires distinct { AreDistinct same_id (ids_of (joined_entries (sections_at self.now.layout))) }
@@ -43,7 +44,9 @@ impl Body {
             None => None,
         }
     }
-    /// The places of its names, apart from it, in new memory.
+
+    /// The places of the names that have entries, kept apart from it: its look-up is copied, and the numbers are taken over, also
+    /// where memory is refused.
     pub fn name_places(
         &self,
         alloc: Global,

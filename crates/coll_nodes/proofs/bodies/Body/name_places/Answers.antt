@@ -2,7 +2,7 @@
 use Rattle.std.proofs.Common.{ap, ◌∙◌}
 use Rattle.std.specs.Option.{option_map}
 use Rattle.coll_syntax.specs.declared.identifiers.Id.TheVariants.{Named}
-use Rattle.coll_nodes.specs.NamePlaces.{NamedPlaces, place_named}
+use Rattle.coll_nodes.specs.NamePlaces.{NamePlacesValue, place_named}
 use Rattle.coll_nodes.specs.NodeLookUps.{node_named, node_with}
 use Rattle.coll_nodes.specs.NodeNumbers.{number_at}
 use Rattle.coll_nodes.proofs.NumberedNodes.{found_place}
@@ -11,4 +11,4 @@ use Rattle.coll_nodes.proofs.bodies.Body.name_places.Goals as goal
 pub returns : goal.returns
 returns c = λ name.
     let place = found_place c.self.inside.nodes.layout c.args.numbers (node_with c.self.inside.keys.placed) (Named name) c.self.invariant.shaped c.self.invariant.found.ids (rw c.self.view_is c.requires) in
-    rw (← c.self.view_is) (ap (λ (places : NamedPlaces). place_named places name) c.new.ensures ∙ (ap (λ names. option_map (number_at c.args.numbers) (node_named names name)) c.in_ok-names.ensures ∙ place))
+    rw (← c.self.view_is) (ap (λ (places : NamePlacesValue). place_named places name) c.new.ensures ∙ (ap (λ names. option_map (number_at c.args.numbers) (node_named names name)) c.in_ok-names.ensures ∙ place))

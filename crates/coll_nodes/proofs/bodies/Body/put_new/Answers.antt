@@ -7,7 +7,6 @@ use Rattle.coll_nodes.specs.Counting.{HasRoomFor, counts_with}
 use Rattle.coll_nodes.specs.KeyedNodes.{HasKeysOf, SetsKeys}
 use Rattle.coll_nodes.specs.TableLayout.{TableLayout}
 use Rattle.coll_nodes.specs.declared.contents.Content.{Content}
-use Rattle.coll_nodes.specs.declared.counts.Counts.{Counts}
 use Rattle.coll_nodes.proofs.BodySteps.{place_among_rings}
 use Rattle.coll_nodes.proofs.LinkedBodies.{ring_for}
 use Rattle.coll_nodes.proofs.MadeBodies.{dropped_again, made_known, made_room, no_ring, put_new_sound, reserved_sound}

@@ -1,12 +1,12 @@
 -- The names of a clone lead to where they led.
 use Rattle.std.proofs.Common.{◌∙◌}
-use Rattle.coll_nodes.specs.NameKeys.{name_of_key, IsText}
+use Rattle.coll_nodes.specs.NameKeys.{name_of_key, IsReadBack}
 use Rattle.coll_nodes.proofs.NodeLookUps.{same_if_any, copied_leads, copied_good}
-use Rattle.coll_nodes.proofs.NameNodes.{same_is_text}
+use Rattle.coll_nodes.proofs.NameNodes.{same_is_read_back}
 use Rattle.coll_nodes.proofs.node_names.NodeNames.try_copy.Goals as goal
 
 pub invariant_of-result : goal.invariant_of-result
-invariant_of-result c = copied_good _ _ IsText same_is_text c.self.inside.names.entries c.in_ok-names.names.entries c.in_ok-names.ensures.cases c.self.invariant
+invariant_of-result c = copied_good _ _ IsReadBack same_is_read_back c.self.inside.names.entries c.in_ok-names.names.entries c.in_ok-names.ensures.cases c.self.invariant
 
 pub returns : goal.returns
 returns c =
