@@ -1,9 +1,9 @@
 -- What a text's bytes and its characters have in common.
-use Rattle.std.proofs.Common.{◌≡◌, ℕ, ◌==◌, ◌&&◌, Bool, List, [], ◌∷◌, ◌++◌, length, chars, IsUtf8, encode_utf8, encode_utf8_all, Result, Ok, Err, OnOk, OnErr, refl, ap, sym, ◌∙◌, arith}
+use Rattle.std.proofs.Common.{◌≡◌, ℕ, ◌==◌, ◌&&◌, Bool, List, [], ◌∷◌, ◌++◌, length, chars, IsUtf8, encode_utf8, encode_utf8_all, refl, ap, sym, ◌∙◌, arith}
 use Rattle.std.specs.Char.{IsScalar}
 use Rattle.std.specs.Str.{all_scalars}
 use Rattle.std.proofs.Math.Bool.{and-true}
-use Rattle.std.proofs.lemmas.Str.{scalars-chars, chars-append, encodes-chars, chars_past_char, length-le-encodes, chars-nil, IsUtf8-append, IsUtf8-encode}
+use Rattle.std.proofs.lemmas.Str.{scalars-chars, chars-append, encodes-chars, chars_past_char, length-le-encodes, chars-nil, IsUtf8-encode}
 use Rattle.std.proofs.lemmas.List.{append-nil}
 use Rattle.std.proofs.lemmas.Bool.Decides.{nat_tests}
 
@@ -24,11 +24,6 @@ pub chars_push : (bs : List ℕ) (c : ℕ) → IsUtf8 bs → IsScalar c → char
 chars_push bs c u s =
     chars-append bs (encode_utf8 c) u
     ∙ ap (λ cs. chars bs ++ cs) (chars_past_char (encode_utf8 c) [] c (IsUtf8-encode c s) (sym (append-nil (encode_utf8 c))) ∙ ap (λ cs. c ∷ cs) chars-nil)
-
--- a text that has one more character, or is as it was
-pub pushed_text : {T E : Type 0} (r : Result T E) (old new : List ℕ) (c : ℕ) → IsUtf8 old → IsScalar c → OnOk r (new ≡ old ++ encode_utf8 c) → OnErr r (new ≡ old) → IsUtf8 new
-pushed_text (Ok x) old new c u s ok err = rw ok (IsUtf8-append old (encode_utf8 c) u (IsUtf8-encode c s))
-pushed_text (Err x) old new c u s ok err = rw err u
 
 -- a text is made of characters, so a test may ask for that too
 pub with_characters : (b : Bool) (text : List ℕ) → IsUtf8 text → b ≡ (b && all_scalars (chars text))

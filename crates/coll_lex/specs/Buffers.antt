@@ -3,19 +3,12 @@ use Rattle.std.specs.Prelude.{List, ℕ, ◌++◌, length, take, drop, string_by
 use Rattle.std.specs.Borrow.{Lends, Fml, RattleType, MutBor, Array}
 use Rattle.coll_lex.specs.declared.buffers.Bytes.{Bytes}
 use Rattle.coll_lex.specs.declared.buffers.Bytes.TheVariants.{Short, Long}
-use Rattle.coll_lex.specs.declared.buffers.Room.{Room}
-use Rattle.coll_lex.specs.declared.buffers.Room.TheVariants.{Few, Many}
 use Rattle.coll_lex.specs.contracts.buffers.ListBuf.{the_row}
 
 -- the bytes of a text, wherever they lie
 abbrev pub text_bytes : Bytes → List ℕ
 text_bytes (Short text) = text.bytes
 text_bytes (Long text) = string_bytes text
-
--- the bytes of a text that grows, wherever they lie
-abbrev pub room_bytes : Room → List ℕ
-room_bytes (Few bytes) = bytes.items
-room_bytes (Many text) = string_bytes text
 
 -- the members once those of the slice stand in their places: as many as there were
 abbrev pub rewritten : {X : Type 0} → List X → List X → List X

@@ -11,19 +11,15 @@ ghost use Rattle.std.specs.Borrow.{sem};
 ghost use Rattle.std.specs.List.{AllZip};
 ghost use Rattle.coll_lex.specs.Buffers.{LendsMembers};
 
-use arrayvec::{ArrayString, ArrayVec};
+use arrayvec::ArrayString;
 use std::alloc::{AllocError, Global};
 use std::marker::Model;
-use std::str;
 
 // Most bytes of a text that lies in the value itself: most names are as short.
 const SHORT_BYTES: usize = 16;
 
-// Most bytes of a text that grows in the value itself: all keywords and most names fit in it.
-const FEW_BYTES: usize = 24;
-
-// The room that such a text takes in memory once it has more: most other names fit in it.
-const FIRST_ROOM: usize = 64;
+// The room that is taken for the first character of a text that grows: all keywords and most names fit in it.
+const FIRST_ROOM: usize = 24;
 
 // The members that a list has room for once it gets its first: most lines have no more tokens.
 const FIRST_MEMBERS: usize = 8;
@@ -127,98 +123,19 @@ impl TextBuf {
     }
 }
 
-// Where the bytes of a text that grows lie: in the value itself as long as they are few, or else in memory.
-#[derive(Drop)]
-enum Room {
-    Few(ArrayVec<u8, FEW_BYTES>),
-    Many(String),
-}
-
-// A text with one more character at its end, in memory that has room for further ones.
-fn lengthened(alloc: Global, text: &str, c: char) -> Result<String, AllocError>
-    ensures { IfOk result (λ long. string_bytes long ≡ text.now ++ encode_utf8 c) }
-{
-    let mut long = String::with_capacity(alloc, FIRST_ROOM)?;
-    long.push_str(text)?;
-    long.push(c)?;
-    Ok(long)
-}
-
-impl Room {
-    ghost use Rattle.std.specs.Prelude.{IsUtf8};
-    ghost use Rattle.coll_lex.specs.Buffers.{room_bytes};
-
-    // Lends the text.
-    fn as_str(&self) -> &str
-        requires { IsUtf8 (room_bytes self.now) }
-        ensures { result.now ≡ room_bytes self.now }
-    {
-        match self {
-            Room::Few(bytes) => unsafe { str::from_utf8_unchecked(bytes.as_slice()) },
-            Room::Many(text) => text.as_str(),
-        }
-    }
-
-    // Puts a character at the end. What is no longer few takes memory, and a refused growth leaves the text as it was.
-    #[inline(always)]
-    fn push(&mut self, alloc: Global, c: char) -> Result<(), AllocError>
-        requires { IsUtf8 (room_bytes self.old) }
-        ensures ok { OnOk result (room_bytes self.new ≡ room_bytes self.old ++ encode_utf8 c) }
-        ensures err { OnErr result (room_bytes self.new ≡ room_bytes self.old) }
-    {
-        if let Room::Few(bytes) = self {
-            if c.is_ascii() && !bytes.is_full() {
-                bytes.push(c as u8);
-                return Ok(());
-            }
-        }
-        self.push_in_memory(alloc, c)
-    }
-
-    // Puts a character at the end of the text, which goes into memory if it isn't there yet.
-    #[inline(never)]
-    fn push_in_memory(&mut self, alloc: Global, c: char) -> Result<(), AllocError>
-        requires { IsUtf8 (room_bytes self.old) }
-        ensures ok { OnOk result (room_bytes self.new ≡ room_bytes self.old ++ encode_utf8 c) }
-        ensures err { OnErr result (room_bytes self.new ≡ room_bytes self.old) }
-    {
-        if let Room::Many(text) = self {
-            return text.push(c);
-        }
-        let long = lengthened(alloc, self.as_str(), c)?;
-        *self = Room::Many(long);
-        Ok(())
-    }
-
-    // Takes all characters away. What is in memory stays there.
-    #[inline]
-    fn clear(&mut self)
-        ensures { room_bytes self.new ≡ [] }
-    {
-        match self {
-            Room::Few(_) => *self = Room::Few(ArrayVec::new()),
-            Room::Many(text) => text.clear(),
-        }
-    }
-}
-
 /// A text that is gathered character by character, and whose room stays for the next one. Contracts see it as the list of its
 /// characters.
 #[derive(Drop)]
 pub(crate) struct Gathered {
-    room: Room,
-    alloc: Global,
+    text: String,
 }
 
 impl Model for Gathered {
-    ghost use Rattle.std.specs.Prelude.{List, ℕ, chars, IsUtf8};
-    ghost use Rattle.coll_lex.specs.Buffers.{room_bytes};
+    ghost use Rattle.std.specs.Prelude.{List, ℕ, chars, string_bytes};
 
     ghost Value = { List ℕ };
 
-    ghost view = { λ t. chars (room_bytes t.room) };
-
-    ghost invariant = { λ t. IsUtf8 (room_bytes t.room) };
+    ghost view = { λ t. chars (string_bytes t.text) };
 }
 
 impl Gathered {
@@ -227,8 +144,7 @@ impl Gathered {
         ensures { result ≡ [] }
     {
         Gathered {
-            room: Room::Few(ArrayVec::new()),
-            alloc,
+            text: String::new(alloc),
         }
     }
 
@@ -236,7 +152,7 @@ impl Gathered {
     pub(crate) fn get(&self) -> &str
         ensures { chars result.now ≡ self.now }
     {
-        self.room.as_str()
+        self.text.as_str()
     }
 
     /// Whether the text has no characters.
@@ -247,19 +163,30 @@ impl Gathered {
     }
 
     /// Puts a character at the end. A refused growth leaves the text as it was.
-    #[inline(always)]
     pub(crate) fn push(&mut self, c: char) -> Result<(), AllocError>
         ensures ok { OnOk result (self.new ≡ self.old ++ c ∷ []) }
         ensures err { OnErr result (self.new ≡ self.old) }
     {
-        self.room.push(self.alloc, c)
+        self.begin()?;
+        self.text.push(c)?;
+        Ok(())
     }
 
     /// Begins another text in the same room.
     pub(crate) fn clear(&mut self)
         ensures { self.new ≡ [] }
     {
-        self.room.clear();
+        self.text.clear();
+    }
+
+    // Takes room for the first characters of a text that has none yet.
+    fn begin(&mut self) -> Result<(), AllocError>
+        ensures { self.new ≡ self.old }
+    {
+        if self.text.is_empty() {
+            self.text.reserve(FIRST_ROOM)?;
+        }
+        Ok(())
     }
 }
 

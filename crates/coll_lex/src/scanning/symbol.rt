@@ -57,18 +57,6 @@ impl Scan {
             self.partial.push(c)?;
             return Ok(());
         }
-        self.close_symbol()?;
-        Ok(())
-    }
-
-    // Makes a token of the symbol that its `>` ends.
-    #[inline(never)]
-    fn close_symbol(&mut self) -> Result<(), LexFault>
-        requires { self.old.mode ≡ Mode.Symbol }
-        ensures ok { OnOk result ((comment : ℕ) → TakesMark comment self.old (Plain 62) self.new) }
-        ensures err { IfErr result
-            (λ fault. fault ≢ OutOfMemory → (comment : ℕ) → Refuses comment self.old (Plain 62) fault) }
-    {
         let piece = self.end_symbol()?;
         self.tokens.push(token_of(piece))?;
         self.enter(Mode::Plain);
@@ -86,18 +74,6 @@ impl Scan {
             self.partial.push(c)?;
             return Ok(());
         }
-        self.close_text_symbol()?;
-        Ok(())
-    }
-
-    // Makes a piece of the symbol in a string that its `>` ends.
-    #[inline(never)]
-    fn close_text_symbol(&mut self) -> Result<(), LexFault>
-        requires { self.old.mode ≡ Mode.SymbolInText }
-        ensures ok { OnOk result ((comment : ℕ) → TakesMark comment self.old (Plain 62) self.new) }
-        ensures err { IfErr result
-            (λ fault. fault ≢ OutOfMemory → (comment : ℕ) → Refuses comment self.old (Plain 62) fault) }
-    {
         let piece = self.end_symbol()?;
         self.pieces.push(piece)?;
         self.enter(Mode::Text);
@@ -105,7 +81,6 @@ impl Scan {
     }
 
     // What the symbol that ends here stands for.
-    #[inline(always)]
     fn end_symbol(&mut self) -> Result<Piece, LexFault>
         ensures ok { IfOk result (λ piece. symbol_of self.old.partial ≡ Ok piece) }
         ensures err { IfErr result (λ fault. fault ≢ OutOfMemory → symbol_of self.old.partial ≡ Err fault) }

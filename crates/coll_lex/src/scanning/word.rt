@@ -31,11 +31,11 @@ impl Scan {
             return Ok(());
         }
         if c == ';' {
-            self.take_semicolon()?;
+            self.separate(Token::Semicolon)?;
             return Ok(());
         }
         if c == ',' {
-            self.take_comma()?;
+            self.separate(Token::Comma)?;
             return Ok(());
         }
         if c == comment {
@@ -66,7 +66,6 @@ impl Scan {
     }
 
     // Makes a token of the word so far, if one has begun.
-    #[inline(always)]
     pub(super) fn end_word(&mut self) -> Result<(), AllocError>
         ensures ok { OnOk result
             (self.new ≡ record self.old { partial = []; tokens = self.old.tokens ++ word_token self.old.partial }) }
@@ -75,38 +74,10 @@ impl Scan {
         if self.partial.is_empty() {
             return Ok(());
         }
-        self.close_word()?;
-        Ok(())
-    }
-
-    // Makes a token of the word so far.
-    #[inline(never)]
-    fn close_word(&mut self) -> Result<(), AllocError>
-        ensures { OnOk result
-            (self.new ≡ record self.old { partial = []; tokens = self.old.tokens ++ Token.Word self.old.partial ∷ [] }) }
-    {
         let word = TextBuf::copied(self.alloc, self.partial.get())?;
         self.tokens.push(Token::Word(word))?;
         self.partial.clear();
         Ok(())
-    }
-
-    // Ends the word so far, and puts a semicolon after it.
-    #[inline(never)]
-    fn take_semicolon(&mut self) -> Result<(), AllocError>
-        ensures { OnOk result
-            (self.new ≡ record self.old { partial = []; tokens = (self.old.tokens ++ word_token self.old.partial) ++ Token.Semicolon ∷ [] }) }
-    {
-        self.separate(Token::Semicolon)
-    }
-
-    // Ends the word so far, and puts a comma after it.
-    #[inline(never)]
-    fn take_comma(&mut self) -> Result<(), AllocError>
-        ensures { OnOk result
-            (self.new ≡ record self.old { partial = []; tokens = (self.old.tokens ++ word_token self.old.partial) ++ Token.Comma ∷ [] }) }
-    {
-        self.separate(Token::Comma)
     }
 
     // Ends the word so far, and puts a separator after it.

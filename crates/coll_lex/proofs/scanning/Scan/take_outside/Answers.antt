@@ -14,11 +14,11 @@ returns-then-is_blank-clause-ok c =
 
 pub returns-then-c-eq59-clause-ok : goal.returns-then-c-eq59-clause-ok
 returns-then-c-eq59-clause-ok c =
-    rw (c.in_ok-take_semicolon.ensures, c.if-c-eq59.true) (semicolon_outside c.args.comment c.args.self.now c.requires)
+    rw (c.in_ok-separate.ensures, c.if-c-eq59.true) (semicolon_outside c.args.comment c.args.self.now c.requires)
 
 pub returns-then-c-eq44-clause-ok : goal.returns-then-c-eq44-clause-ok
 returns-then-c-eq44-clause-ok c =
-    rw (c.in_ok-take_comma.ensures, c.if-c-eq44.true) (comma_outside c.args.comment c.args.self.now c.requires)
+    rw (c.in_ok-separate-2.ensures, c.if-c-eq44.true) (comma_outside c.args.comment c.args.self.now c.requires)
 
 pub returns-then-c-comment-clause-ok : goal.returns-then-c-comment-clause-ok
 returns-then-c-comment-clause-ok c =
@@ -42,11 +42,11 @@ returns-in_err-end_word-clause-memory c = rw c.if-c-eq60.true (on_refusal _ _ (b
 pub returns-in_err-end_word-2-clause-memory : goal.returns-in_err-end_word-2-clause-memory
 returns-in_err-end_word-2-clause-memory c = on_refusal _ _ (gathers_in_word c.args.comment c.args.self.now (Plain c.args.c) c.requires c.in_err-end_word-2.ensures.memory)
 
-pub returns-in_err-take_semicolon-clause-memory : goal.returns-in_err-take_semicolon-clause-memory
-returns-in_err-take_semicolon-clause-memory c = rw c.if-c-eq59.true (on_refusal _ _ (semicolon_gathers c.args.comment c.args.self.now c.requires))
+pub returns-in_err-separate-clause-memory : goal.returns-in_err-separate-clause-memory
+returns-in_err-separate-clause-memory c = rw c.if-c-eq59.true (on_refusal _ _ (semicolon_gathers c.args.comment c.args.self.now c.requires))
 
-pub returns-in_err-take_comma-clause-memory : goal.returns-in_err-take_comma-clause-memory
-returns-in_err-take_comma-clause-memory c = rw c.if-c-eq44.true (on_refusal _ _ (comma_gathers c.args.comment c.args.self.now c.requires))
+pub returns-in_err-separate-2-clause-memory : goal.returns-in_err-separate-2-clause-memory
+returns-in_err-separate-2-clause-memory c = rw c.if-c-eq44.true (on_refusal _ _ (comma_gathers c.args.comment c.args.self.now c.requires))
 
 pub returns-in_err-end_word-3-clause-memory : goal.returns-in_err-end_word-3-clause-memory
 returns-in_err-end_word-3-clause-memory c = on_refusal _ _ (gathers_in_word c.args.comment c.args.self.now (Plain c.args.c) c.requires c.in_err-end_word-3.ensures.memory)
