@@ -34,6 +34,7 @@ from withdrawals import timed
 WORDS = 4_000
 TIMES = 25
 LONG = 65
+LOOKS = 200
 FIRST_LOOKS = 50
 UNITS = {"s": 1, "ms": 1e-3, "microseconds": 1e-6, "ns": 1e-9}
 
@@ -98,7 +99,7 @@ def main(programs, given, work):
         show_checks(name, programs, table)
         show_sessions(name, programs, table, letters)
     for name, table, blocks, words in looked_over_alone(programs[0], given) if given else looked_over(work):
-        show(f"{name}, a look behind a change", per_look(programs, table, blocks, words), "microseconds")
+        show(f"{name}, a look behind a change", per_look(programs, table, blocks[: LOOKS // 2], words[:LOOKS]), "microseconds")
         long = [word[0] * LONG for word in words[:FIRST_LOOKS]]
         show(f"{name}, a first look", per_look(programs, table, blocks[: FIRST_LOOKS // 2], long), "ms")
 
