@@ -45,6 +45,7 @@ CRATES = (
     "coll_lex",
     "coll_order",
     "coll_syntax",
+    "coll_lookups",
     "coll_nodes",
     "coll_draft",
     "coll_print",

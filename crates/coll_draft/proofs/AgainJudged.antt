@@ -6,7 +6,7 @@ use Rattle.coll_syntax.specs.declared.identifiers.Id.{Id}
 use Rattle.coll_syntax.specs.declared.weights.Weight.{Weight}
 use Rattle.coll_syntax.specs.declared.weights.Weight.TheVariants.{Ignore, Own, Names}
 use Rattle.coll_nodes.specs.Entries.{names_only, weight_ids}
-use Rattle.coll_nodes.proofs.Sameness.{same_id_decides}
+use Rattle.coll_lookups.proofs.Sameness.{same_id_decides}
 use Rattle.coll_draft.specs.Drafts.{DraftState, weight_cause, ids_cause}
 use Rattle.coll_draft.proofs.FirstCauses.{member_absent}
 

@@ -13,7 +13,8 @@ use Rattle.coll_syntax.specs.Proper.{IsElementText, IsId}
 use Rattle.coll_syntax.specs.declared.identifiers.Id.{Id}
 use Rattle.coll_syntax.specs.declared.identifiers.Id.TheVariants.{Char, Named, Undefined}
 use Rattle.coll_nodes.proofs.OwnNames.{own_declared, meant_all}
-use Rattle.coll_nodes.proofs.Sameness.{same_name_decides, same_name_symmetric, same_id_symmetric, distinct_push, neither}
+use Rattle.coll_lookups.proofs.Sameness.{same_name_decides, same_name_symmetric, same_id_symmetric, neither}
+use Rattle.coll_nodes.proofs.DistinctLists.{distinct_push}
 use Rattle.coll_nodes.specs.Table.{Collation, Section, name_of, text_of, names_of, texts_of, joined_entries, ids_of, named, section_names, is_placed_in, is_declared, declares_own, declares_symbol, is_symbol}
 use Rattle.coll_nodes.specs.Table.{has_text}
 use Rattle.coll_nodes.specs.OwnNames.{means_no_symbol}

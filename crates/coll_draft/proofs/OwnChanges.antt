@@ -33,7 +33,7 @@ use Rattle.coll_nodes.proofs.LayoutReads.{entry_is, and_true, read_known, sectio
 use Rattle.coll_nodes.proofs.NodeLists.{any_map, map_read, same_read}
 use Rattle.coll_nodes.proofs.OwnNames.{own_weights_same}
 use Rattle.coll_nodes.proofs.OwnTables.{own_sections_plain}
-use Rattle.coll_nodes.proofs.Sameness.{same_id_itself, neither, nor}
+use Rattle.coll_lookups.proofs.Sameness.{same_id_itself, neither, nor}
 use Rattle.coll_nodes.proofs.WalkShapes.{members}
 use Rattle.coll_draft.proofs.BuilderSteps.{last_in}
 use Rattle.coll_draft.proofs.MetEntries.{met_all}

@@ -11,7 +11,8 @@ ghost use Rattle.coll_syntax.specs.Identifier.{has_name};
 
 use crate::own_weights::give_own_weights;
 use coll_lex::TextBuf;
-use coll_nodes::{Body, Declaration, Entry, HashKeys, Walk};
+use coll_lookups::HashKeys;
+use coll_nodes::{Body, Declaration, Entry, Walk};
 use coll_order::Place;
 use coll_syntax::Id;
 use std::alloc::{AllocError, Global};

@@ -27,9 +27,9 @@ use crate::building::Builder;
 use crate::line_weights::{given_len, kept_weights, name_the_same};
 use crate::{LoadCause, LoadFault};
 use coll_lex::{ListBuf, TextBuf};
+use coll_lookups::HashKeys;
 use coll_nodes::{
-    Body, Declaration, Entry, HashKeys, MOST_DECLARATIONS, MOST_ENTRIES, MOST_SECTIONS, Walk,
-    WalkItem,
+    Body, Declaration, Entry, MOST_DECLARATIONS, MOST_ENTRIES, MOST_SECTIONS, Walk, WalkItem,
 };
 use coll_syntax::{Id, OrderLine, Rule, Rules, TableLine, Weight};
 use std::alloc::{AllocError, Global};

@@ -24,7 +24,7 @@ use Rattle.coll_nodes.specs.declared.declarations.Declaration.TheVariants as dec
 use Rattle.coll_nodes.specs.declared.entries.Entry.{Entry}
 use Rattle.coll_nodes.proofs.EntryLemmas.{entry_there}
 use Rattle.coll_draft.proofs.MetEntries.{met_all}
-use Rattle.coll_nodes.proofs.Sameness.{same_name_decides, same_id_decides}
+use Rattle.coll_lookups.proofs.Sameness.{same_name_decides, same_id_decides}
 use Rattle.coll_key.specs.CompiledListing.{string_named, listed_id, listed_level, listed_line, listed_entry, listed_entries, listed_undefined}
 use Rattle.coll_ranks.specs.Elements.{element_placed}
 use Rattle.coll_ranks.specs.Rank.{known_rank}

@@ -25,7 +25,7 @@ use Rattle.coll_nodes.proofs.EmptyRings.{key_push, place_push}
 use Rattle.coll_nodes.proofs.LayoutReads.{both_true, names_read, texts_read, section_names_read, declared_covers, begun_covers, owned_low, placed_to}
 use Rattle.coll_nodes.proofs.MadeBodies.{made_suits, section_makes}
 use Rattle.coll_nodes.proofs.NodeLists.{any_map, any_to}
-use Rattle.coll_nodes.proofs.Sameness.{same_name_decides, same_id_decides}
+use Rattle.coll_lookups.proofs.Sameness.{same_name_decides, same_id_decides}
 use Rattle.coll_order.proofs.RingLemmas.{is_in_push}
 
 -- a key that isn't read of the nodes that may have it is that of none

@@ -25,7 +25,7 @@ use Rattle.coll_nodes.specs.declared.declarations.Declaration.{Declaration}
 use Rattle.coll_nodes.specs.declared.entries.Entry.{Entry}
 use Rattle.coll_nodes.proofs.LayoutReads.{read_known, both_true, and_true, in_rings, names_read, texts_read, section_names_read, declared_read, declared_covers, begun_covers, found_in, joined_at, joined_read, joined_known, entries_read, section_at, placed_from, placed_to}
 use Rattle.coll_nodes.proofs.OwnNames.{declaration_is}
-use Rattle.coll_nodes.proofs.Sameness.{same_name_decides}
+use Rattle.coll_lookups.proofs.Sameness.{same_name_decides}
 use Rattle.coll_nodes.proofs.NodeLists.{any_map, any_from}
 
 -- what is the same as one of a list of one is it

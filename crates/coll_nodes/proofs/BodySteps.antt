@@ -16,7 +16,7 @@ use Rattle.coll_nodes.specs.BodyInvariant.{IsSoundBody}
 use Rattle.coll_nodes.specs.Counting.{no_counts}
 use Rattle.coll_nodes.specs.KeyedNodes.{no_keys}
 use Rattle.coll_nodes.specs.Bodies.{IsPlaceAmong}
-use Rattle.coll_nodes.specs.NodeLookUps.{node_named, node_with, no_nodes}
+use Rattle.coll_lookups.specs.NodeLookUps.{node_named, node_with, no_nodes}
 use Rattle.coll_nodes.specs.SoundBodies.{ring_at, ids_in, names_in, texts_in, section_names_in, IsPlaceIn, Finds}
 use Rattle.coll_nodes.specs.TableLayout.{TableLayout, declared_at, sections_at}
 use Rattle.coll_nodes.specs.declared.contents.Content.{Content}

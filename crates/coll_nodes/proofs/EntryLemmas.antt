@@ -5,7 +5,7 @@ use Rattle.std.proofs.lemmas.List.Elements.{All-nil, All-cons, All-head, All-tai
 use Rattle.coll_order.proofs.Sameness.{by_test}
 use Rattle.coll_syntax.specs.Identifier.{same_id, has_id}
 use Rattle.coll_syntax.specs.declared.identifiers.Id.{Id}
-use Rattle.coll_nodes.proofs.Sameness.{same_id_decides, same_id_symmetric, neither, nor}
+use Rattle.coll_lookups.proofs.Sameness.{same_id_decides, same_id_symmetric, neither, nor}
 use Rattle.coll_nodes.specs.Placement.{entry_at, entries_after, entries_without}
 use Rattle.coll_nodes.specs.Table.{ids_of}
 use Rattle.coll_nodes.specs.WellFormed.{AreDistinct}

@@ -4,7 +4,7 @@ pub mod BodyReads
 pub mod BodySteps
 pub mod ChangedNodes
 pub mod ChangedTags
-pub mod CharNodes
+pub mod DistinctLists
 pub mod ElementNodes
 pub mod EmptyRings
 pub mod EntryLemmas
@@ -18,17 +18,14 @@ pub mod LinkedBodies
 pub mod MadeBodies
 pub mod MadeNodes
 pub mod MovedBodies
-pub mod NameNodes
 pub mod NodeCounts
 pub mod NodeLemmas
 pub mod NodeLists
-pub mod NodeLookUps
 pub mod NodeTags
 pub mod NumberedNodes
 pub mod OwnNames
 pub mod OwnTables
 pub mod RingPlaces
-pub mod Sameness
 pub mod SectionLemmas
 pub mod TakenBodies
 pub mod TurningKeys

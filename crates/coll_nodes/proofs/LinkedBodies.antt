@@ -16,7 +16,7 @@ use Rattle.coll_nodes.specs.Bodies.{with_link}
 use Rattle.coll_nodes.specs.BodyInvariant.{HasItsRing, IsReserved, IsSoundBody}
 use Rattle.coll_nodes.specs.Counting.{counts_at, counts_with}
 use Rattle.coll_nodes.specs.KeyedNodes.{FindsAll, KeepsKeys, SetsKeys}
-use Rattle.coll_nodes.specs.NodeLookUps.{node_named, node_with}
+use Rattle.coll_lookups.specs.NodeLookUps.{node_named, node_with}
 use Rattle.coll_nodes.specs.SoundBodies.{read_at, ring_at, names_in, texts_in, section_names_in, rings_in, ids_in, same_ring, IsEntry, IsOwned, IsPlaceIn, IsShaped, Finds, Adds}
 use Rattle.coll_nodes.specs.Table.{Section, joined_entries}
 use Rattle.coll_nodes.specs.TableLayout.{TableLayout, MadeNode, content_of, declarations_ring, entry_in, entries_in, sections_ring}

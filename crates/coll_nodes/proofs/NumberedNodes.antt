@@ -10,7 +10,8 @@ use Rattle.coll_order.proofs.ListLemmas.{or_first, or_second}
 use Rattle.coll_order.proofs.Sameness.{by_test, not_both, same_node_is, same_node_itself}
 use Rattle.coll_syntax.specs.Identifier.{same_id}
 use Rattle.coll_syntax.specs.declared.identifiers.Id.{Id}
-use Rattle.coll_nodes.specs.NodeNumbers.{number_at, entry_nodes, entry_nodes_in, last_number, AreNumbersOf}
+use Rattle.coll_lookups.specs.EntryNumbers.{number_at}
+use Rattle.coll_nodes.specs.NodeNumbers.{entry_nodes, entry_nodes_in, last_number, AreNumbersOf}
 use Rattle.coll_nodes.specs.Placement.{place_among}
 use Rattle.coll_nodes.specs.SoundBodies.{has_key, ids_in, read_at, ring_at, Finds, IsEntry, IsShaped}
 use Rattle.coll_nodes.specs.SoundLayouts.{AreOnce, IsSoundLayout}
@@ -21,7 +22,7 @@ use Rattle.coll_nodes.specs.declared.contents.Content.TheVariants as content
 use Rattle.coll_nodes.specs.declared.entries.Entry.{Entry}
 use Rattle.coll_nodes.proofs.BodyReads.{id_found, ids_of_node, one}
 use Rattle.coll_nodes.proofs.LayoutReads.{and_true, both_true, entries_read, entry_is, in_rings, joined_at, joined_known, joined_read, placed_to, read_known, section_at}
-use Rattle.coll_nodes.proofs.Sameness.{same_id_decides}
+use Rattle.coll_lookups.proofs.Sameness.{same_id_decides}
 use Rattle.coll_nodes.proofs.NodeLists.{any_from, read_twice, same_read}
 
 -- Places.

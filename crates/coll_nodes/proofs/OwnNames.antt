@@ -24,7 +24,7 @@ use Rattle.coll_nodes.specs.WellFormed.{AreDistinct, IsKnown, HasWeights, IsWeig
 use Rattle.coll_nodes.specs.declared.declarations.Declaration.{Declaration}
 use Rattle.coll_nodes.specs.declared.declarations.Declaration.TheVariants.{Symbol, Element, Equivalence}
 use Rattle.coll_nodes.specs.declared.entries.Entry.{Entry}
-use Rattle.coll_nodes.proofs.Sameness.{same_name_decides, same_id_decides, neither, nor, found_holds}
+use Rattle.coll_lookups.proofs.Sameness.{same_name_decides, same_id_decides, neither, nor, found_holds}
 
 -- a name that is declared has a declaration, and no other has one
 pub declaration_is : (declared : List Declaration) (name : List ℕ) → is_some (declaration_of declared name) ≡ is_declared declared name

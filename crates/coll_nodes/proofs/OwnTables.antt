@@ -14,7 +14,7 @@ use Rattle.coll_nodes.specs.WellFormed.{AreDistinct, IsKnown, IsNamed, FirstIsUn
 use Rattle.coll_nodes.specs.declared.declarations.Declaration.{Declaration}
 use Rattle.coll_nodes.specs.declared.entries.Entry.{Entry}
 use Rattle.coll_nodes.proofs.OwnNames.{own_weights_same, own_entry_weighted}
-use Rattle.coll_nodes.proofs.Sameness.{nor}
+use Rattle.coll_lookups.proofs.Sameness.{nor}
 
 -- the entries of sections by own names are the entries of the sections by own names
 pub own_joined : (declared : List Declaration) (sections : List Section) → joined_entries (own_sections declared sections) ≡ map (own_entry declared) (joined_entries sections)

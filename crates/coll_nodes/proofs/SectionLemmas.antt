@@ -6,7 +6,7 @@ use Rattle.coll_order.proofs.Sameness.{by_test}
 use Rattle.coll_syntax.specs.Identifier.{same_id, has_id}
 use Rattle.coll_syntax.specs.declared.identifiers.Id.{Id}
 use Rattle.coll_nodes.proofs.EntryLemmas.{distinct_without, none_without}
-use Rattle.coll_nodes.proofs.Sameness.{same_id_decides, neither, nor}
+use Rattle.coll_lookups.proofs.Sameness.{same_id_decides, neither, nor}
 use Rattle.coll_nodes.specs.Placement.{entries_after, entries_without, without, placed_after}
 use Rattle.coll_nodes.specs.Table.{Section, ids_of, joined_entries, section_names, named}
 use Rattle.coll_nodes.specs.WellFormed.{AreDistinct, IsNamed, FirstIsUnnamed}

@@ -15,7 +15,7 @@ use Rattle.coll_nodes.specs.Bodies.{without_link}
 use Rattle.coll_nodes.specs.BodyInvariant.{IsSoundBody}
 use Rattle.coll_nodes.specs.Counting.{counts_at, counts_with, HasOneOf}
 use Rattle.coll_nodes.specs.KeyedNodes.{FindsAll, KeepsKeys, SetsKeys}
-use Rattle.coll_nodes.specs.NodeLookUps.{node_named, node_with}
+use Rattle.coll_lookups.specs.NodeLookUps.{node_named, node_with}
 use Rattle.coll_nodes.specs.SoundBodies.{read_at, ring_at, has_key, names_in, texts_in, section_names_in, rings_in, ids_in, same_ring, is_place_of, IsDeclaration, IsSection, IsEntry, IsOwned, IsPlaceIn, IsShaped, Finds, Adds}
 use Rattle.coll_nodes.specs.TableLayout.{TableLayout, content_of}
 use Rattle.coll_nodes.specs.Moving.{MayBeLoose, Suits}

@@ -4,7 +4,7 @@ use Rattle.std.specs.List.{list_any}
 use Rattle.coll_order.specs.declared.places.NodeId.{NodeId}
 use Rattle.coll_syntax.specs.Identifier.{same_name, same_id}
 use Rattle.coll_syntax.specs.declared.identifiers.Id.{Id}
-use Rattle.coll_nodes.specs.NodeLookUps.{node_named, node_with, is_name_key, is_id_key, no_nodes, LeadNamesAlike, LeadAlike}
+use Rattle.coll_lookups.specs.NodeLookUps.{node_named, node_with, is_name_key, is_id_key, no_nodes, LeadNamesAlike, LeadAlike}
 use Rattle.coll_nodes.specs.SoundBodies.{Finds, names_in, texts_in, section_names_in, ids_in}
 use Rattle.coll_nodes.specs.Table.{named}
 use Rattle.coll_nodes.specs.TableLayout.{TableLayout}

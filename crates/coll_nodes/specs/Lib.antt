@@ -3,16 +3,11 @@ pub mod BodyInvariant
 pub mod Counting
 pub mod ElementTexts
 pub mod Entries
-pub mod HashKeys
 pub mod KeyedNodes
 pub mod Limits
 pub mod Linking
 pub mod LookUps
 pub mod Moving
-pub mod NameKeys
-pub mod NamePlaces
-pub mod NodeLookUps
-pub mod NodeMaps
 pub mod NodeNumbers
 pub mod OwnNames
 pub mod Placement

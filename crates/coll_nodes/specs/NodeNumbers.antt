@@ -1,21 +1,21 @@
--- Numbers of the nodes that are entries, by which the place of an identifier is found without a look at the entries before it.
-use Rattle.std.specs.Prelude.{◌≡◌, ℕ, suc, true, if◌then◌else◌, List, [], ◌∷◌, Option, Some, None, slice_index_or}
+-- Numbers of the nodes that are entries, by which the place of an identifier, or of a name, is found without a look at the entries
+-- before it.
+use Rattle.std.specs.Prelude.{◌≡◌, ℕ, suc, true, if◌then◌else◌, List, [], ◌∷◌, Option, Some, None}
 use Rattle.std.specs.List.{flat_map}
 use Rattle.std.specs.Option.{option_or}
 use Rattle.coll_order.specs.Lists.{same_node}
 use Rattle.coll_order.specs.declared.places.NodeId.{NodeId}
 use Rattle.coll_syntax.specs.Identifier.{same_id}
 use Rattle.coll_syntax.specs.declared.identifiers.Id.{Id}
+use Rattle.coll_syntax.specs.declared.identifiers.Id.TheVariants.{Named}
+use Rattle.coll_lookups.specs.EntryNumbers.{number_at}
+use Rattle.coll_lookups.specs.NamePlaces.{NamePlacesValue, place_named}
 use Rattle.coll_nodes.specs.Placement.{place_among}
 use Rattle.coll_nodes.specs.SoundBodies.{has_key, ids_in, read_at}
 use Rattle.coll_nodes.specs.Table.{joined_entries}
 use Rattle.coll_nodes.specs.TableLayout.{TableLayout, nodes_in, sections_at, sections_ring}
 use Rattle.coll_nodes.specs.declared.contents.Content.{Content}
 use Rattle.coll_nodes.specs.declared.contents.Content.TheVariants as content
-
--- the number that is kept for a node's key; 0 where none is
-abbrev pub number_at : List ℕ → NodeId → ℕ
-number_at numbers node = slice_index_or numbers node.key 0
 
 -- the nodes of the entries of the section that a node is
 abbrev pub entry_nodes_in : TableLayout → Content → List NodeId
@@ -41,3 +41,7 @@ last_number before (first ∷ later) node = option_or (last_number (suc before) 
 abbrev pub AreNumbersOf : List ℕ → TableLayout → Type 0
 AreNumbersOf numbers layout =
     (id : Id) (node : NodeId) → has_key same_id ids_in layout id node ≡ true → place_among (joined_entries (sections_at layout)) id ≡ Some (number_at numbers node)
+
+-- each name that has an entry has the place of that among all, from 1, and no other name has one
+abbrev pub ArePlacesOf : NamePlacesValue → TableLayout → Type 0
+ArePlacesOf places layout = (name : List ℕ) → place_named places name ≡ place_among (joined_entries (sections_at layout)) (Named name)

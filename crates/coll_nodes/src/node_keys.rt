@@ -6,13 +6,12 @@
 
 ghost use Rattle.std.specs.Prelude.{◌≡◌, IfOk, OnOk, OnErr};
 ghost use Rattle.coll_nodes.specs.KeyedNodes.{no_keys, HasKeysOf, HasKeyOfSection, KeepsKeys, LeadsAlike, SetsKeys, SetsSection};
-ghost use Rattle.coll_nodes.specs.NodeLookUps.{AddsNameKey, SetsName};
+ghost use Rattle.coll_lookups.specs.NodeLookUps.{AddsNameKey, SetsName};
 
+use crate::Declaration;
 use crate::contents::Content;
-use crate::node_ids::NodeIds;
-use crate::node_names::NodeNames;
-use crate::{Declaration, HashKeys};
 use coll_lex::TextBuf;
+use coll_lookups::{HashKeys, NodeIds, NodeNames};
 use coll_order::NodeId;
 use std::alloc::{AllocError, Global};
 

@@ -31,7 +31,8 @@ use Rattle.coll_draft.specs.declared.load_faults.LoadCause.{LoadCause}
 use Rattle.coll_draft.specs.Loading.{with_last, with_section, draft_with}
 use Rattle.coll_nodes.specs.Walks.{Met, MetSection, MetEntry, met_name, met_in, met, entry_met}
 use Rattle.coll_print.specs.CanonicalText.{is_own}
-use Rattle.coll_nodes.proofs.Sameness.{neither, same_id_decides, same_name_symmetric, same_id_symmetric, same_id_itself, distinct_before, found_holds}
+use Rattle.coll_lookups.proofs.Sameness.{neither, same_id_decides, same_name_symmetric, same_id_symmetric, same_id_itself, found_holds}
+use Rattle.coll_nodes.proofs.DistinctLists.{distinct_before}
 use Rattle.coll_nodes.proofs.OwnNames.{symbol_own, named_own_same, own_id_known, own_table, meant_before, means_something}
 use Rattle.coll_draft.proofs.BuiltTables.{entries_with_section, names_with_section, unnamed_with_section, entries_with_last, names_with_last, length_with_last, unnamed_with_last}
 use Rattle.coll_draft.proofs.MetEntries.{met_all}

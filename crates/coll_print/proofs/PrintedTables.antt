@@ -20,7 +20,7 @@ use Rattle.coll_nodes.specs.WellFormed.{IsKeptWeight, HasWeights, IsWeighted, Is
 use Rattle.coll_nodes.specs.Limits.{most_entries, most_declarations, most_sections}
 use Rattle.coll_nodes.specs.Walks.{Met, MetSection, MetEntry, met, entry_met}
 use Rattle.coll_nodes.proofs.OwnNames.{own_declared, symbol_own}
-use Rattle.coll_nodes.proofs.Sameness.{same_name_decides, found_holds}
+use Rattle.coll_lookups.proofs.Sameness.{same_name_decides, found_holds}
 use Rattle.coll_draft.proofs.MetEntries.{met_all}
 use Rattle.coll_draft.specs.Reading.{answer_at_end, outcome_of, reads}
 use Rattle.coll_print.specs.CanonicalText.{declaration_line, rules_line, met_line, opening_lines, canonical_lines, line_bytes, text, PrintedTablesAreReadBack}

@@ -8,7 +8,7 @@ use Rattle.std.proofs.lemmas.Str.{encodes-chars}
 use Rattle.indexmap.specs.IndexMap.{insert_entry}
 use Rattle.coll_syntax.proofs.Spellings.{same_spelling}
 use Rattle.coll_syntax.specs.Identifier.{same_name}
-use Rattle.coll_nodes.proofs.Sameness.{same_name_decides, same_name_symmetric}
+use Rattle.coll_lookups.proofs.Sameness.{same_name_decides, same_name_symmetric}
 use Rattle.coll_nodes.specs.LookUps.{characters_of}
 use Rattle.coll_ranks.specs.NameMaps.{named_numbers, number_named, AreKeys, IsText}
 

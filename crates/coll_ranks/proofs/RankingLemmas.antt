@@ -9,7 +9,7 @@ use Rattle.coll_syntax.specs.Identifier.{same_id, has_id}
 use Rattle.coll_syntax.specs.Proper.{IsElementText}
 use Rattle.coll_syntax.specs.declared.identifiers.Id.{Id}
 use Rattle.coll_syntax.specs.declared.identifiers.Id.TheVariants.{Char, Named, Undefined}
-use Rattle.coll_nodes.specs.NamePlaces.{place_named}
+use Rattle.coll_lookups.specs.NamePlaces.{place_named}
 use Rattle.coll_nodes.specs.Placement.{place_among}
 use Rattle.coll_nodes.specs.Table.{Collation, entries_of, ids_of, texts_of}
 use Rattle.coll_nodes.specs.Walks.{Met, MetSection, MetEntry, met, entry_met, entries_met}
@@ -18,7 +18,7 @@ use Rattle.coll_nodes.specs.declared.declarations.Declaration.{Declaration}
 use Rattle.coll_nodes.specs.declared.declarations.Declaration.TheVariants as declaration
 use Rattle.coll_nodes.specs.declared.entries.Entry.{Entry}
 use Rattle.coll_draft.proofs.MetEntries.{met_all}
-use Rattle.coll_nodes.proofs.Sameness.{same_id_decides}
+use Rattle.coll_lookups.proofs.Sameness.{same_id_decides}
 use Rattle.coll_ranks.specs.Elements.{element_placed}
 use Rattle.coll_ranks.specs.WeightNumbers.{undefined_weights}
 use Rattle.coll_ranks.specs.Rank.{known_rank}

@@ -19,7 +19,7 @@ use Rattle.coll_nodes.specs.WellFormed.{AreDistinct, IsWellFormed}
 use Rattle.coll_nodes.specs.declared.declarations.Declaration.{Declaration}
 use Rattle.coll_nodes.specs.declared.declarations.Declaration.TheVariants as declaration
 use Rattle.coll_nodes.specs.declared.entries.Entry.{Entry}
-use Rattle.coll_nodes.proofs.Sameness.{same_name_decides}
+use Rattle.coll_lookups.proofs.Sameness.{same_name_decides}
 use Rattle.coll_ranks.specs.Elements.{Element, beyond_first, begins_with, element_placed, element_text, elements_of, elements_placed, longer, longest, part_id, split}
 use Rattle.coll_ranks.specs.TextElements.{longest_front, with_length, AreElementsOf, FindsFront, IsElementOf}
 use Rattle.coll_ranks.specs.declared.text_elements.FoundFront.{FoundFront}

@@ -11,7 +11,7 @@ use Rattle.coll_nodes.specs.Table.{Collation, entries_of, ids_of}
 use Rattle.coll_nodes.specs.Walks.{Met, MetSection, MetEntry, entry_met, entries_met}
 use Rattle.coll_nodes.specs.WellFormed.{AreDistinct}
 use Rattle.coll_nodes.specs.declared.entries.Entry.{Entry}
-use Rattle.coll_nodes.proofs.Sameness.{same_id_decides, same_id_itself}
+use Rattle.coll_lookups.proofs.Sameness.{same_id_decides, same_id_itself}
 use Rattle.coll_ranks.specs.Rank.{rank_unplaced, known_rank}
 use Rattle.coll_ranks.specs.RankLists.{WeightsValue, AddsRow}
 use Rattle.coll_ranks.specs.Ranking.{HasNextRank}

@@ -16,7 +16,7 @@ use Rattle.coll_nodes.specs.Table.{names_of}
 use Rattle.coll_nodes.specs.WellFormed.{AreDistinct}
 use Rattle.coll_nodes.specs.declared.declarations.Declaration.{Declaration}
 use Rattle.coll_nodes.proofs.OwnNames.{named_own_name, own_id_proper, own_weight_proper, not_second_own, own_id_same, own_weights_same}
-use Rattle.coll_nodes.proofs.Sameness.{neither}
+use Rattle.coll_lookups.proofs.Sameness.{neither}
 use Rattle.coll_statements.specs.OwnStatements.{by_own_names, line_uses_second, own_line, own_lines, uses_second}
 
 -- What uses no second name.

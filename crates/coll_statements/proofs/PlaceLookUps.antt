@@ -3,7 +3,7 @@ use Rattle.std.proofs.Common.{◌≡◌, ℕ, Bool, true, false, ◌||◌, cond,
 use Rattle.std.specs.List.{list_any}
 use Rattle.std.proofs.lemmas.List.Folds.{list_any-append}
 use Rattle.std.proofs.lemmas.Bool.Decides.{Decides-eqb}
-use Rattle.coll_nodes.proofs.Sameness.{same_name_decides, decided_symmetric}
+use Rattle.coll_lookups.proofs.Sameness.{same_name_decides, decided_symmetric}
 use Rattle.coll_syntax.specs.Identifier.{same_name, same_id, has_name, has_id}
 use Rattle.coll_nodes.specs.LookUps.{with_name, places_of, AddsId}
 use Rattle.coll_syntax.specs.declared.identifiers.Id.{Id}

@@ -10,7 +10,7 @@ use Rattle.coll_nodes.specs.Table.{name_of}
 use Rattle.coll_nodes.specs.declared.declarations.Declaration.{Declaration}
 use Rattle.coll_nodes.specs.declared.declarations.Declaration.TheVariants.{Symbol, Element, Equivalence}
 use Rattle.coll_nodes.proofs.OwnNames.{declaration_named}
-use Rattle.coll_nodes.proofs.Sameness.{same_name_decides}
+use Rattle.coll_lookups.proofs.Sameness.{same_name_decides}
 use Rattle.coll_statements.specs.SecondNames.{symbol_meant}
 
 -- what holds anyway holds of an error

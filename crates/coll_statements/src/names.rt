@@ -7,7 +7,7 @@ ghost use Rattle.std.specs.Prelude.{◌≡◌, [], OnOk, OnErr, chars};
 ghost use Rattle.coll_syntax.specs.Identifier.{has_name};
 
 use coll_lex::TextBuf;
-use coll_nodes::HashKeys;
+use coll_lookups::HashKeys;
 use indexmap::IndexSet;
 use std::alloc::{AllocError, Global};
 use std::marker::Model;

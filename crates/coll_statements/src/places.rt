@@ -7,7 +7,7 @@ ghost use Rattle.std.specs.Prelude.{◌≡◌, [], OnOk, OnErr};
 ghost use Rattle.coll_syntax.specs.Identifier.{has_id};
 
 use super::names::Names;
-use coll_nodes::HashKeys;
+use coll_lookups::HashKeys;
 use coll_syntax::Id;
 use indexmap::IndexSet;
 use std::alloc::{AllocError, Global};

@@ -15,7 +15,7 @@ use Rattle.coll_syntax.specs.declared.weights.Weight.TheVariants.{Own}
 use Rattle.coll_draft.proofs.BuiltTables.{built_with}
 use Rattle.coll_table.proofs.DeltaRefusals.{Passes, passes, has_last, has_still}
 use Rattle.coll_nodes.proofs.EntryLemmas.{taken_out, others_without, distinct_without, all_without, none_without, length_without, distinct_after, all_after, length_after, has_after, entry_found, found_id, by_ids, to_ids}
-use Rattle.coll_nodes.proofs.Sameness.{same_id_decides, same_id_symmetric, same_id_itself}
+use Rattle.coll_lookups.proofs.Sameness.{same_id_decides, same_id_symmetric, same_id_itself}
 use Rattle.coll_nodes.proofs.SectionLemmas.{joined_moved, names_stay, as_many, first_stays}
 use Rattle.coll_draft.proofs.SoundLines.{weights_are}
 use Rattle.coll_table.specs.Delta.{standing, block_entry, moved, all_moved, lines_refusal, line_refusal, ids_given}

@@ -7,7 +7,7 @@ use Rattle.coll_syntax.specs.Identifier.{same_id, has_id}
 use Rattle.coll_syntax.specs.declared.identifiers.Id.{Id}
 use Rattle.coll_syntax.specs.declared.statements.OrderLine.{OrderLine}
 use Rattle.coll_nodes.proofs.EntryLemmas.{turned}
-use Rattle.coll_nodes.proofs.Sameness.{same_id_itself}
+use Rattle.coll_lookups.proofs.Sameness.{same_id_itself}
 use Rattle.coll_draft.proofs.SoundLines.{neither_found, passed, not_false}
 use Rattle.coll_table.specs.Delta.{unless_refused, or_refused, weights_refusal, weight_id_refusal, weight_ids_refusal, line_refusal, lines_refusal}
 use Rattle.coll_draft.specs.Drafts.{refused_if}

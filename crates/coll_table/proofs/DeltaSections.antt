@@ -8,7 +8,7 @@ use Rattle.coll_order.proofs.Sameness.{by_test}
 use Rattle.coll_syntax.specs.Identifier.{same_id, same_name, has_id, has_name}
 use Rattle.coll_syntax.specs.declared.identifiers.Id.{Id}
 use Rattle.coll_table.proofs.DeltaPlacing.{all_front, all_back}
-use Rattle.coll_nodes.proofs.Sameness.{same_name_decides, same_name_symmetric, same_id_decides, same_id_itself, neither}
+use Rattle.coll_lookups.proofs.Sameness.{same_name_decides, same_name_symmetric, same_id_decides, same_id_itself, neither}
 use Rattle.coll_nodes.specs.Placement.{has_section_name, sections_named, sections_without, sections_after, section_moved}
 use Rattle.coll_nodes.specs.Table.{Section, ids_of, joined_entries, section_names, named}
 use Rattle.coll_nodes.specs.WellFormed.{AreDistinct, IsNamed, FirstIsUnnamed}

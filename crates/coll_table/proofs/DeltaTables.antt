@@ -19,7 +19,7 @@ use Rattle.coll_table.proofs.DeltaRefusals.{unrefused, or_unrefused, weights_pas
 use Rattle.coll_table.proofs.DeltaSections.{section_moved_number, section_moved_entries, section_moved_names, section_moved_ids, section_moved_has, all_entries_moved, first_unmoved}
 use Rattle.coll_nodes.proofs.EntryLemmas.{by_ids, to_ids}
 use Rattle.coll_nodes.proofs.LayoutReads.{both_true}
-use Rattle.coll_nodes.proofs.Sameness.{same_id_decides, same_id_itself}
+use Rattle.coll_lookups.proofs.Sameness.{same_id_decides, same_id_itself}
 use Rattle.coll_nodes.proofs.SectionLemmas.{names_stay, as_many, first_stays}
 use Rattle.coll_draft.proofs.SoundLines.{passed, not_false, weights_are}
 use Rattle.coll_table.specs.Delta.{own_delta, or_refused, declaration_delta, declaration_refusal, section_delta, section_refusal, block_delta, block_result, looked_up, all_moved, lines_refusal, ids_given, weight_ids_refusal, reweight_delta, reweight_refusal, reweighted, weights_refusal}

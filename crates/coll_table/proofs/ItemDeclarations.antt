@@ -19,7 +19,7 @@ use Rattle.coll_draft.proofs.LayoutEnds.{end_place}
 use Rattle.coll_nodes.proofs.LayoutReads.{declared_read, read_known, sections_read}
 use Rattle.coll_nodes.proofs.NodeLists.{same_read}
 use Rattle.coll_nodes.proofs.RingPlaces.{get_put_other, place_off}
-use Rattle.coll_nodes.proofs.Sameness.{same_name_decides}
+use Rattle.coll_lookups.proofs.Sameness.{same_name_decides}
 use Rattle.coll_draft.proofs.SoundLines.{passed}
 use Rattle.coll_nodes.specs.Bodies.{IsLooseNode, with_link, without_link}
 use Rattle.coll_table.specs.Delta.{declaration_refusal}

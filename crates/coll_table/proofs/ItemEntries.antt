@@ -16,7 +16,7 @@ use Rattle.coll_table.proofs.ItemPlaces.{finds_once, node_by}
 use Rattle.coll_table.proofs.ItemRings.{anew_other, anew_put, before_taken}
 use Rattle.coll_nodes.proofs.LayoutMoves.{changed_twice, declared_stays, found_entry, found_tells, ids_read, not_begun, not_declared, sections_changed}
 use Rattle.coll_nodes.proofs.LayoutReads.{and_true, entries_read, in_rings, read_known}
-use Rattle.coll_nodes.proofs.Sameness.{same_id_decides, same_id_itself}
+use Rattle.coll_lookups.proofs.Sameness.{same_id_decides, same_id_itself}
 use Rattle.coll_nodes.proofs.TurningNodes.{content_weighed, weighed_if}
 use Rattle.coll_nodes.specs.Placement.{entries_after, entries_without, placed_after, without as sections_without}
 use Rattle.coll_nodes.specs.SoundBodies.{IsShaped, has_key, ids_in, read_at, ring_at}

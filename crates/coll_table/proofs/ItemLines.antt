@@ -20,7 +20,7 @@ use Rattle.coll_table.proofs.ItemEntries.{IsEntryOf, entries_apart, entry_with, 
 use Rattle.coll_table.proofs.ItemPlaces.{entry_goes, finds_once, loose_suits, new_out, node_by, once_new, placed_standing, standing_suits, stands as stands_at}
 use Rattle.coll_table.proofs.ItemsDone.{AreDone, with_layout}
 use Rattle.coll_nodes.proofs.LayoutReads.{both_true}
-use Rattle.coll_nodes.proofs.Sameness.{same_id_decides, same_id_itself}
+use Rattle.coll_lookups.proofs.Sameness.{same_id_decides, same_id_itself}
 use Rattle.coll_draft.proofs.SoundLines.{neither_found, passed}
 use Rattle.coll_table.proofs.TurningSound.{item_on_sound}
 use Rattle.coll_nodes.specs.Bodies.{without_link}

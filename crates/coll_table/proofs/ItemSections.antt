@@ -22,7 +22,7 @@ use Rattle.coll_nodes.proofs.LayoutMoves.{declared_stays, get_without}
 use Rattle.coll_nodes.proofs.LayoutReads.{and_true, begun_covers, both_true, in_rings, read_known, section_at, sections_read}
 use Rattle.coll_nodes.proofs.NodeLists.{any_from, same_read}
 use Rattle.coll_nodes.proofs.RingPlaces.{in_one}
-use Rattle.coll_nodes.proofs.Sameness.{neither, same_name_decides}
+use Rattle.coll_lookups.proofs.Sameness.{neither, same_name_decides}
 use Rattle.coll_table.proofs.TurningRings.{once_without}
 use Rattle.coll_nodes.proofs.WalkShapes.{members}
 use Rattle.coll_nodes.specs.Bodies.{with_link, without_link}

@@ -14,7 +14,7 @@ use Rattle.coll_syntax.specs.declared.statements.Statement.TheVariants as statem
 use Rattle.coll_syntax.specs.declared.weights.Weight.{Weight}
 use Rattle.coll_draft.proofs.SoundLines.{neither_found}
 use Rattle.coll_nodes.proofs.LayoutReads.{both_true}
-use Rattle.coll_nodes.proofs.Sameness.{same_id_itself, same_id_symmetric}
+use Rattle.coll_lookups.proofs.Sameness.{same_id_itself, same_id_symmetric}
 use Rattle.coll_nodes.specs.Linking.{end_of_declarations}
 use Rattle.coll_nodes.specs.Moving.{IsAt, exchanged, moved_rings}
 use Rattle.coll_nodes.specs.SoundBodies.{has_key, ids_in}

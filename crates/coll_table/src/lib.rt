@@ -24,9 +24,10 @@ mod tables;
 mod turning;
 
 pub use coll_draft::{LoadCause, LoadFault};
+pub use coll_lookups::{EntryNumbers, HashKeys, NamePlaces};
 pub use coll_nodes::{
-    Declaration, Declared, DeclaredItem, Entry, EntryNumbers, HashKeys, MOST_DECLARATIONS,
-    MOST_ENTRIES, MOST_SECTIONS, NamePlaces, Walk, WalkItem, limits_are_stated,
+    Declaration, Declared, DeclaredItem, Entry, MOST_DECLARATIONS, MOST_ENTRIES, MOST_SECTIONS,
+    Walk, WalkItem, limits_are_stated,
 };
 pub use coll_print::{printed_tables_are_read_back, write_id};
 pub use coll_statements::second_names_are_not_placed;

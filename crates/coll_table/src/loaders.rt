@@ -20,7 +20,7 @@ ghost use Rattle.coll_draft.specs.declared.load_faults.LoadCause.TheVariants.{Ou
 use crate::Table;
 use coll_draft::{Draft, LoadCause, LoadFault};
 use coll_lex::{LexFault, Lexer, Line};
-use coll_nodes::HashKeys;
+use coll_lookups::HashKeys;
 use coll_syntax::parse_table_line;
 use std::alloc::{AllocError, Global};
 use std::marker::Model;

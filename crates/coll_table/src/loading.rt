@@ -15,7 +15,7 @@ ghost use Rattle.coll_nodes.specs.WellFormed.{IsWellFormed};
 use crate::{Loader, Table};
 use coll_draft::{LoadCause, LoadFault};
 use coll_lex::{LexFault, LineReader, ReadStop, Source};
-use coll_nodes::HashKeys;
+use coll_lookups::HashKeys;
 use std::alloc::Global;
 
 /// Reads a table text that one trusts, as `load_keyed` does: what it names is looked up under keys that anyone knows.

@@ -7,7 +7,8 @@
 ghost use Rattle.std.specs.Prelude.{◌≡◌, ℕ, List, chars, length, option_copied, option_map, IfOk, OnOk};
 ghost use Rattle.coll_syntax.specs.declared.identifiers.Id.TheVariants.{Named};
 
-use coll_nodes::{Body, Declared, Entry, EntryNumbers, HashKeys, NamePlaces, Walk};
+use coll_lookups::{EntryNumbers, HashKeys, NamePlaces};
+use coll_nodes::{Body, Declared, Entry, Walk};
 use coll_syntax::{Id, Rule, Rules};
 use std::alloc::{AllocError, Global};
 use std::marker::Model;
@@ -41,7 +42,7 @@ impl Model for Table {
 
 impl Table {
     ghost use Rattle.coll_nodes.specs.ElementTexts.{element_entry};
-    ghost use Rattle.coll_nodes.specs.NamePlaces.{place_named};
+    ghost use Rattle.coll_lookups.specs.NamePlaces.{place_named};
     ghost use Rattle.coll_nodes.specs.NodeNumbers.{AreNumbersOf};
     ghost use Rattle.coll_nodes.specs.OwnNames.{own_name};
     ghost use Rattle.coll_nodes.specs.Placement.{entry_at, place_among};

@@ -6,15 +6,14 @@
 ghost use Rattle.std.specs.Prelude.{◌≡◌, ◌<◌, length, IfOk, OnOk};
 
 use super::Body;
-use crate::entry_numbers::{EntryNumbers, number_sections};
-use crate::name_places::NamePlaces;
+use crate::numbered_rings::number_sections;
+use coll_lookups::{EntryNumbers, NamePlaces};
 use coll_syntax::Id;
 use std::alloc::{AllocError, Global};
 
 impl Body {
     ghost use Rattle.coll_syntax.specs.Identifier.{same_id};
-    ghost use Rattle.coll_nodes.specs.NamePlaces.{ArePlacesOf};
-    ghost use Rattle.coll_nodes.specs.NodeNumbers.{AreNumbersOf};
+    ghost use Rattle.coll_nodes.specs.NodeNumbers.{AreNumbersOf, ArePlacesOf};
     ghost use Rattle.coll_nodes.specs.Placement.{place_among};
     ghost use Rattle.coll_nodes.specs.Table.{ids_of, joined_entries};
     ghost use Rattle.coll_nodes.specs.TableLayout.{sections_at};

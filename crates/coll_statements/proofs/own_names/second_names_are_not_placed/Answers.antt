@@ -5,7 +5,7 @@ use Rattle.coll_syntax.specs.Identifier.{same_id}
 use Rattle.coll_nodes.specs.Table.{entries_of, ids_of, is_placed}
 use Rattle.coll_nodes.specs.WellFormed.{IsKnown}
 use Rattle.coll_nodes.proofs.OwnNames.{known_not_second}
-use Rattle.coll_nodes.proofs.Sameness.{found_holds, same_id_decides}
+use Rattle.coll_lookups.proofs.Sameness.{found_holds, same_id_decides}
 use Rattle.coll_statements.proofs.own_names.second_names_are_not_placed.Goals as goal
 
 pub returns : goal.returns

@@ -2,7 +2,7 @@
 use Rattle.std.proofs.Common.{Bool, Option, List, sym, ◌∙◌}
 use Rattle.coll_order.specs.declared.places.NodeId.{NodeId}
 use Rattle.coll_syntax.specs.Identifier.{same_id, same_name}
-use Rattle.coll_nodes.specs.NodeLookUps.{node_named, node_with}
+use Rattle.coll_lookups.specs.NodeLookUps.{node_named, node_with}
 use Rattle.coll_nodes.specs.SoundBodies.{Finds, ids_in, names_in, section_names_in, texts_in}
 use Rattle.coll_nodes.specs.SoundLayouts.{AreOnce}
 use Rattle.coll_nodes.specs.TableLayout.{TableLayout}

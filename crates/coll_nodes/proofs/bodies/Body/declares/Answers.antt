@@ -1,6 +1,6 @@
 -- A name is found where it is declared.
 use Rattle.std.proofs.Common.{is_some, ap, sym, ◌∙◌}
-use Rattle.coll_nodes.specs.NodeLookUps.{node_named}
+use Rattle.coll_lookups.specs.NodeLookUps.{node_named}
 use Rattle.coll_nodes.proofs.BodyReads.{name_found}
 use Rattle.coll_nodes.proofs.bodies.Body.declares.Goals as goal
 

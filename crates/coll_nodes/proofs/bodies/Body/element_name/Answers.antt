@@ -2,7 +2,7 @@
 use Rattle.std.proofs.Common.{sym, ◌∙◌}
 use Rattle.std.specs.Prelude.{chars}
 use Rattle.coll_syntax.specs.Identifier.{same_name}
-use Rattle.coll_nodes.specs.NodeLookUps.{node_named}
+use Rattle.coll_lookups.specs.NodeLookUps.{node_named}
 use Rattle.coll_nodes.specs.SoundBodies.{texts_in}
 use Rattle.coll_nodes.proofs.BodyReads.{found_made}
 use Rattle.coll_nodes.proofs.ElementNodes.{element_known, no_element}

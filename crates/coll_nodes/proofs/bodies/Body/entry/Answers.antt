@@ -1,7 +1,7 @@
 -- The node that is found by an identifier is its entry.
 use Rattle.std.proofs.Common.{sym, ◌∙◌}
 use Rattle.coll_syntax.specs.Identifier.{same_id}
-use Rattle.coll_nodes.specs.NodeLookUps.{node_with}
+use Rattle.coll_lookups.specs.NodeLookUps.{node_with}
 use Rattle.coll_nodes.specs.SoundBodies.{ids_in}
 use Rattle.coll_nodes.proofs.BodyReads.{entry_known, no_entry, found_made}
 use Rattle.coll_nodes.proofs.bodies.Body.entry.Goals as goal

@@ -2,7 +2,7 @@
 use Rattle.std.proofs.Common.{sym, ◌∙◌}
 use Rattle.coll_syntax.specs.Identifier.{same_id}
 use Rattle.coll_syntax.specs.declared.identifiers.Id.TheVariants.{Named}
-use Rattle.coll_nodes.specs.NodeLookUps.{node_with}
+use Rattle.coll_lookups.specs.NodeLookUps.{node_with}
 use Rattle.coll_nodes.specs.SoundBodies.{ids_in}
 use Rattle.coll_nodes.proofs.BodyReads.{entry_known, no_entry, found_made}
 use Rattle.coll_nodes.proofs.bodies.Body.entry_named.Goals as goal

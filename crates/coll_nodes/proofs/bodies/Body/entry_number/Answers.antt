@@ -1,8 +1,8 @@
 -- The number of the node that is found is the place of its identifier.
 use Rattle.std.proofs.Common.{Some, sym, ap, ◌∙◌}
 use Rattle.std.specs.Option.{option_map}
-use Rattle.coll_nodes.specs.NodeLookUps.{node_with}
-use Rattle.coll_nodes.specs.NodeNumbers.{number_at}
+use Rattle.coll_lookups.specs.NodeLookUps.{node_with}
+use Rattle.coll_lookups.specs.EntryNumbers.{number_at}
 use Rattle.coll_nodes.proofs.NumberedNodes.{found_place}
 use Rattle.coll_nodes.proofs.bodies.Body.entry_number.Goals as goal
 

@@ -1,6 +1,6 @@
 -- A string is found where an element has it.
 use Rattle.std.proofs.Common.{is_some, ap, sym, ◌∙◌}
-use Rattle.coll_nodes.specs.NodeLookUps.{node_named}
+use Rattle.coll_lookups.specs.NodeLookUps.{node_named}
 use Rattle.coll_nodes.proofs.BodyReads.{text_found}
 use Rattle.coll_nodes.proofs.bodies.Body.has_text.Goals as goal
 

@@ -1,6 +1,6 @@
 -- An identifier is found where it is placed.
 use Rattle.std.proofs.Common.{is_some, ap, sym, ◌∙◌}
-use Rattle.coll_nodes.specs.NodeLookUps.{node_with}
+use Rattle.coll_lookups.specs.NodeLookUps.{node_with}
 use Rattle.coll_nodes.proofs.BodyReads.{id_found}
 use Rattle.coll_nodes.proofs.bodies.Body.is_placed.Goals as goal
 

@@ -2,9 +2,9 @@
 use Rattle.std.proofs.Common.{ap, ◌∙◌}
 use Rattle.std.specs.Option.{option_map}
 use Rattle.coll_syntax.specs.declared.identifiers.Id.TheVariants.{Named}
-use Rattle.coll_nodes.specs.NamePlaces.{NamePlacesValue, place_named}
-use Rattle.coll_nodes.specs.NodeLookUps.{node_named, node_with}
-use Rattle.coll_nodes.specs.NodeNumbers.{number_at}
+use Rattle.coll_lookups.specs.NamePlaces.{NamePlacesValue, place_named}
+use Rattle.coll_lookups.specs.NodeLookUps.{node_named, node_with}
+use Rattle.coll_lookups.specs.EntryNumbers.{number_at}
 use Rattle.coll_nodes.proofs.NumberedNodes.{found_place}
 use Rattle.coll_nodes.proofs.bodies.Body.name_places.Goals as goal
 

@@ -1,0 +1,4 @@
+mod CharNodes
+mod NameNodes
+mod NodeLookUps
+pub mod Sameness

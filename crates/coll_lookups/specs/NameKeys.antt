@@ -1,0 +1,15 @@
+-- A name as a key: its characters, and the bytes by which it is compared and hashed.
+use Rattle.std.specs.Prelude.{◌≡◌, List, ℕ, chars, encode_utf8_all}
+use Rattle.coll_lookups.specs.declared.name_keys.NameKey.{NameKey}
+
+-- the characters of a key
+abbrev pub name_of_key : NameKey → List ℕ
+name_of_key key = key.name
+
+-- the bytes of a key
+abbrev pub bytes_of : NameKey → List ℕ
+bytes_of key = encode_utf8_all key.name
+
+-- the characters of a key are read back from its bytes
+abbrev pub IsReadBack : NameKey → Type 0
+IsReadBack key = chars (bytes_of key) ≡ key.name

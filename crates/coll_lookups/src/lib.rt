@@ -1,0 +1,24 @@
+//! Look-ups of nodes: by name, by identifier and by text, found by hash under keys.
+//!
+//! A look-up says which node of a store of rings a key leads to, and knows nothing of what nodes are or in which ring they stand:
+//! whoever has a table keeps its look-ups in step with it. A key that came in stays for good, so that it can lead to a node again
+//! without memory. A way through the crate, each file with its definitions in `specs/`:
+//!
+//! - `hash_keys`: keys, under which no text can choose names that are slow to find (`HashKeys`);
+//! - `name_keys` and `node_names`: a name as a key, and which node a name leads to (`NameKeys`, `NodeLookUps`, `NodeMaps`);
+//! - `node_ids`: which node an identifier leads to, a name or a character (`NodeLookUps`, `NodeMaps`);
+//! - `entry_numbers`: a number for each node (`EntryNumbers`); `name_places`: names with the numbers of their nodes (`NamePlaces`).
+#![tactic(auto)]
+
+mod entry_numbers;
+mod hash_keys;
+mod name_keys;
+mod name_places;
+mod node_ids;
+mod node_names;
+
+pub use entry_numbers::EntryNumbers;
+pub use hash_keys::HashKeys;
+pub use name_places::NamePlaces;
+pub use node_ids::NodeIds;
+pub use node_names::NodeNames;

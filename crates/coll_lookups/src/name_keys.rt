@@ -1,0 +1,80 @@
+//! A name as the key of a look-up by hash.
+//!
+//! A `NameKey` is compared and hashed by the bytes of its name, and so it is found by a `&str` too (`specs/NameKeys.antt`). A name
+//! that lies in its value lies in the key itself, so that most keys take no memory. What is hashed may change, for both alike.
+
+ghost use Rattle.std.specs.Prelude.{◌≡◌, IfOk};
+ghost use Rattle.std.specs.Cmp.Lexicographic.{bytes_decides, nat_list_eq_equiv};
+ghost use Rattle.std.specs.Cmp.{on_equiv, on_per, partial_equiv_from_equiv};
+ghost use Rattle.std.specs.Hash as fed;
+ghost use Rattle.std.specs.Str.{bytes_eq};
+ghost use Rattle.std.proofs.Common.{ap};
+ghost use Rattle.coll_lookups.specs.NameKeys.{bytes_of, IsReadBack};
+
+use coll_lex::TextBuf;
+use indexmap::Equivalent;
+use std::alloc::AllocError;
+use std::hash::{Hash, Hasher};
+
+/// A name as a key.
+#[derive(Drop)]
+pub(crate) struct NameKey {
+    name: TextBuf,
+}
+
+impl NameKey {
+    /// A copy of a name. One that lies in its value takes no memory.
+    pub(crate) fn copied(name: &TextBuf) -> Result<NameKey, AllocError>
+        ensures name { IfOk result (λ key. key.name ≡ name.now) }
+        ensures text { IfOk result IsReadBack }
+    {
+        // The name is lent for what is then known of it: its characters are read back from its bytes.
+        let _bytes = name.get();
+        let name = name.try_copy()?;
+        Ok(NameKey { name })
+    }
+}
+
+impl Clone for NameKey {
+    ghost is_clone = { λ key copy. copy.name ≡ key.name };
+
+    fn clone(&self) -> Result<NameKey, AllocError> {
+        NameKey::copied(&self.name)
+    }
+}
+
+impl PartialEq for NameKey {
+    ghost eq = { λ a b. bytes_eq (bytes_of a) (bytes_of b) };
+
+    ghost laws = { on_per bytes_of (partial_equiv_from_equiv nat_list_eq_equiv) };
+
+    fn eq(&self, other: &NameKey) -> bool {
+        self.name.get() == other.name.get()
+    }
+}
+
+impl Eq for NameKey {
+    ghost laws = { on_equiv bytes_of nat_list_eq_equiv };
+}
+
+impl Hash for NameKey {
+    ghost hash_input = { λ key. fed.str (bytes_of key) };
+
+    ghost respects_eq = { λ a b same. ap fed.str ((bytes_decides (bytes_of a) (bytes_of b)).0 same) };
+
+    fn hash<H: Hasher>(&self, state: &mut H) {
+        self.name.get().hash(state);
+    }
+}
+
+impl Equivalent<NameKey> for &str {
+    ghost equivalent = { λ text key. bytes_eq text.now (bytes_of key) };
+
+    ghost respects_hash = { λ text key same. ap fed.str ((bytes_decides text.now (bytes_of key)).0 same) };
+
+    ghost respects_eq = { λ text a b. nat_list_eq_equiv.congr text.now (bytes_of a) (bytes_of b) };
+
+    fn equivalent(&self, key: &NameKey) -> bool {
+        *self == key.name.get()
+    }
+}

@@ -1,0 +1,141 @@
+//! Nodes by identifier, with look-ups by hash.
+//!
+//! A `NodeIds` says which node an identifier leads to: a name by `NodeNames`, a character by a look-up of its own. An identifier
+//! that leads to none may stay as a key. A new kind of identifier is a look-up more.
+
+ghost use Rattle.std.specs.Prelude.{◌≡◌, true, None, Some, IfOk, OnOk, OnErr};
+
+use crate::HashKeys;
+use crate::node_names::NodeNames;
+use coll_lex::TextBuf;
+use coll_order::NodeId;
+use coll_syntax::Id;
+use indexmap::IndexMap;
+use std::alloc::{AllocError, Global};
+use std::marker::Model;
+
+/// Nodes by identifier. It has as many identifiers as memory has room for, and one that came in stays as a key.
+#[derive(Drop)]
+pub struct NodeIds {
+    names: NodeNames,
+    characters: IndexMap<char, Option<NodeId>, HashKeys>,
+    undefined: Option<NodeId>,
+}
+
+impl Model for NodeIds {
+    ghost use Rattle.coll_lookups.specs.NodeLookUps.{NodesById};
+    ghost use Rattle.coll_lookups.specs.NodeMaps.{chars_lead};
+
+    ghost Value = { NodesById };
+
+    ghost view = { λ n. record { names = n.names; characters = chars_lead n.characters.entries; undefined = n.undefined } };
+}
+
+impl NodeIds {
+    ghost use Rattle.coll_syntax.specs.declared.identifiers.Id.TheVariants.{Named};
+    ghost use Rattle.coll_lookups.specs.NodeLookUps.{no_nodes, node_with, is_id_key, SetsId, AddsIdKey, LeadAlike, KeepIdKeys};
+
+    /// No identifiers. It takes no memory. Names and characters are looked up under these keys.
+    pub fn new(alloc: Global, keys: HashKeys) -> NodeIds
+        ensures { result ≡ no_nodes }
+    {
+        NodeIds {
+            names: NodeNames::new(alloc, keys),
+            characters: IndexMap::with_hasher(alloc, keys),
+            undefined: None,
+        }
+    }
+
+    /// The node that an identifier leads to, if it does. It takes no memory.
+    pub fn find(&self, id: &Id) -> Option<NodeId>
+        ensures { result ≡ node_with self.now id.now }
+    {
+        match id {
+            Id::Char(c) => match self.characters.get(c) {
+                Some(node) => *node,
+                None => None,
+            },
+            Id::Named(name) => self.find_name(name),
+            Id::Undefined => self.undefined,
+        }
+    }
+
+    /// The node that the identifier of a name leads to, if it does. It takes no memory.
+    pub fn find_name(&self, name: &TextBuf) -> Option<NodeId>
+        ensures { result ≡ node_with self.now (Named name.now) }
+    {
+        self.names.find(name)
+    }
+
+    /// Makes an identifier a key, so that it can be `set`. It leads to where it led. Where memory is refused, nothing has changed.
+    pub fn reserve(&mut self, id: &Id) -> Result<(), AllocError>
+        ensures ok { OnOk result (LeadAlike self.old self.new) }
+        ensures keys { OnOk result (AddsIdKey self.old self.new id.now) }
+        ensures err { OnErr result (self.new ≡ self.old) }
+    {
+        let node = self.find(id);
+        self.put(id, node)?;
+        Ok(())
+    }
+
+    /// Makes an identifier a key, and lead to a node, or to none. Where memory is refused, nothing has changed.
+    pub fn put(&mut self, id: &Id, node: Option<NodeId>) -> Result<(), AllocError>
+        ensures ok { OnOk result (SetsId self.old self.new id.now node) }
+        ensures keys { OnOk result (AddsIdKey self.old self.new id.now) }
+        ensures err { OnErr result (self.new ≡ self.old) }
+    {
+        match id {
+            Id::Char(c) => {
+                self.characters.insert(*c, node)?;
+            }
+            Id::Named(name) => {
+                self.names.put(name, node)?;
+            }
+            Id::Undefined => self.undefined = node,
+        }
+        Ok(())
+    }
+
+    /// Makes an identifier that is a key lead to a node, or to none. It takes no memory.
+    pub fn set(&mut self, id: &Id, node: Option<NodeId>)
+        requires { is_id_key self.old id.now ≡ true }
+        ensures set { SetsId self.old self.new id.now node }
+        ensures keys { KeepIdKeys self.old self.new }
+    {
+        match id {
+            Id::Char(c) => {
+                let Some(place) = self.characters.get_mut(c) else {
+                    unreachable!();
+                };
+                *place = node;
+            }
+            Id::Named(name) => self.names.set(name, node),
+            Id::Undefined => self.undefined = node,
+        }
+    }
+
+    /// A copy of the look-up of names, in new memory.
+    pub fn copied_names(&self, alloc: Global) -> Result<NodeNames, AllocError>
+        ensures { IfOk result (λ names. names ≡ self.now.names) }
+    {
+        self.names.try_copy(alloc)
+    }
+
+    /// A copy, in new memory.
+    pub fn try_copy(&self, alloc: Global) -> Result<NodeIds, AllocError>
+        ensures { IfOk result (λ copy. copy ≡ self.now) }
+    {
+        let NodeIds {
+            names,
+            characters,
+            undefined,
+        } = self;
+        let names = names.try_copy(alloc)?;
+        let characters = characters.clone()?;
+        Ok(NodeIds {
+            names,
+            characters,
+            undefined: *undefined,
+        })
+    }
+}
