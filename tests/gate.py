@@ -1,6 +1,7 @@
 #!/usr/bin/env python3
 """The merge gate: whether each edit of crates/*/more-edits/ can still be applied, `rt ci`, and then the runs of the programs that it
-built, withdrawals from random histories among them. What the prover says of those edits, `make edits` tells.
+built, withdrawals from random histories among them, and whether the version that is told is that of the changelog and of the kit.
+What the prover says of those edits, `make edits` tells.
 
 usage: tests/gate.py
 
@@ -40,6 +41,18 @@ def proofs_and_tests():
     return counts
 
 
+def version():
+    """Returns 1, 0 where `collbench version` tells the version of the changelog, and the kit, as README does; and 0, 1 where not."""
+    with open(f"{run_program.ROOT}/CHANGELOG.md", encoding="utf-8") as changes, open(f"{run_program.ROOT}/README.md", encoding="utf-8") as readme:
+        number, told = re.search(r"^## ([\d.]+)", changes.read(), re.M)[1], readme.read()
+    kit = subprocess.run(["rt", "version"], stdout=subprocess.PIPE, encoding="utf-8", check=False).stdout.strip()
+    ran = subprocess.run([run_program.PROGRAM, "version"], stdout=subprocess.PIPE, encoding="utf-8", check=False)
+    if (ran.returncode, ran.stdout) == (0, f"collbench {number}\nproved with {kit}\n") and kit in told:
+        return 1, 0
+    print(f"FAILED: the version told is not {number}, proved with {kit}, in the program and in README: {ran.stdout}", flush=True)
+    return 0, 1
+
+
 def main():
     can_be_applied = edits.run_all()
     print(f"edits that can be applied: {can_be_applied[0]} passed, {can_be_applied[1]} failed", flush=True)
@@ -50,7 +63,9 @@ def main():
     print(f"withdrawals from random histories: {withdrawn[0]} passed, {withdrawn[1]} failed")
     refused = refuse_growths.run_all()
     print(f"runs with refused growths: {refused[0]} passed, {refused[1]} failed")
-    passed, failed = (sum(counts) for counts in zip(can_be_applied, proved, ran, withdrawn, refused))
+    told = version()
+    print(f"version: {told[0]} passed, {told[1]} failed")
+    passed, failed = (sum(counts) for counts in zip(can_be_applied, proved, ran, withdrawn, refused, told))
     print(f"{passed} passed, {failed} failed")
     return 1 if failed or not ran[0] else 0
 

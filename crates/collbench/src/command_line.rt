@@ -1,8 +1,8 @@
 //! The command line: what the words after the program's name ask for.
 //!
 //! `clap` reads the words, and its texts tell a user what may stand there. A new subcommand is a variant of `Subcommand` with its
-//! name, a case of `task_of` and of `task_for` in `specs/Tasks.antt`, and a line of `command` with an example in `EXAMPLES`. There
-//! is one level of subcommands, and no option but help.
+//! name, a case of `task_of` and of `task_for` in `specs/Tasks.antt`, and a line of `command` with an example in `EXAMPLES`;
+//! `version` alone takes no table, and is no variant. There is one level of subcommands, and no option but help.
 
 ghost use Rattle.std.specs.Prelude.{◌≡◌, ◌≢◌, ◌<◌, None, map, chars, vec_len, IfOk, IfSome};
 ghost use Rattle.collbench.specs.Tasks.{subcommand_name, task_for};
@@ -25,6 +25,9 @@ const FIRST: &str = "A";
 
 const SECOND: &str = "B";
 
+// The name of the subcommand that takes no table.
+const VERSION: &str = "version";
+
 const EXAMPLES: &str = "Examples:
   collbench check base.txt                     table entries 9 declared 3 sections 2 levels 4
   collbench print base.txt c_behind_a.txt      the table, in which c goes behind a
@@ -33,7 +36,7 @@ const EXAMPLES: &str = "Examples:
   collbench compare base.txt a A               less
   collbench session base.txt < lines.txt       a reply to each line";
 
-/// A subcommand.
+/// A subcommand that works on a table.
 #[derive(Clone, Copy)]
 pub enum Subcommand {
     /// Counts what a table has.
@@ -68,11 +71,13 @@ pub struct Request<'a> {
     pub files: Vec<&'a str>,
 }
 
-/// Why the words of a command line ask for nothing.
+/// What the words of a command line come to where they ask for no work on a table.
 #[derive(Drop)]
 pub enum Unasked {
     /// Help was asked for, or the words aren't those of a subcommand. The text is `clap`'s.
     Told(clap::Error),
+    /// The version was asked for.
+    Version,
     /// Memory was refused while the words were read.
     OutOfMemory,
 }
@@ -126,7 +131,15 @@ fn asked_for<'a>(
 {
     match request_of(alloc, matches)? {
         Some(request) => Ok(request),
-        None => Err(Unasked::Told(command.error(
+        None => Err(unasked(command, matches)?),
+    }
+}
+
+// What words come to that ask for no work on a table.
+fn unasked<'a>(command: &mut Command<'a>, matches: &ArgMatches<'a>) -> Result<Unasked, AllocError> {
+    match matches.subcommand() {
+        Some((VERSION, _)) => Ok(Unasked::Version),
+        _ => Ok(Unasked::Told(command.error(
             ErrorKind::MissingSubcommand,
             "a subcommand and its words are wanted",
         )?)),
@@ -156,7 +169,8 @@ fn with_texts<'a>(alloc: Global, command: Command<'a>) -> Result<Command<'a>, Al
     let session = "Reads the lines of a session from standard input, and replies to each";
     let command = with(command, over_texts(alloc, key))?;
     let command = with(command, over_two_texts(alloc, compare))?;
-    with(command, over_table(alloc, Subcommand::Session, session))
+    let command = with(command, over_table(alloc, Subcommand::Session, session))?;
+    command.subcommand(version(alloc))
 }
 
 // The command with a subcommand that takes a table and delta files, perhaps none, and what help says of it.
@@ -178,6 +192,11 @@ fn with<'a>(
         Ok(subcommand) => command.subcommand(subcommand),
         Err(refused) => Err(refused),
     }
+}
+
+// The subcommand that takes no word.
+fn version<'a>(alloc: Global) -> Command<'a> {
+    Command::new(alloc, VERSION).about("Prints the version, and the prover that it was proved with")
 }
 
 // A subcommand that takes a table, and what help says of it.

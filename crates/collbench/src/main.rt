@@ -25,6 +25,9 @@ use std::process::ExitCode;
 /// The exit status where the words of the command line are wrong.
 const WRONG_WORDS: u8 = 2;
 
+/// The version of the program, and the line of the kit that it is proved with, as `rt version` prints it.
+const VERSION: &str = "collbench 0.1.0\nproved with rattle-kit-13f logic dac8208d650f15bf";
+
 /// The name of standard input.
 const STANDARD_INPUT: &str = "-";
 
@@ -43,6 +46,7 @@ fn main(rt: HostRuntime) -> ExitCode {
     match read_words(rt.alloc(), words.as_slice()) {
         Ok(request) => obey(&rt, request),
         Err(Unasked::Told(text)) => tell(&rt, &text),
+        Err(Unasked::Version) => tell_version(&rt),
         Err(Unasked::OutOfMemory) => tell_no_memory(&rt),
     }
 }
@@ -265,4 +269,12 @@ fn tell_not_text(rt: &HostRuntime) -> ExitCode {
 fn tell(rt: &HostRuntime, text: &clap::Error) -> ExitCode {
     let _ = text.print(rt);
     ExitCode::from(if text.use_stderr() { WRONG_WORDS } else { 0 })
+}
+
+// Prints the version.
+fn tell_version(rt: &HostRuntime) -> ExitCode {
+    match println!(rt; "{VERSION}") {
+        Ok(()) => ExitCode::SUCCESS,
+        Err(_) => tell_at_start(rt, Fault::Write(WriteStop::WriteFault)),
+    }
 }
