@@ -51,6 +51,7 @@ CRATES = (
     "coll_print",
     "coll_statements",
     "coll_table",
+    "coll_elements",
     "coll_ranks",
     "coll_key",
 )
@@ -321,8 +322,10 @@ def text_files(work, name, words, some):
 
 
 def build(work, tree):
-    """The program, built in this folder over copies of the crates of a working tree."""
+    """The program, built in this folder over copies of the crates of a working tree, of which an older one may lack some."""
     for name in CRATES:
+        if not os.path.isdir(os.path.join(tree, "crates", name)):
+            continue
         crate = os.path.join(work, "crates", name)
         os.makedirs(crate, exist_ok=True)
         for part in ("src", "specs", "proofs"):

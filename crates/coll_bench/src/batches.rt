@@ -16,10 +16,12 @@ mod delta_files;
 mod inputs;
 mod output;
 
+use coll_devices::{Sink, Source};
 use coll_key::{KeyFault, MOST_TEXT_CHARACTERS};
-use coll_lex::{ListBuf, Sink, Source, TextBuf};
+use coll_lex::{ListBuf, TextBuf};
+use coll_lookups::HashKeys;
 use coll_replies::{Fault, RunFault};
-use coll_table::{HashKeys, Table};
+use coll_table::Table;
 use inputs::read_inputs;
 use output::write_output;
 use std::alloc::Global;

@@ -13,7 +13,8 @@ ghost use Rattle.coll_bench.specs.Serving.{IsBegun, EndsSession, CountsWrites, I
 ghost use Rattle.coll_bench.specs.Runs.{Runs, CountsReads};
 
 use crate::serving::Desk;
-use coll_lex::{LexFault, LineReader, Sink, Source};
+use coll_devices::{LineReader, Sink, Source};
+use coll_lex::LexFault;
 use coll_replies::{Fault, RunFault};
 use coll_table::Table;
 use std::alloc::Global;

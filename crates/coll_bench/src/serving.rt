@@ -16,7 +16,8 @@ ghost use Rattle.coll_replies.specs.Replies.{refused_line, refused_lines};
 ghost use Rattle.coll_units.specs.Units.{dangling as dangling_faults};
 ghost use Rattle.coll_bench.specs.Serving.{EndsSession, EndsWith, FinishesWith, IsCutOff, CountsEnd, CountsWrites, CountsStop, IsFlushedAt, IsFlushedAfter, ReadsNone, write_failed as failed_write, too_long};
 
-use coll_lex::{LexFault, ReadStop, Sink, WriteStop};
+use coll_devices::{ReadStop, Sink, WriteStop};
+use coll_lex::LexFault;
 use coll_replies::{Fault, RankedSession, RunFault, answer, refuse};
 use coll_table::Table;
 use coll_units::{FaultAt, Listener, OpenBlock, SessionUnit, UnitFault};

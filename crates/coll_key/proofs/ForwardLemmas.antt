@@ -9,7 +9,7 @@ use Rattle.coll_key.specs.ForwardNumbers.{items_left, before, gap_count}
 use Rattle.coll_ranks.specs.AlikeFronts.{BeginAlike}
 use Rattle.coll_key.specs.LevelList.{items_of, items, listed}
 use Rattle.coll_key.specs.TextOrder.{list_order}
-use Rattle.coll_ranks.proofs.Tests.{by_test}
+use Rattle.coll_elements.proofs.Tests.{by_test}
 
 -- the next item is a number
 pub number_next : (p : Bool) (gaps n : ℕ) (seq : List (Option ℕ)) → listed p gaps (Some n ∷ seq) ≡ before p (record { position = gaps + 1; number = n }) (listed p 0 seq)

@@ -5,7 +5,7 @@ use Rattle.std.proofs.lemmas.Bool.{ne_eqb}
 use Rattle.coll_syntax.specs.declared.rules.Rule.{Rule}
 use Rattle.coll_nodes.specs.Table.{Collation}
 use Rattle.coll_nodes.specs.WellFormed.{IsWellFormed}
-use Rattle.coll_ranks.specs.Elements.{elements_of}
+use Rattle.coll_elements.specs.Elements.{elements_of}
 use Rattle.coll_key.specs.LevelList.{items, directed, listed, level_list, level_lists_from}
 use Rattle.coll_ranks.specs.WeightNumbers.{numbers_at}
 use Rattle.coll_key.specs.SortKey.{ended, key_of}

@@ -17,13 +17,13 @@ use Rattle.coll_nodes.specs.Placement.{entry_at, place_among}
 use Rattle.coll_nodes.specs.Table.{Collation, entries_of, ids_of, is_placed}
 use Rattle.coll_nodes.specs.WellFormed.{IsWellFormed, HasPlacedWeights}
 use Rattle.coll_nodes.specs.declared.entries.Entry.{Entry}
-use Rattle.coll_ranks.specs.Elements.{elements_of}
+use Rattle.coll_elements.specs.Elements.{elements_of}
 use Rattle.coll_key.specs.LevelList.{items_of, items, directed, listed, level_list, level_lists_from}
 use Rattle.coll_ranks.specs.WeightNumbers.{number_of, undefined_weights, weights_or, weights_of, weight_at, own_number, weight_numbers, code_point, numbers_at}
-use Rattle.coll_ranks.specs.Rank.{rank_unplaced, known_rank}
+use Rattle.coll_elements.specs.Rank.{rank_unplaced, known_rank}
 use Rattle.coll_key.specs.SortKey.{ended, key_of, KeysAreOrderedAsTexts}
 use Rattle.coll_key.specs.TextOrder.{list_order, first_difference, level_lists, order_of}
-use Rattle.coll_ranks.proofs.Tests.{by_test}
+use Rattle.coll_elements.proofs.Tests.{by_test}
 
 -- the first member of a list, and the others
 pub All-first : {X : Type 0} (P : X → Type 0) (x : X) (xs : List X) → All P (x ∷ xs) → P x

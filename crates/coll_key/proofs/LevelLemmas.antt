@@ -5,12 +5,14 @@ use Rattle.std.proofs.lemmas.Bool.{ltb-false}
 use Rattle.coll_syntax.specs.declared.rules.Rule.{Rule}
 use Rattle.coll_nodes.specs.Table.{Collation}
 use Rattle.coll_nodes.specs.WellFormed.{IsWellFormed}
-use Rattle.coll_ranks.specs.Elements.{elements_of}
+use Rattle.coll_elements.specs.Elements.{elements_of}
 use Rattle.coll_key.specs.LevelList.{items_of, items, directed, listed, level_list, level_lists_from}
 use Rattle.coll_ranks.specs.WeightNumbers.{numbers_at}
-use Rattle.coll_ranks.specs.Ranks.{RanksValue, AreRanksOf, parts_of, part_numbers, part_with, ranked_text}
+use Rattle.coll_elements.specs.RankedElements.{ranked_text}
+use Rattle.coll_ranks.specs.Ranks.{RanksValue, AreRanksOf, parts_of, part_numbers, part_with}
 use Rattle.coll_key.specs.TextOrder.{level_lists}
-use Rattle.coll_ranks.proofs.PartNumbers.{few_split, numbers_are}
+use Rattle.coll_elements.proofs.SplitTexts.{few_split}
+use Rattle.coll_ranks.proofs.PartNumbers.{numbers_are}
 
 -- items are those of the numbers
 items_by_map : {P : Type 0} (f : P → List ℕ) (ps : List P) → items f ps ≡ flat_map items_of (map f ps)

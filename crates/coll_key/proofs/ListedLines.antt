@@ -26,16 +26,17 @@ use Rattle.coll_nodes.proofs.EntryLemmas.{entry_there}
 use Rattle.coll_draft.proofs.MetEntries.{met_all}
 use Rattle.coll_lookups.proofs.Sameness.{same_name_decides, same_id_decides}
 use Rattle.coll_key.specs.CompiledListing.{string_named, listed_id, listed_level, listed_line, listed_entry, listed_entries, listed_undefined}
-use Rattle.coll_ranks.specs.Elements.{element_placed}
-use Rattle.coll_ranks.specs.Rank.{known_rank}
-use Rattle.coll_ranks.specs.Ranks.{RanksValue, AreRanksOf, ranked_in, last_string, compiled_by, compiled_entry, compiled_weight, compiled_row_by}
+use Rattle.coll_elements.specs.Elements.{element_placed}
+use Rattle.coll_elements.specs.Rank.{known_rank}
+use Rattle.coll_elements.specs.RankedElements.{ranked_in, last_string}
+use Rattle.coll_ranks.specs.Ranks.{RanksValue, AreRanksOf, compiled_by, compiled_entry, compiled_weight, compiled_row_by}
 use Rattle.coll_ranks.specs.WeightNumbers.{undefined_weights, weights_or}
 use Rattle.coll_key.specs.WrittenKey.{level_end}
 use Rattle.coll_key.specs.ListingParts.{spaced, spaced_number, is_star, level_bytes, spelled_with, levels_bytes, ranked_line, line_if_weighted, met_line, ranked_lines, HasFewWeights}
 use Rattle.coll_ranks.proofs.PartNumbers.{compiled_for}
 use Rattle.coll_ranks.proofs.RowNumbers.{filled_length, row_at}
-use Rattle.coll_ranks.proofs.RankingLemmas.{or_none}
-use Rattle.coll_ranks.proofs.Tests.{by_test}
+use Rattle.coll_elements.proofs.TableElementLemmas.{or_none}
+use Rattle.coll_elements.proofs.Tests.{by_test}
 
 -- Rows.
 

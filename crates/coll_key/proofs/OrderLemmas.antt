@@ -5,7 +5,7 @@ use Rattle.std.specs.Ordering.{is_ne, ordering_then}
 use Rattle.std.proofs.lemmas.List.{at_drop_more, at_drop_all}
 use Rattle.coll_syntax.specs.declared.rules.Rule.{Rule}
 use Rattle.coll_ranks.proofs.PartNumbers.{numbers_are}
-use Rattle.coll_ranks.specs.Elements.{elements_of}
+use Rattle.coll_elements.specs.Elements.{elements_of}
 use Rattle.coll_ranks.specs.WeightNumbers.{numbers_at}
 use Rattle.coll_nodes.specs.Table.{Collation}
 use Rattle.coll_nodes.specs.WellFormed.{IsWellFormed}

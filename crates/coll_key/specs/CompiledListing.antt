@@ -15,7 +15,7 @@ use Rattle.coll_nodes.specs.declared.declarations.Declaration.{Declaration}
 use Rattle.coll_nodes.specs.declared.declarations.Declaration.TheVariants as declaration
 use Rattle.coll_nodes.specs.declared.entries.Entry.{Entry}
 use Rattle.coll_ranks.specs.WeightNumbers.{undefined_weights}
-use Rattle.coll_ranks.specs.Rank.{known_rank}
+use Rattle.coll_elements.specs.Rank.{known_rank}
 use Rattle.coll_key.specs.WrittenKey.{joined_by_spaces, level_end}
 
 -- the string of the collating element of a name

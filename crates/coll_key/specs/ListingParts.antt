@@ -12,7 +12,8 @@ use Rattle.coll_nodes.specs.Table.{Collation, entries_of}
 use Rattle.coll_nodes.specs.Walks.{Met, MetSection, MetEntry}
 use Rattle.coll_nodes.specs.declared.entries.Entry.{Entry}
 use Rattle.coll_key.specs.CompiledListing.{listed_entries, listed_undefined}
-use Rattle.coll_ranks.specs.Ranks.{RanksValue, compiled_weight, last_string}
+use Rattle.coll_elements.specs.RankedElements.{last_string}
+use Rattle.coll_ranks.specs.Ranks.{RanksValue, compiled_weight}
 use Rattle.coll_key.specs.WrittenKey.{level_end}
 
 -- a space and a word

@@ -6,7 +6,7 @@ use Rattle.std.specs.declared.cmp.Ordering.TheVariants.{Equal}
 use Rattle.std.specs.Cmp.Lexicographic.{slice_cmp}
 use Rattle.coll_syntax.specs.declared.rules.Rule.{Rule}
 use Rattle.coll_nodes.specs.Table.{Collation}
-use Rattle.coll_ranks.specs.Elements.{elements_of}
+use Rattle.coll_elements.specs.Elements.{elements_of}
 use Rattle.coll_key.specs.LevelList.{level_lists_from}
 use Rattle.coll_ranks.specs.WeightNumbers.{numbers_at}
 

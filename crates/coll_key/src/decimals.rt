@@ -3,7 +3,7 @@
 ghost use Rattle.std.specs.Prelude.{decimal};
 ghost use Rattle.coll_devices.specs.Devices.{CountsErr, Sends};
 
-use coll_lex::{Sink, WriteStop, write_bytes};
+use coll_devices::{Sink, WriteStop, write_bytes};
 use itoa::Buffer;
 
 /// Writes a number in decimal digits. It takes no memory.

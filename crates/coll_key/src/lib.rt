@@ -24,8 +24,8 @@ mod text_keys;
 mod text_parts;
 mod written_keys;
 
+pub use coll_lookups::EntryNumbers;
 pub use coll_ranks::Ranks;
-pub use coll_table::EntryNumbers;
 pub use comparison::compare;
 pub use key_faults::KeyFault;
 pub use keys::{key, keys_are_ordered_as_texts};

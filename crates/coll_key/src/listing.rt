@@ -15,11 +15,13 @@ ghost use Rattle.coll_key.specs.CompiledListing.{compiled_listing, listing_head,
 ghost use Rattle.coll_key.specs.ListingParts.{spaced_number, weight_bytes, level_bytes, levels_ended, is_star, spelled_with, ranked_line, line_if_weighted, met_line, ranked_lines, HasFewWeights, entries_part};
 ghost use Rattle.coll_ranks.specs.Ranks.{AreRanksOf};
 
-use coll_lex::{Sink, WriteStop, write_bytes, write_char};
+use coll_devices::{Sink, WriteStop, write_bytes};
+use coll_lex::write_char;
+use coll_nodes::{Entry, Walk, WalkItem};
 use coll_print::{write_rule, write_text};
 use coll_ranks::Ranks;
 use coll_syntax::{Id, Rule, Weight};
-use coll_table::{Entry, Table, Walk, WalkItem};
+use coll_table::Table;
 use itoa::Buffer;
 
 /// Writes the compiled listing of a table: its levels, its rules, and for each entry its rank and the ranks of its weights.

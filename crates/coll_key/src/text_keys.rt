@@ -16,8 +16,9 @@ ghost use Rattle.coll_key.specs.declared.key_faults.KeyFault.TheVariants.{OutOfM
 use crate::key_faults::KeyFault;
 use crate::keys::{key_of_rows, keys_are_ordered_as_texts};
 use crate::limits::is_too_long;
+use coll_lookups::EntryNumbers;
 use coll_ranks::{CompiledWeights, Part, PartRow, TextWeights};
-use coll_table::{EntryNumbers, Table};
+use coll_table::Table;
 use std::alloc::{AllocError, Global};
 use std::cmp::Ordering;
 

@@ -10,7 +10,7 @@ ghost use Rattle.coll_key.specs.WrittenKey.{behind_space, joined_by_spaces, befo
 
 use crate::decimals::write_decimal;
 use crate::limits::RANK_STEP;
-use coll_lex::{Sink, WriteStop, write_bytes};
+use coll_devices::{Sink, WriteStop, write_bytes};
 use coll_syntax::Rule;
 
 /// Writes a sort key, without a line feed behind it.

@@ -10,7 +10,7 @@ ghost use Rattle.coll_print.specs.CanonicalText.{PrintedTablesAreReadBack};
 ghost use Rattle.coll_print.specs.PrintedParts.{declaration_bytes, met_bytes};
 
 use crate::spelled_lines::{write_declaration, write_met};
-use coll_lex::{Sink, WriteStop};
+use coll_devices::{Sink, WriteStop};
 use coll_nodes::{Declared, Walk};
 
 /// Writes a line for each declaration.

@@ -9,7 +9,8 @@ ghost use Rattle.coll_devices.specs.Devices.{CountsErr, Sends};
 ghost use Rattle.coll_print.specs.CanonicalText.{spelled_string, spelled_own, spelled_names, spelled_weight, spelled_joined, is_own, weights_behind, entry_line, line_bytes};
 ghost use Rattle.coll_print.specs.PrintedParts.{id_bytes, behind_bytes};
 
-use coll_lex::{Sink, WriteStop, write_bytes, write_char, write_symbol};
+use coll_devices::{Sink, WriteStop, write_bytes};
+use coll_lex::{write_char, write_symbol};
 use coll_nodes::Entry;
 use coll_syntax::{Id, Weight};
 

@@ -12,7 +12,8 @@ ghost use Rattle.coll_print.specs.PrintedParts.{char_bytes, behind_bytes, declar
 ghost use Rattle.coll_nodes.specs.WalkItems.{met_by, declared_by};
 
 use crate::spelled_entries::write_entry;
-use coll_lex::{Sink, WriteStop, write_bytes, write_char, write_symbol};
+use coll_devices::{Sink, WriteStop, write_bytes};
+use coll_lex::{write_char, write_symbol};
 use coll_nodes::{DeclaredItem, WalkItem};
 use coll_syntax::Rule;
 

@@ -1,5 +1,5 @@
 -- What the look-ups find for a text is what the table says of its elements.
-use Rattle.std.proofs.Common.{◌≡◌, ◌<◌, ◌≤◌, ℕ, zero, suc, ◌+◌, ◌*◌, ◌-◌, Bool, true, false, cond, List, [], ◌∷◌, ◌++◌, length, map, get_or, chars, Option, Some, None, is_some, sym, ap, ap₂, ◌∙◌, refl, arith, length-append}
+use Rattle.std.proofs.Common.{◌≡◌, ◌<◌, ℕ, zero, suc, ◌+◌, ◌*◌, Bool, true, false, cond, List, [], ◌∷◌, ◌++◌, length, map, get_or, chars, Option, Some, None, is_some, sym, ap, ap₂, ◌∙◌, refl, arith, length-append}
 use Rattle.std.specs.Prelude.{nat_lt}
 use Rattle.std.specs.List.{flat_map}
 use Rattle.std.specs.Option.{option_or, option_map, unwrap_or}
@@ -15,47 +15,22 @@ use Rattle.coll_nodes.specs.Table.{Collation, entries_of}
 use Rattle.coll_nodes.specs.WellFormed.{IsWellFormed}
 use Rattle.coll_nodes.specs.declared.entries.Entry.{Entry}
 use Rattle.coll_nodes.proofs.EntryLemmas.{entry_there}
-use Rattle.coll_ranks.specs.Elements.{Element, beyond_first, longest, longer, split, elements_of, elements_placed, element_text, part_id, begins_with}
-use Rattle.coll_ranks.specs.NamedElements.{Finds}
+use Rattle.coll_elements.specs.Elements.{Element, beyond_first, longest, longer, split, elements_of, elements_placed, element_text, part_id, begins_with}
+use Rattle.coll_elements.specs.NamedElements.{Finds}
 use Rattle.coll_ranks.specs.WeightNumbers.{numbers_at, weight_at, undefined_weights}
-use Rattle.coll_ranks.specs.Rank.{known_rank}
-use Rattle.coll_ranks.specs.Ranks.{RanksValue, RankedElement, AreRanksOf, parts_of, parts_behind, part_with, part_numbers, character_part, compiled_weight, compiled_by, compiled_entry, compiled_row_by, compiled_weights, ranked_text, ranked_in}
+use Rattle.coll_elements.specs.Rank.{known_rank}
+use Rattle.coll_elements.specs.RankedElements.{RankedElement, ranked_text, ranked_in}
+use Rattle.coll_ranks.specs.Ranks.{RanksValue, AreRanksOf, parts_of, parts_behind, part_with, part_numbers, character_part, compiled_weight, compiled_by, compiled_entry, compiled_row_by, compiled_weights}
 use Rattle.coll_ranks.specs.AlikeFronts.{BeginAlike}
 use Rattle.coll_ranks.specs.declared.parts.Part.{Part}
 use Rattle.coll_ranks.specs.declared.parts.Part.TheVariants.{Placed}
-use Rattle.coll_ranks.specs.declared.named_elements.FoundElement.{FoundElement}
-use Rattle.coll_ranks.proofs.RankingLemmas.{has_place}
+use Rattle.coll_elements.specs.declared.named_elements.FoundElement.{FoundElement}
+use Rattle.coll_elements.proofs.SplitTexts.{split_found}
+use Rattle.coll_elements.proofs.TableElementLemmas.{has_place}
 use Rattle.coll_ranks.proofs.RowNumbers.{BeginWithUndefined, filled_length, row_behind, entry_numbers, absent_numbers, character_absent}
-use Rattle.coll_ranks.proofs.Tests.{by_test}
+use Rattle.coll_elements.proofs.Tests.{by_test}
 
 -- The parts of a text, one after another.
-
-module _ {X P : Type 0} (string_of : X → List ℕ) (xs : List X) (part : Option X → ℕ → P) where
-  -- characters that are skipped are as if they weren't there
-  pub split_skips : (front rest : List ℕ) → split string_of xs part (length front) (front ++ rest) ≡ split string_of xs part 0 rest
-  split_skips [] rest = refl
-  split_skips (c ∷ front) rest = split_skips front rest
-
-  -- the part of a longest element, and what is behind it
-  pub split_found : (x : X) (p : P) (text rest : List ℕ) → longest string_of xs text ≡ Some x → ((c : ℕ) → part (Some x) c ≡ p) → text ≡ string_of x ++ rest → 0 < length (string_of x)
-      → split string_of xs part 0 text ≡ p ∷ split string_of xs part 0 rest
-  split_found x p text rest found same goes_on some = by (string_of x) refl where
-    by : (string : List ℕ) → string_of x ≡ string → split string_of xs part 0 text ≡ p ∷ split string_of xs part 0 rest
-    by [] e = absurd (let none : length (string_of x) ≡ 0 = ap length e in omega arith)
-    by (c ∷ string) e =
-        let whole : text ≡ c ∷ (string ++ rest) = goes_on ∙ ap (λ s. s ++ rest) e in
-        let here : longest string_of xs (c ∷ (string ++ rest)) ≡ Some x = ap (longest string_of xs) (sym whole) ∙ found in
-        let more : length (string_of x) - 1 ≡ length string = ap (λ s. length s - 1) e ∙ (let one : suc (length string) - 1 ≡ length string = omega arith in one) in
-        ap (split string_of xs part 0) whole
-        ∙ (ap (λ l. part l c ∷ split string_of xs part (beyond_first string_of l) (string ++ rest)) here
-        ∙ ap₂ (λ (q : P) (n : ℕ). q ∷ split string_of xs part n (string ++ rest)) (same c) more
-        ∙ ap (λ ps. p ∷ ps) (split_skips string rest))
-
--- a text is split into no more parts than it has characters
-pub few_split : {X P : Type 0} (string_of : X → List ℕ) (xs : List X) (part : Option X → ℕ → P) (skipped : ℕ) (text : List ℕ) → length (split string_of xs part skipped text) ≤ length text
-few_split string_of xs part skipped [] = omega arith
-few_split string_of xs part (suc skipped) (c ∷ text) = omega (arith, few_split string_of xs part skipped text)
-few_split string_of xs part zero (c ∷ text) = omega (arith, few_split string_of xs part (beyond_first string_of (longest string_of xs (c ∷ text))) text)
 
 -- the part of a placed element, and what is behind it
 pub part_of_element : (ranks : RanksValue) (ranked : RankedElement) (text rest : List ℕ) → longest ranked_text ranks.elements text ≡ Some ranked → text ≡ ranked_text ranked ++ rest → 0 < length (ranked_text ranked) → parts_of ranks text ≡ part_with ranks.ids (Some ranked) 0 ∷ parts_of ranks rest

@@ -8,17 +8,17 @@ use Rattle.coll_syntax.specs.declared.weights.Weight.TheVariants.{Ignore}
 use Rattle.coll_print.specs.CanonicalText.{is_own}
 use Rattle.coll_nodes.specs.Placement.{entry_at}
 use Rattle.coll_nodes.specs.Table.{Collation, entries_of}
-use Rattle.coll_ranks.specs.Elements.{elements_of, elements_placed, element_text, part_id}
-use Rattle.coll_ranks.specs.Rank.{known_rank}
+use Rattle.coll_elements.specs.Elements.{elements_of, elements_placed, element_text, part_id}
+use Rattle.coll_elements.specs.Rank.{known_rank}
 use Rattle.coll_ranks.specs.RankLists.{WeightsValue, AddsRow}
 use Rattle.coll_ranks.specs.Ranks.{part_numbers, compiled_by, compiled_entry, compiled_row_by, compiled_weight}
-use Rattle.coll_ranks.specs.TextElements.{AreElementsOf}
+use Rattle.coll_elements.specs.TextElements.{AreElementsOf}
 use Rattle.coll_ranks.specs.TextWeights.{element_row, element_parts}
 use Rattle.coll_ranks.specs.WeightNumbers.{numbers_at, undefined_weights}
 use Rattle.coll_ranks.specs.declared.parts.Part.{Part}
-use Rattle.coll_ranks.specs.declared.text_elements.TextElement.{TextElement}
-use Rattle.coll_ranks.specs.declared.text_elements.TextElement.TheVariants.{Placed, Absent}
-use Rattle.coll_ranks.proofs.PartNumbers.{few_split}
+use Rattle.coll_elements.specs.declared.text_elements.TextElement.{TextElement}
+use Rattle.coll_elements.specs.declared.text_elements.TextElement.TheVariants.{Placed, Absent}
+use Rattle.coll_elements.proofs.SplitTexts.{few_split}
 use Rattle.coll_ranks.proofs.RowNumbers.{BeginWithUndefined, filled_length, row_behind, entry_numbers, character_absent}
 
 -- Going along the elements.

@@ -12,12 +12,12 @@ use Rattle.coll_nodes.specs.Walks.{Met, MetSection, MetEntry, entry_met, entries
 use Rattle.coll_nodes.specs.WellFormed.{AreDistinct}
 use Rattle.coll_nodes.specs.declared.entries.Entry.{Entry}
 use Rattle.coll_lookups.proofs.Sameness.{same_id_decides, same_id_itself}
-use Rattle.coll_ranks.specs.Rank.{rank_unplaced, known_rank}
+use Rattle.coll_elements.specs.Rank.{rank_unplaced, known_rank}
 use Rattle.coll_ranks.specs.RankLists.{WeightsValue, AddsRow}
 use Rattle.coll_ranks.specs.Ranking.{HasNextRank}
 use Rattle.coll_ranks.specs.Ranks.{compiled_row_by, compiled_entry}
 use Rattle.coll_ranks.proofs.RankingLemmas.{no_place}
-use Rattle.coll_ranks.proofs.Tests.{by_test}
+use Rattle.coll_elements.proofs.Tests.{by_test}
 
 -- Places.
 

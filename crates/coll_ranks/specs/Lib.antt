@@ -1,15 +1,9 @@
 pub mod AlikeFronts
-pub mod ElementOrder
-pub mod Elements
 pub mod LevelWeights
-pub mod NameMaps
-pub mod NamedElements
-pub mod Rank
 pub mod RankLists
 pub mod Ranking
 pub mod Ranks
 pub mod RecentRanks
-pub mod TextElements
 pub mod TextWeights
 pub mod WeightCells
 pub mod WeightNumbers

@@ -1,17 +1,14 @@
 -- How the ranks of a table are found on a walk through it.
-use Rattle.std.specs.Prelude.{◌≡◌, ◌<◌, ◌+◌, ℕ, suc, if◌then◌else◌, List, [], ◌∷◌, Option, Some, None, length}
+use Rattle.std.specs.Prelude.{◌≡◌, ◌+◌, ℕ, suc, if◌then◌else◌, List, [], ◌∷◌, Option, Some, None}
 use Rattle.std.specs.Option.{option_or}
 use Rattle.coll_syntax.specs.Identifier.{same_id}
 use Rattle.coll_syntax.specs.declared.identifiers.Id.{Id}
-use Rattle.coll_syntax.specs.declared.identifiers.Id.TheVariants.{Char, Named}
+use Rattle.coll_syntax.specs.declared.identifiers.Id.TheVariants.{Char}
 use Rattle.coll_nodes.specs.Table.{Collation}
 use Rattle.coll_nodes.specs.Walks.{Met, MetSection, MetEntry}
-use Rattle.coll_nodes.specs.declared.declarations.Declaration.{Declaration}
-use Rattle.coll_nodes.specs.declared.declarations.Declaration.TheVariants as declaration
 use Rattle.coll_nodes.specs.declared.entries.Entry.{Entry}
-use Rattle.coll_ranks.specs.NamedElements.{ranked_element}
-use Rattle.coll_ranks.specs.Rank.{rank_of, known_rank}
-use Rattle.coll_ranks.specs.Ranks.{RanksById, RankedElement, rank_of_char, rank_with}
+use Rattle.coll_elements.specs.Rank.{rank_of, known_rank}
+use Rattle.coll_ranks.specs.Ranks.{RanksById, rank_of_char, rank_with}
 
 -- the last place of an identifier among entries, before which so many others stand
 abbrev pub last_place : (before : ℕ) → List Entry → Id → Option ℕ
@@ -30,20 +27,3 @@ AreCharRanksOf characters table = (c : ℕ) → rank_of_char characters c ≡ ra
 -- these are the ranks of the identifiers of a table
 abbrev pub AreIdRanksOf : RanksById → Collation → Type 0
 AreIdRanksOf ids table = (id : Id) → rank_with ids id ≡ rank_of table id
-
--- an element with its rank, if it has one
-abbrev pub ranked_if_any : (name text : List ℕ) → Option ℕ → List RankedElement
-ranked_if_any name text None = []
-ranked_if_any name text (Some rank) = ranked_element name text rank ∷ []
-
--- the element of a declaration with its rank, if it has one
-abbrev pub ranked_declared : RanksById → Declaration → List RankedElement
-ranked_declared ids (declaration.Symbol name) = []
-ranked_declared ids (declaration.Equivalence name symbol) = []
-ranked_declared ids (declaration.Element name text) = ranked_if_any name text (rank_with ids (Named name))
-
--- the string of a declaration, where there is one, has a character
-abbrev pub HasString : Declaration → Type 0
-HasString (declaration.Symbol name) = Unit {0}
-HasString (declaration.Equivalence name symbol) = Unit {0}
-HasString (declaration.Element name text) = 0 < length text

@@ -1,8 +1,6 @@
 -- The ranks of a table, compiled: what their look-ups find, and when they are those of a table.
 use Rattle.std.specs.Prelude.{◌≡◌, ℕ, zero, suc, ◌+◌, ◌*◌, false, if◌then◌else◌, List, [], ◌∷◌, ◌++◌, Option, Some, None, length, map, slice_index_or}
 use Rattle.std.specs.List.{flat_map}
-use Rattle.std.specs.Option.{option_or}
-use Rattle.coll_syntax.specs.Identifier.{same_name}
 use Rattle.coll_syntax.specs.declared.identifiers.Id.{Id}
 use Rattle.coll_syntax.specs.declared.identifiers.Id.TheVariants.{Char, Named, Undefined}
 use Rattle.coll_syntax.specs.declared.weights.Weight.{Weight}
@@ -11,10 +9,11 @@ use Rattle.coll_print.specs.CanonicalText.{is_own}
 use Rattle.coll_lookups.specs.NamePlaces.{NamePlacesValue, place_named}
 use Rattle.coll_nodes.specs.Table.{Collation, entries_of}
 use Rattle.coll_nodes.specs.declared.entries.Entry.{Entry}
-use Rattle.coll_ranks.specs.Elements.{Element, elements_placed, split}
+use Rattle.coll_elements.specs.Elements.{elements_placed, split}
+use Rattle.coll_elements.specs.Rank.{rank_of, known_rank}
+use Rattle.coll_elements.specs.RankedElements.{RankedElement, ranked_text, ranked_in}
 use Rattle.coll_ranks.specs.RankLists.{WeightsValue}
 use Rattle.coll_ranks.specs.WeightNumbers.{number_of, undefined_weights}
-use Rattle.coll_ranks.specs.Rank.{rank_of, known_rank}
 use Rattle.coll_ranks.specs.declared.parts.Part.{Part}
 use Rattle.coll_ranks.specs.declared.parts.Part.TheVariants.{Placed, Absent}
 
@@ -24,11 +23,6 @@ pub record RanksById : Type 0 where
   pub names : NamePlacesValue
   pub characters : List ℕ
   pub undefined : ℕ
-
--- a collating element that is placed, and its rank
-pub record RankedElement : Type 0 where
-  pub element : Element
-  pub rank : ℕ
 
 -- the ranks of a table as contracts see them: those of identifiers, the placed elements, and the compiled weights
 pub record RanksValue : Type 0 where
@@ -52,15 +46,6 @@ abbrev pub rank_with : RanksById → Id → Option ℕ
 rank_with ids (Char c) = rank_of_char ids.characters c
 rank_with ids (Named name) = place_named ids.names name
 rank_with ids Undefined = Some ids.undefined
-
--- the string of a ranked element
-abbrev pub ranked_text : RankedElement → List ℕ
-ranked_text ranked = ranked.element.text
-
--- the string of the last element of a name
-abbrev pub last_string : List RankedElement → List ℕ → Option (List ℕ)
-last_string [] name = None
-last_string (first ∷ later) name = option_or (last_string later name) (if same_name name first.element.name then Some (ranked_text first) else None)
 
 -- the compiled weight at a level of what has this rank; 0 stands for what has no entry
 abbrev pub compiled_weight : WeightsValue → (rank : ℕ) → (level : ℕ) → List ℕ
@@ -98,10 +83,6 @@ unfoldable pub parts_of : RanksValue → List ℕ → List Part
 parts_of ranks text = parts_behind ranks 0 text
 
 -- When they are those of a table.
-
--- an element of a table with its rank
-abbrev pub ranked_in : Collation → Element → RankedElement
-ranked_in table element = record { element = element; rank = known_rank table (Named element.name) }
 
 -- the compiled weight of an identifier: the ranks of what it names
 abbrev pub compiled_by : (Id → ℕ) → Id → Weight → List ℕ

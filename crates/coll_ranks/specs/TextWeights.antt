@@ -5,8 +5,8 @@ use Rattle.coll_ranks.specs.RankLists.{WeightsValue}
 use Rattle.coll_ranks.specs.Ranks.{compiled_entry}
 use Rattle.coll_ranks.specs.declared.parts.Part.{Part}
 use Rattle.coll_ranks.specs.declared.parts.Part.TheVariants as part
-use Rattle.coll_ranks.specs.declared.text_elements.TextElement.{TextElement}
-use Rattle.coll_ranks.specs.declared.text_elements.TextElement.TheVariants.{Placed, Absent}
+use Rattle.coll_elements.specs.declared.text_elements.TextElement.{TextElement}
+use Rattle.coll_elements.specs.declared.text_elements.TextElement.TheVariants.{Placed, Absent}
 
 -- the weights of a text as contracts see them: its parts, where a part that has an entry stands for a row, and the rows
 pub record TextWeightsValue : Type 0 where

@@ -7,7 +7,7 @@ use Rattle.coll_syntax.specs.declared.weights.Weight.TheVariants.{Ignore, Own, N
 use Rattle.coll_nodes.specs.Placement.{entry_at}
 use Rattle.coll_nodes.specs.Table.{Collation, entries_of, is_placed}
 use Rattle.coll_nodes.specs.declared.entries.Entry.{Entry}
-use Rattle.coll_ranks.specs.Rank.{known_rank}
+use Rattle.coll_elements.specs.Rank.{known_rank}
 
 -- how far the numbers of two ranks lie apart, which is more than any code point: 2 to the power 21
 abbrev pub rank_step : ℕ

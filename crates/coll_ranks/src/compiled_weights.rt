@@ -5,7 +5,7 @@
 ghost use Rattle.std.specs.Prelude.{◌≡◌, ◌<◌, ◌≤◌, ◌+◌, ◌*◌, map, IfOk, OnOk, false, if◌then◌else◌, slice_index_or};
 ghost use Rattle.coll_print.specs.CanonicalText.{is_own};
 ghost use Rattle.coll_syntax.specs.declared.identifiers.Id.TheVariants.{Undefined};
-ghost use Rattle.coll_ranks.specs.Rank.{known_rank};
+ghost use Rattle.coll_elements.specs.Rank.{known_rank};
 ghost use Rattle.coll_ranks.specs.Ranks.{compiled_row_by};
 
 use crate::level_weights::LevelWeights;

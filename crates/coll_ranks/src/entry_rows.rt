@@ -1,7 +1,7 @@
 //! The weights of a table's entries, put in entry by entry, with the ranks that are kept from one to the next.
 
 ghost use Rattle.std.specs.Prelude.{◌≡◌, ◌++◌, ◌∷◌, [], ℕ, suc, IfOk, OnOk};
-ghost use Rattle.coll_ranks.specs.Rank.{known_rank};
+ghost use Rattle.coll_elements.specs.Rank.{known_rank};
 ghost use Rattle.coll_ranks.specs.Ranks.{compiled_by, compiled_row_by};
 
 use crate::recent_ranks::RecentRanks;

@@ -6,10 +6,10 @@
 ghost use Rattle.std.specs.Prelude.{◌≡◌, chars};
 ghost use Rattle.coll_syntax.specs.declared.identifiers.Id.TheVariants.{Char, Named};
 
-use crate::code_points::CodePoints;
 use crate::parts::Part;
+use coll_elements::CodePoints;
+use coll_lookups::NamePlaces;
 use coll_syntax::Id;
-use coll_table::NamePlaces;
 use std::marker::Model;
 
 /// Ranks by identifier.
@@ -53,11 +53,18 @@ impl IdRanks {
         }
     }
 
-    /// The rank of a name, if it has one.
-    pub(crate) fn rank_of_name(&self, name: &str) -> Option<u32>
+    // The rank of a name, if it has one.
+    fn rank_of_name(&self, name: &str) -> Option<u32>
         ensures { result ≡ rank_with self.now (Named (chars name.now)) }
     {
         self.names.place(name)
+    }
+
+    /// The places of names, which are their ranks.
+    pub(crate) fn names(&self) -> &NamePlaces
+        ensures { result.now ≡ self.now.names }
+    {
+        &self.names
     }
 
     /// The rank of a character, if it has one.

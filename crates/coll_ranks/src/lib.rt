@@ -3,36 +3,29 @@
 //! `Ranks` is a table, compiled once and asked often: which rank an identifier has, which part a text begins with, and what a part
 //! weighs at a level. A way through the crate, each file with its definitions in `specs/`:
 //!
-//! - `code_points` and `id_ranks`: which rank an identifier has (`Rank`, `Ranks`);
+//! - `id_ranks`: which rank an identifier has (`Rank` of `coll_elements`, `Ranks`);
 //! - `table_ranks`: which rank it has in a table whose entries are numbered (`Rank`), and `recent_ranks`: the same, where some ranks
 //!   are kept from one entry to the next (`RecentRanks`);
-//! - `name_numbers`, `named_elements`, `element_order` and `placed_elements`: which collating element a text begins with
-//!   (`Elements`, `NameMaps`, `NamedElements`, `ElementOrder`);
 //! - `parts`: what a text is split into (`AlikeFronts`);
 //! - `rank_lists`, `weight_cells`, `entry_rows` and `compiled_weights`: the weights of all entries as ranks, and what a part weighs
 //!   by them (`RankLists`, `WeightCells`, `Ranks`, `WeightNumbers`);
 //! - `level_weights`: the same at one level, for part after part (`LevelWeights`);
-//! - `text_elements` and `text_weights`: the elements of one text, looked up by themselves, and its weights, compiled for it alone
-//!   (`TextElements`, `TextWeights`);
+//! - `text_weights`: the weights of one text, compiled for it alone (`TextWeights`);
 //! - `ranks`, and `ranking`: the whole, made of a table (`Ranks`, `Ranking`).
+//!
+//! Which collating element a text begins with is told by `coll_elements`.
 #![tactic(auto)]
 
-mod code_points;
 mod compiled_weights;
-mod element_order;
 mod entry_rows;
 mod id_ranks;
 mod level_weights;
-mod name_numbers;
-mod named_elements;
 mod parts;
-mod placed_elements;
 mod rank_lists;
 mod ranking;
 mod ranks;
 mod recent_ranks;
 mod table_ranks;
-mod text_elements;
 mod text_weights;
 mod weight_cells;
 

@@ -3,7 +3,7 @@
 //! All ranks stand in one list, and a second list has where each ends. So what is looked up is one piece of a list.
 
 ghost use Rattle.std.specs.Prelude.{◌≡◌, ◌<◌, ◌≤◌, ◌-◌, ◌++◌, ◌∷◌, [], length, take, drop, map, IfOk, OnOk, OnErr, slice_index_or};
-ghost use Rattle.coll_ranks.specs.Rank.{known_rank};
+ghost use Rattle.coll_elements.specs.Rank.{known_rank};
 ghost use Rattle.coll_ranks.specs.Ranks.{compiled_by};
 ghost use Rattle.coll_ranks.specs.RankLists.{IsLonger};
 

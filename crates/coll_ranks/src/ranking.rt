@@ -1,10 +1,10 @@
 //! Ranks and weights of a table, found on walks through it.
 //!
 //! Once the entries of the table are numbered, so that it tells each rank itself, one walk gives each character its rank and compiles
-//! the weights; names have their ranks by these numbers. Another walk goes over the declarations, for the elements that are placed.
+//! the weights; names have their ranks by these numbers.
 
-ghost use Rattle.std.specs.Prelude.{◌≡◌, ◌<◌, ◌+◌, ◌++◌, ℕ, Some, cond, length, map, replicate, IfOk, OnOk};
-ghost use Rattle.std.specs.List.{flat_map, All};
+ghost use Rattle.std.specs.Prelude.{◌≡◌, ◌<◌, ◌+◌, ℕ, Some, cond, length, map, replicate, IfOk, OnOk};
+ghost use Rattle.std.specs.List.{flat_map};
 ghost use Rattle.std.specs.Option.{option_or};
 ghost use Rattle.coll_syntax.specs.Identifier.{same_id};
 ghost use Rattle.coll_syntax.specs.declared.identifiers.Id.TheVariants.{Char, Undefined};
@@ -12,25 +12,24 @@ ghost use Rattle.coll_syntax.specs.declared.weights.Weight.TheVariants.{Own};
 ghost use Rattle.coll_print.specs.CanonicalText.{is_own};
 ghost use Rattle.coll_nodes.specs.Table.{entries_of, ids_of};
 ghost use Rattle.coll_nodes.specs.TableLayout.{collation};
-ghost use Rattle.coll_nodes.specs.WalkItems.{met_by, declared_by};
+ghost use Rattle.coll_nodes.specs.WalkItems.{met_by};
 ghost use Rattle.coll_nodes.specs.Walks.{entry_met, entries_met};
 ghost use Rattle.coll_nodes.specs.WellFormed.{AreDistinct};
-ghost use Rattle.coll_ranks.specs.Elements.{elements_placed};
 ghost use Rattle.coll_ranks.specs.WeightNumbers.{undefined_weights};
-ghost use Rattle.coll_ranks.specs.Ranking.{last_place, ranked_declared, AreCharRanksOf, AreIdRanksOf, HasNextRank, HasString};
+ghost use Rattle.coll_ranks.specs.Ranking.{last_place, AreCharRanksOf, AreIdRanksOf, HasNextRank};
 ghost use Rattle.coll_ranks.specs.RankLists.{AddsRow};
-ghost use Rattle.coll_ranks.specs.Rank.{known_rank};
-ghost use Rattle.coll_ranks.specs.Ranks.{rank_of_char, ranked_in, compiled_row_by, compiled_entry, compiled_weights};
+ghost use Rattle.coll_elements.specs.Rank.{known_rank};
+ghost use Rattle.coll_ranks.specs.Ranks.{rank_of_char, compiled_row_by, compiled_entry, compiled_weights};
 
-use crate::code_points::CodePoints;
 use crate::compiled_weights::CompiledWeights;
 use crate::id_ranks::IdRanks;
-use crate::named_elements::NamedElements;
-use crate::placed_elements::PlacedElements;
 use crate::recent_ranks::RecentRanks;
 use crate::table_ranks::TableRanks;
+use coll_elements::CodePoints;
+use coll_lookups::EntryNumbers;
+use coll_nodes::{Walk, WalkItem};
 use coll_syntax::{Id, Weight};
-use coll_table::{Declared, DeclaredItem, EntryNumbers, Table, Walk, WalkItem};
+use coll_table::Table;
 use std::alloc::{AllocError, Global};
 
 /// The ranks of the identifiers of a table, and its compiled weights.
@@ -163,70 +162,4 @@ fn own_weights(alloc: Global, levels: usize) -> Result<Vec<Weight>, AllocError>
         weights.push(Weight::Own)?;
     }
     Ok(weights)
-}
-
-/// The elements of a table that are placed, with their ranks, found by what a text begins with.
-pub(crate) fn ranked_elements(
-    alloc: Global,
-    table: &Table,
-    ids: &IdRanks,
-) -> Result<PlacedElements, AllocError>
-    requires { AreIdRanksOf ids.now (collation table.now) }
-    ensures { IfOk result (λ elements. elements ≡ map (ranked_in (collation table.now)) (elements_placed (collation table.now))) }
-{
-    let named = named_elements(alloc, table, ids)?;
-    PlacedElements::new(alloc, named)
-}
-
-// The elements of a table that are placed, with their names and their ranks.
-fn named_elements(alloc: Global, table: &Table, ids: &IdRanks) -> Result<NamedElements, AllocError>
-    requires { AreIdRanksOf ids.now (collation table.now) }
-    ensures elements { IfOk result (λ elements. elements ≡ map (ranked_in (collation table.now)) (elements_placed (collation table.now))) }
-    ensures few { IfOk result (λ elements. length elements < 1_000_000) }
-{
-    table.check_table();
-    put_all(
-        NamedElements::new(alloc, table.hash_keys()),
-        ids,
-        table.declared(),
-    )
-}
-
-// Puts the elements of declarations that have a rank behind others.
-fn put_all(
-    elements: NamedElements,
-    ids: &IdRanks,
-    declared: Declared<'_>,
-) -> Result<NamedElements, AllocError>
-    requires some { All HasString declared }
-    requires few { length elements + length declared < 1_000_000 }
-    ensures all { IfOk result (λ all. all ≡ elements ++ flat_map (ranked_declared ids.now) declared.entry) }
-    ensures few { IfOk result (λ all. length all < 1_000_000) }
-{
-    let mut all = elements;
-    let mut left = declared;
-    'declared: while let Some(item) = left.next() {
-        all = put_declared(all, ids, item)?;
-    }
-    Ok(all)
-}
-
-// Puts what is declared behind other elements, if it is one that has a rank.
-fn put_declared(
-    elements: NamedElements,
-    ids: &IdRanks,
-    item: DeclaredItem<'_>,
-) -> Result<NamedElements, AllocError>
-    requires some { HasString (declared_by item) }
-    requires few { length elements < 1_000_000 }
-    ensures { IfOk result (λ with. with ≡ elements ++ ranked_declared ids.now (declared_by item.entry)) }
-{
-    match item {
-        DeclaredItem::Symbol(_) => Ok(elements),
-        DeclaredItem::Equivalence(_, _) => Ok(elements),
-        DeclaredItem::Element(name, text) => match ids.rank_of_name(name) {
-            Some(rank) => elements.push(name, text, rank),
-            None => Ok(elements),
-        },
-    }
 }

@@ -1,8 +1,7 @@
 //! The ranks of a table, with its weights compiled.
 //!
 //! The entries of a table are numbered; then one walk over them gives each character its rank and compiles the weights, which stand
-//! as ranks in one list, and one over the declarations takes the placed elements. Names are found in a copy of the table's own
-//! look-up. A `Ranks` keeps nothing of the table itself, so it is true of each table with the same rules, declarations and sections (`AreRanksOf` of `specs/Ranks.antt`), and of a changed table it isn't.
+//! as ranks in one list. Names are found in a copy of the table's own look-up, and by it the placed elements have their ranks. A `Ranks` keeps nothing of the table itself, so it is true of each table with the same rules, declarations and sections (`AreRanksOf` of `specs/Ranks.antt`), and of a changed table it isn't.
 
 ghost use Rattle.std.specs.Prelude.{◌≡◌, ◌<◌, ◌≤◌, ◌+◌, ◌∷◌, ℕ, [], chars, length, map, option_copied, Option, IfOk, IfSome, MatchOption};
 ghost use Rattle.coll_nodes.specs.TableLayout.{collation};
@@ -11,8 +10,8 @@ ghost use Rattle.coll_ranks.specs.AlikeFronts.{BeginAlike};
 use crate::compiled_weights::CompiledWeights;
 use crate::id_ranks::IdRanks;
 use crate::parts::{FirstPart, Part};
-use crate::placed_elements::PlacedElements;
-use crate::ranking::{ids_and_weights, ranked_elements};
+use crate::ranking::ids_and_weights;
+use coll_elements::{PlacedElements, ranked_elements};
 use coll_lex::TextBuf;
 use coll_syntax::Id;
 use coll_table::Table;
@@ -40,15 +39,16 @@ impl Model for Ranks {
 
 impl Ranks {
     ghost use Rattle.coll_nodes.specs.Table.{Collation};
-    ghost use Rattle.coll_ranks.specs.Rank.{rank_of};
-    ghost use Rattle.coll_ranks.specs.Ranks.{AreRanksOf, rank_with, parts_of, compiled_weight, last_string};
+    ghost use Rattle.coll_elements.specs.Rank.{rank_of};
+    ghost use Rattle.coll_elements.specs.RankedElements.{last_string};
+    ghost use Rattle.coll_ranks.specs.Ranks.{AreRanksOf, rank_with, parts_of, compiled_weight};
 
     /// The ranks of a table, in new memory.
     pub fn new(alloc: Global, table: &Table) -> Result<Ranks, AllocError>
         ensures { IfOk result (λ ranks. AreRanksOf ranks (collation table.now)) }
     {
         let (ids, weights) = ids_and_weights(alloc, table)?;
-        let elements = ranked_elements(alloc, table, &ids)?;
+        let elements = ranked_elements(alloc, table, ids.names())?;
         Ok(Ranks {
             ids,
             elements,

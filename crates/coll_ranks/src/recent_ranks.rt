@@ -6,7 +6,7 @@
 ghost use Rattle.std.specs.Prelude.{◌≡◌, Some, IfSome};
 ghost use Rattle.std.specs.List.{All};
 ghost use Rattle.coll_nodes.specs.Table.{Collation};
-ghost use Rattle.coll_ranks.specs.Rank.{known_rank};
+ghost use Rattle.coll_elements.specs.Rank.{known_rank};
 ghost use Rattle.coll_ranks.specs.RecentRanks.{IsRecent};
 
 use crate::table_ranks::TableRanks;

@@ -7,10 +7,11 @@ ghost use Rattle.std.specs.Prelude.{◌≡◌, length};
 ghost use Rattle.coll_nodes.specs.NodeNumbers.{AreNumbersOf};
 ghost use Rattle.coll_nodes.specs.Table.{entries_of};
 ghost use Rattle.coll_nodes.specs.TableLayout.{collation};
-ghost use Rattle.coll_ranks.specs.Rank.{rank_of, rank_unplaced, known_rank};
+ghost use Rattle.coll_elements.specs.Rank.{rank_of, rank_unplaced, known_rank};
 
+use coll_lookups::EntryNumbers;
 use coll_syntax::Id;
-use coll_table::{EntryNumbers, Table};
+use coll_table::Table;
 use std::marker::Model;
 
 /// The ranks of a table's identifiers.

@@ -8,20 +8,21 @@ ghost use Rattle.std.specs.Prelude.{◌≡◌, ◌<◌, ◌≤◌, ◌+◌, ◌+
 ghost use Rattle.std.specs.List.{flat_map};
 ghost use Rattle.coll_nodes.specs.NodeNumbers.{AreNumbersOf};
 ghost use Rattle.coll_nodes.specs.TableLayout.{collation};
-ghost use Rattle.coll_ranks.specs.Elements.{elements_of};
-ghost use Rattle.coll_ranks.specs.Rank.{known_rank};
+ghost use Rattle.coll_elements.specs.Elements.{elements_of};
+ghost use Rattle.coll_elements.specs.Rank.{known_rank};
 ghost use Rattle.coll_ranks.specs.RankLists.{AddsRow};
 ghost use Rattle.coll_ranks.specs.Ranks.{part_numbers};
 ghost use Rattle.coll_ranks.specs.TextWeights.{element_parts, element_row};
 ghost use Rattle.coll_ranks.specs.WeightNumbers.{numbers_at};
-ghost use Rattle.coll_ranks.specs.declared.text_elements.TextElement.{TextElement};
+ghost use Rattle.coll_elements.specs.declared.text_elements.TextElement.{TextElement};
 
 use crate::compiled_weights::CompiledWeights;
 use crate::parts::Part;
 use crate::ranking::compiled_undefined;
 use crate::table_ranks::TableRanks;
-use crate::text_elements::{TextElement, split_text};
-use coll_table::{EntryNumbers, Table};
+use coll_elements::{TextElement, split_text};
+use coll_lookups::EntryNumbers;
+use coll_table::Table;
 use std::alloc::{AllocError, Global};
 use std::marker::Model;
 

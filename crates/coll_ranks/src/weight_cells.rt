@@ -4,7 +4,7 @@
 //! the long ones. So the weights of an entry lie together, and a look-up mostly reads one cell.
 
 ghost use Rattle.std.specs.Prelude.{◌≡◌, ◌<◌, ◌++◌, ◌∷◌, [], ℕ, suc, map, drop, IfOk, IfSome, OnOk, slice_index_or};
-ghost use Rattle.coll_ranks.specs.Rank.{known_rank};
+ghost use Rattle.coll_elements.specs.Rank.{known_rank};
 ghost use Rattle.coll_ranks.specs.Ranks.{compiled_by, compiled_row_by};
 ghost use Rattle.coll_ranks.specs.WeightCells.{cell_list};
 ghost use Rattle.coll_ranks.specs.LevelWeights.{ranks_in};

@@ -6,11 +6,13 @@
 ghost use Rattle.std.specs.Prelude.{◌≡◌};
 ghost use Rattle.coll_replies.specs.Faults.{fault_number, fault_name, fault_of, delta_fault_of};
 
+use coll_devices::{ReadStop, WriteStop};
+use coll_draft::{LoadCause, LoadFault};
 use coll_history::BenchFault;
 use coll_key::KeyFault;
-use coll_lex::{LexFault, ReadStop, WriteStop};
+use coll_lex::LexFault;
 use coll_syntax::SyntaxFault;
-use coll_table::{LoadCause, LoadFault, Refusal};
+use coll_table::Refusal;
 use coll_units::{DeltaCause, DeltaFault, UnitFault};
 use std::fmt;
 use thiserror::Error;

@@ -15,7 +15,9 @@ ghost use Rattle.coll_key.specs.WrittenKey.{has_key_form};
 ghost use Rattle.coll_key.specs.declared.key_faults.KeyFault.TheVariants.{OutOfMemory};
 ghost use Rattle.coll_replies.specs.Ranked.{AreNumbersIf, AreRanksIfAny, CanServe, IsKeptFor, given_up, kept_nothing, short_work, short_works, spent_with, work_after};
 
-use coll_key::{EntryNumbers, KeyFault, Ranks, compare, compare_texts, key, key_of_text};
+use coll_key::{KeyFault, compare, compare_texts, key, key_of_text};
+use coll_lookups::EntryNumbers;
+use coll_ranks::Ranks;
 use coll_table::Table;
 use std::alloc::{AllocError, Global};
 use std::cmp::Ordering;

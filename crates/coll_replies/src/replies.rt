@@ -21,10 +21,13 @@ mod texts;
 
 use crate::faults::Fault;
 use crate::ranked_sessions::RankedSession;
+use coll_devices::{Sink, WriteStop, write_bytes};
 use coll_history::BenchFault;
-use coll_lex::{Sink, WriteStop, write_bytes, write_symbol};
+use coll_lex::write_symbol;
+use coll_nodes::{Entry, WalkItem};
+use coll_print::write_id;
 use coll_syntax::Id;
-use coll_table::{Entry, Refusal, Table, WalkItem, write_id};
+use coll_table::{Refusal, Table};
 use coll_units::{Command, Request};
 use itoa::Buffer;
 use past::write_history;

@@ -8,7 +8,7 @@ ghost use Rattle.coll_replies.specs.Reports.{fault_line, placed, exit_status as 
 
 use crate::faults::{Fault, RunFault};
 use crate::replies::{write_part, write_told};
-use coll_lex::{Sink, WriteStop, write_bytes};
+use coll_devices::{Sink, WriteStop, write_bytes};
 
 /// Writes the line of a fault, `FILE:LINE: NUMBER NAME`, where FILE is the name of its input, and LINE is 0 where it comes from no
 /// line.

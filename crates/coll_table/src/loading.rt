@@ -13,8 +13,9 @@ ghost use Rattle.coll_nodes.specs.TableLayout.{collation};
 ghost use Rattle.coll_nodes.specs.WellFormed.{IsWellFormed};
 
 use crate::{Loader, Table};
+use coll_devices::{LineReader, ReadStop, Source};
 use coll_draft::{LoadCause, LoadFault};
-use coll_lex::{LexFault, LineReader, ReadStop, Source};
+use coll_lex::LexFault;
 use coll_lookups::HashKeys;
 use std::alloc::Global;
 

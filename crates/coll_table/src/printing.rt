@@ -10,7 +10,7 @@ ghost use Rattle.coll_print.specs.PrintedParts.{category_bytes, order_bytes, sec
 ghost use Rattle.coll_nodes.specs.TableLayout.{collation};
 
 use crate::Table;
-use coll_lex::{Sink, WriteStop, write_bytes};
+use coll_devices::{Sink, WriteStop, write_bytes};
 use coll_print::{write_declarations, write_rules_line, write_walk};
 
 impl Table {

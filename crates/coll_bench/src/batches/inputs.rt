@@ -7,9 +7,11 @@ ghost use Rattle.coll_bench.specs.BatchReading.{ReadsInputs, ReadsDeltas, Counts
 ghost use Rattle.coll_bench.specs.BatchRuns.{CountsInputs};
 
 use super::delta_files::read_delta;
-use coll_lex::Source;
+use coll_devices::Source;
+use coll_draft::LoadFault;
+use coll_lookups::HashKeys;
 use coll_replies::{Fault, RunFault};
-use coll_table::{HashKeys, LoadFault, Table, load_keyed};
+use coll_table::{Table, load_keyed};
 use std::alloc::Global;
 
 /// Reads the table and the delta files. The answer is the table after all of them, or the first fault met.

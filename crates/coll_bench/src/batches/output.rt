@@ -15,8 +15,10 @@ ghost use Rattle.coll_print.specs.CanonicalText.{text};
 ghost use Rattle.coll_replies.specs.Replies.{checked_line, order_word};
 
 use super::Batch;
-use coll_key::{KeyFault, Ranks, compare, key, write_compiled};
-use coll_lex::{Sink, TextBuf, WriteStop};
+use coll_devices::{Sink, WriteStop};
+use coll_key::{KeyFault, compare, key, write_compiled};
+use coll_lex::TextBuf;
+use coll_ranks::Ranks;
 use coll_replies::{Fault, write_checked, write_key_ended, write_order};
 use coll_table::Table;
 use std::alloc::Global;

@@ -8,10 +8,11 @@ ghost use Rattle.coll_print.specs.PrintedParts.{id_bytes};
 ghost use Rattle.coll_replies.specs.Replies.{history_count, history_line, history_lines, history_listing, name_bytes, spaced, statement_words};
 
 use super::{write_spaced, write_words};
+use coll_devices::{Sink, WriteStop, write_bytes};
 use coll_history::Session;
-use coll_lex::{Sink, TextBuf, WriteStop, write_bytes, write_symbol};
+use coll_lex::{TextBuf, write_symbol};
+use coll_print::write_id;
 use coll_syntax::{Id, Statement};
-use coll_table::write_id;
 use itoa::Buffer;
 
 /// Writes the statements that remain, from the first, and how many there are, and were taken back.

@@ -1,5 +1,5 @@
 -- The rank of each identifier is put behind those of the ones before it.
-use Rattle.coll_ranks.specs.Rank.{known_rank}
+use Rattle.coll_elements.specs.Rank.{known_rank}
 use Rattle.coll_ranks.proofs.RankListLemmas.{one_further, longer_still}
 use Rattle.coll_ranks.proofs.rank_lists.push_named.Goals as goal
 

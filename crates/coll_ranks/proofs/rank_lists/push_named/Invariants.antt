@@ -1,6 +1,6 @@
 -- The ranks of the identifiers so far stand behind the others.
 use Rattle.std.proofs.Common.{◌≡◌, ◌++◌, take, map}
-use Rattle.coll_ranks.specs.Rank.{known_rank}
+use Rattle.coll_elements.specs.Rank.{known_rank}
 use Rattle.coll_ranks.proofs.rank_lists.push_named.Given as goal
 
 abbrev pub invariant-loop-id : goal.invariant-loop-id

@@ -3,7 +3,7 @@ use Rattle.std.proofs.Common.{sym, ap, subst, ◌∙◌}
 use Rattle.coll_syntax.specs.declared.identifiers.Id.TheVariants.{Undefined}
 use Rattle.coll_nodes.specs.Table.{Collation}
 use Rattle.coll_nodes.specs.TableLayout.{collation}
-use Rattle.coll_ranks.specs.Rank.{known_rank}
+use Rattle.coll_elements.specs.Rank.{known_rank}
 use Rattle.coll_ranks.specs.Ranking.{AreIdRanksOf}
 use Rattle.coll_ranks.specs.Ranks.{RanksById}
 use Rattle.coll_ranks.proofs.RankingLemmas.{ranks_of_table}

@@ -5,7 +5,7 @@ use Rattle.std.specs.Option.{option_or}
 use Rattle.coll_syntax.specs.declared.identifiers.Id.TheVariants.{Char}
 use Rattle.coll_nodes.specs.Table.{entries_of}
 use Rattle.coll_nodes.specs.Walks.{entries_met}
-use Rattle.coll_ranks.specs.Rank.{known_rank}
+use Rattle.coll_elements.specs.Rank.{known_rank}
 use Rattle.coll_ranks.specs.Ranking.{last_place}
 use Rattle.coll_ranks.specs.Ranks.{rank_of_char, compiled_entry}
 use Rattle.coll_ranks.proofs.ranking.put_walk.Given as goal

@@ -7,7 +7,7 @@ use Rattle.coll_nodes.specs.TableLayout.{collation}
 use Rattle.coll_nodes.specs.Walks.{entries_met}
 use Rattle.coll_nodes.specs.WellFormed.{AreDistinct}
 use Rattle.coll_draft.proofs.MetEntries.{met_all}
-use Rattle.coll_ranks.specs.Rank.{known_rank}
+use Rattle.coll_elements.specs.Rank.{known_rank}
 use Rattle.coll_ranks.specs.Ranks.{compiled_row_by}
 use Rattle.coll_ranks.specs.WeightNumbers.{undefined_weights}
 use Rattle.coll_ranks.proofs.RankingLemmas.{few_met, characters_of_table, weights_of_table}

@@ -1,6 +1,6 @@
 -- Each element is put in, and where none is left, all are.
 use Rattle.std.proofs.Common.{◌∙◌, ◌++◌, ℕ, ap, arith}
-use Rattle.coll_ranks.specs.Rank.{known_rank}
+use Rattle.coll_elements.specs.Rank.{known_rank}
 use Rattle.coll_ranks.specs.TextWeights.{element_row}
 use Rattle.coll_ranks.proofs.TextRows.{parts_go_on, rows_go_on, parts_done, rows_done}
 use Rattle.coll_ranks.proofs.text_weights.compiled_parts.Goals as goal

@@ -1,7 +1,7 @@
 -- What is put in, and what is left, is the whole.
 use Rattle.std.proofs.Common.{◌≡◌, ◌≤◌, ◌+◌, ◌++◌, drop}
 use Rattle.std.specs.List.{flat_map}
-use Rattle.coll_ranks.specs.Rank.{known_rank}
+use Rattle.coll_elements.specs.Rank.{known_rank}
 use Rattle.coll_ranks.specs.TextWeights.{element_parts, element_row}
 use Rattle.coll_ranks.proofs.text_weights.compiled_parts.Given as goal
 

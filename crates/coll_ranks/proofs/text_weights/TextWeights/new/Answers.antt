@@ -1,9 +1,9 @@
 -- The parts of the elements, and the rows of their weights, have the numbers of the elements.
 use Rattle.std.proofs.Common.{List, chars, sym, subst, arith}
 use Rattle.coll_nodes.specs.TableLayout.{collation}
-use Rattle.coll_ranks.specs.Elements.{elements_of}
-use Rattle.coll_ranks.specs.TextElements.{AreElementsOf}
-use Rattle.coll_ranks.specs.declared.text_elements.TextElement.{TextElement}
+use Rattle.coll_elements.specs.Elements.{elements_of}
+use Rattle.coll_elements.specs.TextElements.{AreElementsOf}
+use Rattle.coll_elements.specs.declared.text_elements.TextElement.{TextElement}
 use Rattle.coll_ranks.proofs.TextRows.{few_elements, few_parts_of, text_numbers}
 use Rattle.coll_ranks.proofs.text_weights.TextWeights.new.Goals as goal
 

@@ -1,6 +1,6 @@
 -- One level more is one weight less.
 use Rattle.std.proofs.Common.{◌≡◌, ◌++◌, ◌-◌, ◌+◌, suc, ◌∙◌, sym, ap, arith}
-use Rattle.coll_ranks.specs.Rank.{known_rank}
+use Rattle.coll_elements.specs.Rank.{known_rank}
 use Rattle.coll_ranks.specs.Ranks.{compiled_row_by}
 use Rattle.coll_ranks.proofs.weight_cells.WeightCells.push_row.Goals as goal
 

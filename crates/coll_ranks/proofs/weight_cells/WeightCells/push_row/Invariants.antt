@@ -1,6 +1,6 @@
 -- The weights that are left make up the row.
 use Rattle.std.proofs.Common.{◌≡◌, ◌++◌, ◌-◌}
-use Rattle.coll_ranks.specs.Rank.{known_rank}
+use Rattle.coll_elements.specs.Rank.{known_rank}
 use Rattle.coll_ranks.specs.Ranks.{compiled_row_by}
 use Rattle.coll_ranks.proofs.weight_cells.WeightCells.push_row.Given as goal
 

@@ -1,0 +1,13 @@
+pub mod ElementBeginnings
+pub mod ElementOrder
+pub mod ElementOrderGrowth
+pub mod FoundElements
+pub mod LongestElements
+pub mod NameLookUps
+pub mod NamedElements
+pub mod SortedStrings
+pub mod SplitTexts
+pub mod StringOrder
+pub mod TableElementLemmas
+pub mod Tests
+pub mod TextElements
