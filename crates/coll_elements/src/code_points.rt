@@ -1,12 +1,15 @@
 //! A number for each character, found by its code point.
 //!
-//! A `CodePoints` is a list that is as long as its greatest code point needs; what it has no number for is 0. So a look-up is one
-//! index, and a table of few characters with small code points is small. It has at most 1,114,112 numbers, 4.5 MB.
+//! A `CodePoints` is a list that is as long as its greatest code point needs, and little longer; what it has no number for is 0. So
+//! a look-up is one index, and a table of few characters with small code points is small. It has less than 1,115,000 numbers, 4.5 MB.
 
 ghost use Rattle.std.specs.Prelude.{◌≡◌, ◌<◌, ◌^◌, [], ℕ, if◌then◌else◌, ◌==◌, slice_index_or, vec_len, OnOk};
 
 use std::alloc::{AllocError, Global};
 use std::marker::Model;
+
+/// By how many places the list of numbers grows, so that the characters behind one mostly have theirs.
+const PLACES_AT_ONCE: usize = 128;
 
 /// Numbers by code point, one for each character, which is 0 until it is set.
 #[derive(Drop)]
@@ -57,7 +60,7 @@ impl CodePoints {
     }
 }
 
-// Makes a list so long that it has this place. What is new in it is 0.
+// Makes a list so long that it has this place, and some more. What is new in it is 0.
 fn make_room(numbers: &mut Vec<u32>, place: usize) -> Result<(), AllocError>
     requires { place < 2 ^ 32 }
     ensures within { OnOk result (place < vec_len numbers.new) }
@@ -66,6 +69,6 @@ fn make_room(numbers: &mut Vec<u32>, place: usize) -> Result<(), AllocError>
     if place < numbers.len() {
         return Ok(());
     }
-    numbers.resize(place + 1, 0)?;
+    numbers.resize(place + PLACES_AT_ONCE, 0)?;
     Ok(())
 }
