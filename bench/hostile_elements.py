@@ -47,7 +47,7 @@ def table(strings):
 def sessions(strings):
     """Lines of sessions on long texts, each with its name."""
     most = list(strings)[0][:-1]
-    for name, part in (("one letter", "a"), ("the front of an element", most), ("an element without its first letter, behind that", most + "a")):
+    for name, part in (("one letter", "a"), ("the prefix of an element", most), ("an element without its first letter, behind that", most + "a")):
         text = part * (LONG // len(part))
         other = part * (LONG_PAIR // len(part))
         yield f":key of {name}", f':key "{text}"\n'

@@ -47,7 +47,7 @@ CRATES = (
     "coll_syntax",
     "coll_lookups",
     "coll_nodes",
-    "coll_draft",
+    "coll_builder",
     "coll_print",
     "coll_statements",
     "coll_table",

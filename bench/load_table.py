@@ -30,7 +30,7 @@ CRATES = (
     "coll_syntax",
     "coll_lookups",
     "coll_nodes",
-    "coll_draft",
+    "coll_builder",
     "coll_print",
     "coll_statements",
     "coll_table",

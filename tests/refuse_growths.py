@@ -17,14 +17,14 @@ that each making of ranks needs, and the rows of a text that is looked up by its
 
 The program counts its growths from the start of `main`. Each file tests/growths/NAME.json is a session, or a list of other runs
 (`rows`); values, `words` and `output` are those of run_program.py. At most one growth is refused, so either the program ends with
-its fault 70, a line on standard error, before which it has written nothing, or of a batch a front of its output; or else one unit of
-a session has the reply `refused 70 OutOfMemory`. Of that, a session says for each of its `units`:
+its fault 70, a line on standard error, before which it has written nothing, or of a batch a prefix of its output; or else one request of
+a session has the reply `refused 70 OutOfMemory`. Of that, a session says for each of its `requests`:
 
     lines     its lines, a value
     reply     its reply, a value; empty if left out
-    behind    the replies of the units behind it where this one has that reply, a value; left out where they stay as they are
+    behind    the replies of the requests behind it where this one has that reply, a value; left out where they stay as they are
 
-Each unit has to be refused in some run. `spared` is how many growths can be spared. The last line is 'N passed, M failed', and the one
+Each request has to be refused in some run. `spared` is how many growths can be spared. The last line is 'N passed, M failed', and the one
 before it counts the growths.
 """
 
@@ -142,7 +142,7 @@ def refuse_to_wrong(shim, name):
 
 
 def is_told(ran, table):
-    """Returns whether the program ended with want of memory, and with nothing but a front of its output before."""
+    """Returns whether the program ended with lack of memory, and with nothing but a prefix of its output before."""
     fault = FAULT.fullmatch(ran.errors)
     if not ran.refused or ran.status != 1 or not fault:
         return False
@@ -167,20 +167,20 @@ def refuse_to_batch(shim, batch):
     return shim.each([PROGRAM, *batch["words"]], "program", judge, batch["spared"])
 
 
-def outputs_of(units):
-    """Returns the output of a session, and for each of its units the one with its reply refused."""
-    replies = [bytes_of(unit.get("reply", "")) for unit in units]
+def outputs_of(requests):
+    """Returns the output of a session, and for each of its requests the one with its reply refused."""
+    replies = [bytes_of(request.get("reply", "")) for request in requests]
     refused = []
-    for at, unit in enumerate(units):
-        behind = bytes_of(unit["behind"]) if "behind" in unit else b"".join(replies[at + 1 :])
+    for at, request in enumerate(requests):
+        behind = bytes_of(request["behind"]) if "behind" in request else b"".join(replies[at + 1 :])
         refused.append(b"".join(replies[:at]) + REFUSED + behind)
     return b"".join(replies), refused
 
 
 def refuse_to_session(shim, session):
     """Refuses each growth to a session. Returns how many were refused."""
-    lines = b"".join(bytes_of(unit["lines"]) for unit in session["units"])
-    output, outputs = outputs_of(session["units"])
+    lines = b"".join(bytes_of(request["lines"]) for request in session["requests"])
+    output, outputs = outputs_of(session["requests"])
     unseen = set(outputs)
 
     def judge(ran):
@@ -205,7 +205,7 @@ def all_runs():
     for file in sorted(os.listdir(GROWTHS)):
         with open(f"{GROWTHS}/{file}", encoding="utf-8") as text:
             found = json.load(text)
-        if "units" in found:
+        if "requests" in found:
             runs.append((file, refuse_to_session, found))
         runs += [(f"{file}, {' '.join(row['words'])}", refuse_to_batch, row) for row in found.get("rows", [])]
     return runs

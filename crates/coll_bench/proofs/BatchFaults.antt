@@ -1,4 +1,4 @@
--- Which kind of fault each fault of an input is: want of memory, or something that the input says.
+-- Which kind of fault each fault of an input is: lack of memory, or something that the input says.
 use Rattle.std.proofs.Common.{◌≡◌, ◌≢◌, ℕ, Bool, true, false, Result, Err, refl, sym, subst}
 use Rattle.coll_lex.specs.Faults.{lex_fault_number}
 use Rattle.coll_lex.specs.declared.faults.LexFault.{LexFault}
@@ -9,25 +9,25 @@ use Rattle.coll_syntax.specs.declared.syntax_faults.SyntaxFault.TheVariants as s
 use Rattle.coll_table.specs.Refusals.{refusal_number}
 use Rattle.coll_table.specs.declared.refusals.Refusal.{Refusal}
 use Rattle.coll_table.specs.declared.refusals.Refusal.TheVariants as refusal
-use Rattle.coll_units.specs.UnitFaults.{is_want_of_memory}
-use Rattle.coll_units.specs.DeltaFaults.{wants_memory}
-use Rattle.coll_units.specs.declared.delta_faults.DeltaCause.{DeltaCause}
-use Rattle.coll_units.specs.declared.delta_faults.DeltaCause.TheVariants as cause
-use Rattle.coll_units.specs.declared.delta_faults.DeltaFault.{DeltaFault}
-use Rattle.coll_units.specs.declared.unit_faults.UnitFault.{UnitFault}
-use Rattle.coll_units.specs.declared.unit_faults.UnitFault.TheVariants as unit
+use Rattle.coll_requests.specs.RequestFaults.{is_lack_of_memory}
+use Rattle.coll_requests.specs.DeltaFaults.{lacks_memory}
+use Rattle.coll_requests.specs.declared.delta_faults.DeltaCause.{DeltaCause}
+use Rattle.coll_requests.specs.declared.delta_faults.DeltaCause.TheVariants as cause
+use Rattle.coll_requests.specs.declared.delta_faults.DeltaFault.{DeltaFault}
+use Rattle.coll_requests.specs.declared.request_faults.RequestFault.{RequestFault}
+use Rattle.coll_requests.specs.declared.request_faults.RequestFault.TheVariants as request
 use Rattle.coll_replies.specs.Faults.{fault_number, fault_of, delta_fault_of}
 use Rattle.coll_bench.specs.BatchOutcome.{delta_fault_in}
 use Rattle.coll_bench.specs.BatchReading.{FailsAs}
 use Rattle.coll_bench.specs.BatchRuns.{Ending, Starved, Refused, ending_of_number, ending_of}
 use Rattle.coll_replies.specs.declared.faults.RunFault.{RunFault}
 
--- want of memory, or not
+-- lack of memory, or not
 abbrev pub kind_of : Bool → Ending
 kind_of true = Starved
 kind_of false = Refused
 
-lex_kind : (f : LexFault) → ending_of_number (lex_fault_number f) ≡ kind_of (is_want_of_memory (unit.Lex f))
+lex_kind : (f : LexFault) → ending_of_number (lex_fault_number f) ≡ kind_of (is_lack_of_memory (request.Lex f))
 lex_kind lex.NotUtf8 = refl
 lex_kind lex.OpenSymbol = refl
 lex_kind lex.EmptySymbol = refl
@@ -41,7 +41,7 @@ lex_kind lex.BadCharDirective = refl
 lex_kind lex.TooManyLines = refl
 lex_kind lex.OutOfMemory = refl
 
-syntax_kind : (f : SyntaxFault) → ending_of_number (syntax_fault_number f) ≡ kind_of (is_want_of_memory (unit.Syntax f))
+syntax_kind : (f : SyntaxFault) → ending_of_number (syntax_fault_number f) ≡ kind_of (is_lack_of_memory (request.Syntax f))
 syntax_kind syntax.UnknownStatement = refl
 syntax_kind syntax.MissingOperand = refl
 syntax_kind syntax.ExtraOperand = refl
@@ -54,17 +54,17 @@ syntax_kind syntax.EmptyString = refl
 syntax_kind syntax.BadOperand = refl
 syntax_kind syntax.OutOfMemory = refl
 
-unit_kind : (f : UnitFault) → ending_of_number (fault_number (fault_of f)) ≡ kind_of (is_want_of_memory f)
-unit_kind (unit.Lex f) = lex_kind f
-unit_kind (unit.Syntax f) = syntax_kind f
-unit_kind unit.BlockOpen = refl
-unit_kind unit.BlockNotEnded = refl
-unit_kind unit.UnknownCommand = refl
-unit_kind unit.NoBlock = refl
+request_kind : (f : RequestFault) → ending_of_number (fault_number (fault_of f)) ≡ kind_of (is_lack_of_memory f)
+request_kind (request.Lex f) = lex_kind f
+request_kind (request.Syntax f) = syntax_kind f
+request_kind request.BlockOpen = refl
+request_kind request.BlockNotEnded = refl
+request_kind request.UnknownCommand = refl
+request_kind request.NoBlock = refl
 
 -- the kind of a fault of a delta file
-pub delta_kind : (line : ℕ) (c : DeltaCause) → ending_of_number (fault_number (delta_fault_of line c)) ≡ kind_of (wants_memory c)
-delta_kind line (cause.Unit f) = unit_kind f
+pub delta_kind : (line : ℕ) (c : DeltaCause) → ending_of_number (fault_number (delta_fault_of line c)) ≡ kind_of (lacks_memory c)
+delta_kind line (cause.Request f) = request_kind f
 delta_kind line cause.NoCategory = refl
 delta_kind line cause.NoEnd = refl
 
@@ -87,9 +87,9 @@ refusal_kind refusal.NotASymbol ample = refl
 refusal_kind refusal.OutOfMemory ample = absurd (ample refl)
 
 -- a fault of a delta file is what is answered, unless memory was refused
-pub delta_fails : {A : Type 0} (input : ℕ) (f : DeltaFault) (stated : Result A RunFault) → (wants_memory f.cause ≡ false → stated ≡ Err (delta_fault_in input f)) → FailsAs (ending_of (delta_fault_in input f)) stated (delta_fault_in input f)
-delta_fails input f stated h = subst (λ (e : Ending). FailsAs e stated (delta_fault_in input f)) (sym (delta_kind f.line f.cause)) (by_want (wants_memory f.cause) refl)
+pub delta_fails : {A : Type 0} (input : ℕ) (f : DeltaFault) (stated : Result A RunFault) → (lacks_memory f.cause ≡ false → stated ≡ Err (delta_fault_in input f)) → FailsAs (ending_of (delta_fault_in input f)) stated (delta_fault_in input f)
+delta_fails input f stated h = subst (λ (e : Ending). FailsAs e stated (delta_fault_in input f)) (sym (delta_kind f.line f.cause)) (by_lack (lacks_memory f.cause) refl)
   where
-    by_want : (want : Bool) → wants_memory f.cause ≡ want → FailsAs (kind_of want) stated (delta_fault_in input f)
-    by_want true e = tt
-    by_want false e = h e
+    by_lack : (lack : Bool) → lacks_memory f.cause ≡ lack → FailsAs (kind_of lack) stated (delta_fault_in input f)
+    by_lack true e = tt
+    by_lack false e = h e

@@ -11,18 +11,18 @@ use Rattle.coll_lex.proofs.LineEnds.{fed-too_long}
 use Rattle.coll_table.specs.Delta.{delta}
 use Rattle.coll_nodes.specs.Table.{Collation}
 use Rattle.coll_lex.proofs.OutsideLines.{outside-too_long}
-use Rattle.coll_units.specs.Hearing.{heard_in, heard_by}
-use Rattle.coll_units.specs.SessionLines.{opening_of, delta_file_heard}
-use Rattle.coll_units.specs.Units.{BlockLines}
-use Rattle.coll_units.specs.DeltaFiles.{DeltaEnd, DeltaOutcome, Ended, AtFault, Undecided as EndUndecided, at_line, ends_so, after_statements, outcome_within}
-use Rattle.coll_units.specs.DeltaReading.{DeltaState, Step, by_heard, judged, kept_fault_under, by_physical, by_outside, by_where, unless_faulty as unless_stands, delta_line, early_end, delta_end}
-use Rattle.coll_units.specs.declared.delta_faults.DeltaCause.TheVariants.{Unit as UnitCause, NoCategory}
-use Rattle.coll_units.specs.declared.delta_faults.DeltaFault.{DeltaFault}
-use Rattle.coll_units.specs.declared.delta_files.StatementAt.{StatementAt}
-use Rattle.coll_units.specs.declared.open_blocks.OpenBlock.{OpenBlock}
-use Rattle.coll_units.specs.declared.session_lines.Heard.TheVariants as heard
-use Rattle.coll_units.specs.declared.unit_faults.UnitFault.TheVariants as unit
-use Rattle.coll_units.proofs.DeltaSteps.{outcome_before-nil, outcome_within-nil, outcome_within-cons, outcome_from, StandsAfter, CountsOne, LeadsOn, IsFaultBehind, Judged, from_within, from_before, from_ended, judged_line}
+use Rattle.coll_requests.specs.Parsing.{parsed_in, parsed_by}
+use Rattle.coll_requests.specs.SessionLines.{opening_of, delta_file_parsed}
+use Rattle.coll_requests.specs.Requests.{BlockLines}
+use Rattle.coll_requests.specs.DeltaFiles.{DeltaEnd, DeltaOutcome, Ended, AtFault, Undecided as EndUndecided, at_line, ends_so, after_statements, outcome_within}
+use Rattle.coll_requests.specs.DeltaReading.{DeltaState, Step, by_parsed, judged, kept_fault_under, by_physical, by_outside, by_where, unless_faulty as unless_stands, delta_line, early_end, delta_end}
+use Rattle.coll_requests.specs.declared.delta_faults.DeltaCause.TheVariants.{Request as RequestCause, NoCategory}
+use Rattle.coll_requests.specs.declared.delta_faults.DeltaFault.{DeltaFault}
+use Rattle.coll_requests.specs.declared.delta_files.StatementAt.{StatementAt}
+use Rattle.coll_requests.specs.declared.open_blocks.OpenBlock.{OpenBlock}
+use Rattle.coll_requests.specs.declared.session_lines.Parsed.TheVariants as parsed
+use Rattle.coll_requests.specs.declared.request_faults.RequestFault.TheVariants as request
+use Rattle.coll_requests.proofs.DeltaSteps.{outcome_before-nil, outcome_within-nil, outcome_within-cons, outcome_from, StandsAfter, CountsOne, LeadsOn, IsFaultBehind, Judged, from_within, from_before, from_ended, judged_line}
 use Rattle.coll_bench.specs.BatchOutcome.{Decided, delta_fault_in, unless_faulty, judged_at, rewritten, by_ending, by_statements, decision, answer_at_end}
 use Rattle.coll_bench.specs.BatchReading.{Taken, unless_stored, by_step, line_taken}
 use Rattle.coll_bench.specs.BatchRuns.{DecidesNothing}
@@ -115,16 +115,16 @@ module _ (input : ℕ) where
     -- A line that is too long.
 
     abbrev long_fault : DeltaFault
-    long_fault = at_line (number_of s.lexer) (UnitCause (unit.Lex lex.LineTooLong))
+    long_fault = at_line (number_of s.lexer) (RequestCause (request.Lex lex.LineTooLong))
 
-    long_judged : (b : Option OpenBlock) (n : ℕ) (t : DeltaState) → t.block ≡ b → judged t (record { number = n; heard = heard.Stops lex.LineTooLong }) (kept_fault_under b (record { number = n; heard = heard.Stops lex.LineTooLong })) ≡ Err (at_line n (UnitCause (unit.Lex lex.LineTooLong)))
+    long_judged : (b : Option OpenBlock) (n : ℕ) (t : DeltaState) → t.block ≡ b → judged t (record { number = n; parsed = parsed.Stops lex.LineTooLong }) (kept_fault_under b (record { number = n; parsed = parsed.Stops lex.LineTooLong })) ≡ Err (at_line n (RequestCause (request.Lex lex.LineTooLong)))
     long_judged None n t e = refl
     long_judged (Some b) n t e = refl
 
     long_physical : (line : List ℕ) → most_line_bytes < length line → by_physical s line ≡ Err long_fault
-    unfolding heard_in served
+    unfolding parsed_in served
     long_physical line long =
-        ap (λ (r : Result (Option Line × LexerState) LexFault). by_heard (record s { lexer = state_by s.lexer (fed s.lexer line) }) (heard_by false (number_of s.lexer) (opening_of (first_line s.lexer line)) r)) (fed-too_long s.lexer line long)
+        ap (λ (r : Result (Option Line × LexerState) LexFault). by_parsed (record s { lexer = state_by s.lexer (fed s.lexer line) }) (parsed_by false (number_of s.lexer) (opening_of (first_line s.lexer line)) r)) (fed-too_long s.lexer line long)
         ∙ long_judged s.block (number_of s.lexer) (record s { lexer = state_by s.lexer (fed s.lexer line) }) refl
 
     long_by : (line : List ℕ) → most_line_bytes < length line → (ended begun : Bool) → ended ≡ false → (if ended then Ok ([], s) else (if begun then by_physical s line else by_outside s (outside s.lexer line))) ≡ Err long_fault
@@ -142,10 +142,10 @@ module _ (input : ℕ) where
     abbrev early : Option OpenLine → Result Collation RunFault
     early left = Err (delta_fault_in input (early_end s left))
 
-    left_within : (left : Option OpenLine) → s.begun ≡ true → answer_at_end input s.lexer.count (decision input table (outcome_within block (map delta_file_heard (line_left_open left)))) ≡ early left
+    left_within : (left : Option OpenLine) → s.begun ≡ true → answer_at_end input s.lexer.count (decision input table (outcome_within block (map delta_file_parsed (line_left_open left)))) ≡ early left
     left_within (Some o) e = ap (λ (said : DeltaOutcome). answer_at_end input s.lexer.count (decision input table said)) (left_open block) ∙ ap (answer_at_end input s.lexer.count) (decided_end table (AtFault (early_end s (Some o))))
       where
-        left_open : (block : Option BlockLines) → outcome_within block (map delta_file_heard (line_left_open (Some o))) ≡ ends_so (AtFault (at_line o.number (UnitCause (unit.Lex lex.DanglingEscape))))
+        left_open : (block : Option BlockLines) → outcome_within block (map delta_file_parsed (line_left_open (Some o))) ≡ ends_so (AtFault (at_line o.number (RequestCause (request.Lex lex.DanglingEscape))))
         left_open None = outcome_within-cons None _ []
         left_open (Some b) = outcome_within-cons (Some b) _ []
     left_within None e = ap (λ (said : DeltaOutcome). answer_at_end input s.lexer.count (decision input table said)) (outcome_within-nil block) ∙ (ap (answer_at_end input s.lexer.count) (decided_end table _) ∙ rw e refl)
@@ -155,7 +155,7 @@ module _ (input : ℕ) where
 
     ends_by : (begun : Bool) → s.ended ≡ false → s.begun ≡ begun → answer_at_end input s.lexer.count (decision input table (outcome_from true block s [])) ≡ early s.lexer.line
     ends_by true e f =
-        ap (λ (said : DeltaOutcome). answer_at_end input s.lexer.count (decision input table said)) (from_within true block s [] e f ∙ ap (λ ls. outcome_within block (map delta_file_heard ls)) (logical_lines-nil [] true s.lexer))
+        ap (λ (said : DeltaOutcome). answer_at_end input s.lexer.count (decision input table said)) (from_within true block s [] e f ∙ ap (λ ls. outcome_within block (map delta_file_parsed ls)) (logical_lines-nil [] true s.lexer))
         ∙ left_within s.lexer.line f
     ends_by false e f =
         ap (λ (said : DeltaOutcome). answer_at_end input s.lexer.count (decision input table said)) (from_before true block s [] e f ∙ outcome_before-nil true s.lexer)
@@ -172,7 +172,7 @@ module _ (input : ℕ) where
 
     undecided_by : (begun : Bool) → s.ended ≡ false → s.begun ≡ begun → DecidesNothing (decision input table (outcome_from false block s []))
     undecided_by true e f =
-        subst DecidesNothing (sym (ap (decision input table) (from_within false block s [] e f ∙ (ap (λ ls. outcome_within block (map delta_file_heard ls)) (logical_lines-nil [] false s.lexer) ∙ outcome_within-nil block)) ∙ decided_end table _)) tt
+        subst DecidesNothing (sym (ap (decision input table) (from_within false block s [] e f ∙ (ap (λ ls. outcome_within block (map delta_file_parsed ls)) (logical_lines-nil [] false s.lexer) ∙ outcome_within-nil block)) ∙ decided_end table _)) tt
     undecided_by false e f =
         subst DecidesNothing (sym (ap (decision input table) (from_before false block s [] e f ∙ outcome_before-nil false s.lexer) ∙ decided_end table _)) tt
 

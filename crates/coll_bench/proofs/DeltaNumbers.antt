@@ -9,20 +9,20 @@ use Rattle.coll_lex.specs.declared.tokens.Line.{Line}
 use Rattle.coll_lex.proofs.LineEnds.{fed-number}
 use Rattle.coll_lex.proofs.OutsideLines.{outside-closed}
 use Rattle.coll_table.proofs.LineNumbers.{IsOpenWithin, none_open, fed_within}
-use Rattle.coll_units.specs.Hearing.{heard_by, heard_in}
-use Rattle.coll_units.specs.SessionLines.{opening_of}
-use Rattle.coll_units.specs.DeltaFiles.{file_fault, statements_in, fault_outside, apart_fault}
-use Rattle.coll_units.specs.DeltaReading.{DeltaState, Step, kept_fault_inside, kept_fault_under, kept_ended_before, faulty, judged, by_heard, by_physical, by_outside, by_where, unless_faulty as unless_stands, delta_line}
-use Rattle.coll_units.specs.OpenBlocks.{is_full}
-use Rattle.coll_units.specs.declared.delta_faults.DeltaFault.{DeltaFault}
-use Rattle.coll_units.specs.declared.delta_files.StatementAt.{StatementAt}
-use Rattle.coll_units.specs.declared.open_blocks.OpenBlock.{OpenBlock}
-use Rattle.coll_units.specs.declared.session_lines.ApartLine.{ApartLine}
-use Rattle.coll_units.specs.declared.session_lines.ApartLine.TheVariants as apart
-use Rattle.coll_units.specs.declared.session_lines.Heard.{Heard}
-use Rattle.coll_units.specs.declared.session_lines.Heard.TheVariants as heard
-use Rattle.coll_units.specs.declared.session_lines.HeardLine.{HeardLine}
-use Rattle.coll_units.specs.declared.units.FaultAt.{FaultAt}
+use Rattle.coll_requests.specs.Parsing.{parsed_by, parsed_in}
+use Rattle.coll_requests.specs.SessionLines.{opening_of}
+use Rattle.coll_requests.specs.DeltaFiles.{file_fault, statements_in, fault_outside, standalone_fault}
+use Rattle.coll_requests.specs.DeltaReading.{DeltaState, Step, kept_fault_inside, kept_fault_under, kept_ended_before, faulty, judged, by_parsed, by_physical, by_outside, by_where, unless_faulty as unless_stands, delta_line}
+use Rattle.coll_requests.specs.OpenBlocks.{is_full}
+use Rattle.coll_requests.specs.declared.delta_faults.DeltaFault.{DeltaFault}
+use Rattle.coll_requests.specs.declared.delta_files.StatementAt.{StatementAt}
+use Rattle.coll_requests.specs.declared.open_blocks.OpenBlock.{OpenBlock}
+use Rattle.coll_requests.specs.declared.session_lines.StandaloneLine.{StandaloneLine}
+use Rattle.coll_requests.specs.declared.session_lines.StandaloneLine.TheVariants as apart
+use Rattle.coll_requests.specs.declared.session_lines.Parsed.{Parsed}
+use Rattle.coll_requests.specs.declared.session_lines.Parsed.TheVariants as parsed
+use Rattle.coll_requests.specs.declared.session_lines.ParsedLine.{ParsedLine}
+use Rattle.coll_requests.specs.declared.requests.FaultAt.{FaultAt}
 
 module _ (l : LexerState) (line : List ℕ) (opens : IsOpenWithin l) (few : l.count ≤ most_lines) where
   opens_by : (r : Result (Option Line × LexerState) LexFault) → fed l line ≡ r → IsOpenWithin (state_by l r)
@@ -46,13 +46,13 @@ faulty_lexer : (s : DeltaState) (f : DeltaFault) (given : List StatementAt) → 
 faulty_lexer s f [] = refl
 faulty_lexer s f (at ∷ more) = refl
 
-judged_lexer : (s : DeltaState) (line : HeardLine) (f : Option FaultAt) → lexer_of s.lexer (judged s line f) ≡ s.lexer
+judged_lexer : (s : DeltaState) (line : ParsedLine) (f : Option FaultAt) → lexer_of s.lexer (judged s line f) ≡ s.lexer
 judged_lexer s line None = refl
-judged_lexer s line (Some at) = faulty_lexer s (file_fault at) (statements_in (kept_ended_before s.block line.heard))
+judged_lexer s line (Some at) = faulty_lexer s (file_fault at) (statements_in (kept_ended_before s.block line.parsed))
 
-heard_lexer : (s : DeltaState) (h : Option HeardLine) → lexer_of s.lexer (by_heard s h) ≡ s.lexer
-heard_lexer s None = refl
-heard_lexer s (Some line) = judged_lexer s line (kept_fault_under s.block line)
+parsed_lexer : (s : DeltaState) (h : Option ParsedLine) → lexer_of s.lexer (by_parsed s h) ≡ s.lexer
+parsed_lexer s None = refl
+parsed_lexer s (Some line) = judged_lexer s line (kept_fault_under s.block line)
 
 -- the number of a fault, if there is one
 abbrev IsAt : ℕ → Option FaultAt → Type 0
@@ -63,60 +63,60 @@ abbrev IsStoredAt : ℕ → Option DeltaFault → Type 0
 IsStoredAt n None = Unit {0}
 IsStoredAt n (Some f) = f.line ≡ n
 
-outside_at : (n : ℕ) (h : Heard) → IsAt n (fault_outside n h)
-outside_at n (heard.Stops f) = refl
-outside_at n (heard.Refused o f) = refl
-outside_at n (heard.Asks c) = tt
-outside_at n (heard.Misasks f) = tt
-outside_at n (heard.Opens target) = tt
-outside_at n heard.Ends = refl
-outside_at n (heard.Orders order) = tt
-outside_at n (heard.Apart a) = tt
+outside_at : (n : ℕ) (h : Parsed) → IsAt n (fault_outside n h)
+outside_at n (parsed.Stops f) = refl
+outside_at n (parsed.Refused o f) = refl
+outside_at n (parsed.Command c) = tt
+outside_at n (parsed.BadCommand f) = tt
+outside_at n (parsed.BlockStart target) = tt
+outside_at n parsed.BlockEnd = refl
+outside_at n (parsed.OrderLine order) = tt
+outside_at n (parsed.Standalone a) = tt
 
 at_if : (n : ℕ) (full : Bool) (at : FaultAt) → at.line ≡ n → IsAt n (if full then Some at else None)
 at_if n true at e = e
 at_if n false at e = tt
 
-apart_at : (n : ℕ) (a : ApartLine) → (apart_fault n a).line ≡ n
-apart_at n (apart.States s) = refl
-apart_at n apart.Idle = refl
+apart_at : (n : ℕ) (a : StandaloneLine) → (standalone_fault n a).line ≡ n
+apart_at n (apart.Statement s) = refl
+apart_at n apart.NoEffect = refl
 apart_at n apart.EndsCategory = refl
 
-inside_at : (block : OpenBlock) (n : ℕ) (h : Heard) → IsAt n (kept_fault_inside block n h)
-inside_at block n (heard.Stops f) = refl
-inside_at block n (heard.Refused o f) = refl
-inside_at block n (heard.Asks c) = tt
-inside_at block n (heard.Misasks f) = tt
-inside_at block n (heard.Opens target) = tt
-inside_at block n heard.Ends = tt
-inside_at block n (heard.Orders order) = at_if n (is_full block.so_far) _ refl
-inside_at block n (heard.Apart a) = apart_at n a
+inside_at : (block : OpenBlock) (n : ℕ) (h : Parsed) → IsAt n (kept_fault_inside block n h)
+inside_at block n (parsed.Stops f) = refl
+inside_at block n (parsed.Refused o f) = refl
+inside_at block n (parsed.Command c) = tt
+inside_at block n (parsed.BadCommand f) = tt
+inside_at block n (parsed.BlockStart target) = tt
+inside_at block n parsed.BlockEnd = tt
+inside_at block n (parsed.OrderLine order) = at_if n (is_full block.so_far) _ refl
+inside_at block n (parsed.Standalone a) = apart_at n a
 
-under_at : (block : Option OpenBlock) (line : HeardLine) → IsAt line.number (kept_fault_under block line)
-under_at None line = outside_at line.number line.heard
-under_at (Some block) line = inside_at block line.number line.heard
+under_at : (block : Option OpenBlock) (line : ParsedLine) → IsAt line.number (kept_fault_under block line)
+under_at None line = outside_at line.number line.parsed
+under_at (Some block) line = inside_at block line.number line.parsed
 
 faulty_stored : (s : DeltaState) (f : DeltaFault) (given : List StatementAt) (n : ℕ) → f.line ≡ n → IsStoredAt n (stored_of (faulty s f given))
 faulty_stored s f [] n e = tt
 faulty_stored s f (at ∷ more) n e = e
 
-judged_stored : (s : DeltaState) (line : HeardLine) (f : Option FaultAt) → s.fault ≡ None → IsAt line.number f → IsStoredAt line.number (stored_of (judged s line f))
+judged_stored : (s : DeltaState) (line : ParsedLine) (f : Option FaultAt) → s.fault ≡ None → IsAt line.number f → IsStoredAt line.number (stored_of (judged s line f))
 judged_stored s line None none at = subst (IsStoredAt line.number) (sym none) tt
-judged_stored s line (Some f) none at = faulty_stored s (file_fault f) (statements_in (kept_ended_before s.block line.heard)) line.number at
+judged_stored s line (Some f) none at = faulty_stored s (file_fault f) (statements_in (kept_ended_before s.block line.parsed)) line.number at
 
-abbrev IsNumbered : ℕ → Option HeardLine → Type 0
+abbrev IsNumbered : ℕ → Option ParsedLine → Type 0
 IsNumbered n None = Unit {0}
 IsNumbered n (Some line) = line.number ≡ n
 
-heard_stored : (s : DeltaState) (h : Option HeardLine) (n : ℕ) → s.fault ≡ None → IsNumbered n h → IsStoredAt n (stored_of (by_heard s h))
-heard_stored s None n none is = subst (IsStoredAt n) (sym none) tt
-heard_stored s (Some line) n none is = subst (λ (m : ℕ). IsStoredAt m (stored_of (by_heard s (Some line)))) is (judged_stored s line (kept_fault_under s.block line) none (under_at s.block line))
+parsed_stored : (s : DeltaState) (h : Option ParsedLine) (n : ℕ) → s.fault ≡ None → IsNumbered n h → IsStoredAt n (stored_of (by_parsed s h))
+parsed_stored s None n none is = subst (IsStoredAt n) (sym none) tt
+parsed_stored s (Some line) n none is = subst (λ (m : ℕ). IsStoredAt m (stored_of (by_parsed s (Some line)))) is (judged_stored s line (kept_fault_under s.block line) none (under_at s.block line))
 
-heard_number : (l : LexerState) (line : List ℕ) → IsNumbered (number_of l) (heard_in false false l line)
-unfolding heard_in served
-heard_number l line = by_answer (fed l line) refl
+parsed_number : (l : LexerState) (line : List ℕ) → IsNumbered (number_of l) (parsed_in false false l line)
+unfolding parsed_in served
+parsed_number l line = by_answer (fed l line) refl
   where
-    by_answer : (r : Result (Option Line × LexerState) LexFault) → fed l line ≡ r → IsNumbered (number_of l) (heard_by false (number_of l) (opening_of (first_line l line)) r)
+    by_answer : (r : Result (Option Line × LexerState) LexFault) → fed l line ≡ r → IsNumbered (number_of l) (parsed_by false (number_of l) (opening_of (first_line l line)) r)
     by_answer (Ok (None, after)) e = tt
     by_answer (Ok (Some given, after)) e = fed-number l line given after e
     by_answer (Err f) e = refl
@@ -142,7 +142,7 @@ module _ (s : DeltaState) (line : List ℕ) (faultless : s.fault ≡ None) where
       by_begun true begun going e = absurd (false≢true (sym going))
       by_begun false true going e =
           let l : LexerState = state_by s.lexer (fed s.lexer line) in
-          subst IsOpenWithin (sym (heard_lexer (record s { lexer = l }) (heard_in false false s.lexer line)) ∙ ap (lexer_of l) e) (opens_fed s.lexer line opens few)
+          subst IsOpenWithin (sym (parsed_lexer (record s { lexer = l }) (parsed_in false false s.lexer line)) ∙ ap (lexer_of l) e) (opens_fed s.lexer line opens few)
       by_begun false false going e = by_said (outside s.lexer line) refl e
 
   -- a fault that is stored has the number of the line that was handed in
@@ -160,5 +160,5 @@ module _ (s : DeltaState) (line : List ℕ) (faultless : s.fault ≡ None) where
       by_begun true begun e = at_fault (Ok ([], s)) e (subst (IsStoredAt (number_of s.lexer)) (sym faultless) tt)
       by_begun false true e =
           let l : LexerState = state_by s.lexer (fed s.lexer line) in
-          at_fault (by_physical s line) e (heard_stored (record s { lexer = l }) (heard_in false false s.lexer line) (number_of s.lexer) faultless (heard_number s.lexer line))
+          at_fault (by_physical s line) e (parsed_stored (record s { lexer = l }) (parsed_in false false s.lexer line) (number_of s.lexer) faultless (parsed_number s.lexer line))
       by_begun false false e = by_said (outside s.lexer line) e

@@ -12,13 +12,13 @@ use Rattle.coll_devices.specs.declared.stops.ReadStop.TheVariants as stop
 use Rattle.coll_table.specs.Loads.{with_feeds}
 use Rattle.coll_nodes.specs.Table.{Collation}
 use Rattle.coll_table.proofs.TextSteps.{IsUnread, gives_first, was_last, stops_long, stops_short}
-use Rattle.coll_units.specs.DeltaFiles.{DeltaOutcome, at_line, after_statements, delta_outcome}
-use Rattle.coll_units.specs.DeltaReading.{DeltaState, Step, first_delta, delta_line, early_end, delta_end}
-use Rattle.coll_units.specs.Units.{BlockLines}
-use Rattle.coll_units.specs.declared.delta_faults.DeltaCause.TheVariants.{NoCategory, NoEnd}
-use Rattle.coll_units.specs.declared.delta_faults.DeltaFault.{DeltaFault}
-use Rattle.coll_units.specs.declared.delta_files.StatementAt.{StatementAt}
-use Rattle.coll_units.proofs.DeltaSteps.{outcome_from, StandsAfter, CountsOne, stands_first}
+use Rattle.coll_requests.specs.DeltaFiles.{DeltaOutcome, at_line, after_statements, delta_outcome}
+use Rattle.coll_requests.specs.DeltaReading.{DeltaState, Step, first_delta, delta_line, early_end, delta_end}
+use Rattle.coll_requests.specs.Requests.{BlockLines}
+use Rattle.coll_requests.specs.declared.delta_faults.DeltaCause.TheVariants.{NoCategory, NoEnd}
+use Rattle.coll_requests.specs.declared.delta_faults.DeltaFault.{DeltaFault}
+use Rattle.coll_requests.specs.declared.delta_files.StatementAt.{StatementAt}
+use Rattle.coll_requests.proofs.DeltaSteps.{outcome_from, StandsAfter, CountsOne, stands_first}
 use Rattle.coll_bench.specs.BatchOutcome.{Decision, Decided, delta_fault_in, unless_faulty, rewritten, decision, answer_at_end, after_delta}
 use Rattle.coll_bench.specs.BatchReading.{Taken, DeltaFails, ReadsDelta, FailsAs, IsNumberOf, IsFaultNumber, unless_stored, by_step, stopped_in, line_taken}
 use Rattle.coll_bench.specs.BatchRuns.{Ending, ReadFailed, WriteFailed, Starved, Refused, ending_of, DecidesNothing, IsLineOfStatement, DeltaStarvesWithin}
@@ -259,7 +259,7 @@ module _ (input : ℕ) (first : Collation) where
           by_begun true = refl
           by_begun false = refl
 
-          -- a file that ends too early is no want of memory
+          -- a file that ends too early is no lack of memory
           early_kind : (left : Option OpenLine) → ending_of (delta_fault_in input (early_end s left)) ≡ Refused
           early_kind (Some o) = refl
           early_kind None = by_begun s.begun

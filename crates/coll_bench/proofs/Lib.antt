@@ -10,5 +10,5 @@ pub mod RunExits
 pub mod RunLemmas
 pub mod RunSteps
 pub mod ServingLemmas
-pub mod WantCutLemmas
-pub mod WantLemmas
+pub mod LackCutLemmas
+pub mod LackLemmas

@@ -1,10 +1,10 @@
 -- What a line of a delta file is taken as, from what the reader of the file and the table answered.
 use Rattle.std.proofs.Common.{◌≡◌, ℕ, false, List, Option, Some, Result, Ok, Err, ap, ◌∙◌}
 use Rattle.coll_nodes.specs.Table.{Collation}
-use Rattle.coll_units.specs.DeltaFaults.{wants_memory}
-use Rattle.coll_units.specs.DeltaReading.{DeltaState, delta_line}
-use Rattle.coll_units.specs.declared.delta_faults.DeltaFault.{DeltaFault}
-use Rattle.coll_units.specs.declared.delta_files.StatementAt.{StatementAt}
+use Rattle.coll_requests.specs.DeltaFaults.{lacks_memory}
+use Rattle.coll_requests.specs.DeltaReading.{DeltaState, delta_line}
+use Rattle.coll_requests.specs.declared.delta_faults.DeltaFault.{DeltaFault}
+use Rattle.coll_requests.specs.declared.delta_files.StatementAt.{StatementAt}
 use Rattle.coll_bench.specs.BatchOutcome.{delta_fault_in, unless_faulty, rewritten}
 use Rattle.coll_bench.specs.BatchReading.{FailsAs, by_step, unless_stored, line_taken}
 use Rattle.coll_bench.specs.BatchRuns.{Ending, ReadFailed, WriteFailed, Starved, Refused, ending_of}
@@ -33,6 +33,6 @@ module _ (input : ℕ) (table : Collation) (s : DeltaState) (line : List ℕ) (g
   stored_fails changed f e stored = delta_fails input f (line_taken input table s line) (λ ample. by_stored changed (Some f) e stored)
 
 -- a line that its reader refuses is taken as this fault
-pub line_fails : (input : ℕ) (table : Collation) (s : DeltaState) (line : List ℕ) (f : DeltaFault) → (wants_memory f.cause ≡ false → delta_line s line ≡ Err f) → FailsAs (ending_of (delta_fault_in input f)) (line_taken input table s line) (delta_fault_in input f)
+pub line_fails : (input : ℕ) (table : Collation) (s : DeltaState) (line : List ℕ) (f : DeltaFault) → (lacks_memory f.cause ≡ false → delta_line s line ≡ Err f) → FailsAs (ending_of (delta_fault_in input f)) (line_taken input table s line) (delta_fault_in input f)
 unfolding line_taken
 line_fails input table s line f h = delta_fails input f (line_taken input table s line) (λ ample. ap (by_step input table) (h ample))

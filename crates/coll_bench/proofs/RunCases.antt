@@ -5,17 +5,17 @@ use Rattle.std.specs.Io.KnownBytes.{Appends}
 use Rattle.coll_nodes.specs.Table.{Collation}
 use Rattle.coll_nodes.specs.TableLayout.{TableValue, collation}
 use Rattle.coll_table.specs.Loads.{Loads, FaultSays}
-use Rattle.coll_draft.specs.Reading.{reads}
+use Rattle.coll_builder.specs.Reading.{reads}
 use Rattle.coll_lex.specs.declared.faults.LexFault.{LexFault}
 use Rattle.coll_lex.specs.declared.faults.LexFault.TheVariants as lex
 use Rattle.coll_syntax.specs.declared.syntax_faults.SyntaxFault.{SyntaxFault}
 use Rattle.coll_syntax.specs.declared.syntax_faults.SyntaxFault.TheVariants as syntax
-use Rattle.coll_draft.specs.declared.load_faults.LoadFault.{LoadFault}
-use Rattle.coll_draft.specs.declared.load_faults.LoadCause.{LoadCause}
-use Rattle.coll_draft.specs.declared.load_faults.LoadCause.TheVariants as load
+use Rattle.coll_builder.specs.declared.load_faults.LoadFault.{LoadFault}
+use Rattle.coll_builder.specs.declared.load_faults.LoadCause.{LoadCause}
+use Rattle.coll_builder.specs.declared.load_faults.LoadCause.TheVariants as load
 use Rattle.coll_bench.specs.BatchOutcome.{table_fault, table_or_fault, unless_faulty, after_deltas, after_inputs, texts_of, is_any_too_long, batch_output, text_too_long, output_or_fault, batch_outcome, fault_in}
 use Rattle.coll_bench.specs.BatchReading.{ReadsDeltas, DeltasFail, InputsFail, ReadsInputs}
-use Rattle.coll_bench.specs.BatchRuns.{Ending, ReadFailed, WriteFailed, Starved, Refused, ending_of, DeltasStopWithin, InputsStopWithin, DeltasStarve, InputsStarve, WritesFront, BatchRanTo, BatchRuns, CountsInputs, raised_at}
+use Rattle.coll_bench.specs.BatchRuns.{Ending, ReadFailed, WriteFailed, Starved, Refused, ending_of, DeltasStopWithin, InputsStopWithin, DeltasStarve, InputsStarve, WritesPrefix, BatchRanTo, BatchRuns, CountsInputs, raised_at}
 use Rattle.coll_bench.specs.BatchWriting.{Outputs, IsOfOutput, starved_key}
 use Rattle.coll_replies.specs.Reports.{write_refused}
 use Rattle.coll_bench.specs.Serving.{ReadsNone}
@@ -156,16 +156,16 @@ module _ (b : Batch) (left left_after : Option (List ℕ)) (lefts lefts_after : 
     output_done taken_after short sent table_text delta_texts before e es t =
         (batch_output b (collation table), appended taken taken_after before (batch_output b (collation table)) t sent, sound_inputs table_text delta_texts (collation table) false (read table_text delta_texts e es) short)
 
-    -- a front of the output is written
+    -- a prefix of the output is written
     pub output_stops : (taken_after : Option (List ℕ)) (f : Fault) → is_any_too_long (texts_of b) ≡ false → Outputs {T = Unit {0}} taken taken_after (batch_output b (collation table)) (Err f) → BatchRuns b left left_after lefts lefts_after taken taken_after (Err (fault_in 0 0 f))
     output_stops taken_after f short sent table_text delta_texts before e es t =
-        let front = sent.1 in (
-          front.0,
-          appended taken taken_after before front.0 t front.3,
-          by_fault front.0 f sent.0 (front.1, sound_inputs table_text delta_texts (collation table) false (read table_text delta_texts e es) short ∙ ap Ok front.2),
+        let prefix = sent.1 in (
+          prefix.0,
+          appended taken taken_after before prefix.0 t prefix.3,
+          by_fault prefix.0 f sent.0 (prefix.1, sound_inputs table_text delta_texts (collation table) false (read table_text delta_texts e es) short ∙ ap Ok prefix.2),
         )
       where
-        by_fault : (written : List ℕ) (f : Fault) → IsOfOutput f → WritesFront b table_text delta_texts written → BatchRanTo (ending_of (fault_in 0 0 f)) b table_text delta_texts left_after lefts_after written (fault_in 0 0 f)
+        by_fault : (written : List ℕ) (f : Fault) → IsOfOutput f → WritesPrefix b table_text delta_texts written → BatchRanTo (ending_of (fault_in 0 0 f)) b table_text delta_texts left_after lefts_after written (fault_in 0 0 f)
         by_fault written f own h =
             ⊎_elim
             (λ (e : f ≡ write_refused). subst (λ (f : Fault). BatchRanTo (ending_of (fault_in 0 0 f)) b table_text delta_texts left_after lefts_after written (fault_in 0 0 f)) (sym e) ((refl, refl), h))

@@ -2,7 +2,7 @@
 use Rattle.std.proofs.Common.{◌≡◌, ℕ, ◌<◌, ◌≤◌, Bool, true, false, List, [], ◌∷◌, ◌++◌, length, Option, Some, None, Result, Ok, Err, refl, sym, ap, ◌∙◌, subst, append-nil, append_assoc, inl, ⊎_elim}
 use Rattle.std.specs.Prelude.{◌⊎◌}
 use Rattle.std.specs.Io.KnownBytes.{Appends, Keeps, prepend_known, IsAtEnd}
-use Rattle.coll_devices.specs.Devices.{AppendsFront}
+use Rattle.coll_devices.specs.Devices.{AppendsPrefix}
 use Rattle.coll_devices.specs.Limits.{most_line_bytes}
 use Rattle.coll_devices.specs.PhysicalLines.{IsInLine, lines_of}
 use Rattle.coll_devices.specs.LineReading.{ReaderState, Cuts, IsLongLine, GivesEnd, EndsAgain, StopsNow, unread}
@@ -15,22 +15,22 @@ use Rattle.coll_devices.specs.declared.stops.ReadStop.TheVariants as stop
 use Rattle.coll_replies.specs.declared.faults.RunFault.{RunFault}
 use Rattle.coll_nodes.specs.Table.{Collation}
 use Rattle.coll_history.specs.Histories.{begun}
-use Rattle.coll_units.specs.OpenBlocks.{kept_end_faults, kept_last_faults}
+use Rattle.coll_requests.specs.OpenBlocks.{kept_end_faults, kept_last_faults}
 use Rattle.coll_replies.specs.Replies.{refused_lines}
-use Rattle.coll_units.specs.Taking.{stop_at, line_units, line_block}
+use Rattle.coll_requests.specs.Taking.{stop_at, line_requests, line_block}
 use Rattle.coll_bench.specs.Serving.{history_after_all, line_replies, write_failed, stopped_at, never_ran, read_failed, EndsWith, EndsAtLine, FinishesWith, IsCutOff}
 use Rattle.coll_bench.specs.Runs.{starved_output, last_line, RanToLastLine, RanToReadFault, RanToLexFault, Ran}
 use Rattle.coll_bench.specs.Underway.{written_from, IsCut, IsUnderway, Underway}
-use Rattle.coll_bench.specs.declared.serving.Desk.{Desk}
+use Rattle.coll_bench.specs.declared.serving.RunState.{RunState}
 use Rattle.coll_bench.proofs.RunLemmas.{output_kept, choices_for, written_on, written_stop}
 use Rattle.coll_bench.proofs.RunEnds.{last_stop, written_end, written_cut, last_end, last_cut}
 use Rattle.coll_bench.proofs.RunSteps.{appended, unread_after, lines_next}
 use Rattle.coll_bench.proofs.ServingLemmas.{stopped_replies}
 use Rattle.coll_lex.specs.Faults.{ends_text}
-use Rattle.coll_units.specs.SessionLines.{opening_of}
-use Rattle.coll_units.specs.Hearing.{heard_by, heard_in, heard_at}
-use Rattle.coll_units.specs.declared.session_lines.HeardLine.{HeardLine}
-use Rattle.coll_units.specs.declared.session_lines.Heard.TheVariants as heard
+use Rattle.coll_requests.specs.SessionLines.{opening_of}
+use Rattle.coll_requests.specs.Parsing.{parsed_by, parsed_in, parsed_at}
+use Rattle.coll_requests.specs.declared.session_lines.ParsedLine.{ParsedLine}
+use Rattle.coll_requests.specs.declared.session_lines.Parsed.TheVariants as parsed
 use Rattle.coll_devices.proofs.PhysicalLinesLemmas.{lines_of-long}
 use Rattle.coll_lex.proofs.LineEnds.{fed-too_long}
 
@@ -58,33 +58,33 @@ lex_fault_ran table text left written ls us number lex.BadCharDirective last r =
 lex_fault_ran table text left written ls us number lex.OutOfMemory last r = absurd (cc)
 
 -- the whole output, of a text whose next line is this one
-output_by : (table : Collation) (text before : List ℕ) (ended0 : Bool) (unread0 taken0 : Option (List ℕ)) (old : Desk) (read rest written : List ℕ) (lines units : List Bool) (line : List ℕ) (later : List (List ℕ)) (c d : List Bool)
-    → IsUnderway table text before ended0 unread0 taken0 old read rest written lines units → GoesBy text read line later
-    → starved_output (lines ++ c) (units ++ d) true table text ≡ written ++ written_from old.listener old.block old.session.history c d true (line ∷ later)
-output_by table text before ended0 unread0 taken0 old read rest written lines units line later c d u by =
-    output_kept (lines ++ c) (units ++ d) true table text
-    ∙ ap (λ (ls : List (List ℕ)). written_from first_state None (begun table) (lines ++ c) (units ++ d) true ls) by ∙ u.goes_on c d true (line ∷ later)
+output_by : (table : Collation) (text before : List ℕ) (ended0 : Bool) (unread0 taken0 : Option (List ℕ)) (old : RunState) (read rest written : List ℕ) (lines requests : List Bool) (line : List ℕ) (later : List (List ℕ)) (c d : List Bool)
+    → IsUnderway table text before ended0 unread0 taken0 old read rest written lines requests → GoesBy text read line later
+    → starved_output (lines ++ c) (requests ++ d) true table text ≡ written ++ written_from old.parser old.block old.session.history c d true (line ∷ later)
+output_by table text before ended0 unread0 taken0 old read rest written lines requests line later c d u by =
+    output_kept (lines ++ c) (requests ++ d) true table text
+    ∙ ap (λ (ls : List (List ℕ)). written_from first_state None (begun table) (lines ++ c) (requests ++ d) true ls) by ∙ u.goes_on c d true (line ∷ later)
 
 -- the session ends with the line: what the whole output is
-output_stop : (table : Collation) (text before : List ℕ) (ended0 : Bool) (unread0 taken0 : Option (List ℕ)) (old : Desk) (read rest written : List ℕ) (lines units : List Bool) (line : List ℕ) (later : List (List ℕ)) (memory starved : Bool) (f : LexFault)
-    → IsUnderway table text before ended0 unread0 taken0 old read rest written lines units → GoesBy text read line later → stop_at (heard_at memory old.listener line) ≡ Some f
-    → starved_output (lines ++ memory ∷ []) (units ++ (choices_for starved (line_units old.block (heard_at memory old.listener line)) ++ [])) true table text ≡ written ++ line_replies memory starved old line
-output_stop table text before ended0 unread0 taken0 old read rest written lines units line later memory starved f u by stops =
-    output_by table text before ended0 unread0 taken0 old read rest written lines units line later (memory ∷ []) (choices_for starved (line_units old.block (heard_at memory old.listener line)) ++ []) u by
-    ∙ ap (λ (l : List ℕ). written ++ l) (written_stop memory starved old.listener old.block old.session.history line [] [] true later f stops)
+output_stop : (table : Collation) (text before : List ℕ) (ended0 : Bool) (unread0 taken0 : Option (List ℕ)) (old : RunState) (read rest written : List ℕ) (lines requests : List Bool) (line : List ℕ) (later : List (List ℕ)) (memory starved : Bool) (f : LexFault)
+    → IsUnderway table text before ended0 unread0 taken0 old read rest written lines requests → GoesBy text read line later → stop_at (parsed_at memory old.parser line) ≡ Some f
+    → starved_output (lines ++ memory ∷ []) (requests ++ (choices_for starved (line_requests old.block (parsed_at memory old.parser line)) ++ [])) true table text ≡ written ++ line_replies memory starved old line
+output_stop table text before ended0 unread0 taken0 old read rest written lines requests line later memory starved f u by stops =
+    output_by table text before ended0 unread0 taken0 old read rest written lines requests line later (memory ∷ []) (choices_for starved (line_requests old.block (parsed_at memory old.parser line)) ++ []) u by
+    ∙ ap (λ (l : List ℕ). written ++ l) (written_stop memory starved old.parser old.block old.session.history line [] [] true later f stops)
 
--- a front of the bytes that were to be written was written
-abbrev front_written : (written front back more : List ℕ) → (bytes : List ℕ) → bytes ≡ front ++ back → written ++ (bytes ++ more) ≡ (written ++ front) ++ (back ++ more)
-front_written written front back more bytes is =
-    ap (λ (l : List ℕ). written ++ (l ++ more)) is ∙ ap (λ (l : List ℕ). written ++ l) (append_assoc front back more) ∙ sym (append_assoc written front (back ++ more))
+-- a prefix of the bytes that were to be written was written
+abbrev prefix_written : (written prefix back more : List ℕ) → (bytes : List ℕ) → bytes ≡ prefix ++ back → written ++ (bytes ++ more) ≡ (written ++ prefix) ++ (back ++ more)
+prefix_written written prefix back more bytes is =
+    ap (λ (l : List ℕ). written ++ (l ++ more)) is ∙ ap (λ (l : List ℕ). written ++ l) (append_assoc prefix back more) ∙ sym (append_assoc written prefix (back ++ more))
 
--- a write failed: a front of what the text's whole output goes on with was written
+-- a write failed: a prefix of what the text's whole output goes on with was written
 write_ran : (table : Collation) (text before : List ℕ) (left taken0 taken1 : Option (List ℕ)) (written bytes more : List ℕ) (ls us : List Bool) (ended : RunFault) → starved_output ls us true table text ≡ written ++ (bytes ++ more)
-    → taken0 ≡ Some (before ++ written) → ended ≡ write_failed → AppendsFront taken0 taken1 bytes → Leaves table text before left taken1 (Err ended)
-write_ran table text before left taken0 taken1 written bytes more ls us ended is taken_is failed (front, back, parts, more_taken) = (
-  written ++ front,
-  appended taken0 taken1 before written front taken_is more_taken,
-  subst (λ (e : RunFault). Ran table text left (written ++ front) (Err e)) (sym failed) (refl, ls, us, back ++ more, is ∙ front_written written front back more bytes parts),
+    → taken0 ≡ Some (before ++ written) → ended ≡ write_failed → AppendsPrefix taken0 taken1 bytes → Leaves table text before left taken1 (Err ended)
+write_ran table text before left taken0 taken1 written bytes more ls us ended is taken_is failed (prefix, back, parts, more_taken) = (
+  written ++ prefix,
+  appended taken0 taken1 before written prefix taken_is more_taken,
+  subst (λ (e : RunFault). Ran table text left (written ++ prefix) (Err e)) (sym failed) (refl, ls, us, back ++ more, is ∙ prefix_written written prefix back more bytes parts),
 )
 
 -- a last line was served whole
@@ -97,62 +97,62 @@ last_ran table text before left taken0 taken1 written bytes ls us number f ended
 )
 
 -- the session ends at a line, of which memory was refused or not
-stop_ran : (table : Collation) (text before : List ℕ) (left : Option (List ℕ)) (ended0 : Bool) (unread0 taken0 taken1 : Option (List ℕ)) (old : Desk) (read rest written : List ℕ) (lines units : List Bool) (line : List ℕ) (later : List (List ℕ)) (memory starved : Bool) (f : LexFault) (ended : RunFault)
-    → IsUnderway table text before ended0 unread0 taken0 old read rest written lines units → GoesBy text read line later → stop_at (heard_at memory old.listener line) ≡ Some f
-    → EndsWith (number_of old.listener) f taken0 taken1 (line_replies memory starved old line) ended → Leaves table text before left taken1 (Err ended)
-stop_ran table text before left ended0 unread0 taken0 taken1 old read rest written lines units line later memory starved f ended u by stops ends =
-    let us = units ++ (choices_for starved (line_units old.block (heard_at memory old.listener line)) ++ []) in
+stop_ran : (table : Collation) (text before : List ℕ) (left : Option (List ℕ)) (ended0 : Bool) (unread0 taken0 taken1 : Option (List ℕ)) (old : RunState) (read rest written : List ℕ) (lines requests : List Bool) (line : List ℕ) (later : List (List ℕ)) (memory starved : Bool) (f : LexFault) (ended : RunFault)
+    → IsUnderway table text before ended0 unread0 taken0 old read rest written lines requests → GoesBy text read line later → stop_at (parsed_at memory old.parser line) ≡ Some f
+    → EndsWith (number_of old.parser) f taken0 taken1 (line_replies memory starved old line) ended → Leaves table text before left taken1 (Err ended)
+stop_ran table text before left ended0 unread0 taken0 taken1 old read rest written lines requests line later memory starved f ended u by stops ends =
+    let us = requests ++ (choices_for starved (line_requests old.block (parsed_at memory old.parser line)) ++ []) in
     let bytes = line_replies memory starved old line in
-    let whole = output_stop table text before ended0 unread0 taken0 old read rest written lines units line later memory starved f u by stops in
-    let l = last_stop memory old.listener line [] true later f stops in
+    let whole = output_stop table text before ended0 unread0 taken0 old read rest written lines requests line later memory starved f u by stops in
+    let l = last_stop memory old.parser line [] true later f stops in
     ⊎_elim
-    (λ (e : (ended ≡ stopped_at (number_of old.listener) f) × Appends taken0 taken1 bytes).
-    last_ran table text before left taken0 taken1 written bytes (lines ++ memory ∷ []) us (number_of old.listener) f ended l.last
+    (λ (e : (ended ≡ stopped_at (number_of old.parser) f) × Appends taken0 taken1 bytes).
+    last_ran table text before left taken0 taken1 written bytes (lines ++ memory ∷ []) us (number_of old.parser) f ended l.last
     (record {
       output_is = sym whole;
       last = ap (λ (ls : List (List ℕ)). last_line (logical_lines (lines ++ memory ∷ []) true first_state ls)) by ∙ u.last (memory ∷ []) true (line ∷ later) ∙ l.line_is;
     }) u.taken_is e.0 e.1)
-    (λ (e : (ended ≡ write_failed) × AppendsFront taken0 taken1 bytes).
+    (λ (e : (ended ≡ write_failed) × AppendsPrefix taken0 taken1 bytes).
     write_ran table text before left taken0 taken1 written bytes [] (lines ++ memory ∷ []) us ended (whole ∙ ap (λ (l : List ℕ). written ++ l) (sym (append-nil bytes))) u.taken_is e.0 e.1)
     ends
 
 -- a write failed at a line that the session would go on after
-cut_ran : (table : Collation) (text before : List ℕ) (left : Option (List ℕ)) (ended0 : Bool) (unread0 taken0 taken1 : Option (List ℕ)) (old : Desk) (read rest written : List ℕ) (lines units : List Bool) (line : List ℕ) (later : List (List ℕ)) (memory starved : Bool) (ended : RunFault)
-    → IsUnderway table text before ended0 unread0 taken0 old read rest written lines units → GoesBy text read line later → stop_at (heard_at memory old.listener line) ≡ None
-    → ended ≡ write_failed → AppendsFront taken0 taken1 (line_replies memory starved old line) → Leaves table text before left taken1 (Err ended)
-cut_ran table text before left ended0 unread0 taken0 taken1 old read rest written lines units line later memory starved ended u by on failed front =
-    let us = line_units old.block (heard_at memory old.listener line) in
+cut_ran : (table : Collation) (text before : List ℕ) (left : Option (List ℕ)) (ended0 : Bool) (unread0 taken0 taken1 : Option (List ℕ)) (old : RunState) (read rest written : List ℕ) (lines requests : List Bool) (line : List ℕ) (later : List (List ℕ)) (memory starved : Bool) (ended : RunFault)
+    → IsUnderway table text before ended0 unread0 taken0 old read rest written lines requests → GoesBy text read line later → stop_at (parsed_at memory old.parser line) ≡ None
+    → ended ≡ write_failed → AppendsPrefix taken0 taken1 (line_replies memory starved old line) → Leaves table text before left taken1 (Err ended)
+cut_ran table text before left ended0 unread0 taken0 taken1 old read rest written lines requests line later memory starved ended u by on failed prefix =
+    let us = line_requests old.block (parsed_at memory old.parser line) in
     write_ran table text before left taken0 taken1 written (line_replies memory starved old line)
-    (written_from (state_by old.listener (served memory old.listener line)) (line_block old.block (heard_at memory old.listener line)) (history_after_all starved old.session.history us) [] [] true later)
-    (lines ++ memory ∷ []) (units ++ (choices_for starved us ++ [])) ended
-    (output_by table text before ended0 unread0 taken0 old read rest written lines units line later (memory ∷ []) (choices_for starved us ++ []) u by
-    ∙ ap (λ (l : List ℕ). written ++ l) (written_on memory starved old.listener old.block old.session.history line [] [] true later on))
-    u.taken_is failed front
+    (written_from (state_by old.parser (served memory old.parser line)) (line_block old.block (parsed_at memory old.parser line)) (history_after_all starved old.session.history us) [] [] true later)
+    (lines ++ memory ∷ []) (requests ++ (choices_for starved us ++ [])) ended
+    (output_by table text before ended0 unread0 taken0 old read rest written lines requests line later (memory ∷ []) (choices_for starved us ++ []) u by
+    ∙ ap (λ (l : List ℕ). written ++ l) (written_on memory starved old.parser old.block old.session.history line [] [] true later on))
+    u.taken_is failed prefix
 
-ends_by : (table : Collation) (text before : List ℕ) (left : Option (List ℕ)) (ended0 : Bool) (unread0 taken0 taken1 : Option (List ℕ)) (old : Desk) (read rest written : List ℕ) (lines units : List Bool) (line : List ℕ) (later : List (List ℕ)) (memory starved : Bool) (ended : RunFault)
-    → IsUnderway table text before ended0 unread0 taken0 old read rest written lines units → GoesBy text read line later → EndsAtLine memory starved old line taken0 taken1 ended → Leaves table text before left taken1 (Err ended)
-ends_by table text before left ended0 unread0 taken0 taken1 old read rest written lines units line later memory starved ended u by ends =
+ends_by : (table : Collation) (text before : List ℕ) (left : Option (List ℕ)) (ended0 : Bool) (unread0 taken0 taken1 : Option (List ℕ)) (old : RunState) (read rest written : List ℕ) (lines requests : List Bool) (line : List ℕ) (later : List (List ℕ)) (memory starved : Bool) (ended : RunFault)
+    → IsUnderway table text before ended0 unread0 taken0 old read rest written lines requests → GoesBy text read line later → EndsAtLine memory starved old line taken0 taken1 ended → Leaves table text before left taken1 (Err ended)
+ends_by table text before left ended0 unread0 taken0 taken1 old read rest written lines requests line later memory starved ended u by ends =
     ⊎_elim
-    (λ (e : (f : LexFault) × (stop_at (heard_at memory old.listener line) ≡ Some f) × EndsWith (number_of old.listener) f taken0 taken1 (line_replies memory starved old line) ended).
-    stop_ran table text before left ended0 unread0 taken0 taken1 old read rest written lines units line later memory starved e.0 ended u by e.1 e.2)
-    (λ (e : (stop_at (heard_at memory old.listener line) ≡ None) × (ended ≡ write_failed) × AppendsFront taken0 taken1 (line_replies memory starved old line)).
-    cut_ran table text before left ended0 unread0 taken0 taken1 old read rest written lines units line later memory starved ended u by e.0 e.1 e.2)
+    (λ (e : (f : LexFault) × (stop_at (parsed_at memory old.parser line) ≡ Some f) × EndsWith (number_of old.parser) f taken0 taken1 (line_replies memory starved old line) ended).
+    stop_ran table text before left ended0 unread0 taken0 taken1 old read rest written lines requests line later memory starved e.0 ended u by e.1 e.2)
+    (λ (e : (stop_at (parsed_at memory old.parser line) ≡ None) × (ended ≡ write_failed) × AppendsPrefix taken0 taken1 (line_replies memory starved old line)).
+    cut_ran table text before left ended0 unread0 taken0 taken1 old read rest written lines requests line later memory starved ended u by e.0 e.1 e.2)
     ends
 
 -- the session ended at a line
-pub line_ended : (table : Collation) (text before : List ℕ) (left : Option (List ℕ)) (ended0 ended1 : Bool) (unread0 unread1 taken0 taken1 : Option (List ℕ)) (old : Desk) (line : List ℕ) (ended : RunFault) → Underway table text before ended0 unread0 taken0 old → ended0 ≡ false
+pub line_ended : (table : Collation) (text before : List ℕ) (left : Option (List ℕ)) (ended0 ended1 : Bool) (unread0 unread1 taken0 taken1 : Option (List ℕ)) (old : RunState) (line : List ℕ) (ended : RunFault) → Underway table text before ended0 unread0 taken0 old → ended0 ≡ false
     → Cuts ended1 unread0 unread1 line → IsInLine line → (memory : Bool) × (starved : Bool) × EndsAtLine memory starved old line taken0 taken1 ended → Leaves table text before left taken1 (Err ended)
-line_ended table text before left ended0 ended1 unread0 unread1 taken0 taken1 old line ended (read, rest, written, lines, units, u) going cuts whole (memory, starved, did) =
+line_ended table text before left ended0 ended1 unread0 unread1 taken0 taken1 old line ended (read, rest, written, lines, requests, u) going cuts whole (memory, starved, did) =
     let (rest2, unread_is, cut) = unread_after ended1 unread0 unread1 rest line u.unread_is cuts in
-    ends_by table text before left ended0 unread0 taken0 taken1 old read rest written lines units line (lines_of rest2) memory starved ended u (ap lines_of u.text_is ∙ lines_next ended1 read rest rest2 line whole cut (u.there.cut going)) did
+    ends_by table text before left ended0 unread0 taken0 taken1 old read rest written lines requests line (lines_of rest2) memory starved ended u (ap lines_of u.text_is ∙ lines_next ended1 read rest rest2 line whole cut (u.there.cut going)) did
 
 -- a line too long ended the session
-abbrev long_line_at : LexerState → HeardLine
-long_line_at s = record { number = number_of s; heard = heard.Stops lex.LineTooLong }
+abbrev long_line_at : LexerState → ParsedLine
+long_line_at s = record { number = number_of s; parsed = parsed.Stops lex.LineTooLong }
 
-long_at : (s : LexerState) (line : List ℕ) → 65536 < length line → heard_at false s line ≡ Some (long_line_at s)
-unfolding heard_in served
-long_at s line long = ap (λ (a : Result (Option Line × LexerState) LexFault). heard_by true (number_of s) (opening_of (first_line s line)) a) (fed-too_long s line long)
+long_at : (s : LexerState) (line : List ℕ) → 65536 < length line → parsed_at false s line ≡ Some (long_line_at s)
+unfolding parsed_in served
+long_at s line long = ap (λ (a : Result (Option Line × LexerState) LexFault). parsed_by true (number_of s) (opening_of (first_line s line)) a) (fed-too_long s line long)
 
 long_line : (read rest held more : List ℕ) → rest ≡ held ++ more → IsLongLine held → IsCut read → (line : List ℕ) × (later : List (List ℕ)) × (lines_of (read ++ rest) ≡ lines_of read ++ line ∷ later) × (65536 < length line)
 long_line read rest held more is long cut =
@@ -164,49 +164,49 @@ held_first held None left1 rest is keeps = absurd (cc)
 held_first held (Some all) None rest is keeps = absurd keeps
 held_first held (Some all) (Some more) rest is keeps = let same : all ≡ rest = cc in (more, refl, sym same ∙ sym keeps)
 
-ends_long : (old : Desk) (line : List ℕ) (taken0 taken1 : Option (List ℕ)) (ended : RunFault) → 65536 < length line → EndsWith (number_of old.listener) lex.LineTooLong taken0 taken1 (refused_lines (kept_last_faults old.block (number_of old.listener) lex.LineTooLong)) ended
+ends_long : (old : RunState) (line : List ℕ) (taken0 taken1 : Option (List ℕ)) (ended : RunFault) → 65536 < length line → EndsWith (number_of old.parser) lex.LineTooLong taken0 taken1 (refused_lines (kept_last_faults old.block (number_of old.parser) lex.LineTooLong)) ended
     → EndsAtLine false false old line taken0 taken1 ended
 ends_long old line taken0 taken1 ended long ends =
-    let at = long_at old.listener line long in
-    inl (lex.LineTooLong, ap stop_at at, subst (λ (bytes : List ℕ). EndsWith (number_of old.listener) lex.LineTooLong taken0 taken1 bytes ended) (stopped_replies false false old line (long_line_at old.listener) lex.LineTooLong at refl) ends)
+    let at = long_at old.parser line long in
+    inl (lex.LineTooLong, ap stop_at at, subst (λ (bytes : List ℕ). EndsWith (number_of old.parser) lex.LineTooLong taken0 taken1 bytes ended) (stopped_replies false false old line (long_line_at old.parser) lex.LineTooLong at refl) ends)
 
-pub long_ended : (table : Collation) (text before : List ℕ) (left : Option (List ℕ)) (ended0 : Bool) (unread0 left1 taken0 taken1 : Option (List ℕ)) (old : Desk) (held : List ℕ) (ended : RunFault) → Underway table text before ended0 unread0 taken0 old → ended0 ≡ false → Keeps unread0 (prepend_known held left1) → IsLongLine held
-    → EndsWith (number_of old.listener) lex.LineTooLong taken0 taken1 (refused_lines (kept_last_faults old.block (number_of old.listener) lex.LineTooLong)) ended → Leaves table text before left taken1 (Err ended)
-long_ended table text before left ended0 unread0 left1 taken0 taken1 old held ended (read, rest, written, lines, units, u) going keeps long ends =
+pub long_ended : (table : Collation) (text before : List ℕ) (left : Option (List ℕ)) (ended0 : Bool) (unread0 left1 taken0 taken1 : Option (List ℕ)) (old : RunState) (held : List ℕ) (ended : RunFault) → Underway table text before ended0 unread0 taken0 old → ended0 ≡ false → Keeps unread0 (prepend_known held left1) → IsLongLine held
+    → EndsWith (number_of old.parser) lex.LineTooLong taken0 taken1 (refused_lines (kept_last_faults old.block (number_of old.parser) lex.LineTooLong)) ended → Leaves table text before left taken1 (Err ended)
+long_ended table text before left ended0 unread0 left1 taken0 taken1 old held ended (read, rest, written, lines, requests, u) going keeps long ends =
     let (more, left_is, rest_is) = held_first held unread0 left1 rest u.unread_is keeps in
     let (line, later, by, longer) = long_line read rest held more rest_is long (u.there.cut going) in
-    ends_by table text before left ended0 unread0 taken0 taken1 old read rest written lines units line later false false ended u (ap lines_of u.text_is ∙ by) (ends_long old line taken0 taken1 ended longer ends)
+    ends_by table text before left ended0 unread0 taken0 taken1 old read rest written lines requests line later false false ended u (ap lines_of u.text_is ∙ by) (ends_long old line taken0 taken1 ended longer ends)
 
 -- a read failed: a part of the next line was read
-read_ran : (table : Collation) (text before : List ℕ) (ended0 : Bool) (unread0 taken0 : Option (List ℕ)) (old : Desk) (read rest written : List ℕ) (lines units : List Bool) (held more : List ℕ)
-    → IsUnderway table text before ended0 unread0 taken0 old read rest written lines units → ended0 ≡ false → rest ≡ held ++ more → IsInLine held → length held ≤ most_line_bytes → RanToReadFault table text (Some more) written (lines ++ []) (units ++ []) read held more
-read_ran table text before ended0 unread0 taken0 old read rest written lines units held more u going is whole short = record {
+read_ran : (table : Collation) (text before : List ℕ) (ended0 : Bool) (unread0 taken0 : Option (List ℕ)) (old : RunState) (read rest written : List ℕ) (lines requests : List Bool) (held more : List ℕ)
+    → IsUnderway table text before ended0 unread0 taken0 old read rest written lines requests → ended0 ≡ false → rest ≡ held ++ more → IsInLine held → length held ≤ most_line_bytes → RanToReadFault table text (Some more) written (lines ++ []) (requests ++ []) read held more
+read_ran table text before ended0 unread0 taken0 old read rest written lines requests held more u going is whole short = record {
   text_is = u.text_is ∙ ap (λ (r : List ℕ). read ++ r) is;
   in_feeds = u.there.in_feeds going;
   whole = ap lines_of u.text_is ∙ u.there.cut going rest ∙ ap (λ (r : List ℕ). lines_of read ++ lines_of r) is;
   part_in_line = whole;
   part_short = short;
   left_is = refl;
-  output_is = sym (output_kept (lines ++ []) (units ++ []) false table read ∙ ap (λ (ls : List (List ℕ)). written_from first_state None (begun table) (lines ++ []) (units ++ []) false ls) (sym (append-nil (lines_of read)))
-      ∙ u.goes_on [] [] false [] ∙ ap (λ (l : List ℕ). written ++ l) (written_cut old.listener old.block old.session.history) ∙ append-nil written);
-  no_last = ap (λ (ls : List (List ℕ)). last_line (logical_lines (lines ++ []) false first_state ls)) (sym (append-nil (lines_of read))) ∙ u.last [] false [] ∙ last_cut old.listener;
+  output_is = sym (output_kept (lines ++ []) (requests ++ []) false table read ∙ ap (λ (ls : List (List ℕ)). written_from first_state None (begun table) (lines ++ []) (requests ++ []) false ls) (sym (append-nil (lines_of read)))
+      ∙ u.goes_on [] [] false [] ∙ ap (λ (l : List ℕ). written ++ l) (written_cut old.parser old.block old.session.history) ∙ append-nil written);
+  no_last = ap (λ (ls : List (List ℕ)). last_line (logical_lines (lines ++ []) false first_state ls)) (sym (append-nil (lines_of read))) ∙ u.last [] false [] ∙ last_cut old.parser;
 }
 
-pub read_ended : (table : Collation) (text before : List ℕ) (ended0 : Bool) (unread0 left1 taken0 taken1 : Option (List ℕ)) (old : Desk) (held : List ℕ) (ended : RunFault) → Underway table text before ended0 unread0 taken0 old → ended0 ≡ false → Keeps unread0 (prepend_known held left1) → IsInLine held → length held ≤ most_line_bytes
+pub read_ended : (table : Collation) (text before : List ℕ) (ended0 : Bool) (unread0 left1 taken0 taken1 : Option (List ℕ)) (old : RunState) (held : List ℕ) (ended : RunFault) → Underway table text before ended0 unread0 taken0 old → ended0 ≡ false → Keeps unread0 (prepend_known held left1) → IsInLine held → length held ≤ most_line_bytes
     → (ended ≡ read_failed) × (taken1 ≡ taken0) → Leaves table text before left1 taken1 (Err ended)
-read_ended table text before ended0 unread0 left1 taken0 taken1 old held ended (read, rest, written, lines, units, u) going keeps whole short (is, kept) =
+read_ended table text before ended0 unread0 left1 taken0 taken1 old held ended (read, rest, written, lines, requests, u) going keeps whole short (is, kept) =
     let (more, left_is, rest_is) = held_first held unread0 left1 rest u.unread_is keeps in (
       written,
       kept ∙ u.taken_is,
       subst (λ (e : RunFault). Ran table text left1 written (Err e)) (sym is) (
         refl,
         lines ++ [],
-        units ++ [],
+        requests ++ [],
         read,
         held,
         more,
-        subst (λ (l : Option (List ℕ)). RanToReadFault table text l written (lines ++ []) (units ++ []) read held more) (sym left_is)
-            (read_ran table text before ended0 unread0 taken0 old read rest written lines units held more u going rest_is whole short),
+        subst (λ (l : Option (List ℕ)). RanToReadFault table text l written (lines ++ []) (requests ++ []) read held more) (sym left_is)
+            (read_ran table text before ended0 unread0 taken0 old read rest written lines requests held more u going rest_is whole short),
       ),
     )
 
@@ -225,33 +225,33 @@ nothing_unread unread0 (Some more) rest is keeps end =
 end_lines : (text read rest : List ℕ) → text ≡ read ++ rest → rest ≡ [] → lines_of text ≡ lines_of read ++ []
 end_lines text read rest is none = ap lines_of (is ∙ ap (λ (r : List ℕ). read ++ r) none ∙ append-nil read) ∙ sym (append-nil (lines_of read))
 
-end_output : (table : Collation) (text before : List ℕ) (ended0 : Bool) (unread0 taken0 : Option (List ℕ)) (old : Desk) (read rest written : List ℕ) (lines units : List Bool)
-    → IsUnderway table text before ended0 unread0 taken0 old read rest written lines units → rest ≡ [] → starved_output (lines ++ []) (units ++ []) true table text ≡ written ++ refused_lines (kept_end_faults old.block (pending old.listener))
-end_output table text before ended0 unread0 taken0 old read rest written lines units u none =
-    output_kept (lines ++ []) (units ++ []) true table text
-    ∙ ap (λ (ls : List (List ℕ)). written_from first_state None (begun table) (lines ++ []) (units ++ []) true ls) (end_lines text read rest u.text_is none)
-    ∙ u.goes_on [] [] true [] ∙ ap (λ (l : List ℕ). written ++ l) (written_end old.listener old.block old.session.history)
+end_output : (table : Collation) (text before : List ℕ) (ended0 : Bool) (unread0 taken0 : Option (List ℕ)) (old : RunState) (read rest written : List ℕ) (lines requests : List Bool)
+    → IsUnderway table text before ended0 unread0 taken0 old read rest written lines requests → rest ≡ [] → starved_output (lines ++ []) (requests ++ []) true table text ≡ written ++ refused_lines (kept_end_faults old.block (pending old.parser))
+end_output table text before ended0 unread0 taken0 old read rest written lines requests u none =
+    output_kept (lines ++ []) (requests ++ []) true table text
+    ∙ ap (λ (ls : List (List ℕ)). written_from first_state None (begun table) (lines ++ []) (requests ++ []) true ls) (end_lines text read rest u.text_is none)
+    ∙ u.goes_on [] [] true [] ∙ ap (λ (l : List ℕ). written ++ l) (written_end old.parser old.block old.session.history)
 
-end_ran : (table : Collation) (text before : List ℕ) (left1 taken0 taken1 : Option (List ℕ)) (ended0 : Bool) (unread0 : Option (List ℕ)) (old : Desk) (read rest written : List ℕ) (lines units : List Bool) (r : Result (Unit {0}) RunFault)
-    → IsUnderway table text before ended0 unread0 taken0 old read rest written lines units → rest ≡ [] → left1 ≡ Some [] → FinishesWith taken0 taken1 (refused_lines (kept_end_faults old.block (pending old.listener))) r → Leaves table text before left1 taken1 r
-end_ran table text before left1 taken0 taken1 ended0 unread0 old read rest written lines units (Ok done) u none left_is more =
-    let bytes = refused_lines (kept_end_faults old.block (pending old.listener)) in (
+end_ran : (table : Collation) (text before : List ℕ) (left1 taken0 taken1 : Option (List ℕ)) (ended0 : Bool) (unread0 : Option (List ℕ)) (old : RunState) (read rest written : List ℕ) (lines requests : List Bool) (r : Result (Unit {0}) RunFault)
+    → IsUnderway table text before ended0 unread0 taken0 old read rest written lines requests → rest ≡ [] → left1 ≡ Some [] → FinishesWith taken0 taken1 (refused_lines (kept_end_faults old.block (pending old.parser))) r → Leaves table text before left1 taken1 r
+end_ran table text before left1 taken0 taken1 ended0 unread0 old read rest written lines requests (Ok done) u none left_is more =
+    let bytes = refused_lines (kept_end_faults old.block (pending old.parser)) in (
       written ++ bytes,
       appended taken0 taken1 before written bytes u.taken_is more,
       (
         lines ++ [],
-        units ++ [],
+        requests ++ [],
         record {
-          output_is = sym (end_output table text before ended0 unread0 taken0 old read rest written lines units u none);
-          no_last = ap (λ (ls : List (List ℕ)). last_line (logical_lines (lines ++ []) true first_state ls)) (end_lines text read rest u.text_is none) ∙ u.last [] true [] ∙ last_end old.listener;
+          output_is = sym (end_output table text before ended0 unread0 taken0 old read rest written lines requests u none);
+          no_last = ap (λ (ls : List (List ℕ)). last_line (logical_lines (lines ++ []) true first_state ls)) (end_lines text read rest u.text_is none) ∙ u.last [] true [] ∙ last_end old.parser;
           left_is = left_is;
         },
       ),
     )
-end_ran table text before left1 taken0 taken1 ended0 unread0 old read rest written lines units (Err ended) u none left_is (is, front) =
-    let bytes = refused_lines (kept_end_faults old.block (pending old.listener)) in
-    write_ran table text before left1 taken0 taken1 written bytes [] (lines ++ []) (units ++ []) ended
-    (end_output table text before ended0 unread0 taken0 old read rest written lines units u none ∙ ap (λ (l : List ℕ). written ++ l) (sym (append-nil bytes))) u.taken_is is front
+end_ran table text before left1 taken0 taken1 ended0 unread0 old read rest written lines requests (Err ended) u none left_is (is, prefix) =
+    let bytes = refused_lines (kept_end_faults old.block (pending old.parser)) in
+    write_ran table text before left1 taken0 taken1 written bytes [] (lines ++ []) (requests ++ []) ended
+    (end_output table text before ended0 unread0 taken0 old read rest written lines requests u none ∙ ap (λ (l : List ℕ). written ++ l) (sym (append-nil bytes))) u.taken_is is prefix
 
 -- past the end of the input nothing is left
 nothing_left : (held : List ℕ) (left left1 : Option (List ℕ)) → prepend_known held left ≡ Some [] → Keeps left left1 → left1 ≡ Some []
@@ -270,11 +270,11 @@ at_end old new left left1 failed failed1 rest is past end =
     (λ (again : EndsAgain old new left left1 failed failed1). let none = past again.ended in (none, nothing_left old.held left left1 (is ∙ ap Some none) again.kept))
     end
 
-pub text_ended : (table : Collation) (text before : List ℕ) (old new : ReaderState) (left left1 taken0 taken1 : Option (List ℕ)) (failed failed1 : ℕ) (desk : Desk) (r : Result (Unit {0}) RunFault) → Underway table text before old.ended (unread old left) taken0 desk
-    → GivesEnd old new left left1 failed failed1 ⊎ EndsAgain old new left left1 failed failed1 → FinishesWith taken0 taken1 (refused_lines (kept_end_faults desk.block (pending desk.listener))) r → Leaves table text before left1 taken1 r
-text_ended table text before old new left left1 taken0 taken1 failed failed1 desk r (read, rest, written, lines, units, u) end finishes =
+pub text_ended : (table : Collation) (text before : List ℕ) (old new : ReaderState) (left left1 taken0 taken1 : Option (List ℕ)) (failed failed1 : ℕ) (state : RunState) (r : Result (Unit {0}) RunFault) → Underway table text before old.ended (unread old left) taken0 state
+    → GivesEnd old new left left1 failed failed1 ⊎ EndsAgain old new left left1 failed failed1 → FinishesWith taken0 taken1 (refused_lines (kept_end_faults state.block (pending state.parser))) r → Leaves table text before left1 taken1 r
+text_ended table text before old new left left1 taken0 taken1 failed failed1 state r (read, rest, written, lines, requests, u) end finishes =
     let e = at_end old new left left1 failed failed1 rest u.unread_is u.there.past_end end in
-    end_ran table text before left1 taken0 taken1 old.ended (unread old left) desk read rest written lines units r u e.0 e.1 finishes
+    end_ran table text before left1 taken0 taken1 old.ended (unread old left) state read rest written lines requests r u e.0 e.1 finishes
 
 -- memory was refused before the first line was read
 pub never_begun : (table : Collation) (text before : List ℕ) (left taken : Option (List ℕ)) (ended : RunFault) → ended ≡ never_ran → left ≡ Some text → taken ≡ Some before → Leaves table text before left taken (Err ended)
@@ -282,9 +282,9 @@ never_begun table text before left taken ended is left_is taken_is =
     ([], taken_is ∙ ap Some (sym (append-nil before)), subst (λ (e : RunFault). Ran table text left [] (Err e)) (sym is) (refl, record { nothing_written = refl; nothing_read = left_is }))
 
 -- no further line could be read
-pub cut_off_ended : (table : Collation) (text before : List ℕ) (old new : ReaderState) (left left1 taken0 taken1 : Option (List ℕ)) (failed failed1 : ℕ) (desk : Desk) (stop : ReadStop) (ended : RunFault) → StopsNow old new left left1 failed failed1 stop
-    → Underway table text before old.ended (unread old left) taken0 desk → IsCutOff stop (number_of desk.listener) taken0 taken1 (refused_lines (kept_last_faults desk.block (number_of desk.listener) lex.LineTooLong)) ended → Leaves table text before left1 taken1 (Err ended)
-cut_off_ended table text before old new left left1 taken0 taken1 failed failed1 desk stop.LineTooLong ended stops u cut =
-    long_ended table text before left1 old.ended (unread old left) left1 taken0 taken1 desk new.held ended u stops.not_ended stops.kept stops.cause.1 cut
-cut_off_ended table text before old new left left1 taken0 taken1 failed failed1 desk stop.ReadFault ended stops u cut =
-    read_ended table text before old.ended (unread old left) left1 taken0 taken1 desk new.held ended u stops.not_ended stops.kept stops.cause.1 stops.cause.2 cut
+pub cut_off_ended : (table : Collation) (text before : List ℕ) (old new : ReaderState) (left left1 taken0 taken1 : Option (List ℕ)) (failed failed1 : ℕ) (state : RunState) (stop : ReadStop) (ended : RunFault) → StopsNow old new left left1 failed failed1 stop
+    → Underway table text before old.ended (unread old left) taken0 state → IsCutOff stop (number_of state.parser) taken0 taken1 (refused_lines (kept_last_faults state.block (number_of state.parser) lex.LineTooLong)) ended → Leaves table text before left1 taken1 (Err ended)
+cut_off_ended table text before old new left left1 taken0 taken1 failed failed1 state stop.LineTooLong ended stops u cut =
+    long_ended table text before left1 old.ended (unread old left) left1 taken0 taken1 state new.held ended u stops.not_ended stops.kept stops.cause.1 cut
+cut_off_ended table text before old new left left1 taken0 taken1 failed failed1 state stop.ReadFault ended stops u cut =
+    read_ended table text before old.ended (unread old left) left1 taken0 taken1 state new.held ended u stops.not_ended stops.kept stops.cause.1 stops.cause.2 cut

@@ -13,21 +13,21 @@ use Rattle.coll_devices.proofs.PhysicalLinesLemmas.{lines_of-nil, lines_of-ended
 use Rattle.coll_nodes.specs.Table.{Collation}
 use Rattle.coll_table.specs.Loads.{with_feeds}
 use Rattle.coll_history.specs.Histories.{History, begun}
-use Rattle.coll_units.specs.Hearing.{heard_at}
-use Rattle.coll_units.specs.Taking.{stop_at, line_units, line_block}
+use Rattle.coll_requests.specs.Parsing.{parsed_at}
+use Rattle.coll_requests.specs.Taking.{stop_at, line_requests, line_block}
 use Rattle.coll_bench.specs.Serving.{IsBegun, Served, ReadsNone, history_after_all, replies_to, line_replies}
 use Rattle.coll_bench.specs.Runs.{last_line, CountsReads}
 use Rattle.coll_bench.specs.Underway.{written_from, IsCut, IsCutThere, IsUnderway, Underway}
 use Rattle.coll_replies.specs.declared.faults.RunFault.{RunFault}
-use Rattle.coll_units.specs.declared.open_blocks.OpenBlock.{OpenBlock}
-use Rattle.coll_bench.specs.declared.serving.Desk.{Desk}
+use Rattle.coll_requests.specs.declared.open_blocks.OpenBlock.{OpenBlock}
+use Rattle.coll_bench.specs.declared.serving.RunState.{RunState}
 use Rattle.coll_bench.proofs.ServingLemmas.{counts_none}
 use Rattle.coll_bench.proofs.RunLemmas.{choices_for, written_on}
 use Rattle.coll_bench.proofs.RunEnds.{last_on}
 
 -- nothing was read or written yet
-pub underway_begun : (table : Collation) (text before : List ℕ) (ended : Bool) (unread taken : Option (List ℕ)) (desk : Desk) → IsBegun desk table → ended ≡ false → unread ≡ Some text → taken ≡ Some before → Underway table text before ended unread taken desk
-underway_begun table text before ended unread taken desk b going unread_is taken_is = (
+pub underway_begun : (table : Collation) (text before : List ℕ) (ended : Bool) (unread taken : Option (List ℕ)) (state : RunState) → IsBegun state table → ended ≡ false → unread ≡ Some text → taken ≡ Some before → Underway table text before ended unread taken state
+underway_begun table text before ended unread taken state b going unread_is taken_is = (
   [],
   text,
   [],
@@ -38,18 +38,18 @@ underway_begun table text before ended unread taken desk b going unread_is taken
     there = record {
       cut = λ _ later. sym (ap (λ (ls : List (List ℕ)). ls ++ lines_of later) lines_of-nil);
       in_feeds = λ _. sym (ap with_feeds lines_of-nil);
-      past_end = λ (met : ended ≡ true). absurd (false≢true (sym going ∙ met));
+      past_end = λ (visited : ended ≡ true). absurd (false≢true (sym going ∙ visited));
     };
     unread_is = unread_is;
     taken_is = taken_is ∙ ap Some (sym (append-nil before));
     goes_on = λ c d ends later.
         ap (λ (ls : List (List ℕ)). written_from first_state None (begun table) c d ends (ls ++ later)) lines_of-nil
-        ∙ ap (λ (s : LexerState). written_from s None (begun table) c d ends later) (sym b.listener)
-        ∙ ap (λ (o : Option OpenBlock). written_from desk.listener o (begun table) c d ends later) (sym b.block)
-        ∙ ap (λ (h : History). written_from desk.listener desk.block h c d ends later) (sym b.session);
+        ∙ ap (λ (s : LexerState). written_from s None (begun table) c d ends later) (sym b.parser)
+        ∙ ap (λ (o : Option OpenBlock). written_from state.parser o (begun table) c d ends later) (sym b.block)
+        ∙ ap (λ (h : History). written_from state.parser state.block h c d ends later) (sym b.session);
     last = λ c ends later.
         ap (λ (ls : List (List ℕ)). last_line (logical_lines c ends first_state (ls ++ later))) lines_of-nil
-        ∙ ap (λ (s : LexerState). last_line (logical_lines c ends s later)) (sym b.listener);
+        ∙ ap (λ (s : LexerState). last_line (logical_lines c ends s later)) (sym b.parser);
   },
 )
 
@@ -78,7 +78,7 @@ next_ended read rest2 line whole cut in_feeds =
         cut = λ _ later. ap lines_of (ended later) ∙ cut (line ++ line_feed ∷ later) ∙ ap (λ (ls : List (List ℕ)). lines_of read ++ ls) (lines_of-ended line later whole)
             ∙ sym (append_assoc (lines_of read) (line ∷ []) (lines_of later)) ∙ ap (λ (ls : List (List ℕ)). ls ++ lines_of later) (sym lines);
         in_feeds = λ _. in_feeds-more read line (lines_of (read ++ (line ++ line_feed ∷ []))) in_feeds lines;
-        past_end = λ met. absurd (false≢true met);
+        past_end = λ visited. absurd (false≢true visited);
       };
     }
 
@@ -125,8 +125,8 @@ appended (Some xs) (Some ys) before written bytes is more =
     ap Some (more ∙ ap (λ (l : List ℕ). l ++ bytes) same ∙ append_assoc before written bytes)
 
 -- how a run goes on from what was read and written so far, for all further lines and choices
-abbrev GoesOn : Collation → (read written : List ℕ) → (lines units : List Bool) → LexerState → Option OpenBlock → History → Type 0
-GoesOn table read written lines units s block h = (c d : List Bool) (ends : Bool) (later : List (List ℕ)) → written_from first_state None (begun table) (lines ++ c) (units ++ d) ends (lines_of read ++ later) ≡ written ++ written_from s block h c d ends later
+abbrev GoesOn : Collation → (read written : List ℕ) → (lines requests : List Bool) → LexerState → Option OpenBlock → History → Type 0
+GoesOn table read written lines requests s block h = (c d : List Bool) (ends : Bool) (later : List (List ℕ)) → written_from first_state None (begun table) (lines ++ c) (requests ++ d) ends (lines_of read ++ later) ≡ written ++ written_from s block h c d ends later
 
 -- the same of a text's last line
 abbrev HasLast : (read : List ℕ) → List Bool → LexerState → Type 0
@@ -135,23 +135,23 @@ HasLast read lines s = (c : List Bool) (ends : Bool) (later : List (List ℕ)) �
 pub one_more : (read read2 line : List ℕ) (later : List (List ℕ)) → lines_of read2 ≡ lines_of read ++ line ∷ [] → lines_of read2 ++ later ≡ lines_of read ++ line ∷ later
 one_more read read2 line later more = ap (λ (ls : List (List ℕ)). ls ++ later) more ∙ append_assoc (lines_of read) (line ∷ []) later
 
-goes_on_by : (table : Collation) (read read2 written line : List ℕ) (lines units : List Bool) (s s2 : LexerState) (block block2 : Option OpenBlock) (h h2 : History) (memory starved : Bool) → GoesOn table read written lines units s block h
-    → lines_of read2 ≡ lines_of read ++ line ∷ [] → stop_at (heard_at memory s line) ≡ None → s2 ≡ state_by s (served memory s line) → block2 ≡ line_block block (heard_at memory s line) → h2 ≡ history_after_all starved h (line_units block (heard_at memory s line))
-    → GoesOn table read2 (written ++ replies_to starved h (line_units block (heard_at memory s line))) (lines ++ memory ∷ []) (units ++ choices_for starved (line_units block (heard_at memory s line))) s2 block2 h2
-goes_on_by table read read2 written line lines units s s2 block block2 h h2 memory starved goes more on s_is block_is h_is c d ends later =
-    let us = line_units block (heard_at memory s line) in
+goes_on_by : (table : Collation) (read read2 written line : List ℕ) (lines requests : List Bool) (s s2 : LexerState) (block block2 : Option OpenBlock) (h h2 : History) (memory starved : Bool) → GoesOn table read written lines requests s block h
+    → lines_of read2 ≡ lines_of read ++ line ∷ [] → stop_at (parsed_at memory s line) ≡ None → s2 ≡ state_by s (served memory s line) → block2 ≡ line_block block (parsed_at memory s line) → h2 ≡ history_after_all starved h (line_requests block (parsed_at memory s line))
+    → GoesOn table read2 (written ++ replies_to starved h (line_requests block (parsed_at memory s line))) (lines ++ memory ∷ []) (requests ++ choices_for starved (line_requests block (parsed_at memory s line))) s2 block2 h2
+goes_on_by table read read2 written line lines requests s s2 block block2 h h2 memory starved goes more on s_is block_is h_is c d ends later =
+    let us = line_requests block (parsed_at memory s line) in
     let first = written_from first_state None (begun table) in
-    ap (λ (ls : List (List ℕ)). first ((lines ++ memory ∷ []) ++ c) ((units ++ choices_for starved us) ++ d) ends ls) (one_more read read2 line later more)
-    ∙ ap (λ (l : List Bool). first l ((units ++ choices_for starved us) ++ d) ends (lines_of read ++ line ∷ later)) (append_assoc lines (memory ∷ []) c)
-    ∙ ap (λ (l : List Bool). first (lines ++ memory ∷ c) l ends (lines_of read ++ line ∷ later)) (append_assoc units (choices_for starved us) d)
+    ap (λ (ls : List (List ℕ)). first ((lines ++ memory ∷ []) ++ c) ((requests ++ choices_for starved us) ++ d) ends ls) (one_more read read2 line later more)
+    ∙ ap (λ (l : List Bool). first l ((requests ++ choices_for starved us) ++ d) ends (lines_of read ++ line ∷ later)) (append_assoc lines (memory ∷ []) c)
+    ∙ ap (λ (l : List Bool). first (lines ++ memory ∷ c) l ends (lines_of read ++ line ∷ later)) (append_assoc requests (choices_for starved us) d)
     ∙ goes (memory ∷ c) (choices_for starved us ++ d) ends (line ∷ later)
     ∙ ap (λ (l : List ℕ). written ++ l) (written_on memory starved s block h line c d ends later on
-    ∙ ap (λ (x : LexerState). replies_to starved h us ++ written_from x (line_block block (heard_at memory s line)) (history_after_all starved h us) c d ends later) (sym s_is)
+    ∙ ap (λ (x : LexerState). replies_to starved h us ++ written_from x (line_block block (parsed_at memory s line)) (history_after_all starved h us) c d ends later) (sym s_is)
     ∙ ap (λ (b : Option OpenBlock). replies_to starved h us ++ written_from s2 b (history_after_all starved h us) c d ends later) (sym block_is)
     ∙ ap (λ (x : History). replies_to starved h us ++ written_from s2 block2 x c d ends later) (sym h_is))
     ∙ sym (append_assoc written (replies_to starved h us) (written_from s2 block2 h2 c d ends later))
 
-has_last_by : (read read2 line : List ℕ) (lines : List Bool) (s s2 : LexerState) (memory : Bool) → HasLast read lines s → lines_of read2 ≡ lines_of read ++ line ∷ [] → stop_at (heard_at memory s line) ≡ None → s2 ≡ state_by s (served memory s line)
+has_last_by : (read read2 line : List ℕ) (lines : List Bool) (s s2 : LexerState) (memory : Bool) → HasLast read lines s → lines_of read2 ≡ lines_of read ++ line ∷ [] → stop_at (parsed_at memory s line) ≡ None → s2 ≡ state_by s (served memory s line)
     → HasLast read2 (lines ++ memory ∷ []) s2
 has_last_by read read2 line lines s s2 memory last more on s_is c ends later =
     ap (λ (ls : List (List ℕ)). last_line (logical_lines ((lines ++ memory ∷ []) ++ c) ends first_state ls)) (one_more read read2 line later more)
@@ -160,32 +160,32 @@ has_last_by read read2 line lines s s2 memory last more on s_is c ends later =
     ∙ last_on memory s line c ends later on
     ∙ ap (λ (x : LexerState). last_line (logical_lines c ends x later)) (sym s_is)
 
-served_on : (table : Collation) (text before : List ℕ) (ended ended2 : Bool) (unread0 unread1 taken0 taken1 : Option (List ℕ)) (old new : Desk) (read rest written : List ℕ) (lines units : List Bool) (memory starved : Bool) (line : List ℕ)
-    → IsUnderway table text before ended unread0 taken0 old read rest written lines units → ended ≡ false → Cuts ended2 unread0 unread1 line → IsInLine line → Served memory starved old new line → Appends taken0 taken1 (line_replies memory starved old line)
+served_on : (table : Collation) (text before : List ℕ) (ended ended2 : Bool) (unread0 unread1 taken0 taken1 : Option (List ℕ)) (old new : RunState) (read rest written : List ℕ) (lines requests : List Bool) (memory starved : Bool) (line : List ℕ)
+    → IsUnderway table text before ended unread0 taken0 old read rest written lines requests → ended ≡ false → Cuts ended2 unread0 unread1 line → IsInLine line → Served memory starved old new line → Appends taken0 taken1 (line_replies memory starved old line)
     → Underway table text before ended2 unread1 taken1 new
-served_on table text before ended ended2 unread0 unread1 taken0 taken1 old new read rest written lines units memory starved line u going cuts whole served more =
+served_on table text before ended ended2 unread0 unread1 taken0 taken1 old new read rest written lines requests memory starved line u going cuts whole served more =
     let (rest2, unread_is, cut) = unread_after ended2 unread0 unread1 rest line u.unread_is cuts in
     let (read2, n) = next_line ended2 read rest rest2 line whole cut (u.there.cut going) (u.there.in_feeds going) in (
       read2,
       rest2,
       written ++ line_replies memory starved old line,
       lines ++ memory ∷ [],
-      units ++ choices_for starved (line_units old.block (heard_at memory old.listener line)),
+      requests ++ choices_for starved (line_requests old.block (parsed_at memory old.parser line)),
       record {
         text_is = u.text_is ∙ n.text_is;
         there = n.there;
         unread_is = unread_is;
         taken_is = appended taken0 taken1 before written (line_replies memory starved old line) u.taken_is more;
-        goes_on = goes_on_by table read read2 written line lines units old.listener new.listener old.block new.block old.session.history new.session.history memory starved u.goes_on n.lines_are served.goes_on served.listener served.block served.session;
-        last = has_last_by read read2 line lines old.listener new.listener memory u.last n.lines_are served.goes_on served.listener;
+        goes_on = goes_on_by table read read2 written line lines requests old.parser new.parser old.block new.block old.session.history new.session.history memory starved u.goes_on n.lines_are served.goes_on served.parser served.block served.session;
+        last = has_last_by read read2 line lines old.parser new.parser memory u.last n.lines_are served.goes_on served.parser;
       },
     )
 
 -- one more line was served, and the run goes on
-pub underway_on : (table : Collation) (text before : List ℕ) (ended ended2 : Bool) (unread0 unread1 taken0 taken1 : Option (List ℕ)) (old new : Desk) (line : List ℕ) → Underway table text before ended unread0 taken0 old → ended ≡ false → Cuts ended2 unread0 unread1 line → IsInLine line
+pub underway_on : (table : Collation) (text before : List ℕ) (ended ended2 : Bool) (unread0 unread1 taken0 taken1 : Option (List ℕ)) (old new : RunState) (line : List ℕ) → Underway table text before ended unread0 taken0 old → ended ≡ false → Cuts ended2 unread0 unread1 line → IsInLine line
     → (memory : Bool) × (starved : Bool) × Served memory starved old new line × Appends taken0 taken1 (line_replies memory starved old line) → Underway table text before ended2 unread1 taken1 new
-underway_on table text before ended ended2 unread0 unread1 taken0 taken1 old new line (read, rest, written, lines, units, u) going cuts whole (memory, starved, served, more) =
-    served_on table text before ended ended2 unread0 unread1 taken0 taken1 old new read rest written lines units memory starved line u going cuts whole served more
+underway_on table text before ended ended2 unread0 unread1 taken0 taken1 old new line (read, rest, written, lines, requests, u) going cuts whole (memory, starved, served, more) =
+    served_on table text before ended ended2 unread0 unread1 taken0 taken1 old new read rest written lines requests memory starved line u going cuts whole served more
 
 -- what the reader did, by its answer
 pub gives_line : (old new : ReaderState) (left left_after : Option (List ℕ)) (failed failed_after : ℕ) (more : Bool) → Advances old new left left_after failed failed_after (Ok more) → more ≡ true → GivesLine old new left left_after failed failed_after

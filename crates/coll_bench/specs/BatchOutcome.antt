@@ -6,13 +6,13 @@ use Rattle.coll_devices.specs.PhysicalLines.{lines_of}
 use Rattle.coll_nodes.specs.Table.{Collation}
 use Rattle.coll_print.specs.CanonicalText.{text}
 use Rattle.coll_table.specs.Delta.{delta}
-use Rattle.coll_draft.specs.Reading.{reads}
-use Rattle.coll_draft.specs.declared.load_faults.LoadFault.{LoadFault}
+use Rattle.coll_builder.specs.Reading.{reads}
+use Rattle.coll_builder.specs.declared.load_faults.LoadFault.{LoadFault}
 use Rattle.coll_table.specs.declared.refusals.Refusal.{Refusal}
-use Rattle.coll_units.specs.DeltaFiles.{DeltaEnd, Ended, AtFault, Undecided as EndUndecided, DeltaOutcome, at_line, delta_outcome}
-use Rattle.coll_units.specs.declared.delta_faults.DeltaCause.{DeltaCause}
-use Rattle.coll_units.specs.declared.delta_faults.DeltaFault.{DeltaFault}
-use Rattle.coll_units.specs.declared.delta_files.StatementAt.{StatementAt}
+use Rattle.coll_requests.specs.DeltaFiles.{DeltaEnd, Ended, AtFault, Undecided as EndUndecided, DeltaOutcome, at_line, delta_outcome}
+use Rattle.coll_requests.specs.declared.delta_faults.DeltaCause.{DeltaCause}
+use Rattle.coll_requests.specs.declared.delta_faults.DeltaFault.{DeltaFault}
+use Rattle.coll_requests.specs.declared.delta_files.StatementAt.{StatementAt}
 use Rattle.coll_key.specs.CompiledListing.{compiled_listing}
 use Rattle.coll_key.specs.KeyLimits.{is_too_long}
 use Rattle.coll_key.specs.SortKey.{key_of}

@@ -6,10 +6,10 @@ use Rattle.coll_devices.specs.declared.stops.ReadStop.{ReadStop}
 use Rattle.coll_devices.specs.declared.stops.ReadStop.TheVariants as read
 use Rattle.coll_nodes.specs.Table.{Collation}
 use Rattle.coll_nodes.specs.TableLayout.{TableValue, collation}
-use Rattle.coll_units.specs.DeltaReading.{DeltaState, Step, delta_line}
+use Rattle.coll_requests.specs.DeltaReading.{DeltaState, Step, delta_line}
 use Rattle.coll_lex.specs.LogicalLines.{number_of}
-use Rattle.coll_units.specs.declared.delta_faults.DeltaFault.{DeltaFault}
-use Rattle.coll_units.specs.declared.delta_files.StatementAt.{StatementAt}
+use Rattle.coll_requests.specs.declared.delta_faults.DeltaFault.{DeltaFault}
+use Rattle.coll_requests.specs.declared.delta_files.StatementAt.{StatementAt}
 use Rattle.coll_replies.specs.Faults.{fault_number}
 use Rattle.coll_bench.specs.BatchOutcome.{fault_in, delta_fault_in, unless_faulty, rewritten, after_delta, after_deltas, after_inputs}
 use Rattle.coll_bench.specs.BatchRuns.{Ending, ReadFailed, WriteFailed, Starved, Refused, ending_of, DeltaStopsWithin, DeltasStopWithin, InputsStopWithin, DeltaStarves, DeltasStarve, InputsStarve, BatchRuns, raised_at}

@@ -5,16 +5,16 @@ use Rattle.coll_devices.specs.Limits.{most_line_bytes}
 use Rattle.coll_devices.specs.PhysicalLines.{lines_of, IsInLine}
 use Rattle.coll_nodes.specs.Table.{Collation}
 use Rattle.coll_table.specs.Loads.{with_feeds, IsLineWithin, StopsWithin, FaultSays}
-use Rattle.coll_draft.specs.declared.load_faults.LoadCause.TheVariants as load
-use Rattle.coll_draft.specs.Reading.{reads}
-use Rattle.coll_units.specs.DeltaFiles.{delta_outcome}
-use Rattle.coll_units.specs.declared.delta_files.StatementAt.{StatementAt}
+use Rattle.coll_builder.specs.declared.load_faults.LoadCause.TheVariants as load
+use Rattle.coll_builder.specs.Reading.{reads}
+use Rattle.coll_requests.specs.DeltaFiles.{delta_outcome}
+use Rattle.coll_requests.specs.declared.delta_files.StatementAt.{StatementAt}
 use Rattle.coll_replies.specs.Faults.{fault_number}
 use Rattle.coll_bench.specs.BatchOutcome.{Decision, Decided, Undecided, decision, after_deltas, batch_outcome}
 use Rattle.coll_bench.specs.declared.batches.Batch.{Batch}
 use Rattle.coll_replies.specs.declared.faults.RunFault.{RunFault}
 
--- what kind of fault ended a run: a read that failed, a write that failed, want of memory, or something that an input or a text
+-- what kind of fault ended a run: a read that failed, a write that failed, lack of memory, or something that an input or a text
 -- says
 pub data Ending : Type 0 where
   ReadFailed : Ending
@@ -82,24 +82,24 @@ InputsStarve zero number table_text delta_texts left = FaultSays load.OutOfMemor
 InputsStarve (suc before) number table_text delta_texts left =
     (first : Collation) × (reads table_text ≡ Ok first) × DeltasStarve before first delta_texts number
 
--- what was written is a front of the output
-abbrev pub WritesFront : Batch → (table_text : List ℕ) → (delta_texts : List (List ℕ)) → (written : List ℕ) → Type 0
-WritesFront b table_text delta_texts written = (back : List ℕ) × (batch_outcome b table_text delta_texts ≡ Ok (written ++ back))
+-- what was written is a prefix of the output
+abbrev pub WritesPrefix : Batch → (table_text : List ℕ) → (delta_texts : List (List ℕ)) → (written : List ℕ) → Type 0
+WritesPrefix b table_text delta_texts written = (back : List ℕ) × (batch_outcome b table_text delta_texts ≡ Ok (written ++ back))
 
 -- a fault of no line of the first input, as which a fault that comes with the output counts
 abbrev pub IsOfNoLine : RunFault → Type 0
 IsOfNoLine ended = (ended.input ≡ 0) × (ended.line ≡ 0)
 
 -- what a run did that ended with a fault, by its kind: nothing is written where an input is at fault or a read fails; a write that
--- fails leaves a front of the output; and where memory is refused, this is no line's, and leaves a front of the output, or it is
+-- fails leaves a prefix of the output; and where memory is refused, this is no line's, and leaves a prefix of the output, or it is
 -- that of an input, and nothing is written
 abbrev pub BatchRanTo : Ending → Batch → (table_text : List ℕ) → (delta_texts : List (List ℕ)) → (left : Option (List ℕ)) → (lefts : List (Option (List ℕ))) → (written : List ℕ) → RunFault → Type 0
 BatchRanTo ReadFailed b table_text delta_texts left lefts written ended =
     (written ≡ []) × (ended.line ≡ 0) × InputsStopWithin ended.input table_text delta_texts left lefts
 BatchRanTo WriteFailed b table_text delta_texts left lefts written ended =
-    IsOfNoLine ended × WritesFront b table_text delta_texts written
+    IsOfNoLine ended × WritesPrefix b table_text delta_texts written
 BatchRanTo Starved b table_text delta_texts left lefts written ended =
-    (IsOfNoLine ended × WritesFront b table_text delta_texts written)
+    (IsOfNoLine ended × WritesPrefix b table_text delta_texts written)
     ⊎ ((written ≡ []) × InputsStarve ended.input ended.line table_text delta_texts left)
 BatchRanTo Refused b table_text delta_texts left lefts written ended =
     (written ≡ []) × (batch_outcome b table_text delta_texts ≡ Err ended)

@@ -12,19 +12,19 @@ use Rattle.coll_nodes.specs.Table.{Collation}
 use Rattle.coll_table.specs.Loads.{with_feeds}
 use Rattle.coll_history.specs.Histories.{begun}
 use Rattle.coll_lex.specs.Faults.{ends_text}
-use Rattle.coll_units.specs.SessionLines.{heard}
+use Rattle.coll_requests.specs.SessionLines.{parsed}
 use Rattle.coll_replies.specs.Faults.{fault_number}
-use Rattle.coll_units.specs.Units.{units}
+use Rattle.coll_requests.specs.Requests.{requests}
 use Rattle.coll_replies.specs.Replies.{answers}
 use Rattle.coll_replies.specs.declared.faults.Fault.{Fault}
 use Rattle.coll_replies.specs.declared.faults.Fault.TheVariants as fault
 use Rattle.coll_replies.specs.declared.faults.RunFault.{RunFault}
 
--- what is written for a session text over a table, where memory was refused to these lines and these units; the test
+-- what is written for a session text over a table, where memory was refused to these lines and these requests; the test
 -- says whether the text's end is seen
-unfoldable pub starved_output : (lines_starved units_starved : List Bool) → (ends : Bool) → Collation → List ℕ → List ℕ
-starved_output lines_starved units_starved ends table text =
-    answers (begun table) (units ends None (map heard (logical_lines lines_starved ends first_state (lines_of text)))) units_starved
+unfoldable pub starved_output : (lines_starved requests_starved : List Bool) → (ends : Bool) → Collation → List ℕ → List ℕ
+starved_output lines_starved requests_starved ends table text =
+    answers (begun table) (requests ends None (map parsed (logical_lines lines_starved ends first_state (lines_of text)))) requests_starved
 
 -- what is written for a session text over a table
 unfoldable pub output : Collation → List ℕ → List ℕ
@@ -45,26 +45,26 @@ abbrev pub last_of : List Bool → (ends : Bool) → List ℕ → Option (ℕ ×
 last_of starved ends text = last_line (logical_lines starved ends first_state (lines_of text))
 
 -- the whole text was served
-pub record RanToEnd (table : Collation) (text : List ℕ) (left : Option (List ℕ)) (written : List ℕ) (lines_starved units_starved : List Bool) : Type 0 where
-  pub output_is : written ≡ starved_output lines_starved units_starved true table text
+pub record RanToEnd (table : Collation) (text : List ℕ) (left : Option (List ℕ)) (written : List ℕ) (lines_starved requests_starved : List Bool) : Type 0 where
+  pub output_is : written ≡ starved_output lines_starved requests_starved true table text
   pub no_last : last_of lines_starved true text ≡ None
   pub left_is : left ≡ Some []
 
 -- a read failed: the lines read whole before it, each of which ends in a line feed, were served, and of the next a part was
 -- read, which is no longer than a line may be
-pub record RanToReadFault (table : Collation) (text : List ℕ) (left : Option (List ℕ)) (written : List ℕ) (lines_starved units_starved : List Bool) (read part rest : List ℕ) : Type 0 where
+pub record RanToReadFault (table : Collation) (text : List ℕ) (left : Option (List ℕ)) (written : List ℕ) (lines_starved requests_starved : List Bool) (read part rest : List ℕ) : Type 0 where
   pub text_is : text ≡ read ++ (part ++ rest)
   pub in_feeds : read ≡ with_feeds (lines_of read)
   pub whole : lines_of text ≡ lines_of read ++ lines_of (part ++ rest)
   pub part_in_line : IsInLine part
   pub part_short : length part ≤ most_line_bytes
   pub left_is : left ≡ Some rest
-  pub output_is : written ≡ starved_output lines_starved units_starved false table read
+  pub output_is : written ≡ starved_output lines_starved requests_starved false table read
   pub no_last : last_of lines_starved false read ≡ None
 
 -- the text has a line too long, or a line too many, which was the last to be served
-pub record RanToLastLine (table : Collation) (text : List ℕ) (written : List ℕ) (lines_starved units_starved : List Bool) (number : ℕ) (f : LexFault) : Type 0 where
-  pub output_is : written ≡ starved_output lines_starved units_starved true table text
+pub record RanToLastLine (table : Collation) (text : List ℕ) (written : List ℕ) (lines_starved requests_starved : List Bool) (number : ℕ) (f : LexFault) : Type 0 where
+  pub output_is : written ≡ starved_output lines_starved requests_starved true table text
   pub last : last_of lines_starved true text ≡ Some (number, f)
 
 -- memory was refused before the first line was read
@@ -72,19 +72,19 @@ pub record NeverRan (text : List ℕ) (left : Option (List ℕ)) (written : List
   pub nothing_written : written ≡ []
   pub nothing_read : left ≡ Some text
 
--- a run that ended with a fault of the lexer: want of memory before it began, or the fault of its last line
+-- a run that ended with a fault of the lexer: lack of memory before it began, or the fault of its last line
 abbrev pub RanToLexFault : Collation → List ℕ → Option (List ℕ) → List ℕ → ℕ → LexFault → Type 0
 RanToLexFault table text left written number lex.OutOfMemory = (number ≡ 0) × NeverRan text left written
-RanToLexFault table text left written number f = (lines_starved : List Bool) × (units_starved : List Bool) × RanToLastLine table text written lines_starved units_starved number f
+RanToLexFault table text left written number f = (lines_starved : List Bool) × (requests_starved : List Bool) × RanToLastLine table text written lines_starved requests_starved number f
 
 -- a run that ended with a fault
 abbrev pub RanToFault : Collation → List ℕ → Option (List ℕ) → List ℕ → ℕ → Fault → Type 0
 RanToFault table text left written number (fault.Read read.ReadFault) =
-    (number ≡ 0) × (lines_starved : List Bool) × (units_starved : List Bool) × (read : List ℕ) × (part : List ℕ) × (rest : List ℕ) × RanToReadFault table text left written lines_starved units_starved read part rest
+    (number ≡ 0) × (lines_starved : List Bool) × (requests_starved : List Bool) × (read : List ℕ) × (part : List ℕ) × (rest : List ℕ) × RanToReadFault table text left written lines_starved requests_starved read part rest
 RanToFault table text left written number (fault.Read read.LineTooLong) = ⊥
--- a write failed: a front of what was to be written was
+-- a write failed: a prefix of what was to be written was
 RanToFault table text left written number (fault.Write stop) =
-    (number ≡ 0) × (lines_starved : List Bool) × (units_starved : List Bool) × (back : List ℕ) × (starved_output lines_starved units_starved true table text ≡ written ++ back)
+    (number ≡ 0) × (lines_starved : List Bool) × (requests_starved : List Bool) × (back : List ℕ) × (starved_output lines_starved requests_starved true table text ≡ written ++ back)
 RanToFault table text left written number (fault.Lex f) = RanToLexFault table text left written number f
 RanToFault table text left written number (fault.Syntax f) = ⊥
 RanToFault table text left written number (fault.Load f) = ⊥
@@ -98,7 +98,7 @@ RanToFault table text left written number fault.NoBlock = ⊥
 
 -- what a run over a text wrote, by its answer
 abbrev pub Ran : Collation → List ℕ → Option (List ℕ) → List ℕ → Result (Unit {0}) RunFault → Type 0
-Ran table text left written (Ok done) = (lines_starved : List Bool) × (units_starved : List Bool) × RanToEnd table text left written lines_starved units_starved
+Ran table text left written (Ok done) = (lines_starved : List Bool) × (requests_starved : List Bool) × RanToEnd table text left written lines_starved requests_starved
 Ran table text left written (Err ended) = RanToFault table text left written ended.line ended.fault
 
 -- the theorem of a session: whatever text the source has, and whatever the sink took before, the bytes that the sink

@@ -1,7 +1,7 @@
 -- What serving one physical line does, from where a session stands between two lines.
 use Rattle.std.specs.Prelude.{◌≡◌, ◌⊎◌, ℕ, Bool, true, false, ◌==◌, if◌then◌else◌, List, [], ◌∷◌, ◌++◌, Option, Some, None, Result, Ok, Err}
 use Rattle.std.specs.Io.KnownBytes.{Appends}
-use Rattle.coll_devices.specs.Devices.{AppendsFront, raised}
+use Rattle.coll_devices.specs.Devices.{AppendsPrefix, raised}
 use Rattle.coll_devices.specs.LineReading.{counted}
 use Rattle.coll_lex.specs.LogicalLines.{first_state, number_of, served, state_by}
 use Rattle.coll_lex.specs.declared.faults.LexFault.{LexFault}
@@ -11,38 +11,38 @@ use Rattle.coll_devices.specs.declared.stops.ReadStop.TheVariants as read
 use Rattle.coll_devices.specs.declared.stops.WriteStop.TheVariants as write
 use Rattle.coll_nodes.specs.Table.{Collation}
 use Rattle.coll_history.specs.Histories.{History, begun}
-use Rattle.coll_units.specs.Hearing.{heard_at}
+use Rattle.coll_requests.specs.Parsing.{parsed_at}
 use Rattle.coll_replies.specs.Faults.{fault_number}
-use Rattle.coll_units.specs.Taking.{line_block, line_units, stop_at}
+use Rattle.coll_requests.specs.Taking.{line_block, line_requests, stop_at}
 use Rattle.coll_replies.specs.Replies.{reply_if, history_after_if}
 use Rattle.coll_replies.specs.declared.faults.Fault.{Fault}
 use Rattle.coll_replies.specs.declared.faults.Fault.TheVariants as faults
 use Rattle.coll_replies.specs.declared.faults.RunFault.{RunFault}
-use Rattle.coll_units.specs.declared.units.SessionUnit.{SessionUnit}
-use Rattle.coll_bench.specs.declared.serving.Desk.{Desk}
+use Rattle.coll_requests.specs.declared.requests.RequestAt.{RequestAt}
+use Rattle.coll_bench.specs.declared.serving.RunState.{RunState}
 
--- the replies to some units, to each of which memory was refused or not
-unfoldable pub replies_to : (starved : Bool) → History → List SessionUnit → List ℕ
+-- the replies to some requests, to each of which memory was refused or not
+unfoldable pub replies_to : (starved : Bool) → History → List RequestAt → List ℕ
 replies_to starved h [] = []
-replies_to starved h (unit ∷ later) = reply_if starved h unit.request ++ replies_to starved (history_after_if starved h unit.request) later
+replies_to starved h (request ∷ later) = reply_if starved h request.request ++ replies_to starved (history_after_if starved h request.request) later
 
--- the history after some units, to each of which memory was refused or not
-unfoldable pub history_after_all : (starved : Bool) → History → List SessionUnit → History
+-- the history after some requests, to each of which memory was refused or not
+unfoldable pub history_after_all : (starved : Bool) → History → List RequestAt → History
 history_after_all starved h [] = h
-history_after_all starved h (unit ∷ later) = history_after_all starved (history_after_if starved h unit.request) later
+history_after_all starved h (request ∷ later) = history_after_all starved (history_after_if starved h request.request) later
 
 -- a session at the beginning of a text
-pub record IsBegun (desk : Desk) (table : Collation) : Type 0 where
-  pub listener : desk.listener ≡ first_state
-  pub block : desk.block ≡ None
-  pub session : desk.session.history ≡ begun table
+pub record IsBegun (state : RunState) (table : Collation) : Type 0 where
+  pub parser : state.parser ≡ first_state
+  pub block : state.block ≡ None
+  pub session : state.session.history ≡ begun table
 
 -- a physical line was served, and the session goes on
-pub record Served (memory starved : Bool) (old new : Desk) (line : List ℕ) : Type 0 where
-  pub goes_on : stop_at (heard_at memory old.listener line) ≡ None
-  pub listener : new.listener ≡ state_by old.listener (served memory old.listener line)
-  pub block : new.block ≡ line_block old.block (heard_at memory old.listener line)
-  pub session : new.session.history ≡ history_after_all starved old.session.history (line_units old.block (heard_at memory old.listener line))
+pub record Served (memory starved : Bool) (old new : RunState) (line : List ℕ) : Type 0 where
+  pub goes_on : stop_at (parsed_at memory old.parser line) ≡ None
+  pub parser : new.parser ≡ state_by old.parser (served memory old.parser line)
+  pub block : new.block ≡ line_block old.block (parsed_at memory old.parser line)
+  pub session : new.session.history ≡ history_after_all starved old.session.history (line_requests old.block (parsed_at memory old.parser line))
 
 -- the session ends with a write that failed
 abbrev pub write_failed : RunFault
@@ -52,23 +52,23 @@ write_failed = record { input = 0; line = 0; fault = faults.Write write.WriteFau
 abbrev pub stopped_at : ℕ → LexFault → RunFault
 stopped_at number f = record { input = 0; line = number; fault = faults.Lex f }
 
--- the session ended at a fault of the lexer, with all replies written, or a write failed and a front of them was
+-- the session ended at a fault of the lexer, with all replies written, or a write failed and a prefix of them was
 abbrev pub EndsWith : ℕ → LexFault → Option (List ℕ) → Option (List ℕ) → List ℕ → RunFault → Type 0
 EndsWith number f taken taken_after bytes ended =
-    ((ended ≡ stopped_at number f) × Appends taken taken_after bytes) ⊎ ((ended ≡ write_failed) × AppendsFront taken taken_after bytes)
+    ((ended ≡ stopped_at number f) × Appends taken taken_after bytes) ⊎ ((ended ≡ write_failed) × AppendsPrefix taken taken_after bytes)
 
--- the replies to the units that a physical line completes
-abbrev pub line_replies : (memory starved : Bool) → Desk → List ℕ → List ℕ
-line_replies memory starved old line = replies_to starved old.session.history (line_units old.block (heard_at memory old.listener line))
+-- the replies to the requests that a physical line completes
+abbrev pub line_replies : (memory starved : Bool) → RunState → List ℕ → List ℕ
+line_replies memory starved old line = replies_to starved old.session.history (line_requests old.block (parsed_at memory old.parser line))
 
 -- the session ended at this line: at a fault of the lexer, or since a write failed
-abbrev pub EndsAtLine : (memory starved : Bool) → Desk → List ℕ → Option (List ℕ) → Option (List ℕ) → RunFault → Type 0
+abbrev pub EndsAtLine : (memory starved : Bool) → RunState → List ℕ → Option (List ℕ) → Option (List ℕ) → RunFault → Type 0
 EndsAtLine memory starved old line taken taken_after ended =
-    ((f : LexFault) × (stop_at (heard_at memory old.listener line) ≡ Some f) × EndsWith (number_of old.listener) f taken taken_after (line_replies memory starved old line) ended)
-    ⊎ ((stop_at (heard_at memory old.listener line) ≡ None) × (ended ≡ write_failed) × AppendsFront taken taken_after (line_replies memory starved old line))
+    ((f : LexFault) × (stop_at (parsed_at memory old.parser line) ≡ Some f) × EndsWith (number_of old.parser) f taken taken_after (line_replies memory starved old line) ended)
+    ⊎ ((stop_at (parsed_at memory old.parser line) ≡ None) × (ended ≡ write_failed) × AppendsPrefix taken taken_after (line_replies memory starved old line))
 
 -- what serving a physical line did
-abbrev pub ServesLine : Desk → Desk → List ℕ → Option (List ℕ) → Option (List ℕ) → Result (Unit {0}) RunFault → Type 0
+abbrev pub ServesLine : RunState → RunState → List ℕ → Option (List ℕ) → Option (List ℕ) → Result (Unit {0}) RunFault → Type 0
 ServesLine old new line taken taken_after (Ok done) = (memory : Bool) × (starved : Bool) × Served memory starved old new line × Appends taken taken_after (line_replies memory starved old line)
 ServesLine old new line taken taken_after (Err ended) = (memory : Bool) × (starved : Bool) × EndsAtLine memory starved old line taken taken_after ended
 
@@ -98,10 +98,10 @@ abbrev pub IsFlushedAfter : Bool → Result (Unit {0}) RunFault → Type 0
 IsFlushedAfter flushed (Ok done) = flushed ≡ true
 IsFlushedAfter flushed (Err ended) = IsFlushedAt flushed ended
 
--- the session ended with its text: all replies were written, or a write failed and a front of them was
+-- the session ended with its text: all replies were written, or a write failed and a prefix of them was
 abbrev pub FinishesWith : Option (List ℕ) → Option (List ℕ) → List ℕ → Result (Unit {0}) RunFault → Type 0
 FinishesWith taken taken_after bytes (Ok done) = Appends taken taken_after bytes
-FinishesWith taken taken_after bytes (Err ended) = (ended ≡ write_failed) × AppendsFront taken taken_after bytes
+FinishesWith taken taken_after bytes (Err ended) = (ended ≡ write_failed) × AppendsPrefix taken taken_after bytes
 
 -- a run for which memory was refused before it began
 abbrev pub never_ran : RunFault
@@ -111,7 +111,7 @@ never_ran = record { input = 0; line = 0; fault = faults.Lex lex.OutOfMemory }
 abbrev pub read_failed : RunFault
 read_failed = record { input = 0; line = 0; fault = faults.Read read.ReadFault }
 
--- the faults that may end a session: a line too long or one too many, a read or a write that failed, and want of memory before
+-- the faults that may end a session: a line too long or one too many, a read or a write that failed, and lack of memory before
 -- the first line
 abbrev pub EndsSession : Fault → Type 0
 EndsSession (faults.Lex lex.LineTooLong) = Unit {0}

@@ -62,7 +62,7 @@ pub fn run_batch<R: Source, W: Sink>(
 /// Input 0 is the table, input k the k-th delta file; nothing behind the end of a category is looked at. The first fault met is
 /// the answer, with its input and its line (of a refused block that of its `reorder-after`), and then nothing is written. After all
 /// inputs were read, a text of more than 65,536 characters is refused, with input 0 and line 0, before anything is written. A
-/// write that fails, and want of memory while keys are written, have input 0 and line 0, and leave a front of the output. A read
+/// write that fails, and lack of memory while keys are written, have input 0 and line 0, and leave a prefix of the output. A read
 /// that fails has line 0 and its input, unless the lines read whole before it are at fault already. What the texts name is
 /// looked up under these keys: where the texts can't know them, they can't slow the look-ups down.
 pub fn run_batch_keyed<R: Source, W: Sink>(

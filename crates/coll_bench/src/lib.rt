@@ -1,6 +1,6 @@
 //! Sessions and batches over a collation table.
 //!
-//! A session: a physical line is taken by the units of `coll_units`, and where it completes one, the unit is judged by the history
+//! A session: a physical line is taken by the requests of `coll_requests`, and where it completes one, the request is judged by the history
 //! of `coll_history` and answered by `coll_replies`. `serving` does this for one line and `runs` for a text, and `laws` says what
 //! follows from the definitions. A batch: `batches` reads a table and delta files, and writes what is asked of the result. What a
 //! user needs of the crates below is handed on here.
@@ -14,5 +14,5 @@ mod serving;
 pub use batches::{Batch, run_batch, run_batch_keyed};
 pub use coll_history::{BenchFault, MOST_REMAINING, Session, limits_are_stated};
 pub use coll_replies::{Fault, RunFault, exit_status, write_fault};
-pub use laws::want_of_memory_shows;
+pub use laws::lack_of_memory_shows;
 pub use runs::run_session;

@@ -1,8 +1,8 @@
 //! The run of a session: the lines of a source are served one by one, and their replies go to a sink.
 //!
 //! `run_session` carries the theorem of the session: what is written is the stated function of what is read. It makes the
-//! `Desk`, `serve_text` the reader, and the loop of `serve_lines` hands one physical line after another to the desk; its
-//! lemmas put together what each line does, over all that may come later. The desk and the reader are dropped by calls,
+//! `RunState`, `serve_text` the reader, and the loop of `serve_lines` hands one physical line after another to the state of the run; its
+//! lemmas put together what each line does, over all that may come later. The state of the run and the reader are dropped by calls,
 //! since a check pays for each field of a value at each place that drops it.
 
 ghost use Rattle.std.specs.Prelude.{◌≡◌, true, IfErr};
@@ -12,7 +12,7 @@ ghost use Rattle.coll_nodes.specs.TableLayout.{collation};
 ghost use Rattle.coll_bench.specs.Serving.{IsBegun, EndsSession, CountsWrites, IsFlushedAfter, never_ran};
 ghost use Rattle.coll_bench.specs.Runs.{Runs, CountsReads};
 
-use crate::serving::Desk;
+use crate::serving::RunState;
 use coll_devices::{LineReader, Sink, Source};
 use coll_lex::LexFault;
 use coll_replies::{Fault, RunFault};
@@ -23,7 +23,7 @@ use std::alloc::Global;
 ///
 /// What is written is the stated function of what is read, and nothing else (`Runs`). The run ends with the input, or
 /// with the fault that ends it: a line too long or one too many, of which the reply is the last; a read that failed,
-/// without a reply; a write that failed; or want of memory before the first line is read. A line, a block or a
+/// without a reply; a write that failed; or lack of memory before the first line is read. A line, a block or a
 /// statement that is refused has its reply and ends nothing. Whatever the devices tell, no other fault ends a session
 /// (`EndsSession`).
 pub fn run_session<R: Source, W: Sink>(
@@ -39,24 +39,24 @@ pub fn run_session<R: Source, W: Sink>(
     ensures writes { CountsWrites (W.failed output.old) (W.failed output.new) result }
     ensures flushed { W.flushed output.old ≡ true → IsFlushedAfter (W.flushed output.new) result }
 {
-    match Desk::new(alloc, table) {
-        Ok(mut desk) => {
-            let ran = serve_text(alloc, &mut desk, input, output);
-            drop(desk);
+    match RunState::new(alloc, table) {
+        Ok(mut state) => {
+            let ran = serve_text(alloc, &mut state, input, output);
+            drop(state);
             ran
         }
         Err(_) => Err(no_memory()),
     }
 }
 
-// Serves the text of a source at a desk where nothing has happened yet.
+// Serves the text of a source at a run's state where nothing has happened yet.
 fn serve_text<R: Source, W: Sink>(
     alloc: Global,
-    desk: &mut Desk,
+    state: &mut RunState,
     input: &mut R,
     output: &mut W,
 ) -> Result<(), RunFault>
-    ensures run { (table : Collation) → IsBegun desk.old table → Runs table (R.left input.old) (R.left input.new) (W.taken output.old) (W.taken output.new) result }
+    ensures run { (table : Collation) → IsBegun state.old table → Runs table (R.left input.old) (R.left input.new) (W.taken output.old) (W.taken output.new) result }
     ensures input { IfErr result (λ ended. ended.input ≡ 0) }
     ensures ends { IfErr result (λ ended. EndsSession ended.fault) }
     ensures reads { CountsReads (R.failed input.old) (R.failed input.new) result }
@@ -65,7 +65,7 @@ fn serve_text<R: Source, W: Sink>(
 {
     match LineReader::new(alloc) {
         Ok(mut reader) => {
-            let ran = serve_lines(alloc, desk, &mut reader, input, output);
+            let ran = serve_lines(alloc, state, &mut reader, input, output);
             drop(reader);
             ran
         }
@@ -76,13 +76,13 @@ fn serve_text<R: Source, W: Sink>(
 // Serves the lines of a source, of which none was read yet.
 fn serve_lines<R: Source, W: Sink>(
     alloc: Global,
-    desk: &mut Desk,
+    state: &mut RunState,
     reader: &mut LineReader,
     input: &mut R,
     output: &mut W,
 ) -> Result<(), RunFault>
     requires { reader.old ≡ no_line }
-    ensures run { (table : Collation) → IsBegun desk.old table → Runs table (R.left input.old) (R.left input.new) (W.taken output.old) (W.taken output.new) result }
+    ensures run { (table : Collation) → IsBegun state.old table → Runs table (R.left input.old) (R.left input.new) (W.taken output.old) (W.taken output.new) result }
     ensures input { IfErr result (λ ended. ended.input ≡ 0) }
     ensures ends { IfErr result (λ ended. EndsSession ended.fault) }
     ensures reads { CountsReads (R.failed input.old) (R.failed input.new) result }
@@ -92,12 +92,12 @@ fn serve_lines<R: Source, W: Sink>(
     'lines: loop {
         match reader.advance(input) {
             Ok(true) => {
-                if let Err(ended) = desk.serve(alloc, reader.line(), output) {
+                if let Err(ended) = state.serve(alloc, reader.line(), output) {
                     return Err(ended);
                 }
             }
-            Ok(false) => return desk.finish(output),
-            Err(stop) => return Err(desk.cut_off(stop, output)),
+            Ok(false) => return state.finish(output),
+            Err(stop) => return Err(state.cut_off(stop, output)),
         }
     }
 }

@@ -1,46 +1,46 @@
 //! Serving the lines of a session, one by one.
 //!
-//! A `Desk` is where a session stands between two lines: what the lexer was handed, what is kept of the block that is
-//! open, and the history. A line is heard, taken by the block, and the unit that it completes is answered; each of these
-//! is a function with an exact clause over what the desk keeps.
+//! A `RunState` is where a session stands between two lines: what the lexer was handed, what is kept of the block that is
+//! open, and the history. A line is parsed, taken by the block, and the request that it completes is answered; each of these
+//! is a function with an exact clause over what the state of the run keeps.
 
 ghost use Rattle.std.specs.Prelude.{◌≡◌, ◌+◌, ◌<◌, ◌++◌, Bool, true, IfOk, IfErr, IfSome, OnOk, Option, option_to_list};
-ghost use Rattle.coll_units.specs.ProperLines.{IsProperRequest};
+ghost use Rattle.coll_requests.specs.ProperLines.{IsProperRequest};
 ghost use Rattle.coll_devices.specs.Devices.{CountsErr, Sends};
 ghost use Rattle.coll_lex.specs.Faults.{ends_text};
 ghost use Rattle.coll_lex.specs.LogicalLines.{pending, number_of};
 ghost use Rattle.coll_lex.specs.Limits.{most_lines};
 ghost use Rattle.coll_nodes.specs.TableLayout.{collation};
-ghost use Rattle.coll_units.specs.OpenBlocks.{kept_end_faults, kept_dropped_faults, kept_last_faults};
+ghost use Rattle.coll_requests.specs.OpenBlocks.{kept_end_faults, kept_dropped_faults, kept_last_faults};
 ghost use Rattle.coll_replies.specs.Replies.{refused_line, refused_lines};
-ghost use Rattle.coll_units.specs.Units.{dangling as dangling_faults};
+ghost use Rattle.coll_requests.specs.Requests.{dangling as dangling_faults};
 ghost use Rattle.coll_bench.specs.Serving.{EndsSession, EndsWith, FinishesWith, IsCutOff, CountsEnd, CountsWrites, CountsStop, IsFlushedAt, IsFlushedAfter, ReadsNone, write_failed as failed_write, too_long};
 
 use coll_devices::{ReadStop, Sink, WriteStop};
 use coll_lex::LexFault;
 use coll_replies::{Fault, RankedSession, RunFault, answer, refuse};
+use coll_requests::{FaultAt, LineParser, OpenBlock, RequestAt, RequestFault};
 use coll_table::Table;
-use coll_units::{FaultAt, Listener, OpenBlock, SessionUnit, UnitFault};
 use std::alloc::{AllocError, Global};
 
 /// Where a session stands between two lines.
 #[derive(Drop)]
-pub struct Desk {
-    listener: Listener,
+pub struct RunState {
+    parser: LineParser,
     block: Option<OpenBlock>,
     session: RankedSession,
 }
 
-impl Desk {
+impl RunState {
     ghost use Rattle.coll_bench.specs.Serving.{IsBegun, ServesLine, replies_to, history_after_all};
 
     /// A session at the beginning of a text.
-    pub fn new(alloc: Global, table: Table) -> Result<Desk, AllocError>
-        ensures { IfOk result (λ desk. IsBegun desk (collation table)) }
+    pub fn new(alloc: Global, table: Table) -> Result<RunState, AllocError>
+        ensures { IfOk result (λ state. IsBegun state (collation table)) }
     {
-        match Listener::new(alloc) {
-            Ok(listener) => Ok(Desk {
-                listener,
+        match LineParser::new(alloc) {
+            Ok(parser) => Ok(RunState {
+                parser,
                 block: None,
                 session: RankedSession::new(alloc, table),
             }),
@@ -59,41 +59,41 @@ impl Desk {
         output: &mut W,
     ) -> Result<(), RunFault>
         ensures served { ServesLine self.old self.new line.now (W.taken output.old) (W.taken output.new) result }
-        ensures counts { OnOk result (self.new.listener.count ≡ self.old.listener.count + 1) }
-        ensures room { OnOk result (self.old.listener.count < most_lines) }
+        ensures counts { OnOk result (self.new.parser.count ≡ self.old.parser.count + 1) }
+        ensures room { OnOk result (self.old.parser.count < most_lines) }
         ensures input { IfErr result (λ ended. ended.input ≡ 0) }
         ensures ends { IfErr result (λ ended. EndsSession ended.fault) }
         ensures reads { IfErr result (λ ended. ReadsNone ended) }
         ensures errors { CountsWrites (W.failed output.old) (W.failed output.new) result }
         ensures flushed { W.flushed output.old ≡ true → IsFlushedAfter (W.flushed output.new) result }
     {
-        let number = self.listener.next_number();
-        match self.listener.take(alloc, &mut self.block, line) {
+        let number = self.parser.next_number();
+        match self.parser.take(alloc, &mut self.block, line) {
             Err(fault) => Err(self.stop(number, fault, output)),
-            Ok(unit) => match self.answer_if(alloc, unit, output) {
+            Ok(request) => match self.answer_if(alloc, request, output) {
                 Ok(()) => Ok(()),
                 Err(stop) => Err(write_failed(stop)),
             },
         }
     }
 
-    // Answers the unit that a line completes, if it completes one.
+    // Answers the request that a line completes, if it completes one.
     fn answer_if<W: Sink>(
         &mut self,
         alloc: Global,
-        unit: Option<SessionUnit>,
+        request: Option<RequestAt>,
         output: &mut W,
     ) -> Result<(), WriteStop>
-        requires { IfSome unit (λ completed. IsProperRequest completed.request) }
-        ensures answered { (starved : Bool) × Sends (W.taken output.old) (W.taken output.new) (replies_to starved self.old.session.history (option_to_list unit)) result
-            × (self.new.session.history ≡ history_after_all starved self.old.session.history (option_to_list unit)) }
+        requires { IfSome request (λ completed. IsProperRequest completed.request) }
+        ensures answered { (starved : Bool) × Sends (W.taken output.old) (W.taken output.new) (replies_to starved self.old.session.history (option_to_list request)) result
+            × (self.new.session.history ≡ history_after_all starved self.old.session.history (option_to_list request)) }
         ensures block { self.new.block ≡ self.old.block }
-        ensures listener { self.new.listener ≡ self.old.listener }
+        ensures parser { self.new.parser ≡ self.old.parser }
         ensures errors { CountsErr (W.failed output.old) (W.failed output.new) result }
         ensures flushed { W.flushed output.old ≡ true → OnOk result (W.flushed output.new ≡ true) }
     {
-        match unit {
-            Some(unit) => answer(alloc, &mut self.session, unit.request, output),
+        match request {
+            Some(request) => answer(alloc, &mut self.session, request.request, output),
             None => Ok(()),
         }
     }
@@ -121,14 +121,14 @@ impl Desk {
 
     /// Ends the session with its text.
     pub fn finish<W: Sink>(&mut self, output: &mut W) -> Result<(), RunFault>
-        ensures ended { FinishesWith (W.taken output.old) (W.taken output.new) (refused_lines (kept_end_faults self.old.block (pending self.old.listener))) result }
+        ensures ended { FinishesWith (W.taken output.old) (W.taken output.new) (refused_lines (kept_end_faults self.old.block (pending self.old.parser))) result }
         ensures input { IfErr result (λ ended. ended.input ≡ 0) }
         ensures ends { IfErr result (λ ended. EndsSession ended.fault) }
         ensures reads { IfErr result (λ ended. ReadsNone ended) }
         ensures errors { CountsWrites (W.failed output.old) (W.failed output.new) result }
         ensures flushed { W.flushed output.old ≡ true → IsFlushedAfter (W.flushed output.new) result }
     {
-        let continued = self.listener.finish();
+        let continued = self.parser.finish();
         match write_end(&self.block, continued, output) {
             Ok(()) => Ok(()),
             Err(stop) => Err(write_failed(stop)),
@@ -137,8 +137,8 @@ impl Desk {
 
     /// Ends the session where no further line could be read.
     pub fn cut_off<W: Sink>(&self, stop: ReadStop, output: &mut W) -> RunFault
-        ensures ended { IsCutOff stop (number_of self.now.listener) (W.taken output.old) (W.taken output.new)
-            (refused_lines (kept_last_faults self.now.block (number_of self.now.listener) too_long)) result }
+        ensures ended { IsCutOff stop (number_of self.now.parser) (W.taken output.old) (W.taken output.new)
+            (refused_lines (kept_last_faults self.now.block (number_of self.now.parser) too_long)) result }
         ensures input { result.input ≡ 0 }
         ensures ends { EndsSession result.fault }
         ensures reads { CountsStop stop result }
@@ -147,7 +147,7 @@ impl Desk {
     {
         match stop {
             ReadStop::LineTooLong => {
-                let number = self.listener.next_number();
+                let number = self.parser.next_number();
                 self.stop(number, LexFault::LineTooLong, output)
             }
             ReadStop::ReadFault => RunFault {
@@ -254,7 +254,7 @@ fn dangling(continued: Option<u32>) -> Option<FaultAt>
     match continued {
         Some(line) => Some(FaultAt {
             line,
-            fault: UnitFault::Lex(LexFault::DanglingEscape),
+            fault: RequestFault::Lex(LexFault::DanglingEscape),
         }),
         None => None,
     }

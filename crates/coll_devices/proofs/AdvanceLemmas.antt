@@ -21,9 +21,9 @@ prepend-kept None after held k = tt
 prepend-kept (Some xs) None held k = absurd k
 prepend-kept (Some xs) (Some ys) held k = ap (λ l. held ++ l) k
 
--- the whole is in a line where a front of it is that is no shorter
+-- the whole is in a line where a prefix of it is that is no shorter
 pub in_line_whole : (n : ℕ) (xs : List ℕ) → length xs ≤ n → IsInLine (take n xs) → IsInLine xs
-in_line_whole n xs short front = subst IsInLine (take_all n xs short) front
+in_line_whole n xs short prefix = subst IsInLine (take_all n xs short) prefix
 
 -- the same, once more bytes were read
 pub in_line_grown : (n : ℕ) (xs more : List ℕ) → length xs ≡ n → IsInLine xs → IsInLine (take n (xs ++ more))

@@ -10,7 +10,7 @@ module _ (bytes : List ℕ) where
   none_among : Nowhere (Passes (is_byte line_feed) bytes) 0 (length bytes) → IsInLine bytes
   none_among absent k d below = λ feed. absent k (omega arith) below (ap (λ c. c == line_feed) (get_or_default bytes k 0 d below ∙ feed))
 
-  -- a front in which none was found has none
+  -- a prefix in which none was found has none
   none_before : (at : ℕ) → at ≤ length bytes → Nowhere (Passes (is_byte line_feed) bytes) 0 at → IsInLine (take at bytes)
   none_before at within absent k d below =
       let early : k < at = omega (arith, length-take-le at bytes within) in

@@ -43,15 +43,15 @@ lines_of-cut false all line rest cut whole = ap lines_of cut ∙ lines_of-ended 
 lines_of-cut true all line rest cut whole = ap lines_of cut.0 ∙ lines_of-part line cut.1 whole ∙ ap (λ l. line ∷ l) (sym lines_of-nil ∙ ap lines_of (sym cut.2))
 
 -- the first line after one more byte at the front
-with_first-front : (c : ℕ) (lines : List (List ℕ)) → (line : List ℕ) × (rest : List (List ℕ)) × (with_first c lines ≡ (c ∷ line) ∷ rest)
-with_first-front c [] = ([], [], refl)
-with_first-front c (line ∷ lines) = (line, lines, refl)
+with_first-prefix : (c : ℕ) (lines : List (List ℕ)) → (line : List ℕ) × (rest : List (List ℕ)) × (with_first c lines ≡ (c ∷ line) ∷ rest)
+with_first-prefix c [] = ([], [], refl)
+with_first-prefix c (line ∷ lines) = (line, lines, refl)
 
 -- a text that begins with bytes of one line has a first line that begins with them
-pub lines_of-begun : (front more : List ℕ) → 0 < length front → IsInLine front → (line : List ℕ) × (rest : List (List ℕ)) × (lines_of (front ++ more) ≡ (front ++ line) ∷ rest)
+pub lines_of-begun : (prefix more : List ℕ) → 0 < length prefix → IsInLine prefix → (line : List ℕ) × (rest : List (List ℕ)) × (lines_of (prefix ++ more) ≡ (prefix ++ line) ∷ rest)
 lines_of-begun [] more some whole = absurd (omega arith)
 lines_of-begun (c ∷ []) more some whole =
-    let e = with_first-front c (lines_of more) in
+    let e = with_first-prefix c (lines_of more) in
     (e.0, e.1, lines_of-byte c more (All-head (λ b. b ≡ line_feed → ⊥) c [] whole) ∙ e.2)
 lines_of-begun (c ∷ d ∷ ds) more some whole =
     let e = lines_of-begun (d ∷ ds) more (omega arith) (All-tail (λ b. b ≡ line_feed → ⊥) c (d ∷ ds) whole) in
@@ -60,8 +60,8 @@ lines_of-begun (c ∷ d ∷ ds) more some whole =
 -- where a reader stops at a line that is too long, the first line of what was unread is too long
 pub lines_of-long : (held more : List ℕ) → IsLongLine held → (line : List ℕ) × (rest : List (List ℕ)) × (lines_of (held ++ more) ≡ line ∷ rest) × (65536 < length line)
 lines_of-long held more long =
-    let front : List ℕ = take 65537 held in
-    let count : length front ≡ 65537 = omega (arith, length-take 65537 held, long.long) in
-    let split : held ++ more ≡ front ++ (drop 65537 held ++ more) = ap (λ l. l ++ more) (sym (take-append-drop 65537 held)) ∙ append_assoc front (drop 65537 held) more in
-    let e = lines_of-begun front (drop 65537 held ++ more) (omega arith) long.whole in
-    (front ++ e.0, e.1, ap lines_of split ∙ e.2, omega (arith, length-append front e.0))
+    let prefix : List ℕ = take 65537 held in
+    let count : length prefix ≡ 65537 = omega (arith, length-take 65537 held, long.long) in
+    let split : held ++ more ≡ prefix ++ (drop 65537 held ++ more) = ap (λ l. l ++ more) (sym (take-append-drop 65537 held)) ∙ append_assoc prefix (drop 65537 held) more in
+    let e = lines_of-begun prefix (drop 65537 held ++ more) (omega arith) long.whole in
+    (prefix ++ e.0, e.1, ap lines_of split ∙ e.2, omega (arith, length-append prefix e.0))

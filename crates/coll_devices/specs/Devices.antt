@@ -26,10 +26,10 @@ LeavesUnflushed old new r = MatchResult r (λ n. new ≡ (if n == 0 then old els
 abbrev pub FlushesAll : {T E : Type 0} → Bool → Bool → Result T E → Type 0
 FlushesAll old new r = MatchResult r (λ _. new ≡ true) (λ _. new ≡ old)
 
--- the device took a front of these bytes
-abbrev pub AppendsFront : Option (List ℕ) → Option (List ℕ) → List ℕ → Type 0
-AppendsFront old new bytes = (front : List ℕ) × (back : List ℕ) × (bytes ≡ front ++ back) × Appends old new front
+-- the device took a prefix of these bytes
+abbrev pub AppendsPrefix : Option (List ℕ) → Option (List ℕ) → List ℕ → Type 0
+AppendsPrefix old new bytes = (prefix : List ℕ) × (back : List ℕ) × (bytes ≡ prefix ++ back) × Appends old new prefix
 
--- the device took all of these bytes, or at an error a front of them
+-- the device took all of these bytes, or at an error a prefix of them
 abbrev pub Sends : {T E : Type 0} → Option (List ℕ) → Option (List ℕ) → List ℕ → Result T E → Type 0
-Sends old new bytes r = MatchResult r (λ _. Appends old new bytes) (λ _. AppendsFront old new bytes)
+Sends old new bytes r = MatchResult r (λ _. Appends old new bytes) (λ _. AppendsPrefix old new bytes)

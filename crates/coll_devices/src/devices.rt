@@ -44,7 +44,7 @@ pub trait Sink {
     // Whether all bytes taken were flushed: a flush succeeded since the last of them.
     ghost flushed: { Self → Bool };
 
-    /// Writes a front of `buf`, as std's `Write::write` does, and answers its length. An error, and
+    /// Writes a prefix of `buf`, as std's `Write::write` does, and answers its length. An error, and
     /// a write of some bytes that takes none, is counted. An error takes nothing.
     fn write(&mut self, buf: &[u8]) -> io::Result<usize>
         ensures bound { WritesAtMost result buf.now }

@@ -2,7 +2,7 @@
 //!
 //! The reader has one buffer, made once, of twice the most bytes of a line. Bytes are read behind
 //! those that it holds back; only where the buffer's end is reached are those, at most a line's bytes,
-//! moved to its front. So no byte is moved more often than once for each line's length read, and no
+//! moved to its prefix. So no byte is moved more often than once for each line's length read, and no
 //! byte is searched twice. `advance` and `line` are apart so that a loop lends no slice across a turn.
 //! Whoever changes the buffer's size keeps it above the most bytes of a line: a line that is one
 //! byte longer must be seen whole.
@@ -223,7 +223,7 @@ fn find_line_feed(bytes: &[u8]) -> Option<usize>
     memchr(b'\n', bytes)
 }
 
-// Where the bytes from `start` to `end` begin, once there is room behind them: at the buffer's front
+// Where the bytes from `start` to `end` begin, once there is room behind them: at the buffer's prefix
 // if they were moved, else where they began.
 fn make_room(buffer: &mut [u8], start: usize, end: usize) -> usize
     requires order { start ≤ end }
@@ -243,7 +243,7 @@ fn make_room(buffer: &mut [u8], start: usize, end: usize) -> usize
 fn read_at<R: Source>(input: &mut R, buffer: &mut [u8], at: usize) -> io::Result<usize>
     requires { at < length buffer.old }
     ensures bound { IfOk result (λ n. at + n ≤ length buffer.new) }
-    ensures front { take at buffer.new ≡ take at buffer.old }
+    ensures prefix { take at buffer.new ≡ take at buffer.old }
     ensures bytes { MatchResult result
         (λ n. Consumes (R.left input.old) (R.left input.new) (slice_range buffer.new at (at + n)))
         (λ _. Keeps (R.left input.old) (R.left input.new)) }

@@ -7,7 +7,7 @@ use crate::{Sink, WriteStop};
 
 /// Writes all bytes, in as many writes as the device takes them in.
 ///
-/// It stops where a write answers an error or takes no byte; then the device has taken a front of the bytes.
+/// It stops where a write answers an error or takes no byte; then the device has taken a prefix of the bytes.
 pub fn write_bytes<W: Sink>(out: &mut W, bytes: &[u8]) -> Result<(), WriteStop>
     ensures sent { Sends (W.taken out.old) (W.taken out.new) bytes.now result }
     ensures errors { CountsErr (W.failed out.old) (W.failed out.new) result }

@@ -26,9 +26,9 @@ first_is : (text rest bytes : List ℕ) (first : ℕ) → chars text ≡ first �
 first_is text rest bytes first starts_so utf8 some on =
     let behind = goes_on text bytes on in
     by (chars bytes) some (sym (ap chars behind.1 ∙ chars-append bytes behind.0 utf8) ∙ starts_so) where
-      by : (front : List ℕ) → 0 < length front → front ++ chars (goes_on text bytes on).0 ≡ first ∷ rest → first_of front ≡ first
+      by : (prefix : List ℕ) → 0 < length prefix → prefix ++ chars (goes_on text bytes on).0 ≡ first ∷ rest → first_of prefix ≡ first
       by [] none e = absurd (omega (arith, none))
-      by (c ∷ front) some e = ap first_of e
+      by (c ∷ prefix) some e = ap first_of e
 
 -- a text begins with none of the strings between two places
 abbrev pub NoneBegun : (strings : List (List ℕ)) → (text : List ℕ) → (from to : ℕ) → Type 0
@@ -69,7 +69,7 @@ none_from strings text middle high to ascending within before apart place low be
       none_of true never = absurd (never refl)
       none_of false never = refl
 
--- what a test for a front says
+-- what a test for a prefix says
 pub begun_by_test : (found : Bool) (string text : List ℕ) → MatchBool found (HasPrefixMatch (FindsTextPrefix string) text) (FindsTextPrefix string text None) → begins_with text string ≡ found
 begun_by_test found string text cases =
     let told = starts_is Decides-eqb text string found (starts_text found string text cases) in

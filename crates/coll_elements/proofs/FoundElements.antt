@@ -9,7 +9,7 @@ use Rattle.std.specs.Str.{IsUtf8}
 use Rattle.coll_elements.proofs.Tests.{by_test}
 use Rattle.coll_elements.proofs.ElementBeginnings.{goes_on, begins_so, other_first}
 use Rattle.coll_elements.proofs.LongestElements.{size_of, longest_is, longest_none}
-use Rattle.coll_elements.proofs.StringOrder.{begun_between, not_before_its_front, not_so}
+use Rattle.coll_elements.proofs.StringOrder.{begun_between, not_before_its_prefix, not_so}
 use Rattle.coll_elements.proofs.ElementOrder.{strings_count}
 use Rattle.coll_elements.proofs.SortedStrings.{there_is}
 use Rattle.coll_elements.specs.Elements.{begins_with, longest}
@@ -31,21 +31,21 @@ begun_bytes text bytes utf8 spelled on =
     let whole : text ≡ bytes ++ encode_utf8_all rest.0 = sym (encodes-chars text utf8) ∙ (ap encode_utf8_all rest.1 ∙ (encodes-append (chars bytes) rest.0 ∙ ap (λ b. b ++ encode_utf8_all rest.0) (encodes-chars bytes spelled))) in
     ap (λ t. begins_with t bytes) whole ∙ begins_so bytes (encode_utf8_all rest.0)
 
--- a front of a string is no longer, and where it is as long it is the string
-record IsFront (bytes front : List ℕ) : Type 0 where
-  size : length (chars front) ≤ length (chars bytes)
-  whole : length (chars bytes) ≤ length (chars front) → front ≡ bytes
+-- a prefix of a string is no longer, and where it is as long it is the string
+record IsPrefix (bytes prefix : List ℕ) : Type 0 where
+  size : length (chars prefix) ≤ length (chars bytes)
+  whole : length (chars bytes) ≤ length (chars prefix) → prefix ≡ bytes
 
-front_of : (bytes front : List ℕ) → IsUtf8 bytes → IsUtf8 front → begins_with bytes front ≡ true → IsFront bytes front
-front_of bytes front utf8 spelled on =
-    let rest = goes_on bytes front on in
-    let parts : chars bytes ≡ chars front ++ chars rest.0 = ap chars rest.1 ∙ chars-append front rest.0 spelled in
-    let counted = ap length parts ∙ length-append (chars front) (chars rest.0) in
+prefix_of : (bytes prefix : List ℕ) → IsUtf8 bytes → IsUtf8 prefix → begins_with bytes prefix ≡ true → IsPrefix bytes prefix
+prefix_of bytes prefix utf8 spelled on =
+    let rest = goes_on bytes prefix on in
+    let parts : chars bytes ≡ chars prefix ++ chars rest.0 = ap chars rest.1 ∙ chars-append prefix rest.0 spelled in
+    let counted = ap length parts ∙ length-append (chars prefix) (chars rest.0) in
     record {
       size = omega (arith, counted);
       whole = λ small.
           let nothing : chars rest.0 ≡ [] = none_left (chars rest.0) (omega (arith, counted, small)) in
-          sym (encodes-chars front spelled) ∙ (ap encode_utf8_all (sym (parts ∙ (ap (λ r. chars front ++ r) nothing ∙ append-nil (chars front)))) ∙ encodes-chars bytes utf8);
+          sym (encodes-chars prefix spelled) ∙ (ap encode_utf8_all (sym (parts ∙ (ap (λ r. chars prefix ++ r) nothing ∙ append-nil (chars prefix)))) ∙ encodes-chars bytes utf8);
     } where
       none_left : (xs : List ℕ) → length xs ≤ 0 → xs ≡ []
       none_left [] small = refl
@@ -71,14 +71,14 @@ last_is_longest elements strings places text among ranked order ascending utf8 l
       others other y within y_is on =
           let at = order.every other within in
           let string : IsSpelled y (string_there strings at.0) = order.each at.0 y at.1 (y_is ∙ ap (λ n. get_or elements n y) (sym at.2)) in
-          let front : begins_with text (string_there strings at.0) ≡ true = begun_bytes text (string_there strings at.0) utf8 string.utf8 (ap (begins_with (chars text)) string.is ∙ on) in
+          let prefix : begins_with text (string_there strings at.0) ≡ true = begun_bytes text (string_there strings at.0) utf8 string.utf8 (ap (begins_with (chars text)) string.is ∙ on) in
           let not_behind : at.0 < among = by_test (λ _. at.0 < among) (nat_lt at.0 among)
           (λ before. (Decides-ltb at.0 among).0 before)
-          (λ behind. absurd (false≢true (sym (last.apart at.0 (ltb-false at.0 among behind) at.1) ∙ front))) in
+          (λ behind. absurd (false≢true (sym (last.apart at.0 (ltb-false at.0 among behind) at.1) ∙ prefix))) in
           let low : at.0 ≤ last_at = omega (arith, not_behind) in
-          let of_last : IsFront (string_there strings last_at) (string_there strings at.0) =
-          front_of (string_there strings last_at) (string_there strings at.0) spelled.utf8 string.utf8
-          (begun_between (string_there strings at.0) (string_there strings last_at) text (ascending at.0 last_at low there) (not_before_its_front text (string_there strings last_at) (last.begun some)) front) in
+          let of_last : IsPrefix (string_there strings last_at) (string_there strings at.0) =
+          prefix_of (string_there strings last_at) (string_there strings at.0) spelled.utf8 string.utf8
+          (begun_between (string_there strings at.0) (string_there strings last_at) text (ascending at.0 last_at low there) (not_before_its_prefix text (string_there strings last_at) (last.begun some)) prefix) in
           let small : length (chars (string_there strings at.0)) ≡ size_of y = ap length string.is in
           let large : length (chars (string_there strings last_at)) ≡ size_of ranked = ap length spelled.is in (
             omega (arith, of_last.size, small, large),

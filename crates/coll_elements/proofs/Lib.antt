@@ -10,4 +10,4 @@ pub mod SplitTexts
 pub mod StringOrder
 pub mod TableElementLemmas
 pub mod Tests
-pub mod TextElements
+pub mod ElementEntries

@@ -4,9 +4,9 @@ use Rattle.coll_elements.specs.Elements.{beyond_first, longest, split}
 
 module _ {X P : Type 0} (string_of : X → List ℕ) (xs : List X) (part : Option X → ℕ → P) where
   -- characters that are skipped are as if they weren't there
-  pub split_skips : (front rest : List ℕ) → split string_of xs part (length front) (front ++ rest) ≡ split string_of xs part 0 rest
+  pub split_skips : (prefix rest : List ℕ) → split string_of xs part (length prefix) (prefix ++ rest) ≡ split string_of xs part 0 rest
   split_skips [] rest = refl
-  split_skips (c ∷ front) rest = split_skips front rest
+  split_skips (c ∷ prefix) rest = split_skips prefix rest
 
   -- the part of a longest element, and what is behind it
   pub split_found : (x : X) (p : P) (text rest : List ℕ) → longest string_of xs text ≡ Some x → ((c : ℕ) → part (Some x) c ≡ p) → text ≡ string_of x ++ rest → 0 < length (string_of x)

@@ -1,4 +1,4 @@
--- What a text begins with stands at or before it, and an earlier string that it begins with is a front of each between.
+-- What a text begins with stands at or before it, and an earlier string that it begins with is a prefix of each between.
 use Rattle.std.proofs.Common.{◌≡◌, ◌≤◌, ℕ, Bool, true, false, cond, ◌==◌, ◌&&◌, List, [], ◌∷◌, sym, ap, ◌∙◌, refl, arith}
 use Rattle.std.specs.Prelude.{nat_lt}
 use Rattle.std.specs.Ordering.{is_lt, nat_cmp, ordering_then}
@@ -118,10 +118,10 @@ not_before_itself [] = refl
 not_before_itself (c ∷ string) = made_not c c string string (omega arith) (λ same. not_before_itself string)
 
 -- a text doesn't stand before a string that it begins with
-pub not_before_its_front : (text string : List ℕ) → begins_with text string ≡ true → stands_before text string ≡ false
-not_before_its_front [] [] h = refl
-not_before_its_front (d ∷ text) [] h = refl
-not_before_its_front [] (c ∷ string) h = absurd (false≢true h)
-not_before_its_front (d ∷ text) (c ∷ string) h =
+pub not_before_its_prefix : (text string : List ℕ) → begins_with text string ≡ true → stands_before text string ≡ false
+not_before_its_prefix [] [] h = refl
+not_before_its_prefix (d ∷ text) [] h = refl
+not_before_its_prefix [] (c ∷ string) h = absurd (false≢true h)
+not_before_its_prefix (d ∷ text) (c ∷ string) h =
     let start = begins d c text string h in
-    made_not d c text string (omega (arith, start.first)) (λ _. not_before_its_front text string start.then)
+    made_not d c text string (omega (arith, start.first)) (λ _. not_before_its_prefix text string start.then)

@@ -5,4 +5,4 @@ pub mod NamedElements
 pub mod Rank
 pub mod RankedElements
 pub mod TableElements
-pub mod TextElements
+pub mod ElementEntries

@@ -8,19 +8,19 @@
 //!   `NamedElements`);
 //! - `code_points`, `element_order` and `placed_elements`: how the longest that a text begins with is found, in the order of their
 //!   strings (`ElementOrder`);
-//! - `text_elements`: the elements of one text, each with its entry (`TextElements`).
+//! - `element_entries`: the elements of one text, each with its entry (`ElementEntries`).
 #![tactic(auto)]
 
 mod code_points;
+mod element_entries;
 mod element_order;
 mod name_numbers;
 mod named_elements;
 mod placed_elements;
 mod table_elements;
-mod text_elements;
 
 pub use code_points::CodePoints;
+pub use element_entries::{ElementEntry, split_text};
 pub use named_elements::FoundElement;
 pub use placed_elements::PlacedElements;
 pub use table_elements::ranked_elements;
-pub use text_elements::{TextElement, split_text};

@@ -45,7 +45,7 @@ fn named_elements(
     ensures elements { IfOk result (λ elements. elements ≡ map (ranked_in (collation table.now)) (elements_placed (collation table.now))) }
     ensures few { IfOk result (λ elements. length elements < 1_000_000) }
 {
-    table.check_table();
+    table.lemma_well_formed();
     put_all(
         NamedElements::new(alloc, table.hash_keys()),
         places,

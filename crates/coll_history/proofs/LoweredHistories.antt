@@ -22,20 +22,20 @@ next_fits table undone leads_on rest k e = (leads_next table rest k (subst (λ (
 
 -- Histories, of which one statement more or less was taken back.
 
-one_lower : (high : History) (start : Collation) (front undone : List Statement) (s : Statement) (count : ℕ)
-    → IsLowered high (made start (front ++ s ∷ []) undone) count → IsLowered high (made start front (s ∷ undone)) (suc count)
-one_lower high start front undone s count l = record {
+one_lower : (high : History) (start : Collation) (prefix undone : List Statement) (s : Statement) (count : ℕ)
+    → IsLowered high (made start (prefix ++ s ∷ []) undone) count → IsLowered high (made start prefix (s ∷ undone)) (suc count)
+one_lower high start prefix undone s count l = record {
   moved = s ∷ l.moved;
   moved_count = ap suc l.moved_count;
   start = l.start;
-  remaining = l.remaining ∙ append_assoc front (s ∷ []) l.moved;
+  remaining = l.remaining ∙ append_assoc prefix (s ∷ []) l.moved;
   undone = ap (λ (ss : List Statement). s ∷ ss) l.undone;
 }
 
-one_higher : (high : History) (start : Collation) (front undone : List Statement) (s : Statement) (count : ℕ)
-    → IsLowered high (made start front (s ∷ undone)) (suc count) → IsLowered high (made start (front ++ s ∷ []) undone) count
-one_higher high start front undone s count l = by l.moved l.moved_count l.remaining l.undone where
-  by : (moved : List Statement) → length moved ≡ suc count → high.remaining ≡ front ++ moved → s ∷ undone ≡ moved ++ high.undone → IsLowered high (made start (front ++ s ∷ []) undone) count
+one_higher : (high : History) (start : Collation) (prefix undone : List Statement) (s : Statement) (count : ℕ)
+    → IsLowered high (made start prefix (s ∷ undone)) (suc count) → IsLowered high (made start (prefix ++ s ∷ []) undone) count
+one_higher high start prefix undone s count l = by l.moved l.moved_count l.remaining l.undone where
+  by : (moved : List Statement) → length moved ≡ suc count → high.remaining ≡ prefix ++ moved → s ∷ undone ≡ moved ++ high.undone → IsLowered high (made start (prefix ++ s ∷ []) undone) count
   by [] e r u = absurd (omega (arith, e))
   by (first ∷ later) e r u =
       let same : s ≡ first = cc in
@@ -43,7 +43,7 @@ one_higher high start front undone s count l = by l.moved l.moved_count l.remain
         moved = later;
         moved_count = cc;
         start = l.start;
-        remaining = r ∙ sym (append_assoc front (first ∷ []) later) ∙ ap (λ (x : Statement). (front ++ x ∷ []) ++ later) (sym same);
+        remaining = r ∙ sym (append_assoc prefix (first ∷ []) later) ∙ ap (λ (x : Statement). (prefix ++ x ∷ []) ++ later) (sym same);
         undone = cc;
       }
 

@@ -22,21 +22,21 @@ pub all_paired : (remaining undone : List Kept) (fresh : List Record) → fresh 
 all_paired remaining undone fresh none =
     sym (ap (λ (ks : List Kept). remaining ++ ks) (paired_none (reverse undone) (reverse fresh) (ap reverse none)) ∙ append-nil remaining)
 
--- two fronts of a list before its last member
-pub same_front : (xs ys : List Kept) (x y : Kept) → xs ++ x ∷ [] ≡ ys ++ y ∷ [] → reverse xs ≡ reverse ys
-same_front xs ys x y e = later x y (reverse xs) (reverse ys) (sym (reverse-append xs (x ∷ [])) ∙ ap reverse e ∙ reverse-append ys (y ∷ [])) where
+-- two prefixes of a list before its last member
+pub same_prefix : (xs ys : List Kept) (x y : Kept) → xs ++ x ∷ [] ≡ ys ++ y ∷ [] → reverse xs ≡ reverse ys
+same_prefix xs ys x y e = later x y (reverse xs) (reverse ys) (sym (reverse-append xs (x ∷ [])) ∙ ap reverse e ∙ reverse-append ys (y ∷ [])) where
   later : (x y : Kept) (xs ys : List Kept) → x ∷ xs ≡ y ∷ ys → xs ≡ ys
   later x y xs ys e = cc
 
 -- what stands before the last member of a list
-pub stands_before : (kept front one earlier later : List Kept) (whole part : ℕ) → front ≡ take whole kept → one ≡ drop whole kept → length one ≡ 1 → earlier ≡ take part front → later ≡ drop part front → StandsBeforeLast kept later
-stands_before kept front [] earlier later whole part f o n e l = absurd (omega (arith, n))
-stands_before kept front (x ∷ y ∷ ys) earlier later whole part f o n e l = absurd (omega (arith, n))
-stands_before kept front (x ∷ []) earlier later whole part f o n e l = record {
+pub stands_before : (kept prefix one earlier later : List Kept) (whole part : ℕ) → prefix ≡ take whole kept → one ≡ drop whole kept → length one ≡ 1 → earlier ≡ take part prefix → later ≡ drop part prefix → StandsBeforeLast kept later
+stands_before kept prefix [] earlier later whole part f o n e l = absurd (omega (arith, n))
+stands_before kept prefix (x ∷ y ∷ ys) earlier later whole part f o n e l = absurd (omega (arith, n))
+stands_before kept prefix (x ∷ []) earlier later whole part f o n e l = record {
   earlier = earlier;
   last = x;
   parts = sym (take-append-drop whole kept)
       ∙ ap (λ (ks : List Kept). ks ++ drop whole kept) (sym f)
-      ∙ ap (λ (ks : List Kept). front ++ ks) (sym o)
-      ∙ ap (λ (ks : List Kept). ks ++ x ∷ []) (sym (take-append-drop part front) ∙ ap (λ (ks : List Kept). ks ++ drop part front) (sym e) ∙ ap (λ (ks : List Kept). earlier ++ ks) (sym l));
+      ∙ ap (λ (ks : List Kept). prefix ++ ks) (sym o)
+      ∙ ap (λ (ks : List Kept). ks ++ x ∷ []) (sym (take-append-drop part prefix) ∙ ap (λ (ks : List Kept). ks ++ drop part prefix) (sym e) ∙ ap (λ (ks : List Kept). earlier ++ ks) (sym l));
 }

@@ -87,8 +87,8 @@ low_undone undone earlier later last e =
     ∙ ap (λ (ks : List Kept). last.statement ∷ statements_of ks) (reverse-append earlier later)
     ∙ ap (λ (ss : List Statement). last.statement ∷ ss) (map-append (λ (k : Kept). k.statement) (reverse later) (reverse earlier))
 
-same_fronts : (a b c d : List Statement) → a ++ b ≡ c ++ d → length a ≡ length c → a ≡ c
-same_fronts a b c d e n = sym (take-append_seam a b) ∙ ap (take (length a)) e ∙ ap (λ m. take m (c ++ d)) n ∙ take-append_seam c d
+same_prefixes : (a b c d : List Statement) → a ++ b ≡ c ++ d → length a ≡ length c → a ≡ c
+same_prefixes a b c d e n = sym (take-append_seam a b) ∙ ap (take (length a)) e ∙ ap (λ m. take m (c ++ d)) n ∙ take-append_seam c d
 
 length_later : (later : List Kept) → length (statements_of (reverse later)) ≡ length later
 length_later later = length-map (reverse later) (λ (k : Kept). k.statement) ∙ length-reverse later
@@ -99,7 +99,7 @@ pub high_remaining : (high : History) (table : TableValue) (kept undone later : 
 high_remaining high table kept undone later count l n p =
     l.remaining
     ∙ ap (λ (ss : List Statement). statements_of kept ++ ss)
-    (same_fronts l.moved high.undone (p.last.statement ∷ statements_of (reverse later)) (statements_of (reverse p.earlier))
+    (same_prefixes l.moved high.undone (p.last.statement ∷ statements_of (reverse later)) (statements_of (reverse p.earlier))
     (sym l.undone ∙ low_undone undone p.earlier later p.last p.parts) (omega (arith, l.moved_count, length_later later, n)))
 
 -- What the definition says of them.
@@ -144,14 +144,14 @@ judged_anew high table kept undone later number count r leads l n p place e =
 
 -- The history without the statement.
 
--- the pairs of a front
-paired_front : (kept others : List Kept) (fresh : List Record) → length fresh ≡ length kept → paired (kept ++ others) fresh ≡ paired kept fresh
+-- the pairs of a prefix
+paired_prefix : (kept others : List Kept) (fresh : List Record) → length fresh ≡ length kept → paired (kept ++ others) fresh ≡ paired kept fresh
 unfolding paired
-paired_front [] [] fresh n = refl
-paired_front [] (o ∷ others) [] n = refl
-paired_front [] (o ∷ others) (change ∷ fresh) n = absurd (omega (arith, n))
-paired_front (k ∷ kept) others [] n = absurd (omega (arith, n))
-paired_front (k ∷ kept) others (change ∷ fresh) n = ap (λ (ks : List Kept). with_record k change ∷ ks) (paired_front kept others fresh (omega (arith, n)))
+paired_prefix [] [] fresh n = refl
+paired_prefix [] (o ∷ others) [] n = refl
+paired_prefix [] (o ∷ others) (change ∷ fresh) n = absurd (omega (arith, n))
+paired_prefix (k ∷ kept) others [] n = absurd (omega (arith, n))
+paired_prefix (k ∷ kept) others (change ∷ fresh) n = ap (λ (ks : List Kept). with_record k change ∷ ks) (paired_prefix kept others fresh (omega (arith, n)))
 
 statements_paired : (kept : List Kept) (fresh : List Record) → length fresh ≡ length kept → statements_of (paired kept fresh) ≡ statements_of kept
 unfolding paired
@@ -161,19 +161,19 @@ statements_paired (k ∷ kept) (change ∷ fresh) n = ap (λ (ss : List Statemen
 
 pub paired_later : (later earlier : List Kept) (fresh : List Record) → length fresh ≡ length later → paired (reverse (earlier ++ later)) fresh ≡ paired (reverse later) fresh
 paired_later later earlier fresh n =
-    ap (λ (ks : List Kept). paired ks fresh) (reverse-append earlier later) ∙ paired_front (reverse later) (reverse earlier) fresh (n ∙ sym (length-reverse later))
+    ap (λ (ks : List Kept). paired ks fresh) (reverse-append earlier later) ∙ paired_prefix (reverse later) (reverse earlier) fresh (n ∙ sym (length-reverse later))
 
 -- what remains without it
-remaining_without : (all front : List Statement) (s : Statement) (later : List Statement) (number : ℕ) → all ≡ front ++ s ∷ later → length front + 1 ≡ number → take (number - 1) all ++ drop number all ≡ front ++ later
-remaining_without all front s later number e n =
-    let before : number - 1 ≡ length front = omega (arith, n) in
-    let whole : number ≡ length (front ++ s ∷ []) = omega (arith, n, length-append front (s ∷ [])) in
+remaining_without : (all prefix : List Statement) (s : Statement) (later : List Statement) (number : ℕ) → all ≡ prefix ++ s ∷ later → length prefix + 1 ≡ number → take (number - 1) all ++ drop number all ≡ prefix ++ later
+remaining_without all prefix s later number e n =
+    let before : number - 1 ≡ length prefix = omega (arith, n) in
+    let whole : number ≡ length (prefix ++ s ∷ []) = omega (arith, n, length-append prefix (s ∷ [])) in
     ap (λ (m : ℕ). take m all ++ drop number all) before
-    ∙ ap (λ (ss : List Statement). take (length front) ss ++ drop number all) e
-    ∙ ap (λ (ss : List Statement). ss ++ drop number all) (take-append_seam front (s ∷ later))
-    ∙ ap (λ (m : ℕ). front ++ drop m all) whole
-    ∙ ap (λ (ss : List Statement). front ++ drop (length (front ++ s ∷ [])) ss) (e ∙ sym (append_assoc front (s ∷ []) later))
-    ∙ ap (λ (ss : List Statement). front ++ ss) (drop-append_seam (front ++ s ∷ []) later)
+    ∙ ap (λ (ss : List Statement). take (length prefix) ss ++ drop number all) e
+    ∙ ap (λ (ss : List Statement). ss ++ drop number all) (take-append_seam prefix (s ∷ later))
+    ∙ ap (λ (m : ℕ). prefix ++ drop m all) whole
+    ∙ ap (λ (ss : List Statement). prefix ++ drop (length (prefix ++ s ∷ [])) ss) (e ∙ sym (append_assoc prefix (s ∷ []) later))
+    ∙ ap (λ (ss : List Statement). prefix ++ ss) (drop-append_seam (prefix ++ s ∷ []) later)
 
 pub settled_history : (high : History) (table table3 : TableValue) (kept undone later kept3 undone3 : List Kept) (fresh : List Record) (number count : ℕ) → IsLowered high (history_of table kept undone) (count + 1) → length later ≡ count
     → StandsBeforeLast undone later → length kept + 1 ≡ number → length fresh ≡ length later → kept3 ≡ kept ++ paired (reverse later) fresh → undone3 ≡ []
@@ -196,10 +196,10 @@ unfolding LeadsOn AreProper
 all_proper table [] leads = tt
 all_proper table (k ∷ kept) leads = (leads.0.proper, all_proper (turn table k.change) kept leads.3)
 
-front_proper : (kept others : List Kept) → AreProper (kept ++ others) → AreProper kept
+prefix_proper : (kept others : List Kept) → AreProper (kept ++ others) → AreProper kept
 unfolding AreProper
-front_proper [] others proper = tt
-front_proper (k ∷ kept) others proper = (proper.0, front_proper kept others proper.1)
+prefix_proper [] others proper = tt
+prefix_proper (k ∷ kept) others proper = (proper.0, prefix_proper kept others proper.1)
 
 after_first_proper : (k : Kept) (kept : List Kept) → AreProper (k ∷ kept) → AreProper kept
 unfolding AreProper
@@ -207,7 +207,7 @@ after_first_proper k kept proper = proper.1
 
 pub later_proper : (table : TableValue) (undone later : List Kept) → LeadsOn table (reverse undone) → StandsBeforeLast undone later → AreProper (reverse later)
 later_proper table undone later leads_on p =
-    front_proper (reverse later) (reverse p.earlier)
+    prefix_proper (reverse later) (reverse p.earlier)
     (subst AreProper (reverse-append p.earlier later)
     (after_first_proper p.last (reverse (p.earlier ++ later))
     (subst AreProper (comes_first undone (p.earlier ++ later) p.last p.parts) (all_proper table (reverse undone) leads_on))))

@@ -76,7 +76,7 @@ abbrev pub numbered : List Statement → ℕ → Option Statement
 numbered statements zero = None
 numbered statements (suc before) = slice_get statements before
 
--- what a refusal says of the history: it is the stated one, or want of memory, which may stand in its place
+-- what a refusal says of the history: it is the stated one, or lack of memory, which may stand in its place
 abbrev pub RefusesStatement : History → Statement → BenchFault → Type 0
 RefusesStatement h statement fault = fault ≢ Table refusal.OutOfMemory → judged h statement ≡ Err fault
 

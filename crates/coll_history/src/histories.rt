@@ -19,8 +19,8 @@ use crate::history_faults::BenchFault;
 use crate::limits::MOST_REMAINING;
 use coll_syntax::Statement;
 use coll_table::{
-    Record, Table, records_fit_narrower, records_fit_wider, records_turn_back,
-    undone_records_put_in, wider_tables_read_alike,
+    Record, Table, lemma_records_fit_narrower, lemma_records_fit_wider, lemma_records_turn_back,
+    lemma_undone_records_put_in, lemma_wider_tables_read_alike,
 };
 use std::alloc::{AllocError, Global};
 use std::marker::Model;
@@ -71,7 +71,7 @@ impl Session {
 
     /// Judges a statement, and answers how many statements then remain.
     ///
-    /// It is refused with `HistoryFull` where 65,535 remain, and else as the table refuses it. A refusal, want of
+    /// It is refused with `HistoryFull` where 65,535 remain, and else as the table refuses it. A refusal, lack of
     /// memory included, leaves the table, what remains and what was taken back as they were. An accepted statement
     /// empties what was taken back.
     pub fn statement(&mut self, statement: Statement) -> Result<u32, BenchFault>
@@ -90,12 +90,12 @@ impl Session {
             drop(statement);
             return Err(BenchFault::from(refused));
         }
-        records_turn_back();
-        records_fit_wider();
-        records_fit_narrower();
-        wider_tables_read_alike();
-        undone_records_put_in();
-        self.table.check_table();
+        lemma_records_turn_back();
+        lemma_records_fit_wider();
+        lemma_records_fit_narrower();
+        lemma_wider_tables_read_alike();
+        lemma_undone_records_put_in();
+        self.table.lemma_well_formed();
         let change = match self.table.apply(&statement) {
             Ok(change) => change,
             Err(refusal) => {
@@ -103,10 +103,10 @@ impl Session {
                 return Err(BenchFault::Table(refusal));
             }
         };
-        self.table.check_table();
+        self.table.lemma_well_formed();
         self.remaining.push_reserved(Kept { statement, change });
         give_up(&mut self.table, &mut self.undone);
-        self.table.check_table();
+        self.table.lemma_well_formed();
         Ok(self.remaining.len() as u32)
     }
 
@@ -125,8 +125,8 @@ impl Session {
         let Some(mut kept) = self.remaining.pop() else {
             return Err(BenchFault::NothingToUndo);
         };
-        self.table.check_table();
-        records_turn_back();
+        self.table.lemma_well_formed();
+        lemma_records_turn_back();
         self.table.flip(&mut kept.change);
         self.undone.push_reserved(kept);
         Ok(self.remaining.len() as u32)
@@ -146,8 +146,8 @@ impl Session {
         let Some(mut kept) = self.undone.pop() else {
             return Err(BenchFault::NothingToRedo);
         };
-        self.table.check_table();
-        records_turn_back();
+        self.table.lemma_well_formed();
+        lemma_records_turn_back();
         self.table.flip(&mut kept.change);
         self.remaining.push_reserved(kept);
         Ok(self.remaining.len() as u32)

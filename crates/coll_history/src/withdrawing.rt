@@ -21,8 +21,9 @@ ghost use Rattle.coll_history.specs.declared.history_faults.BenchFault.TheVarian
 use crate::histories::{Kept, Session, give_up, give_up_one};
 use crate::history_faults::BenchFault;
 use coll_table::{
-    Record, Refusal, Table, records_add_alike, records_fit_narrower, records_fit_wider,
-    records_turn_back, undone_records_put_in, wider_tables_read_alike,
+    Record, Refusal, Table, lemma_records_add_alike, lemma_records_fit_narrower,
+    lemma_records_fit_wider, lemma_records_turn_back, lemma_undone_records_put_in,
+    lemma_wider_tables_read_alike,
 };
 
 // Turns the record of the last statement of one list, which then stands last in the other.
@@ -37,8 +38,8 @@ fn turn_last(table: &mut Table, from: &mut Vec<Kept>, onto: &mut Vec<Kept>)
     ensures onto_room { vec_capacity onto.new ≡ vec_capacity onto.old }
 {
     let mut kept = from.take_last();
-    table.check_table();
-    records_turn_back();
+    table.lemma_well_formed();
+    lemma_records_turn_back();
     table.flip(&mut kept.change);
     onto.push_reserved(kept);
 }
@@ -116,19 +117,19 @@ fn put_anew(
     ensures accepted { OnOk result ((left_out : ℕ) → left_out < first → withdrawn_from left_out first (collation (uncounted table.old)) (statements_of (reverse later.now)) ≡ Ok (collation (uncounted table.new))) }
     ensures refused { IfErr result (λ fault. fault ≢ bench.Table OutOfMemory → (left_out : ℕ) → left_out < first → withdrawn_from left_out first (collation (uncounted table.old)) (statements_of (reverse later.now)) ≡ Err fault) }
 {
-    records_turn_back();
-    records_fit_wider();
-    records_fit_narrower();
-    wider_tables_read_alike();
+    lemma_records_turn_back();
+    lemma_records_fit_wider();
+    lemma_records_fit_narrower();
+    lemma_wider_tables_read_alike();
     let mut left = later;
     let mut number = first;
     'anew: while let Some((kept, rest)) = left.split_last() {
-        table.check_table();
+        table.lemma_well_formed();
         let change = match table.apply(&kept.statement) {
             Ok(change) => change,
             Err(refusal) => return Err(needed_fault(number, refusal)),
         };
-        table.check_table();
+        table.lemma_well_formed();
         fresh.push_reserved(change);
         number += 1;
         left = rest;
@@ -143,10 +144,10 @@ fn give_back_one(table: &mut Table, change: Record)
     ensures { uncounted table.new ≡ without_nodes (turn (uncounted table.old) change) (added_nodes change.items) }
 {
     let mut turned = change;
-    undone_records_put_in();
-    records_add_alike();
+    lemma_undone_records_put_in();
+    lemma_records_add_alike();
     table.flip(&mut turned);
-    table.check_table();
+    table.lemma_well_formed();
     table.forget(turned);
 }
 
@@ -254,8 +255,8 @@ fn before_last(kept: &[Kept], count: usize) -> &[Kept]
     ensures parts { StandsBeforeLast kept.now result.now }
     ensures count { length result.now ≡ count }
 {
-    let (front, _) = kept.split_at(kept.len() - 1);
-    let (_, later) = front.split_at(front.len() - count);
+    let (prefix, _) = kept.split_at(kept.len() - 1);
+    let (_, later) = prefix.split_at(prefix.len() - count);
     later
 }
 
@@ -287,20 +288,20 @@ fn withdraw_from(
     ensures remaining_room { vec_capacity remaining.new ≡ vec_capacity remaining.old }
     ensures undone_room { vec_capacity undone.new ≡ vec_capacity undone.old }
 {
-    records_turn_back();
-    records_fit_wider();
-    records_fit_narrower();
-    wider_tables_read_alike();
-    undone_records_put_in();
+    lemma_records_turn_back();
+    lemma_records_fit_wider();
+    lemma_records_fit_narrower();
+    lemma_wider_tables_read_alike();
+    lemma_undone_records_put_in();
     take_down(table, remaining, undone, later + 1);
-    table.check_table();
+    table.lemma_well_formed();
     if let Err(fault) = rebuild(table, before_last(undone, later), number + 1, fresh) {
         put_up(table, remaining, undone, later + 1);
         return Err(fault);
     }
-    table.check_table();
+    table.lemma_well_formed();
     settle(table, remaining, undone, fresh);
-    table.check_table();
+    table.lemma_well_formed();
     Ok(())
 }
 
@@ -324,7 +325,7 @@ impl Session {
     ///
     /// The table is then the one at first, rewritten by all others that remain, and nothing is left to be put again. It is
     /// refused with `NoSuchStatement` exactly where no statement has the number, and takes no memory then; with `StillNeeded`
-    /// where one of the later statements would be refused, of which the first is named. A refusal, want of memory included,
+    /// where one of the later statements would be refused, of which the first is named. A refusal, lack of memory included,
     /// leaves what remains, what was taken back and the table with all its nodes as they were; the count of ring steps stays
     /// where no statement has the number, and may rise otherwise.
     pub fn withdraw(&mut self, number: u32) -> Result<u32, BenchFault>

@@ -6,7 +6,7 @@ use Rattle.std.proofs.lemmas.Bool.{ltb-false}
 use Rattle.std.proofs.lemmas.Bool.Decides.{Decides-ltb}
 use Rattle.std.proofs.lemmas.Grind.{flat_map-append}
 use Rattle.coll_key.specs.ForwardNumbers.{items_left, before, gap_count}
-use Rattle.coll_ranks.specs.AlikeFronts.{BeginAlike}
+use Rattle.coll_ranks.specs.AlikePrefixes.{BeginAlike}
 use Rattle.coll_key.specs.LevelList.{items_of, items, listed}
 use Rattle.coll_key.specs.TextOrder.{list_order}
 use Rattle.coll_elements.proofs.Tests.{by_test}
@@ -88,13 +88,13 @@ same_first : (n : ℕ) (xs ys : List ℕ) → list_order (n ∷ xs) (n ∷ ys) �
 same_first n xs ys = ap (λ o. ordering_then o (list_order xs ys)) (let same : nat_cmp n n ≡ Equal = sym (nat_cmp_is n n Equal refl) in same)
 
 -- what stands before both changes no order
-order_behind : (p : Bool) (gaps : ℕ) (front xs ys : List (Option ℕ)) → list_order (listed p gaps (front ++ xs)) (listed p gaps (front ++ ys)) ≡ list_order (listed p 0 xs) (listed p 0 ys)
+order_behind : (p : Bool) (gaps : ℕ) (prefix xs ys : List (Option ℕ)) → list_order (listed p gaps (prefix ++ xs)) (listed p gaps (prefix ++ ys)) ≡ list_order (listed p 0 xs) (listed p 0 ys)
 order_behind p gaps [] xs ys = ap (λ n. list_order (listed p n xs) (listed p n ys)) (sym (add-zero gaps)) ∙ gaps_shifted p gaps 0 0 xs ys
-order_behind p gaps (None ∷ front) xs ys = order_behind p (suc gaps) front xs ys
-order_behind true gaps (Some n ∷ front) xs ys =
-    same_first (suc gaps) (n ∷ listed true 0 (front ++ xs)) (n ∷ listed true 0 (front ++ ys))
-    ∙ (same_first n (listed true 0 (front ++ xs)) (listed true 0 (front ++ ys)) ∙ order_behind true 0 front xs ys)
-order_behind false gaps (Some n ∷ front) xs ys = same_first n (listed false 0 (front ++ xs)) (listed false 0 (front ++ ys)) ∙ order_behind false 0 front xs ys
+order_behind p gaps (None ∷ prefix) xs ys = order_behind p (suc gaps) prefix xs ys
+order_behind true gaps (Some n ∷ prefix) xs ys =
+    same_first (suc gaps) (n ∷ listed true 0 (prefix ++ xs)) (n ∷ listed true 0 (prefix ++ ys))
+    ∙ (same_first n (listed true 0 (prefix ++ xs)) (listed true 0 (prefix ++ ys)) ∙ order_behind true 0 prefix xs ys)
+order_behind false gaps (Some n ∷ prefix) xs ys = same_first n (listed false 0 (prefix ++ xs)) (listed false 0 (prefix ++ ys)) ∙ order_behind false 0 prefix xs ys
 
 -- the order of two ways that begin alike is that of what is left of them
 pub order_alike : {P : Type 0} (p : Bool) (f : P → List ℕ) (xs ys later others : List P) → BeginAlike xs ys later others → list_order (listed p 0 (items f xs)) (listed p 0 (items f ys)) ≡ list_order (listed p 0 (items f later)) (listed p 0 (items f others))

@@ -33,9 +33,9 @@ pub All-others : {X : Type 0} (P : X → Type 0) (x : X) (xs : List X) → All P
 All-others P x xs all = λ k d within. all (suc k) d (omega arith)
 
 -- the two parts of a list
-All-front : {X : Type 0} (P : X → Type 0) (xs ys : List X) → All P (xs ++ ys) → All P xs
-All-front P [] ys all = All-nil P
-All-front P (x ∷ xs) ys all = All-cons P x xs (All-first P x (xs ++ ys) all) (All-front P xs ys (All-others P x (xs ++ ys) all))
+All-prefix : {X : Type 0} (P : X → Type 0) (xs ys : List X) → All P (xs ++ ys) → All P xs
+All-prefix P [] ys all = All-nil P
+All-prefix P (x ∷ xs) ys all = All-cons P x xs (All-first P x (xs ++ ys) all) (All-prefix P xs ys (All-others P x (xs ++ ys) all))
 
 All-back : {X : Type 0} (P : X → Type 0) (xs ys : List X) → All P (xs ++ ys) → All P ys
 All-back P [] ys all = all
@@ -171,7 +171,7 @@ module _ (table : Collation) where
   -- one of some weights
   one_placed : (weights : List Weight) (level : ℕ) → All IsPlaced (flat_map weight_ids weights) → All IsPlaced (weight_ids (get_or weights level Ignore))
   one_placed [] level placed = All-nil IsPlaced
-  one_placed (weight ∷ weights) zero placed = All-front IsPlaced (weight_ids weight) (flat_map weight_ids weights) placed
+  one_placed (weight ∷ weights) zero placed = All-prefix IsPlaced (weight_ids weight) (flat_map weight_ids weights) placed
   one_placed (weight ∷ weights) (suc level) placed = one_placed weights level (All-back IsPlaced (weight_ids weight) (flat_map weight_ids weights) placed)
 
   -- the weights of an entry, and others

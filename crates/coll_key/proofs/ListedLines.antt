@@ -16,14 +16,14 @@ use Rattle.coll_syntax.specs.declared.weights.Weight.{Weight}
 use Rattle.coll_syntax.specs.declared.weights.Weight.TheVariants.{Ignore, Own, Names}
 use Rattle.coll_print.specs.PrintedParts.{char_bytes}
 use Rattle.coll_nodes.specs.Placement.{entry_at}
-use Rattle.coll_nodes.specs.Walks.{Met, MetSection, MetEntry, met, entry_met, entries_met}
+use Rattle.coll_nodes.specs.Walks.{Visited, VisitedSection, VisitedEntry, visited, entry_visited, entries_visited}
 use Rattle.coll_nodes.specs.Table.{Collation, entries_of, ids_of, is_placed, is_symbol, names_of}
 use Rattle.coll_nodes.specs.WellFormed.{AreDistinct, HasWeights, IsWeighted, IsWellFormed}
 use Rattle.coll_nodes.specs.declared.declarations.Declaration.{Declaration}
 use Rattle.coll_nodes.specs.declared.declarations.Declaration.TheVariants as declaration
 use Rattle.coll_nodes.specs.declared.entries.Entry.{Entry}
 use Rattle.coll_nodes.proofs.EntryLemmas.{entry_there}
-use Rattle.coll_draft.proofs.MetEntries.{met_all}
+use Rattle.coll_builder.proofs.VisitedEntries.{visited_all}
 use Rattle.coll_lookups.proofs.Sameness.{same_name_decides, same_id_decides}
 use Rattle.coll_key.specs.CompiledListing.{string_named, listed_id, listed_level, listed_line, listed_entry, listed_entries, listed_undefined}
 use Rattle.coll_elements.specs.Elements.{element_placed}
@@ -32,7 +32,7 @@ use Rattle.coll_elements.specs.RankedElements.{ranked_in, last_string}
 use Rattle.coll_ranks.specs.Ranks.{RanksValue, AreRanksOf, compiled_by, compiled_entry, compiled_weight, compiled_row_by}
 use Rattle.coll_ranks.specs.WeightNumbers.{undefined_weights, weights_or}
 use Rattle.coll_key.specs.WrittenKey.{level_end}
-use Rattle.coll_key.specs.ListingParts.{spaced, spaced_number, is_star, level_bytes, spelled_with, levels_bytes, ranked_line, line_if_weighted, met_line, ranked_lines, HasFewWeights}
+use Rattle.coll_key.specs.ListingParts.{spaced, spaced_number, is_star, level_bytes, spelled_with, levels_bytes, ranked_line, line_if_weighted, visited_line, ranked_lines, HasFewWeights}
 use Rattle.coll_ranks.proofs.PartNumbers.{compiled_for}
 use Rattle.coll_ranks.proofs.RowNumbers.{filled_length, row_at}
 use Rattle.coll_elements.proofs.TableElementLemmas.{or_none}
@@ -201,9 +201,9 @@ module _ (ranks : RanksValue) (table : Collation) (are : AreRanksOf ranks table)
       ∙ ap (λ n. listed_entries table (suc n) rest) one))
 
   -- the lines of all entries
-  pub lines_are_listed : (items : List Met) → items ≡ met table.sections → listed_entries table 1 (entries_of table) ≡ ranked_lines ranks 1 (entries_met items)
+  pub lines_are_listed : (items : List Visited) → items ≡ visited table.sections → listed_entries table 1 (entries_of table) ≡ ranked_lines ranks 1 (entries_visited items)
   lines_are_listed items walked =
-      sym (ap (λ es. ranked_lines ranks 1 es) (ap entries_met walked ∙ met_all table.sections)
+      sym (ap (λ es. ranked_lines ranks 1 es) (ap entries_visited walked ∙ visited_all table.sections)
       ∙ lines_behind [] (entries_of table) refl well.built.weighted)
 
   -- the line of UNDEFINED that isn't placed
@@ -243,21 +243,21 @@ have_few levels declared (entry ∷ entries) weighted =
     All-cons (HasFewWeights levels) entry entries (has_few levels declared entry (All-head (IsWeighted levels declared) entry entries weighted)) (have_few levels declared entries (All-tail (IsWeighted levels declared) entry entries weighted))
 
 -- and so has each that one meets
-pub fit_met : (table : Collation) (levels : ℕ) (items : List Met) → IsWellFormed table → levels ≡ length table.rules → items ≡ met table.sections → All (HasFewWeights levels) (entries_met items)
-fit_met table levels items well counted walked =
-    subst (All (HasFewWeights levels)) (sym (ap entries_met walked ∙ met_all table.sections))
+pub fit_visited : (table : Collation) (levels : ℕ) (items : List Visited) → IsWellFormed table → levels ≡ length table.rules → items ≡ visited table.sections → All (HasFewWeights levels) (entries_visited items)
+fit_visited table levels items well counted walked =
+    subst (All (HasFewWeights levels)) (sym (ap entries_visited walked ∙ visited_all table.sections))
     (subst (λ n. All (HasFewWeights n) (entries_of table)) (sym counted) (have_few (length table.rules) table.declared (entries_of table) well.built.weighted))
 
 -- and so has each that is left
-pub fits_later : (levels : ℕ) (left later : List Met) (item : Met) → left ≡ item ∷ later → All (HasFewWeights levels) (entries_met left) → All (HasFewWeights levels) (entries_met later)
-fits_later levels left later item first fit = by item (subst (λ items. All (HasFewWeights levels) (entries_met items)) first fit) where
-  by : (item : Met) → All (HasFewWeights levels) (entry_met item ++ entries_met later) → All (HasFewWeights levels) (entries_met later)
-  by (MetSection name) h = h
-  by (MetEntry entry) h = All-tail (HasFewWeights levels) entry (entries_met later) h
+pub fits_later : (levels : ℕ) (left later : List Visited) (item : Visited) → left ≡ item ∷ later → All (HasFewWeights levels) (entries_visited left) → All (HasFewWeights levels) (entries_visited later)
+fits_later levels left later item first fit = by item (subst (λ items. All (HasFewWeights levels) (entries_visited items)) first fit) where
+  by : (item : Visited) → All (HasFewWeights levels) (entry_visited item ++ entries_visited later) → All (HasFewWeights levels) (entries_visited later)
+  by (VisitedSection name) h = h
+  by (VisitedEntry entry) h = All-tail (HasFewWeights levels) entry (entries_visited later) h
 
--- the lines of what one meets are the first one's, and those of what is left
-pub lines_next : (ranks : RanksValue) (rank next : ℕ) (left later : List Met) (item : Met) → left ≡ item ∷ later → next ≡ rank + length (entry_met item) → ranked_lines ranks rank (entries_met left) ≡ met_line ranks rank item ++ ranked_lines ranks next (entries_met later)
-lines_next ranks rank next left later item first count = ap (λ items. ranked_lines ranks rank (entries_met items)) first ∙ (by item ∙ ap (λ n. met_line ranks rank item ++ ranked_lines ranks n (entries_met later)) (sym count)) where
-  by : (item : Met) → ranked_lines ranks rank (entry_met item ++ entries_met later) ≡ met_line ranks rank item ++ ranked_lines ranks (rank + length (entry_met item)) (entries_met later)
-  by (MetSection name) = ap (λ n. ranked_lines ranks n (entries_met later)) (let same : rank ≡ rank + 0 = omega arith in same)
-  by (MetEntry entry) = ap (λ n. line_if_weighted ranks rank entry.id entry.weights ++ ranked_lines ranks n (entries_met later)) (let same : suc rank ≡ rank + 1 = omega arith in same)
+-- the lines of what one visits are the first one's, and those of what is left
+pub lines_next : (ranks : RanksValue) (rank next : ℕ) (left later : List Visited) (item : Visited) → left ≡ item ∷ later → next ≡ rank + length (entry_visited item) → ranked_lines ranks rank (entries_visited left) ≡ visited_line ranks rank item ++ ranked_lines ranks next (entries_visited later)
+lines_next ranks rank next left later item first count = ap (λ items. ranked_lines ranks rank (entries_visited items)) first ∙ (by item ∙ ap (λ n. visited_line ranks rank item ++ ranked_lines ranks n (entries_visited later)) (sym count)) where
+  by : (item : Visited) → ranked_lines ranks rank (entry_visited item ++ entries_visited later) ≡ visited_line ranks rank item ++ ranked_lines ranks (rank + length (entry_visited item)) (entries_visited later)
+  by (VisitedSection name) = ap (λ n. ranked_lines ranks n (entries_visited later)) (let same : rank ≡ rank + 0 = omega arith in same)
+  by (VisitedEntry entry) = ap (λ n. line_if_weighted ranks rank entry.id entry.weights ++ ranked_lines ranks n (entries_visited later)) (let same : suc rank ≡ rank + 1 = omega arith in same)

@@ -4,8 +4,8 @@ use Rattle.std.specs.Prelude.{decimal}
 use Rattle.std.specs.Io.KnownBytes.{Appends}
 use Rattle.std.specs.List.{flat_map}
 use Rattle.std.proofs.KnownBytes.{Appends-trans}
-use Rattle.coll_devices.specs.Devices.{AppendsFront}
-use Rattle.coll_devices.proofs.WritingLemmas.{AppendsFront-before, AppendsFront-after}
+use Rattle.coll_devices.specs.Devices.{AppendsPrefix}
+use Rattle.coll_devices.proofs.WritingLemmas.{AppendsPrefix-before, AppendsPrefix-after}
 use Rattle.coll_syntax.specs.declared.identifiers.Id.{Id}
 use Rattle.coll_syntax.specs.declared.weights.Weight.{Weight}
 use Rattle.coll_nodes.specs.Table.{Collation, entries_of}
@@ -27,7 +27,7 @@ listing_parts table = refl
 
 -- What is written of a whole, and what is left of it.
 
--- the front of a whole is written, and this is left
+-- the prefix of a whole is written, and this is left
 abbrev pub IsLeft : (whole left : List ℕ) → (before now : Option (List ℕ)) → Type 0
 IsLeft whole left before now = (done : List ℕ) × (whole ≡ done ++ left) × Appends before now done
 
@@ -40,10 +40,10 @@ left_more whole left part later a b c first h more = (
 )
 
 -- the next part stops
-pub left_front : (whole left part later : List ℕ) (a b c : Option (List ℕ)) → left ≡ part ++ later → IsLeft whole left a b → AppendsFront b c part → AppendsFront a c whole
-left_front whole left part later a b c first h front =
-    subst (AppendsFront a c) (sym (h.1 ∙ ap (λ l. h.0 ++ l) first))
-    (AppendsFront-after a b c h.0 (part ++ later) h.2 (AppendsFront-before b c part later front))
+pub left_prefix : (whole left part later : List ℕ) (a b c : Option (List ℕ)) → left ≡ part ++ later → IsLeft whole left a b → AppendsPrefix b c part → AppendsPrefix a c whole
+left_prefix whole left part later a b c first h prefix =
+    subst (AppendsPrefix a c) (sym (h.1 ∙ ap (λ l. h.0 ++ l) first))
+    (AppendsPrefix-after a b c h.0 (part ++ later) h.2 (AppendsPrefix-before b c part later prefix))
 
 -- nothing is left
 pub left_none : (whole left : List ℕ) (a b : Option (List ℕ)) → left ≡ [] → IsLeft whole left a b → Appends a b whole

@@ -12,7 +12,7 @@ use Rattle.coll_nodes.specs.WellFormed.{IsWellFormed}
 use Rattle.coll_key.specs.LevelList.{level_list, level_lists_from}
 use Rattle.coll_ranks.specs.RankLists.{WeightsValue}
 use Rattle.coll_ranks.specs.Ranks.{RanksValue, AreRanksOf, parts_of, part_numbers}
-use Rattle.coll_ranks.specs.declared.parts.Part.{Part}
+use Rattle.coll_ranks.specs.declared.parts.TextElement.{TextElement}
 use Rattle.coll_key.specs.SortKey.{ended, key_of}
 use Rattle.coll_key.specs.TextOrder.{list_order, first_difference, order_of, level_lists}
 use Rattle.coll_key.proofs.LevelLemmas.{level_lists_by_numbers, level_lists_by_parts}
@@ -80,7 +80,7 @@ key_goes_on f level rules ps rule old grown now whole within put closed so_far =
     so_far
     ∙ ap (λ lists. old ++ lists) (at_drop_more (λ rs. flat_map ended (level_lists_from rs level f ps)) rules level rule within)
     ∙ sym (append_assoc old (ended list) others)
-    ∙ ap (λ front. front ++ others) (sym (append_assoc old list (0 ∷ [])) ∙ ap (λ xs. xs ++ 0 ∷ []) (sym put) ∙ sym closed)
+    ∙ ap (λ prefix. prefix ++ others) (sym (append_assoc old list (0 ∷ [])) ∙ ap (λ xs. xs ++ 0 ∷ []) (sym put) ∙ sym closed)
     ∙ ap (λ n. now ++ flat_map ended (level_lists_from (drop (level + 1) rules) n f ps)) next
   where
     list : List ℕ
@@ -100,7 +100,7 @@ key_is_whole f ps level rules key whole past so_far =
     ∙ append-nil key)
 
 -- the key of a text is that of its parts, by the weights and the rules of a table
-pub key_is_made : (ranks : RanksValue) (table : Collation) → AreRanksOf ranks table → IsWellFormed table → (text : List ℕ) (weights : WeightsValue) (rules : List Rule) (parts : List Part) (key : List ℕ) → weights ≡ ranks.compiled → rules ≡ table.rules → parts ≡ parts_of ranks text → key ≡ flat_map ended (level_lists_from rules 0 (part_numbers weights) parts) → key ≡ key_of table text
+pub key_is_made : (ranks : RanksValue) (table : Collation) → AreRanksOf ranks table → IsWellFormed table → (text : List ℕ) (weights : WeightsValue) (rules : List Rule) (parts : List TextElement) (key : List ℕ) → weights ≡ ranks.compiled → rules ≡ table.rules → parts ≡ parts_of ranks text → key ≡ flat_map ended (level_lists_from rules 0 (part_numbers weights) parts) → key ≡ key_of table text
 key_is_made ranks table are well text weights rules parts key by_weights by_rules by_parts made =
     made
     ∙ ap (λ ws. flat_map ended (level_lists_from rules 0 (part_numbers ws) parts)) by_weights

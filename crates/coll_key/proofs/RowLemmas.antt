@@ -4,8 +4,8 @@ use Rattle.coll_syntax.specs.declared.rules.Rule.{Rule}
 use Rattle.coll_ranks.specs.LevelWeights.{row_of, row_numbers}
 use Rattle.coll_ranks.specs.RankLists.{WeightsValue}
 use Rattle.coll_ranks.specs.Ranks.{part_numbers}
-use Rattle.coll_ranks.specs.declared.parts.Part.{Part}
-use Rattle.coll_ranks.specs.declared.parts.PartRow.{PartRow}
+use Rattle.coll_ranks.specs.declared.parts.TextElement.{TextElement}
+use Rattle.coll_ranks.specs.declared.parts.ElementRow.{ElementRow}
 use Rattle.coll_ranks.proofs.LevelRows.{rows_of_parts}
 use Rattle.coll_key.specs.LevelList.{level_list, level_lists_from}
 use Rattle.coll_key.proofs.LevelLemmas.{level_list_same, level_lists_same}
@@ -19,7 +19,7 @@ map_alike f g same (x ∷ xs) = ap (λ y. y ∷ map f xs) (same x) ∙ ap (λ ys
 pub list_alike : {P : Type 0} (rule : Rule) (f g : P → List ℕ) → ((p : P) → f p ≡ g p) → (ps : List P) → level_list rule f ps ≡ level_list rule g ps
 list_alike rule f g same ps = level_list_same rule f g ps ps (map_alike f g same ps)
 
-module _ (weights : WeightsValue) (rows : List PartRow) (parts : List Part) (are : rows ≡ map (row_of weights) parts) where
+module _ (weights : WeightsValue) (rows : List ElementRow) (parts : List TextElement) (are : rows ≡ map (row_of weights) parts) where
   -- the rows of parts have their numbers
   numbers_of_rows : (level : ℕ) → map (row_numbers weights level) rows ≡ map (part_numbers weights level) parts
   numbers_of_rows level = ap (map (row_numbers weights level)) are ∙ rows_of_parts weights level parts

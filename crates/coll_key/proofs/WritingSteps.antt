@@ -2,12 +2,12 @@
 use Rattle.std.proofs.Common.{◌≡◌, ℕ, List, [], ◌++◌, Option, Result, IsErr, sym, ap, subst, ◌∙◌, append_assoc, append-nil}
 use Rattle.std.specs.Io.KnownBytes.{Appends}
 use Rattle.std.proofs.KnownBytes.{Appends-trans}
-use Rattle.coll_devices.specs.Devices.{AppendsFront, Sends}
-use Rattle.coll_devices.proofs.WritingLemmas.{AppendsFront-before, AppendsFront-after, Sends-stopped, Sends-after}
+use Rattle.coll_devices.specs.Devices.{AppendsPrefix, Sends}
+use Rattle.coll_devices.proofs.WritingLemmas.{AppendsPrefix-before, AppendsPrefix-after, Sends-stopped, Sends-after}
 
 -- a call that stops in the first part of a whole
-pub stops_first : {T E : Type 0} (a b : Option (List ℕ)) (whole first rest : List ℕ) (r : Result T E) → whole ≡ first ++ rest → IsErr r → AppendsFront a b first → Sends a b whole r
-stops_first a b whole first rest r same stopped part = Sends-stopped a b whole r stopped (subst (AppendsFront a b) (sym same) (AppendsFront-before a b first rest part))
+pub stops_first : {T E : Type 0} (a b : Option (List ℕ)) (whole first rest : List ℕ) (r : Result T E) → whole ≡ first ++ rest → IsErr r → AppendsPrefix a b first → Sends a b whole r
+stops_first a b whole first rest r same stopped part = Sends-stopped a b whole r stopped (subst (AppendsPrefix a b) (sym same) (AppendsPrefix-before a b first rest part))
 
 -- a last call that writes the rest of a whole
 pub writes_rest : {T E : Type 0} (a b c : Option (List ℕ)) (whole first rest : List ℕ) (r : Result T E) → whole ≡ first ++ rest → Appends a b first → Sends b c rest r → Sends a c whole r
@@ -26,10 +26,10 @@ left_less whole left part rest a b c next h more = (
 )
 
 -- the next part stops
-pub left_front : (whole left part rest : List ℕ) (a b c : Option (List ℕ)) → left ≡ part ++ rest → IsLeft whole left a b → AppendsFront b c part → AppendsFront a c whole
-left_front whole left part rest a b c next h front =
-    subst (AppendsFront a c) (sym (h.1 ∙ ap (λ xs. h.0 ++ xs) next))
-    (AppendsFront-after a b c h.0 (part ++ rest) h.2 (AppendsFront-before b c part rest front))
+pub left_prefix : (whole left part rest : List ℕ) (a b c : Option (List ℕ)) → left ≡ part ++ rest → IsLeft whole left a b → AppendsPrefix b c part → AppendsPrefix a c whole
+left_prefix whole left part rest a b c next h prefix =
+    subst (AppendsPrefix a c) (sym (h.1 ∙ ap (λ xs. h.0 ++ xs) next))
+    (AppendsPrefix-after a b c h.0 (part ++ rest) h.2 (AppendsPrefix-before b c part rest prefix))
 
 -- nothing is left
 pub left_none : (whole left : List ℕ) (a b : Option (List ℕ)) → left ≡ [] → IsLeft whole left a b → Appends a b whole

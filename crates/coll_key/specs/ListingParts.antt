@@ -9,7 +9,7 @@ use Rattle.coll_syntax.specs.declared.weights.Weight.{Weight}
 use Rattle.coll_syntax.specs.declared.weights.Weight.TheVariants.{Ignore, Own, Names}
 use Rattle.coll_print.specs.PrintedParts.{char_bytes}
 use Rattle.coll_nodes.specs.Table.{Collation, entries_of}
-use Rattle.coll_nodes.specs.Walks.{Met, MetSection, MetEntry}
+use Rattle.coll_nodes.specs.Walks.{Visited, VisitedSection, VisitedEntry}
 use Rattle.coll_nodes.specs.declared.entries.Entry.{Entry}
 use Rattle.coll_key.specs.CompiledListing.{listed_entries, listed_undefined}
 use Rattle.coll_elements.specs.RankedElements.{last_string}
@@ -70,10 +70,10 @@ abbrev pub line_if_weighted : RanksValue → (rank : ℕ) → Id → List Weight
 line_if_weighted ranks rank id [] = []
 line_if_weighted ranks rank id (weight ∷ weights) = ranked_line ranks rank id (weight ∷ weights)
 
--- the line of what one meets, if it is an entry with weights
-abbrev pub met_line : RanksValue → (rank : ℕ) → Met → List ℕ
-met_line ranks rank (MetSection name) = []
-met_line ranks rank (MetEntry entry) = line_if_weighted ranks rank entry.id entry.weights
+-- the line of what one visits, if it is an entry with weights
+abbrev pub visited_line : RanksValue → (rank : ℕ) → Visited → List ℕ
+visited_line ranks rank (VisitedSection name) = []
+visited_line ranks rank (VisitedEntry entry) = line_if_weighted ranks rank entry.id entry.weights
 
 -- the lines of entries, from a rank on
 abbrev pub ranked_lines : RanksValue → (rank : ℕ) → List Entry → List ℕ

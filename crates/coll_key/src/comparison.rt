@@ -49,7 +49,7 @@ pub fn compare(
     if is_too_long(other) {
         return Err(KeyFault::TextTooLong);
     }
-    table.check_table();
+    table.lemma_well_formed();
     for (level, rule) in table.rules().iter().enumerate() {
         let order = level_order(alloc, ranks, level, *rule, text, other)?;
         if order.is_ne() {

@@ -9,7 +9,7 @@ ghost use Rattle.coll_key.specs.LevelList.{items, listed};
 ghost use Rattle.coll_ranks.specs.Ranks.{parts_of, part_numbers};
 
 use crate::levels::number_of;
-use coll_ranks::{PartWeight, Ranks};
+use coll_ranks::{ElementWeight, Ranks};
 use std::marker::Model;
 
 /// A number of a level, and where it stands.
@@ -29,7 +29,7 @@ pub(crate) struct ForwardNumbers<'a> {
     /// The text behind the part at hand.
     text: &'a str,
     /// What is left of the part at hand.
-    weight: PartWeight<'a>,
+    weight: ElementWeight<'a>,
 }
 
 impl<'a> Model for ForwardNumbers<'a> {
@@ -58,7 +58,7 @@ impl<'a> ForwardNumbers<'a> {
             ranks,
             level,
             text,
-            weight: PartWeight {
+            weight: ElementWeight {
                 ranks: &[],
                 added: 0,
             },

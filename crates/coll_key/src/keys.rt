@@ -17,7 +17,7 @@ ghost use Rattle.coll_key.specs.declared.key_faults.KeyFault.TheVariants.{OutOfM
 use crate::key_faults::KeyFault;
 use crate::levels::with_level;
 use crate::text_parts::kept_rows;
-use coll_ranks::{CompiledWeights, PartRow, Ranks};
+use coll_ranks::{CompiledWeights, ElementRow, Ranks};
 use coll_syntax::Rule;
 use coll_table::Table;
 use std::alloc::{AllocError, Global};
@@ -34,7 +34,7 @@ pub fn key(alloc: Global, table: &Table, ranks: &Ranks, text: &str) -> Result<Ve
     ensures err { IfErr result (λ fault. fault ≢ OutOfMemory → is_too_long (chars text.now) ≡ true) }
     ensures memory { IfErr result (λ fault. fault ≡ OutOfMemory → is_too_long (chars text.now) ≡ false) }
 {
-    table.check_table();
+    table.lemma_well_formed();
     let rows = kept_rows(alloc, ranks, text)?;
     let key = key_of_rows(alloc, ranks.weights(), table.rules(), &rows)?;
     Ok(key)
@@ -45,7 +45,7 @@ pub(crate) fn key_of_rows(
     alloc: Global,
     weights: &CompiledWeights,
     rules: &[Rule],
-    rows: &[PartRow],
+    rows: &[ElementRow],
 ) -> Result<Vec<u64>, AllocError>
     requires few { length rows.now ≤ 65_536 }
     ensures { IfOk result (λ key. key.items ≡ flat_map ended (level_lists_from rules.now 0 (row_numbers weights.now) rows.now)) }

@@ -12,7 +12,7 @@ ghost use Rattle.coll_ranks.specs.LevelWeights.{row_numbers};
 ghost use Rattle.coll_ranks.specs.Ranks.{added_to};
 
 use crate::limits::RANK_STEP;
-use coll_ranks::{CompiledWeights, PartRow, PartWeight, WeightRanks};
+use coll_ranks::{CompiledWeights, ElementRow, ElementWeight, WeightRanks};
 use coll_syntax::Rule;
 use std::alloc::AllocError;
 
@@ -23,7 +23,7 @@ pub(crate) fn with_level(
     weights: &CompiledWeights,
     level: usize,
     rule: Rule,
-    rows: &[PartRow],
+    rows: &[ElementRow],
 ) -> Result<Vec<u64>, AllocError>
     requires few { length rows.now ≤ 65_536 }
     ensures list { IfOk result (λ with. with.items ≡ key.items ++ level_list rule (row_numbers weights.now level) rows.now) }
@@ -71,7 +71,7 @@ fn with_rows(
     level: usize,
     backward: bool,
     position: bool,
-    rows: &[PartRow],
+    rows: &[ElementRow],
 ) -> Result<Vec<u64>, AllocError>
     requires few { length rows.now ≤ 65_536 }
     requires room { vec_len key + length rows.now * 2 + 1 ≤ vec_capacity key }
@@ -93,7 +93,7 @@ fn with_rows(
             }
             WeightRanks::Several(ranks) => {
                 let added = at_level.added(row);
-                let weight = PartWeight { ranks, added };
+                let weight = ElementWeight { ranks, added };
                 let long = with_long_part(with, weight, backward, position, gaps, later.len())?;
                 with = long.0;
                 gaps = long.1;
@@ -108,7 +108,7 @@ fn with_rows(
 #[inline(always)]
 fn with_long_part(
     key: Vec<u64>,
-    weight: PartWeight<'_>,
+    weight: ElementWeight<'_>,
     backward: bool,
     position: bool,
     gaps: u64,

@@ -8,11 +8,11 @@ ghost use Rattle.std.specs.List.{flat_map};
 ghost use Rattle.coll_devices.specs.Devices.{CountsErr, Sends};
 ghost use Rattle.coll_nodes.specs.Table.{is_placed};
 ghost use Rattle.coll_nodes.specs.TableLayout.{collation};
-ghost use Rattle.coll_nodes.specs.WalkItems.{met_by};
-ghost use Rattle.coll_nodes.specs.Walks.{entry_met, entries_met};
+ghost use Rattle.coll_nodes.specs.WalkItems.{visited_by};
+ghost use Rattle.coll_nodes.specs.Walks.{entry_visited, entries_visited};
 ghost use Rattle.coll_syntax.specs.declared.identifiers.Id.TheVariants.{Named, Undefined};
 ghost use Rattle.coll_key.specs.CompiledListing.{compiled_listing, listing_head, listed_rule, listed_undefined};
-ghost use Rattle.coll_key.specs.ListingParts.{spaced_number, weight_bytes, level_bytes, levels_ended, is_star, spelled_with, ranked_line, line_if_weighted, met_line, ranked_lines, HasFewWeights, entries_part};
+ghost use Rattle.coll_key.specs.ListingParts.{spaced_number, weight_bytes, level_bytes, levels_ended, is_star, spelled_with, ranked_line, line_if_weighted, visited_line, ranked_lines, HasFewWeights, entries_part};
 ghost use Rattle.coll_ranks.specs.Ranks.{AreRanksOf};
 
 use coll_devices::{Sink, WriteStop, write_bytes};
@@ -26,7 +26,7 @@ use itoa::Buffer;
 
 /// Writes the compiled listing of a table: its levels, its rules, and for each entry its rank and the ranks of its weights.
 ///
-/// Where it stops, the device has taken a front of the listing. The ranks, which have the compiled weights with them, must be those
+/// Where it stops, the device has taken a prefix of the listing. The ranks, which have the compiled weights with them, must be those
 /// of the table as it stands: after an `apply` or a `flip` that changes it, they are to be made anew.
 pub fn write_compiled<W: Sink>(table: &Table, ranks: &Ranks, out: &mut W) -> Result<(), WriteStop>
     requires { AreRanksOf ranks.now (collation table.now) }
@@ -53,7 +53,7 @@ fn write_entries<W: Sink>(out: &mut W, table: &Table, ranks: &Ranks) -> Result<(
     ensures sent { Sends (W.taken out.old) (W.taken out.new) (entries_part (collation table.now)) result }
     ensures errors { CountsErr (W.failed out.old) (W.failed out.new) result }
 {
-    table.check_table();
+    table.lemma_well_formed();
     write_walk(out, ranks, table.walk())?;
     write_end(out, table, ranks)
 }
@@ -74,7 +74,7 @@ fn write_unplaced<W: Sink>(out: &mut W, table: &Table, ranks: &Ranks) -> Result<
     ensures sent { Sends (W.taken out.old) (W.taken out.new) (listed_undefined (collation table.now)) result }
     ensures errors { CountsErr (W.failed out.old) (W.failed out.new) result }
 {
-    table.check_table();
+    table.lemma_well_formed();
     if is_undefined_placed(table) {
         return Ok(());
     }
@@ -99,31 +99,31 @@ fn is_undefined_placed(table: &Table) -> bool
 
 // Writes a line for each entry on a walk that isn't a symbol.
 fn write_walk<W: Sink>(out: &mut W, ranks: &Ranks, walk: Walk<'_>) -> Result<(), WriteStop>
-    requires fit { All (HasFewWeights ranks.now.compiled.levels) (entries_met walk) }
-    requires few { length (entries_met walk) < 1_000_000 }
-    ensures sent { Sends (W.taken out.old) (W.taken out.new) (ranked_lines ranks.now 1 (entries_met walk.entry)) result }
+    requires fit { All (HasFewWeights ranks.now.compiled.levels) (entries_visited walk) }
+    requires few { length (entries_visited walk) < 1_000_000 }
+    ensures sent { Sends (W.taken out.old) (W.taken out.new) (ranked_lines ranks.now 1 (entries_visited walk.entry)) result }
     ensures errors { CountsErr (W.failed out.old) (W.failed out.new) result }
 {
     let mut left = walk;
     let mut rank = 1;
     'walk: while let Some(item) = left.next() {
-        rank = write_met(out, ranks, rank, item)?;
+        rank = write_visited(out, ranks, rank, item)?;
     }
     Ok(())
 }
 
-// Writes the line of what one meets, if it is an entry with this rank, and gives the rank of the next one.
-fn write_met<W: Sink>(
+// Writes the line of what one visits, if it is an entry with this rank, and gives the rank of the next one.
+fn write_visited<W: Sink>(
     out: &mut W,
     ranks: &Ranks,
     rank: u32,
     item: WalkItem<'_>,
 ) -> Result<u32, WriteStop>
-    requires fit { All (HasFewWeights ranks.now.compiled.levels) (entry_met (met_by item)) }
+    requires fit { All (HasFewWeights ranks.now.compiled.levels) (entry_visited (visited_by item)) }
     requires few { rank ≤ 1_000_000 }
-    ensures sent { Sends (W.taken out.old) (W.taken out.new) (met_line ranks.now rank (met_by item.entry)) result }
+    ensures sent { Sends (W.taken out.old) (W.taken out.new) (visited_line ranks.now rank (visited_by item.entry)) result }
     ensures errors { CountsErr (W.failed out.old) (W.failed out.new) result }
-    ensures next { IfOk result (λ next. next ≡ rank + length (entry_met (met_by item.entry))) }
+    ensures next { IfOk result (λ next. next ≡ rank + length (entry_visited (visited_by item.entry))) }
 {
     match item {
         WalkItem::Section(_) => Ok(rank),

@@ -17,7 +17,7 @@ use crate::key_faults::KeyFault;
 use crate::keys::{key_of_rows, keys_are_ordered_as_texts};
 use crate::limits::is_too_long;
 use coll_lookups::EntryNumbers;
-use coll_ranks::{CompiledWeights, Part, PartRow, TextWeights};
+use coll_ranks::{CompiledWeights, ElementRow, TextElement, TextWeights};
 use coll_table::Table;
 use std::alloc::{AllocError, Global};
 use std::cmp::Ordering;
@@ -42,7 +42,7 @@ pub fn key_of_text(
     if is_too_long(text) {
         return Err(KeyFault::TextTooLong);
     }
-    table.check_table();
+    table.lemma_well_formed();
     let key = short_key(alloc, table, numbers, text)?;
     Ok(key)
 }
@@ -70,7 +70,7 @@ pub fn compare_texts(
     if is_too_long(other) {
         return Err(KeyFault::TextTooLong);
     }
-    table.check_table();
+    table.lemma_well_formed();
     keys_are_ordered_as_texts();
     let key = short_key(alloc, table, numbers, text)?;
     let other_key = short_key(alloc, table, numbers, other)?;
@@ -98,8 +98,8 @@ fn short_key(
 fn rows_of(
     alloc: Global,
     weights: &CompiledWeights,
-    parts: &[Part],
-) -> Result<Vec<PartRow>, AllocError>
+    parts: &[TextElement],
+) -> Result<Vec<ElementRow>, AllocError>
     ensures { IfOk result (λ rows. rows.items ≡ map (row_of weights.now) parts.now) }
 {
     parts.iter().map(|part| weights.row(*part)).collect(alloc)

@@ -8,13 +8,17 @@ ghost use Rattle.coll_key.specs.declared.key_faults.KeyFault.TheVariants.{OutOfM
 
 use crate::key_faults::KeyFault;
 use crate::limits::{MOST_TEXT_CHARACTERS, is_too_long};
-use coll_ranks::{PartRow, Ranks};
+use coll_ranks::{ElementRow, Ranks};
 use std::alloc::{AllocError, Global};
 
 /// The rows of the parts of a text that isn't too long.
 ///
-/// Want of memory hides no text that is too long: where memory is refused, the text is judged by itself.
-pub(crate) fn kept_rows(alloc: Global, ranks: &Ranks, text: &str) -> Result<Vec<PartRow>, KeyFault>
+/// Lack of memory hides no text that is too long: where memory is refused, the text is judged by itself.
+pub(crate) fn kept_rows(
+    alloc: Global,
+    ranks: &Ranks,
+    text: &str,
+) -> Result<Vec<ElementRow>, KeyFault>
     ensures ok { IfOk result (λ rows. rows.items ≡ map (row_of ranks.now.compiled) (parts_of ranks.now (chars text.now))) }
     ensures short { IfOk result (λ _. is_too_long (chars text.now) ≡ false) }
     ensures err { IfErr result (λ fault. fault ≢ OutOfMemory → is_too_long (chars text.now) ≡ true) }
@@ -42,7 +46,11 @@ fn fault_without_memory(text: &str) -> KeyFault
 // The rows of the parts of a text, or nothing where it is too long.
 //
 // Its characters are counted as it is split, since a long text would take a tenth more time if they were counted before.
-fn split_rows(alloc: Global, ranks: &Ranks, text: &str) -> Result<Option<Vec<PartRow>>, AllocError>
+fn split_rows(
+    alloc: Global,
+    ranks: &Ranks,
+    text: &str,
+) -> Result<Option<Vec<ElementRow>>, AllocError>
     ensures long { IfOk result (λ kept. MatchOption kept (is_too_long (chars text.now) ≡ true) (λ rows. is_too_long (chars text.now) ≡ false)) }
     ensures rows { IfOk result (λ kept. IfSome kept (λ rows. rows.items ≡ map (row_of ranks.now.compiled) (parts_of ranks.now (chars text.now)))) }
 {

@@ -16,7 +16,7 @@ use coll_syntax::Rule;
 /// Writes a sort key, without a line feed behind it.
 ///
 /// The numbers have the form of a key: as many zeros as levels, one of them at the end, and for a level with `position` an even
-/// count of numbers. Where it stops, the device has taken a front of the written form.
+/// count of numbers. Where it stops, the device has taken a prefix of the written form.
 #[tactic(auto, unfolding(crate::specs::WrittenKey::written_key))]
 pub fn write_key<W: Sink>(rules: &[Rule], key: &[u64], out: &mut W) -> Result<(), WriteStop>
     requires { has_key_form rules.now key.now ≡ true }

@@ -84,7 +84,7 @@ pub text_refused : (next : LexerState) (o : Open) (line : List ℕ) (bytes : ℕ
 text_refused next o line bytes fault h t =
     fault_answered next (added (line_in o) line bytes) _ _ fault (rw (reading_more next.special o line h) (t.stops []))
 
--- want of memory
+-- lack of memory
 
 -- a reading that has a token or is cut short
 gathered : (next : LexerState) (o : OpenLine) (joined : Bool) (tokens : List Token) (stop : Stop) → gathers_by tokens stop ≡ true → stop_among stop ≡ true → needs_memory (answer_at next o joined tokens stop) ≡ true

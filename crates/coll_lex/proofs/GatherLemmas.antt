@@ -1,4 +1,4 @@
--- Where a scan wants memory: from there on the reading has a token, or is cut short by a fault, a symbol or a string.
+-- Where a scan needs memory: from there on the reading has a token, or is cut short by a fault, a symbol or a string.
 use Rattle.std.proofs.Common.{◌≡◌, ℕ, zero, suc, ◌<◌, ◌==◌, Bool, true, false, if◌then◌else◌, List, [], ◌∷◌, ◌++◌, length, Option, Some, None, Result, Ok, Err, IfErr, OnErr, refl, arith}
 use Rattle.coll_lex.specs.Marked.{Mark, Plain, Literal}
 use Rattle.coll_lex.specs.Tokens.{is_constant, symbol_of, Atom, Bracketed, Unclosed, Bare, before_close, symbol_then, atoms, AtFault, Reading, after_symbol, Quoted, Closed, Stops, with_piece, with_symbol, quoted, word_run, after_word, after_string, reading}

@@ -1,5 +1,5 @@
 -- Which faults a line can have: among its tokens only those of tokens, as a directive only that of directives, past the most
--- lines only one too many or too long, and never a dangling escape, which the end of a text has, nor want of memory.
+-- lines only one too many or too long, and never a dangling escape, which the end of a text has, nor lack of memory.
 use Rattle.std.proofs.Common.{◌≡◌, ℕ, zero, suc, Bool, true, false, List, [], ◌∷◌, length, map, Option, Some, None, Result, Ok, Err, refl, sym, ap, ◌∙◌, inl, inr, eq-eqb}
 use Rattle.std.specs.Prelude.{◌⊎◌, ◌==◌, ◌||◌, nat_lt, if◌then◌else◌, chars}
 use Rattle.std.specs.Str.{is_utf8}
@@ -124,7 +124,7 @@ reading_faults comment zero (Bare (Literal c) ∷ xs) =
     chosen reading_among (is_constant c) (stopped (AtFault CharacterConstant)) (after_word c (word_run comment xs) (λ skip. reading comment skip xs)) refl
     (after_word_faults c (word_run comment xs) (λ skip. reading comment skip xs) (word_faults comment xs) (λ skip. reading_faults comment skip xs))
 
--- the fault of the end of a text, or want of memory: no line has these by itself
+-- the fault of the end of a text, or lack of memory: no line has these by itself
 abbrev pub is_no_line_fault : LexFault → Bool
 is_no_line_fault fault = (lex_fault_number fault == 9) || (lex_fault_number fault == 70)
 
@@ -208,7 +208,7 @@ line_faults count bytes =
 fed_text_faults : (next : LexerState) (o : OpenLine) (line : List ℕ) (d : Option (Result Chars LexFault)) → asked_dangles d ≡ false → answer_dangles (fed_text next o line d) ≡ false
 fed_text_faults next o line d e = neither answer_dangles (is_utf8 line) (fed_as next o line d) (Err NotUtf8) (fed_as_faults next o line d e) refl
 
--- a line that is handed in has neither the fault of a text's end nor, by itself, want of memory
+-- a line that is handed in has neither the fault of a text's end nor, by itself, lack of memory
 fed-line_fault : (s : LexerState) (line : List ℕ) (fault : LexFault) → fed s line ≡ Err fault → is_no_line_fault fault ≡ false
 unfolding fed
 fed-line_fault s line fault e =
@@ -222,7 +222,7 @@ fed-line_fault s line fault e =
 pub fed-not_dangling : (s : LexerState) (line : List ℕ) (fault : LexFault) → fed s line ≡ Err fault → (lex_fault_number fault == 9) ≡ false
 fed-not_dangling s line fault e = (or_parts (lex_fault_number fault == 9) (lex_fault_number fault == 70) (fed-line_fault s line fault e)).0
 
--- a line that is handed in never wants memory by itself
+-- a line that is handed in never needs memory by itself
 pub fed-not_starved : (s : LexerState) (line : List ℕ) (fault : LexFault) → fed s line ≡ Err fault → (lex_fault_number fault == 70) ≡ false
 fed-not_starved s line fault e = (or_parts (lex_fault_number fault == 9) (lex_fault_number fault == 70) (fed-line_fault s line fault e)).1
 
@@ -230,14 +230,14 @@ fed-not_starved s line fault e = (or_parts (lex_fault_number fault == 9) (lex_fa
 directive_fault : (special : Chars) (line : List ℕ) (fault : LexFault) → directive special line ≡ Some (Err fault) → is_no_line_fault fault ≡ false
 directive_fault special line fault e = sym (ap (λ (d : Option (Result Chars LexFault)). asked_dangles d) e) ∙ directive_faults special line
 
--- a directive never wants memory by itself
+-- a directive never needs memory by itself
 pub directive-not_starved : (special : Chars) (line : List ℕ) (fault : LexFault) → directive special line ≡ Some (Err fault) → (lex_fault_number fault == 70) ≡ false
 directive-not_starved special line fault e = (or_parts (lex_fault_number fault == 9) (lex_fault_number fault == 70) (directive_fault special line fault e)).1
 
--- so want of memory is never its fault
+-- so lack of memory is never its fault
 pub directive_spared : (special : Chars) (line : List ℕ) (fault : LexFault) → directive special line ≡ Some (Err fault) → fault ≡ OutOfMemory → ⊥
-directive_spared special line fault e want =
-    let f = rw want at (directive-not_starved special line fault e) in cc
+directive_spared special line fault e lack =
+    let f = rw lack at (directive-not_starved special line fault e) in cc
 
 full_cases : (long : Bool) (answer : Result (Option Line × LexerState) LexFault) (fault : LexFault)
     → unless_fault (if long then Some LineTooLong else (if true then Some TooManyLines else None)) answer ≡ Err fault → (fault ≡ LineTooLong) ⊎ (fault ≡ TooManyLines)

@@ -1,5 +1,5 @@
 -- Lines before the category: each that isn't at fault is counted and leaves no logical line open, one that is longer than a line
--- may be is at fault, and none is for want of memory.
+-- may be is at fault, and none is for lack of memory.
 use Rattle.std.proofs.Common.{◌≡◌, ℕ, ◌<◌, ◌≤◌, Bool, true, false, List, length, Option, Some, None, Result, Ok, Err, refl, sym, subst, ◌∙◌, eq-eqb}
 use Rattle.std.proofs.lemmas.Bool.{false≢true, lt-ltb}
 use Rattle.std.specs.Prelude.{nat_lt, ◌==◌, if◌then◌else◌}
@@ -58,7 +58,7 @@ outside-one s after line begins e few =
 pub outside-closed : (s after : LexerState) (line : List ℕ) (begins : Bool) → outside s line ≡ Ok (begins, after) → after.line ≡ None
 outside-closed s after line begins e = (skipped s after line begins e).closed
 
--- a line never wants memory by itself
+-- a line never needs memory by itself
 pub outside-not_starved : (s : LexerState) (line : List ℕ) (fault : LexFault) → outside s line ≡ Err fault → (lex_fault_number fault == 70) ≡ false
 outside-not_starved s line fault e = subst (Holds s) e (holds s line)
 

@@ -131,11 +131,11 @@ length-hex_digits (suc count) n = ap length (hex_digits-suc count n) ∙ length_
 hex_number-hex_digits : (count n : ℕ) → n < 16 ^ count → hex_number (hex_digits count n) ≡ n
 hex_number-hex_digits zero n small = ap hex_number (hex_digits-zero n) ∙ (omega arith)
 hex_number-hex_digits (suc count) n small =
-    let front : n / 16 < 16 ^ count = (div-lt_iff_lt-mul {k = 16} {x = n} {y = 16 ^ count} (omega arith)).1 (subst (λ m. n < m) (pow-suc 16 count) small) in
+    let prefix : n / 16 < 16 ^ count = (div-lt_iff_lt-mul {k = 16} {x = n} {y = 16 ^ count} (omega arith)).1 (subst (λ m. n < m) (pow-suc 16 count) small) in
     let value : digit_value (hex_digit (n % 16)) ≡ n % 16 = digit_value-hex_digit (n % 16) (omega arith) in
     ap hex_number (hex_digits-suc count n)
     ∙ fold_push (λ m d. 16 * m + digit_value d) 0 (hex_digits count (n / 16)) (hex_digit (n % 16))
-    ∙ (rw (hex_number-hex_digits count (n / 16) front, value) (omega arith))
+    ∙ (rw (hex_number-hex_digits count (n / 16) prefix, value) (omega arith))
 
 -- four or eight digits of a code point spell it
 are_digits-count : (count c : ℕ) → (count ≡ 4) ⊎ (count ≡ 8) → are_digits (hex_digits count c) ≡ true

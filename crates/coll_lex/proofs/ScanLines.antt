@@ -51,31 +51,31 @@ plain_gathers special old c e f t =
     record { reads = λ cs ms. rw (e, not) (t.reads (marks special.escape false cs ++ ms)) }
 
 -- a scan has taken the first characters of a line
-pub record TakesFront (special : Chars) (old : Scan) (line : List ℕ) (n : ℕ) (new : Scan) : Type 0 where
+pub record TakesPrefix (special : Chars) (old : Scan) (line : List ℕ) (n : ℕ) (new : Scan) : Type 0 where
   pub reads : (ms : List Mark) → reading_left special.comment old (marks special.escape false line ++ ms) ≡ reading_left special.comment new (marks special.escape new.escaped (drop n line) ++ ms)
   pub ends : ends_escaped special.escape false line ≡ ends_escaped special.escape new.escaped (drop n line)
 
-pub front_none : (special : Chars) (s : Scan) (line : List ℕ) → s.escaped ≡ false → TakesFront special s line 0 s
-front_none special s line e = record { reads = λ ms. rw e refl; ends = rw e refl }
+pub prefix_none : (special : Chars) (s : Scan) (line : List ℕ) → s.escaped ≡ false → TakesPrefix special s line 0 s
+prefix_none special s line e = record { reads = λ ms. rw e refl; ends = rw e refl }
 
 -- where the next character stands
-at_front : (line : List ℕ) (n c : ℕ) → (n < length line) × (c ≡ get_or line n c) → drop n line ≡ c ∷ drop (n + 1) line
-at_front line n c h = drop_more line n c h.0 ∙ ap (λ x. x ∷ drop (n + 1) line) (sym h.1)
+at_prefix : (line : List ℕ) (n c : ℕ) → (n < length line) × (c ≡ get_or line n c) → drop n line ≡ c ∷ drop (n + 1) line
+at_prefix line n c h = drop_more line n c h.0 ∙ ap (λ x. x ∷ drop (n + 1) line) (sym h.1)
 
-pub front_more : (special : Chars) (old mid new : Scan) (line : List ℕ) (n c : ℕ) → TakesFront special old line n mid → (n < length line) × (c ≡ get_or line n c) → TakesCharacter special mid c new → TakesFront special old line (n + 1) new
-front_more special old mid new line n c f h t = record {
-  reads = λ ms. f.reads ms ∙ (rw (at_front line n c h) (t.reads (drop (n + 1) line) ms));
-  ends = f.ends ∙ (rw (at_front line n c h) (t.ends (drop (n + 1) line)));
+pub prefix_more : (special : Chars) (old mid new : Scan) (line : List ℕ) (n c : ℕ) → TakesPrefix special old line n mid → (n < length line) × (c ≡ get_or line n c) → TakesCharacter special mid c new → TakesPrefix special old line (n + 1) new
+prefix_more special old mid new line n c f h t = record {
+  reads = λ ms. f.reads ms ∙ (rw (at_prefix line n c h) (t.reads (drop (n + 1) line) ms));
+  ends = f.ends ∙ (rw (at_prefix line n c h) (t.ends (drop (n + 1) line)));
 }
 
-pub front_refused : (special : Chars) (old mid : Scan) (line : List ℕ) (n c : ℕ) (fault : LexFault) → TakesFront special old line n mid → (n < length line) × (c ≡ get_or line n c) → RefusesCharacter special mid c fault → RefusesLine special old line fault
-front_refused special old mid line n c fault f h t = record {
-  stops = λ ms. rw (f.reads ms, at_front line n c h) (t.stops (drop (n + 1) line) ms);
+pub prefix_refused : (special : Chars) (old mid : Scan) (line : List ℕ) (n c : ℕ) (fault : LexFault) → TakesPrefix special old line n mid → (n < length line) × (c ≡ get_or line n c) → RefusesCharacter special mid c fault → RefusesLine special old line fault
+prefix_refused special old mid line n c fault f h t = record {
+  stops = λ ms. rw (f.reads ms, at_prefix line n c h) (t.stops (drop (n + 1) line) ms);
 }
 
-pub front_gathers : (special : Chars) (old mid : Scan) (line : List ℕ) (n c : ℕ) → TakesFront special old line n mid → (n < length line) × (c ≡ get_or line n c) → GathersCharacter special mid c → GathersLine special old line
-front_gathers special old mid line n c f h t = record {
-  reads = λ ms. rw (f.reads ms, at_front line n c h) (t.reads (drop (n + 1) line) ms);
+pub prefix_gathers : (special : Chars) (old mid : Scan) (line : List ℕ) (n c : ℕ) → TakesPrefix special old line n mid → (n < length line) × (c ≡ get_or line n c) → GathersCharacter special mid c → GathersLine special old line
+prefix_gathers special old mid line n c f h t = record {
+  reads = λ ms. rw (f.reads ms, at_prefix line n c h) (t.reads (drop (n + 1) line) ms);
 }
 
 none_marked : (escape : ℕ) (escaped : Bool) (line : List ℕ) (ms : List Mark) → line ≡ [] → marks escape escaped line ++ ms ≡ ms
@@ -86,8 +86,8 @@ none_ends : (escape : ℕ) (escaped : Bool) (line : List ℕ) → line ≡ [] �
 unfolding ends_escaped
 none_ends escape escaped line e = rw e refl
 
-pub front_all : (special : Chars) (old new : Scan) (line : List ℕ) (n : ℕ) → TakesFront special old line n new → length line ≤ n → TakesLine special old line new
-front_all special old new line n f h =
+pub prefix_all : (special : Chars) (old new : Scan) (line : List ℕ) (n : ℕ) → TakesPrefix special old line n new → length line ≤ n → TakesLine special old line new
+prefix_all special old new line n f h =
     let none = drop_all n line h in
     record {
       reads = λ ms. f.reads ms ∙ ap (reading_left special.comment new) (none_marked special.escape new.escaped (drop n line) ms none);

@@ -89,10 +89,10 @@ encode-high c high =
     let three = (128 + c / 4096 % 64) ∷ two in
     let last : All P one = push (128 + c % 64) [] (omega arith) (All-nil P) in
     let middle : All P two = push (128 + c / 64 % 64) one (omega arith) last in
-    let front : All P three = push (128 + c / 4096 % 64) two (omega arith) middle in
+    let prefix : All P three = push (128 + c / 4096 % 64) two (omega arith) middle in
     let of_two : All P ((192 + c / 64) ∷ one) = push (192 + c / 64) one (omega arith) last in
     let of_three : All P ((224 + c / 4096) ∷ two) = push (224 + c / 4096) two (omega arith) middle in
-    let of_four : All P ((240 + c / 262144) ∷ three) = push (240 + c / 262144) three (omega arith) front in
+    let of_four : All P ((240 + c / 262144) ∷ three) = push (240 + c / 262144) three (omega arith) prefix in
     let either : (p q : Bool) → All P (cond p ((192 + c / 64) ∷ one) (cond q ((224 + c / 4096) ∷ two) ((240 + c / 262144) ∷ three))) =
     elim [ true ↦ λ q. of_two | false ↦ elim [ true ↦ of_three | false ↦ of_four ] ] in
     rw (le-ltb c 128 high) (either (ltb c 2048) (ltb c 65536))

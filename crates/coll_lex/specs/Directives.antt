@@ -29,7 +29,7 @@ abbrev pub with_escape : Chars → Option ℕ → Result Chars LexFault
 with_escape special None = Err BadCharDirective
 with_escape special (Some c) = if c == special.comment then Err BadCharDirective else Ok (record special { escape = c })
 
--- what a directive asks for, by what follows `comment_char` or `escape_char` at the line's front
+-- what a directive asks for, by what follows `comment_char` or `escape_char` at the line's prefix
 abbrev pub asked : Chars → (comment escape : Option (List ℕ)) → Option (Result Chars LexFault)
 asked special (Some operand) escape = Some (with_comment special (named_character (past_blanks operand)))
 asked special None (Some operand) = Some (with_escape special (named_character (past_blanks operand)))

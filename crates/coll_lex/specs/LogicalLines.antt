@@ -185,7 +185,7 @@ needs_memory (Err fault) = is_among_tokens fault
 unfoldable pub takes_memory : LexerState → List ℕ → Bool
 takes_memory s line = needs_memory (fed s line)
 
--- the answer to a line, which is refused for want of memory where the choice says so and memory is taken for it
+-- the answer to a line, which is refused for lack of memory where the choice says so and memory is taken for it
 unfoldable pub served : (starved : Bool) → LexerState → List ℕ → Result (Option Line × LexerState) LexFault
 served true s line = if takes_memory s line then Err OutOfMemory else fed s line
 served false s line = fed s line

@@ -58,7 +58,7 @@ left_in_mode comment mode.Text partial pieces ms = string_left comment pieces (a
 left_in_mode comment mode.SymbolInText partial pieces ms = string_left comment pieces (atoms_in partial ms)
 left_in_mode comment mode.Comment partial pieces ms = stopped AtComment
 
--- the reading of a text whose front has been scanned
+-- the reading of a text whose prefix has been scanned
 unfoldable pub reading_left : (comment : ℕ) → Scan → List Mark → Reading
 reading_left comment s ms = prefixed s.tokens (left_in_mode comment s.mode s.partial s.pieces ms)
 

@@ -2,7 +2,7 @@
 //!
 //! Each fault has a number and a name, which replies and messages show. A fault type lists the faults that its
 //! calls can answer and no others, so a new fault is a new variant with its number and its name here and in
-//! the definitions that the contracts cite. Want of memory is one fault among the others, by `From`.
+//! the definitions that the contracts cite. Lack of memory is one fault among the others, by `From`.
 
 ghost use Rattle.std.specs.Prelude.{◌≡◌};
 ghost use Rattle.coll_lex.specs.Faults.{lex_fault_number, lex_fault_name, ends_text};

@@ -182,7 +182,7 @@ impl Lexer {
     /// others, it isn't UTF-8, it is a directive at fault, and then the first fault of its logical line from the
     /// left. A fault drops the logical line so far, and the next line handed in begins another.
     ///
-    /// Memory is taken for tokens and for a line that is continued. So want of memory may stand in place of a
+    /// Memory is taken for tokens and for a line that is continued. So lack of memory may stand in place of a
     /// logical line, of a line that the next one continues, or of a fault among tokens, and of nothing else: a line
     /// that is too long, one too many, no UTF-8 or a directive, or that has no token, takes none.
     pub fn feed(&mut self, line: &[u8]) -> Result<Option<Line>, LexFault>

@@ -25,7 +25,7 @@ const MOST_SYMBOL_BYTES: usize = 2 * MOST_NAME_BYTES + 2;
 /// Writes a name between `<` and `>`, with `/` before each `>` and `/` in it, as one write where it is short enough for
 /// a name.
 ///
-/// Where it stops, the device has taken a front of this.
+/// Where it stops, the device has taken a prefix of this.
 pub fn write_symbol<W: Sink>(out: &mut W, name: &str) -> Result<(), WriteStop>
     ensures sent { Sends (W.taken out.old) (W.taken out.new)
         (encode_utf8_all (spelled_symbol (chars name.now) [])) result }
@@ -40,7 +40,7 @@ pub fn write_symbol<W: Sink>(out: &mut W, name: &str) -> Result<(), WriteStop>
 /// Writes a character as `<U`, its code point in upper-case hexadecimal, and `>`. There are four
 /// digits up to FFFF, and eight above. It is one write.
 ///
-/// Where it stops, the device has taken a front of this.
+/// Where it stops, the device has taken a prefix of this.
 pub fn write_char<W: Sink>(out: &mut W, c: char) -> Result<(), WriteStop>
     ensures sent { Sends (W.taken out.old) (W.taken out.new)
         (encode_utf8_all (spelled_code c [])) result }

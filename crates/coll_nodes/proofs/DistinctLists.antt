@@ -26,7 +26,7 @@ module _ {X : Type 0} (same : X → X → Bool) (symmetric : (a b : X) → same 
         first_apart x [] y ys e = (neither _ _ e).0
         first_apart x (z ∷ xs) y ys e = first_apart x xs y ys (neither _ _ e).1
 
-  -- what is in a front of a list is in the list
-  pub absent_front : (x : X) (xs ys : List X) → list_any (same x) (xs ++ ys) ≡ false → list_any (same x) xs ≡ false
-  absent_front x [] ys e = refl
-  absent_front x (y ∷ xs) ys e = let h = neither _ _ e in nor _ _ h.0 (absent_front x xs ys h.1)
+  -- what is in a prefix of a list is in the list
+  pub absent_prefix : (x : X) (xs ys : List X) → list_any (same x) (xs ++ ys) ≡ false → list_any (same x) xs ≡ false
+  absent_prefix x [] ys e = refl
+  absent_prefix x (y ∷ xs) ys e = let h = neither _ _ e in nor _ _ h.0 (absent_prefix x xs ys h.1)

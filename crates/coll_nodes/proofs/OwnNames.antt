@@ -271,10 +271,10 @@ own_entry_known declared entry distinct known = ap (λ weights. record entry { w
 abbrev pub NamesKnown : List Declaration → Entry → Type 0
 NamesKnown declared entry = All (IsKnown declared) (ids_named entry)
 
--- what holds of each of a list holds of each of a front of it, and of what is behind that
-all_front : {X : Type 0} (P : X → Type 0) (xs ys : List X) → All P (xs ++ ys) → All P xs
-all_front P [] ys h = All-nil P
-all_front P (x ∷ xs) ys h = All-cons P x xs (All-head P x (xs ++ ys) h) (all_front P xs ys (All-tail P x (xs ++ ys) h))
+-- what holds of each of a list holds of each of a prefix of it, and of what is behind that
+all_prefix : {X : Type 0} (P : X → Type 0) (xs ys : List X) → All P (xs ++ ys) → All P xs
+all_prefix P [] ys h = All-nil P
+all_prefix P (x ∷ xs) ys h = All-cons P x xs (All-head P x (xs ++ ys) h) (all_prefix P xs ys (All-tail P x (xs ++ ys) h))
 
 all_back : {X : Type 0} (P : X → Type 0) (xs ys : List X) → All P (xs ++ ys) → All P ys
 all_back P [] ys h = h
@@ -290,7 +290,7 @@ own_entries_known declared (entry ∷ entries) distinct known =
 pub own_sections_known : (declared : List Declaration) (sections : List Section) → AreDistinct same_name (names_of declared) → All (NamesKnown declared) (joined_entries sections) → own_sections declared sections ≡ sections
 own_sections_known declared [] distinct known = refl
 own_sections_known declared (section ∷ sections) distinct known =
-    λ i. record section { entries = own_entries_known declared section.entries distinct (all_front (NamesKnown declared) section.entries (joined_entries sections) known) i }
+    λ i. record section { entries = own_entries_known declared section.entries distinct (all_prefix (NamesKnown declared) section.entries (joined_entries sections) known) i }
     ∷ own_sections_known declared sections distinct (all_back (NamesKnown declared) section.entries (joined_entries sections) known) i
 
 -- a well-formed table speaks of own names alone
@@ -312,9 +312,9 @@ meant_all declared new meant means = behind [] declared meant means where
 -- each declaration means a symbol that is declared before it, if it is a second name
 pub meant_before : (before : List Declaration) (new : Declaration) (later : List Declaration) → MeanSymbols (before ++ new ∷ later) → means_no_symbol before new ≡ false
 meant_before before new later meant = behind [] before meant where
-  behind : (front middle : List Declaration) → MeanSymbolsBehind front (middle ++ new ∷ later) → means_no_symbol (front ++ middle) new ≡ false
-  behind front [] meant = ap (λ all. means_no_symbol all new) (append-nil front) ∙ meant.0
-  behind front (first ∷ middle) meant = ap (λ all. means_no_symbol all new) (sym (append_assoc front (first ∷ []) middle)) ∙ behind (front ++ first ∷ []) middle meant.1
+  behind : (prefix middle : List Declaration) → MeanSymbolsBehind prefix (middle ++ new ∷ later) → means_no_symbol (prefix ++ middle) new ≡ false
+  behind prefix [] meant = ap (λ all. means_no_symbol all new) (append-nil prefix) ∙ meant.0
+  behind prefix (first ∷ middle) meant = ap (λ all. means_no_symbol all new) (sym (append_assoc prefix (first ∷ []) middle)) ∙ behind (prefix ++ first ∷ []) middle meant.1
 
 -- what means a symbol means something
 pub means_something : (declared : List Declaration) (new : Declaration) → means_no_symbol declared new ≡ false → means_nothing declared new ≡ false

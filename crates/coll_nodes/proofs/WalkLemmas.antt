@@ -13,34 +13,34 @@ use Rattle.coll_order.proofs.Sameness.{by_test, not_both, same_node_is, same_nod
 use Rattle.coll_order.proofs.RingLemmas.{distinct_ring, is_in_ring}
 use Rattle.coll_nodes.specs.Bodies.{IsLaidOut}
 use Rattle.coll_nodes.specs.TableLayout.{TableLayout, content_of, nodes_in, entries_in, sections_ring, declarations_ring, sections_at, declared_at, entry_in, section_in, declaration_in, if_any}
-use Rattle.coll_nodes.specs.Walks.{MetSection, MetEntry, met}
-use Rattle.coll_nodes.specs.WalkStates.{ComesNext, from_node, left_of, StandsIfAny, AreDeclared, ArePlaced, AreNamed, AreSections, IsSectionNode, HasSections, HasDeclarations, contents_of, met_left, IsOnWay, declared_left, IsOnWayDeclared}
+use Rattle.coll_nodes.specs.Walks.{VisitedSection, VisitedEntry, visited}
+use Rattle.coll_nodes.specs.WalkStates.{ComesNext, from_node, left_of, StandsIfAny, AreDeclared, ArePlaced, AreNamed, AreSections, IsSectionNode, HasSections, HasDeclarations, contents_of, visited_left, IsOnWay, declared_left, IsOnWayDeclared}
 use Rattle.coll_nodes.specs.declared.declarations.Declaration.{Declaration}
 use Rattle.coll_nodes.specs.declared.entries.Entry.{Entry}
 use Rattle.coll_nodes.specs.declared.contents.Content.TheVariants.{Declared, Begun, Placed}
 
 -- a list is cut at a node of it
-pub cut_at : (nodes : List NodeId) (node : NodeId) → has_node nodes node ≡ true → (front : List NodeId) × (rest : List NodeId) × (nodes ≡ front ++ node ∷ rest) × (from_node nodes node ≡ node ∷ rest)
+pub cut_at : (nodes : List NodeId) (node : NodeId) → has_node nodes node ≡ true → (prefix : List NodeId) × (rest : List NodeId) × (nodes ≡ prefix ++ node ∷ rest) × (from_node nodes node ≡ node ∷ rest)
 cut_at [] node there = not_both there refl
 cut_at (first ∷ nodes) node there =
-    by_test (λ b. same_node node first ≡ b → (front : List NodeId) × (rest : List NodeId) × (first ∷ nodes ≡ front ++ node ∷ rest) × (cond b (first ∷ nodes) (from_node nodes node) ≡ node ∷ rest)) (same_node node first)
+    by_test (λ b. same_node node first ≡ b → (prefix : List NodeId) × (rest : List NodeId) × (first ∷ nodes ≡ prefix ++ node ∷ rest) × (cond b (first ∷ nodes) (from_node nodes node) ≡ node ∷ rest)) (same_node node first)
     (λ on e. let same = ap (λ n. n ∷ nodes) (sym (same_node_is node first on)) in ([], nodes, same, same))
     (λ off e. let later = cut_at nodes node (sym (ap (λ b. b || has_node nodes node) off) ∙ there) in
     (first ∷ later.0, later.1, ap (λ ns. first ∷ ns) later.2, later.3)) refl
 
 -- from a node on, a list in which each stands once has it and what follows it
-from_here : (front rest : List NodeId) (node : NodeId) → AreDistinct (front ++ node ∷ rest) → from_node (front ++ node ∷ rest) node ≡ node ∷ rest
+from_here : (prefix rest : List NodeId) (node : NodeId) → AreDistinct (prefix ++ node ∷ rest) → from_node (prefix ++ node ∷ rest) node ≡ node ∷ rest
 from_here [] rest node d = ap (λ b. cond b (node ∷ rest) (from_node rest node)) (same_node_itself node)
-from_here (first ∷ front) rest node d =
-    ap (λ b. cond b (first ∷ (front ++ node ∷ rest)) (from_node (front ++ node ∷ rest) node)) (other_node_turned first node (apart front d.0)) ∙ from_here front rest node d.1 where
-      apart : (front : List NodeId) → has_node (front ++ node ∷ rest) first ≡ false → same_node first node ≡ false
+from_here (first ∷ prefix) rest node d =
+    ap (λ b. cond b (first ∷ (prefix ++ node ∷ rest)) (from_node (prefix ++ node ∷ rest) node)) (other_node_turned first node (apart prefix d.0)) ∙ from_here prefix rest node d.1 where
+      apart : (prefix : List NodeId) → has_node (prefix ++ node ∷ rest) first ≡ false → same_node first node ≡ false
       apart [] e = (neither (same_node first node) _ e).0
-      apart (x ∷ front) e = apart front (neither (same_node first x) _ e).1
+      apart (x ∷ prefix) e = apart prefix (neither (same_node first x) _ e).1
 
 -- a list has what stands between two parts of it
-has_here : (front rest : List NodeId) (node : NodeId) → has_node (front ++ node ∷ rest) node ≡ true
+has_here : (prefix rest : List NodeId) (node : NodeId) → has_node (prefix ++ node ∷ rest) node ≡ true
 has_here [] rest node = ap (λ b. b || has_node rest node) (same_node_itself node)
-has_here (first ∷ front) rest node = either (same_node node first) _ (has_here front rest node) where
+has_here (first ∷ prefix) rest node = either (same_node node first) _ (has_here prefix rest node) where
   either : (a b : Bool) → b ≡ true → (a || b) ≡ true
   either true b e = refl
   either false b e = e
@@ -68,22 +68,22 @@ module _ (layout : TableLayout) (ring : RingId) (node : NodeId) (next : Option N
   left_next =
       let cut = cut_at (nodes_in layout ring) node there in
       cut.3 ∙ ap (λ rest. node ∷ rest) (sym (ap (left_of layout ring) (comes ring.index cut.0 cut.1 cut.2) ∙ behind cut.0 cut.1 cut.2)) where
-        behind : (front rest : List NodeId) → nodes_in layout ring ≡ front ++ node ∷ rest → left_of layout ring (first_in rest) ≡ rest
-        behind front [] e = refl
-        behind front (first ∷ rest) e =
-            let whole : nodes_in layout ring ≡ (front ++ node ∷ []) ++ first ∷ rest = e ∙ sym (append_assoc front (node ∷ []) (first ∷ rest)) in
-            ap (λ nodes. from_node nodes first) whole ∙ from_here (front ++ node ∷ []) rest first (subst AreDistinct whole (distinct_ring layout.rings ring.index laid.once))
+        behind : (prefix rest : List NodeId) → nodes_in layout ring ≡ prefix ++ node ∷ rest → left_of layout ring (first_in rest) ≡ rest
+        behind prefix [] e = refl
+        behind prefix (first ∷ rest) e =
+            let whole : nodes_in layout ring ≡ (prefix ++ node ∷ []) ++ first ∷ rest = e ∙ sym (append_assoc prefix (node ∷ []) (first ∷ rest)) in
+            ap (λ nodes. from_node nodes first) whole ∙ from_here (prefix ++ node ∷ []) rest first (subst AreDistinct whole (distinct_ring layout.rings ring.index laid.once))
 
   -- and the next stands there too
   pub stands_next : StandsIfAny layout ring next
   stands_next =
       let cut = cut_at (nodes_in layout ring) node there in
       subst (StandsIfAny layout ring) (sym (comes ring.index cut.0 cut.1 cut.2)) (behind cut.0 cut.1 cut.2) where
-        behind : (front rest : List NodeId) → nodes_in layout ring ≡ front ++ node ∷ rest → StandsIfAny layout ring (first_in rest)
-        behind front [] e = tt
-        behind front (first ∷ rest) e =
-            let whole : nodes_in layout ring ≡ (front ++ node ∷ []) ++ first ∷ rest = e ∙ sym (append_assoc front (node ∷ []) (first ∷ rest)) in
-            ap (λ nodes. has_node nodes first) whole ∙ has_here (front ++ node ∷ []) rest first
+        behind : (prefix rest : List NodeId) → nodes_in layout ring ≡ prefix ++ node ∷ rest → StandsIfAny layout ring (first_in rest)
+        behind prefix [] e = tt
+        behind prefix (first ∷ rest) e =
+            let whole : nodes_in layout ring ≡ (prefix ++ node ∷ []) ++ first ∷ rest = e ∙ sym (append_assoc prefix (node ∷ []) (first ∷ rest)) in
+            ap (λ nodes. has_node nodes first) whole ∙ has_here (prefix ++ node ∷ []) rest first
 
 module _ (layout : TableLayout) (ring : RingId) (node : NodeId) where
   module _ (section : Option NodeId) (on : IsOnWay layout ring (Some node) section) where
@@ -103,11 +103,11 @@ module _ (layout : TableLayout) (ring : RingId) (node : NodeId) where
       }
 
       -- and met is the entry
-      pub met_entry : (entry : Entry) → content_of layout node ≡ Some (Placed entry) → met_left layout ring (Some node) section ≡ MetEntry entry ∷ met_left layout ring next section
-      met_entry entry is =
-          let sections = met (flat_map (section_in layout) (contents_of layout (left_of layout sections_ring section))) in
-          ap (λ nodes. map MetEntry (flat_map entry_in (contents_of layout nodes)) ++ sections) (left_next layout ring node next on.laid on.entry_there comes)
-          ∙ ap (λ content. map MetEntry (flat_map entry_in (if_any content ++ contents_of layout (left_of layout ring next))) ++ sections) is
+      pub visited_entry : (entry : Entry) → content_of layout node ≡ Some (Placed entry) → visited_left layout ring (Some node) section ≡ VisitedEntry entry ∷ visited_left layout ring next section
+      visited_entry entry is =
+          let sections = visited (flat_map (section_in layout) (contents_of layout (left_of layout sections_ring section))) in
+          ap (λ nodes. map VisitedEntry (flat_map entry_in (contents_of layout nodes)) ++ sections) (left_next layout ring node next on.laid on.entry_there comes)
+          ∙ ap (λ content. map VisitedEntry (flat_map entry_in (if_any content ++ contents_of layout (left_of layout ring next))) ++ sections) is
 
 -- two readings of one node agree
 same_ring : (layout : TableLayout) (node : NodeId) (a b : Option (List ℕ)) (p q : RingId) → content_of layout node ≡ Some (Begun a p) → content_of layout node ≡ Some (Begun b q) → q ≡ p
@@ -116,9 +116,9 @@ same_ring layout node a b p q e f = ring_in (sym f ∙ e) where
   ring_in e = cc
 
 -- the section that a node is, and its entries
-section_met : (layout : TableLayout) (node : NodeId) (nodes : List NodeId) (name : Option (List ℕ)) (ring : RingId) → content_of layout node ≡ Some (Begun name ring)
+section_visited : (layout : TableLayout) (node : NodeId) (nodes : List NodeId) (name : Option (List ℕ)) (ring : RingId) → content_of layout node ≡ Some (Begun name ring)
     → flat_map (section_in layout) (contents_of layout (node ∷ nodes)) ≡ record { name = name; entries = entries_in layout ring } ∷ flat_map (section_in layout) (contents_of layout nodes)
-section_met layout node nodes name ring is = ap (λ content. flat_map (section_in layout) (if_any content ++ contents_of layout nodes)) is
+section_visited layout node nodes name ring is = ap (λ content. flat_map (section_in layout) (if_any content ++ contents_of layout nodes)) is
 
 module _ (layout : TableLayout) (ring : RingId) (node : NodeId) (on : IsOnWay layout ring None (Some node)) where
   -- the next section is one
@@ -143,11 +143,11 @@ module _ (layout : TableLayout) (ring : RingId) (node : NodeId) (on : IsOnWay la
       }
 
       -- and met is the name
-      pub met_section : met_left layout ring None (Some node) ≡ MetSection name ∷ met_left layout entries first next
-      met_section =
-          ap (λ nodes. met (flat_map (section_in layout) (contents_of layout nodes))) (left_next layout sections_ring node next on.laid on.section_there comes)
-          ∙ (ap met (section_met layout node (left_of layout sections_ring next) (Some name) entries is)
-          ∙ ap (λ nodes. MetSection name ∷ (map MetEntry (flat_map entry_in (contents_of layout nodes)) ++ met (flat_map (section_in layout) (contents_of layout (left_of layout sections_ring next)))))
+      pub visited_section : visited_left layout ring None (Some node) ≡ VisitedSection name ∷ visited_left layout entries first next
+      visited_section =
+          ap (λ nodes. visited (flat_map (section_in layout) (contents_of layout nodes))) (left_next layout sections_ring node next on.laid on.section_there comes)
+          ∙ (ap visited (section_visited layout node (left_of layout sections_ring next) (Some name) entries is)
+          ∙ ap (λ nodes. VisitedSection name ∷ (map VisitedEntry (flat_map entry_in (contents_of layout nodes)) ++ visited (flat_map (section_in layout) (contents_of layout (left_of layout sections_ring next)))))
           (sym (ap (left_of layout entries) begins ∙ left_first layout entries)))
 
 module _ (layout : TableLayout) (laid : IsLaidOut layout) (has : HasSections layout) (node : NodeId) (stands : first_in (nodes_in layout sections_ring) ≡ Some node) where
@@ -177,11 +177,11 @@ module _ (layout : TableLayout) (laid : IsLaidOut layout) (has : HasSections lay
         }
 
     -- and meets all sections
-    pub met_first : met_left layout entries first next ≡ met (sections_at layout)
+    pub visited_first : visited_left layout entries first next ≡ visited (sections_at layout)
     unfolding sections_at
-    met_first =
-        ap (λ nodes. map MetEntry (flat_map entry_in (contents_of layout nodes)) ++ met (flat_map (section_in layout) (contents_of layout (left_of layout sections_ring next)))) (ap (left_of layout entries) begins ∙ left_first layout entries)
-        ∙ sym (ap (λ nodes. met (flat_map (section_in layout) (contents_of layout nodes))) all_sections ∙ ap met (section_met layout node (left_of layout sections_ring next) None entries is))
+    visited_first =
+        ap (λ nodes. map VisitedEntry (flat_map entry_in (contents_of layout nodes)) ++ visited (flat_map (section_in layout) (contents_of layout (left_of layout sections_ring next)))) (ap (left_of layout entries) begins ∙ left_first layout entries)
+        ∙ sym (ap (λ nodes. visited (flat_map (section_in layout) (contents_of layout nodes))) all_sections ∙ ap visited (section_visited layout node (left_of layout sections_ring next) None entries is))
 
 module _ (layout : TableLayout) (node : NodeId) (on : IsOnWayDeclared layout (Some node)) where
   -- the next declaration is one
@@ -196,8 +196,8 @@ module _ (layout : TableLayout) (node : NodeId) (on : IsOnWayDeclared layout (So
       declared = (subst (AreDeclared layout) (left_next layout declarations_ring node next on.laid on.there comes) on.declared).1;
     }
 
-    pub met_declared : (declaration : Declaration) → content_of layout node ≡ Some (Declared declaration) → declared_left layout (Some node) ≡ declaration ∷ declared_left layout next
-    met_declared declaration is =
+    pub visited_declared : (declaration : Declaration) → content_of layout node ≡ Some (Declared declaration) → declared_left layout (Some node) ≡ declaration ∷ declared_left layout next
+    visited_declared declaration is =
         ap (λ nodes. flat_map declaration_in (contents_of layout nodes)) (left_next layout declarations_ring node next on.laid on.there comes)
         ∙ ap (λ content. flat_map declaration_in (if_any content ++ contents_of layout (left_of layout declarations_ring next))) is
 
@@ -210,9 +210,9 @@ module _ (layout : TableLayout) (next : Option NodeId) (begins : next ≡ first_
     declared = subst (AreDeclared layout) (sym (ap (left_of layout declarations_ring) begins ∙ left_first layout declarations_ring)) has.declared;
   }
 
-  pub met_first_declared : declared_left layout next ≡ declared_at layout
+  pub visited_first_declared : declared_left layout next ≡ declared_at layout
   unfolding declared_at
-  met_first_declared = ap (λ nodes. flat_map declaration_in (contents_of layout nodes)) (ap (left_of layout declarations_ring) begins ∙ left_first layout declarations_ring)
+  visited_first_declared = ap (λ nodes. flat_map declaration_in (contents_of layout nodes)) (ap (left_of layout declarations_ring) begins ∙ left_first layout declarations_ring)
 
 -- a call that gives one item leaves fewer
 pub goes_on : {A B : Type 0} (r : A) (s t : List B) (x : B) → s ≡ x ∷ t → MakesProgress (λ _. Unit {0}) (item_count (λ left. left)) s (Some r) t

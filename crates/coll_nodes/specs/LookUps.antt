@@ -27,6 +27,6 @@ abbrev pub AddsId : List Id → List Id → Id → Type 0
 AddsId old new id = (other : Id) → has_id new other ≡ (same_id other id || has_id old other)
 
 -- the identifiers of a look-up: its names, its characters, and UNDEFINED where it has that
-abbrev pub places_of : List (List ℕ) → List ℕ → Bool → List Id
-places_of names characters undefined =
+abbrev pub ids_in_set : List (List ℕ) → List ℕ → Bool → List Id
+ids_in_set names characters undefined =
     map Named names ++ (map Char characters ++ (if undefined then Undefined ∷ [] else []))

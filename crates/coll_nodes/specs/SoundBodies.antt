@@ -135,7 +135,7 @@ end_in layout index = end_of (head_of index) (ring_at layout index)
 
 -- the section that is the last, and its ring
 pub record IsLastSection (layout : TableLayout) (section : NodeId) (name : Option (List ℕ)) (ring : RingId) : Type 0 where
-  pub last : (front : List NodeId) × (ring_at layout 1 ≡ front ++ section ∷ [])
+  pub last : (prefix : List NodeId) × (ring_at layout 1 ≡ prefix ++ section ∷ [])
   pub begun : content_of layout section ≡ Some (content.Begun name ring)
 
 -- the place behind the last entry of the last section

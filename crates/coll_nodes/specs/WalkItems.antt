@@ -1,6 +1,6 @@
 -- What an item of a walk is.
 use Rattle.std.specs.Prelude.{chars}
-use Rattle.coll_nodes.specs.Walks.{Met, MetSection, MetEntry}
+use Rattle.coll_nodes.specs.Walks.{Visited, VisitedSection, VisitedEntry}
 use Rattle.coll_nodes.specs.declared.declarations.Declaration.{Declaration}
 use Rattle.coll_nodes.specs.declared.declarations.Declaration.TheVariants as declaration
 use Rattle.coll_nodes.specs.declared.walks.WalkItem.{WalkItem}
@@ -8,10 +8,10 @@ use Rattle.coll_nodes.specs.declared.walks.WalkItem.TheVariants as item
 use Rattle.coll_nodes.specs.declared.walks.DeclaredItem.{DeclaredItem}
 use Rattle.coll_nodes.specs.declared.walks.DeclaredItem.TheVariants as declared
 
--- what an item says that one meets
-abbrev pub met_by : WalkItem → Met
-met_by (item.Section name) = MetSection (chars name.now)
-met_by (item.Entry entry) = MetEntry entry.now
+-- what an item says that one visits
+abbrev pub visited_by : WalkItem → Visited
+visited_by (item.Section name) = VisitedSection (chars name.now)
+visited_by (item.Entry entry) = VisitedEntry entry.now
 
 -- what an item says that a table declares
 abbrev pub declared_by : DeclaredItem → Declaration

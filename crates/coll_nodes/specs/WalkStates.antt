@@ -1,4 +1,4 @@
--- Where a walk stands: what is left of a ring from a node on, and what has to hold of nodes that are met.
+-- Where a walk stands: what is left of a ring from a node on, and what has to hold of nodes that are visited.
 use Rattle.std.specs.Prelude.{◌≡◌, ◌<◌, ℕ, true, if◌then◌else◌, List, [], ◌∷◌, ◌++◌, Option, Some, None, length, map, slice_index_or}
 use Rattle.std.specs.List.{flat_map}
 use Rattle.coll_order.specs.Lists.{same_node, has_node, first_in}
@@ -6,7 +6,7 @@ use Rattle.coll_order.specs.declared.places.NodeId.{NodeId}
 use Rattle.coll_order.specs.declared.places.RingId.{RingId}
 use Rattle.coll_nodes.specs.Bodies.{IsLaidOut}
 use Rattle.coll_nodes.specs.TableLayout.{TableLayout, content_of, nodes_in, if_any, declarations_ring, sections_ring, declaration_in, entry_in, section_in}
-use Rattle.coll_nodes.specs.Walks.{Met, MetEntry, met}
+use Rattle.coll_nodes.specs.Walks.{Visited, VisitedEntry, visited}
 use Rattle.coll_nodes.specs.declared.declarations.Declaration.{Declaration}
 use Rattle.coll_nodes.specs.declared.entries.Entry.{Entry}
 use Rattle.coll_nodes.specs.declared.contents.Content.{Content}
@@ -15,7 +15,7 @@ use Rattle.coll_nodes.specs.declared.contents.Content.TheVariants.{Declared, Beg
 -- what stands directly after a node in its ring
 abbrev pub ComesNext : List (List NodeId) → NodeId → Option NodeId → Type 0
 ComesNext rings node next =
-    (ring : ℕ) (front rest : List NodeId) → slice_index_or rings ring [] ≡ front ++ node ∷ rest → next ≡ first_in rest
+    (ring : ℕ) (prefix rest : List NodeId) → slice_index_or rings ring [] ≡ prefix ++ node ∷ rest → next ≡ first_in rest
 
 -- a list from a node on
 abbrev pub from_node : List NodeId → NodeId → List NodeId
@@ -71,14 +71,14 @@ pub record HasDeclarations (layout : TableLayout) : Type 0 where
   pub ring : declarations_ring.index < length layout.rings
   pub declared : AreDeclared layout (nodes_in layout declarations_ring)
 
--- what is met of these entries, and then of these sections
-abbrev pub met_at : TableLayout → (entries sections : List NodeId) → List Met
-met_at layout entries sections =
-    map MetEntry (flat_map entry_in (contents_of layout entries)) ++ met (flat_map (section_in layout) (contents_of layout sections))
+-- what is visited of these entries, and then of these sections
+abbrev pub visited_at : TableLayout → (entries sections : List NodeId) → List Visited
+visited_at layout entries sections =
+    map VisitedEntry (flat_map entry_in (contents_of layout entries)) ++ visited (flat_map (section_in layout) (contents_of layout sections))
 
 -- what is left of a walk, by the next entry of a ring and the next section
-abbrev pub met_left : TableLayout → RingId → (entry section : Option NodeId) → List Met
-met_left layout ring entry section = met_at layout (left_of layout ring entry) (left_of layout sections_ring section)
+abbrev pub visited_left : TableLayout → RingId → (entry section : Option NodeId) → List Visited
+visited_left layout ring entry section = visited_at layout (left_of layout ring entry) (left_of layout sections_ring section)
 
 -- a walk stands in a layout
 pub record IsOnWay (layout : TableLayout) (ring : RingId) (entry section : Option NodeId) : Type 0 where

@@ -151,14 +151,14 @@ impl Body {
     /// What holds of the layout of every body.
     ///
     /// It does nothing but hand the facts to callers.
-    pub fn check_layout(&self)
+    pub fn lemma_layout(&self)
         ensures laid { IsLaidOut self.now.layout }
         ensures shaped { IsShaped self.now.layout }
         ensures sound { IsSoundLayout self.now.layout }
         ensures distinct { AreDistinct same_name (names_of (declared_at self.now.layout)) }
     {
-        self.nodes.check_named();
-        self.nodes.check_layout();
+        self.nodes.lemma_named();
+        self.nodes.lemma_layout();
     }
 
     /// Whether a name is declared in any way.
@@ -213,7 +213,7 @@ impl Body {
     pub fn entry(&self, id: &Id) -> Option<&Entry>
         ensures { option_copied result ≡ entry_at (joined_entries (sections_at self.now.layout)) id.now }
     {
-        self.nodes.check_layout();
+        self.nodes.lemma_layout();
         match self.keys.placed.find(id) {
             Some(node) => entry_of(self.nodes.content(node)),
             None => None,
@@ -250,7 +250,7 @@ impl Body {
         ensures steps { OnOk result (self.new.steps ≡ one_step_more self.old.steps) }
         ensures err { OnErr result (self.new ≡ self.old) }
     {
-        self.check_layout();
+        self.lemma_layout();
         self.put_new(Content::Declared(new), place)
     }
 
@@ -262,7 +262,7 @@ impl Body {
         ensures steps { OnOk result (self.new.steps ≡ one_step_more self.old.steps) }
         ensures err { OnErr result (self.new ≡ self.old) }
     {
-        self.check_layout();
+        self.lemma_layout();
         let (node, ring) = self.make_section(None)?;
         self.put_in(node, place);
         Ok((node, ring))
@@ -277,7 +277,7 @@ impl Body {
         ensures steps { OnOk result (self.new.steps ≡ one_step_more self.old.steps) }
         ensures err { OnErr result (self.new ≡ self.old) }
     {
-        self.check_layout();
+        self.lemma_layout();
         let (node, ring) = self.make_section(Some(name))?;
         self.put_in(node, place);
         Ok((node, ring))
@@ -291,7 +291,7 @@ impl Body {
         ensures steps { OnOk result (self.new.steps ≡ one_step_more self.old.steps) }
         ensures err { OnErr result (self.new ≡ self.old) }
     {
-        self.check_layout();
+        self.lemma_layout();
         self.put_new(Content::Placed(entry), place)
     }
 }

@@ -190,7 +190,7 @@ impl Nodes {
         requires { is_in self.now.layout.rings node ≡ true }
         ensures { ComesNext self.now.layout.rings node result }
     {
-        self.rings.check_layout();
+        self.rings.lemma_layout();
         self.rings.next(node)
     }
 
@@ -215,7 +215,7 @@ impl Nodes {
     /// What holds of the nodes of every layout: none has two contents.
     ///
     /// It does nothing; its contract hands the fact to callers.
-    pub(crate) fn check_named(&self)
+    pub(crate) fn lemma_named(&self)
         ensures { AreDistinct (map (λ (made : MadeNode). made.node) self.now.layout.nodes) }
     {
         let _ = &self.contents;
@@ -224,16 +224,16 @@ impl Nodes {
     /// What holds of every layout: no node stands twice, and each that stands in a ring is there.
     ///
     /// It does nothing; its contract hands the fact to callers.
-    pub(crate) fn check_layout(&self)
+    pub(crate) fn lemma_layout(&self)
         ensures { IsLaidOut self.now.layout }
     {
-        self.rings.check_layout();
+        self.rings.lemma_layout();
     }
 
     /// There are fewer nodes than a `usize` has numbers.
     ///
     /// It does nothing; its contract hands the fact to callers.
-    pub(crate) fn check_few(&self)
+    pub(crate) fn lemma_few(&self)
         ensures { AreFew self.now.layout }
     {
         let _ = self.contents.capacity();

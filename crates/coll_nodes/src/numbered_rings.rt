@@ -28,7 +28,7 @@ fn number_ring(
     ensures count { IfOk result (λ last. last ≡ before + length (nodes_in nodes.now.layout ring)) }
     ensures numbers { OnOk result ((node : NodeId) → number_at numbers.new node ≡ unwrap_or (last_number before (nodes_in nodes.now.layout ring) node) (number_at numbers.old node)) }
 {
-    nodes.check_layout();
+    nodes.lemma_layout();
     let mut left = nodes.first(ring);
     let mut last = before;
     'entries: while let Some(node) = left {
@@ -68,7 +68,7 @@ pub(crate) fn number_sections(
     requires few { length (entry_nodes nodes.now.layout) < 1_000_000 }
     ensures { OnOk result ((node : NodeId) → number_at numbers.new node ≡ unwrap_or (last_number 0 (entry_nodes nodes.now.layout) node) (number_at numbers.old node)) }
 {
-    nodes.check_layout();
+    nodes.lemma_layout();
     let mut left = nodes.first(sections);
     let mut last = 0;
     'sections: while let Some(section) = left {

@@ -7,13 +7,13 @@
 ghost use Rattle.std.specs.Prelude.{◌≡◌};
 ghost use Rattle.std.specs.Iterator.{YieldsFirstBy, item_count};
 ghost use Rattle.coll_nodes.specs.TableLayout.{sections_ring, declarations_ring, sections_at, declared_at};
-ghost use Rattle.coll_nodes.specs.Walks.{met};
+ghost use Rattle.coll_nodes.specs.Walks.{visited};
 ghost use Rattle.coll_nodes.specs.WalkStates.{HasSections, HasDeclarations};
 
 use crate::Entry;
 use crate::bodies::Body;
-use crate::met_nodes::{declaration_of, entry_of, first_ring, section_of};
 use crate::nodes::Nodes;
+use crate::visited_nodes::{declaration_of, entry_of, first_ring, section_of};
 use coll_order::{NodeId, RingId};
 use std::marker::Model;
 
@@ -51,12 +51,12 @@ pub struct Walk<'a> {
 
 impl<'a> Model for Walk<'a> {
     ghost use Rattle.std.specs.Prelude.{List};
-    ghost use Rattle.coll_nodes.specs.Walks.{Met};
-    ghost use Rattle.coll_nodes.specs.WalkStates.{met_left, IsOnWay};
+    ghost use Rattle.coll_nodes.specs.Walks.{Visited};
+    ghost use Rattle.coll_nodes.specs.WalkStates.{visited_left, IsOnWay};
 
-    ghost Value = { List Met };
+    ghost Value = { List Visited };
 
-    ghost view = { λ w. met_left w.nodes.now.layout w.ring w.entry w.section };
+    ghost view = { λ w. visited_left w.nodes.now.layout w.ring w.entry w.section };
 
     ghost invariant = { λ w. IsOnWay w.nodes.now.layout w.ring w.entry w.section };
 }
@@ -66,9 +66,9 @@ impl<'a> Walk<'a> {
     pub(crate) fn new(nodes: &'a Nodes, sections: RingId) -> Walk<'a>
         requires ring { sections ≡ sections_ring }
         requires sections { HasSections nodes.now.layout }
-        ensures { result ≡ met (sections_at nodes.now.layout) }
+        ensures { result ≡ visited (sections_at nodes.now.layout) }
     {
-        nodes.check_layout();
+        nodes.lemma_layout();
         let Some(first) = nodes.first(sections) else {
             unreachable!();
         };
@@ -85,9 +85,9 @@ impl<'a> Walk<'a> {
 impl<'a> Iterator for Walk<'a> {
     type Item = WalkItem<'a>;
 
-    ghost use Rattle.coll_nodes.specs.WalkItems.{met_by};
+    ghost use Rattle.coll_nodes.specs.WalkItems.{visited_by};
 
-    ghost next_gives = { YieldsFirstBy met_by (λ left. left) };
+    ghost next_gives = { YieldsFirstBy visited_by (λ left. left) };
 
     ghost remaining = { item_count (λ left. left) };
 
@@ -132,7 +132,7 @@ impl<'a> Declared<'a> {
         requires declared { HasDeclarations nodes.now.layout }
         ensures { result ≡ declared_at nodes.now.layout }
     {
-        nodes.check_layout();
+        nodes.lemma_layout();
         Declared {
             nodes,
             next: nodes.first(declarations),
@@ -162,9 +162,9 @@ impl Body {
     /// A walk through the sections and entries, of which the first section alone has no name.
     pub fn walk(&self) -> Walk<'_>
         requires { FirstAloneUnnamed (sections_at self.now.layout) }
-        ensures { result ≡ met (sections_at self.now.layout) }
+        ensures { result ≡ visited (sections_at self.now.layout) }
     {
-        self.check_layout();
+        self.lemma_layout();
         Walk::new(self.nodes(), self.sections())
     }
 
@@ -172,7 +172,7 @@ impl Body {
     pub fn declared(&self) -> Declared<'_>
         ensures { result ≡ declared_at self.now.layout }
     {
-        self.check_layout();
+        self.lemma_layout();
         Declared::new(self.nodes(), self.declarations())
     }
 }

@@ -79,33 +79,33 @@ made_and_dropped layout node tag fresh = ap (λ tags. record layout { tags = tag
     (λ off e. get_inserted layout.tags node.key tag key ∙ ap (λ b. cond b (Some tag) (finmap.get layout.tags key)) off) refl))
 
 -- a list has the node that stands between two parts of it
-has_between : (front rest : List NodeId) (node : NodeId) → has_node (front ++ node ∷ rest) node ≡ true
+has_between : (prefix rest : List NodeId) (node : NodeId) → has_node (prefix ++ node ∷ rest) node ≡ true
 has_between [] rest node = or_first (same_node node node) (has_node rest node) (same_node_itself node)
-has_between (first ∷ front) rest node = or_second (same_node node first) (has_node (front ++ node ∷ rest) node) (has_between front rest node)
+has_between (first ∷ prefix) rest node = or_second (same_node node first) (has_node (prefix ++ node ∷ rest) node) (has_between prefix rest node)
 
 -- directly after it stands the first node of the second part
-next_between : (front rest : List NodeId) (node : NodeId) → AreDistinct (front ++ node ∷ rest) → next_in (front ++ node ∷ rest) node ≡ first_in rest
+next_between : (prefix rest : List NodeId) (node : NodeId) → AreDistinct (prefix ++ node ∷ rest) → next_in (prefix ++ node ∷ rest) node ≡ first_in rest
 next_between [] rest node distinct = ap (λ b. cond b (first_in rest) (next_in rest node)) (same_node_itself node)
-next_between (first ∷ front) rest node distinct =
-    let differ : same_node node first ≡ false = other_node node first (λ same. not_both (subst (λ n. has_node (front ++ node ∷ rest) n ≡ true) same (has_between front rest node)) distinct.0) in
-    ap (λ b. cond b (first_in (front ++ node ∷ rest)) (next_in (front ++ node ∷ rest) node)) differ ∙ next_between front rest node distinct.1
+next_between (first ∷ prefix) rest node distinct =
+    let differ : same_node node first ≡ false = other_node node first (λ same. not_both (subst (λ n. has_node (prefix ++ node ∷ rest) n ≡ true) same (has_between prefix rest node)) distinct.0) in
+    ap (λ b. cond b (first_in (prefix ++ node ∷ rest)) (next_in (prefix ++ node ∷ rest) node)) differ ∙ next_between prefix rest node distinct.1
 
 -- directly after a node stands the next of its ring
-next_among_between : (rings : List (List NodeId)) (index : ℕ) (front rest : List NodeId) (node : NodeId) → StandOnce rings → get_or rings index [] ≡ front ++ node ∷ rest → next_among rings node ≡ first_in rest
-next_among_between [] index front rest node once at =
-    not_both (subst (λ nodes. has_node nodes node ≡ true) (sym at) (has_between front rest node)) refl
-next_among_between (nodes ∷ rings) zero front rest node once at =
-    let there : has_node nodes node ≡ true = subst (λ nodes. has_node nodes node ≡ true) (sym at) (has_between front rest node) in
+next_among_between : (rings : List (List NodeId)) (index : ℕ) (prefix rest : List NodeId) (node : NodeId) → StandOnce rings → get_or rings index [] ≡ prefix ++ node ∷ rest → next_among rings node ≡ first_in rest
+next_among_between [] index prefix rest node once at =
+    not_both (subst (λ nodes. has_node nodes node ≡ true) (sym at) (has_between prefix rest node)) refl
+next_among_between (nodes ∷ rings) zero prefix rest node once at =
+    let there : has_node nodes node ≡ true = subst (λ nodes. has_node nodes node ≡ true) (sym at) (has_between prefix rest node) in
     ap (λ later. option_or (next_in nodes node) later) (next_among_absent rings node (once.1 node there))
-    ∙ (or_none (next_in nodes node) ∙ (ap (λ nodes. next_in nodes node) at ∙ next_between front rest node (subst AreDistinct at once.0)))
-next_among_between (nodes ∷ rings) (suc index) front rest node once at =
-    let there : is_in rings node ≡ true = is_in_ring rings index node (subst (λ nodes. has_node nodes node ≡ true) (sym at) (has_between front rest node)) in
-    ap (λ found. option_or found (next_among rings node)) (next_absent nodes node (not_apart nodes rings node once.1 there)) ∙ next_among_between rings index front rest node once.2 at
+    ∙ (or_none (next_in nodes node) ∙ (ap (λ nodes. next_in nodes node) at ∙ next_between prefix rest node (subst AreDistinct at once.0)))
+next_among_between (nodes ∷ rings) (suc index) prefix rest node once at =
+    let there : is_in rings node ≡ true = is_in_ring rings index node (subst (λ nodes. has_node nodes node ≡ true) (sym at) (has_between prefix rest node)) in
+    ap (λ found. option_or found (next_among rings node)) (next_absent nodes node (not_apart nodes rings node once.1 there)) ∙ next_among_between rings index prefix rest node once.2 at
 
 -- a node in the list of a ring is linked
-pub linked_between : (layout : Layout) (ring : RingId) (front rest : List NodeId) (node : NodeId) → nodes_of layout ring ≡ front ++ node ∷ rest → IsLinked layout node
-linked_between layout ring front rest node at = is_in_ring layout.rings ring.index node (subst (λ nodes. has_node nodes node ≡ true) (sym at) (has_between front rest node))
+pub linked_between : (layout : Layout) (ring : RingId) (prefix rest : List NodeId) (node : NodeId) → nodes_of layout ring ≡ prefix ++ node ∷ rest → IsLinked layout node
+linked_between layout ring prefix rest node at = is_in_ring layout.rings ring.index node (subst (λ nodes. has_node nodes node ≡ true) (sym at) (has_between prefix rest node))
 
 -- directly after a node in the list of a ring stands the next of the list
-pub next_of_between : (layout : Layout) (ring : RingId) (front rest : List NodeId) (node : NodeId) → IsSound layout → nodes_of layout ring ≡ front ++ node ∷ rest → next_of layout node ≡ first_in rest
-next_of_between layout ring front rest node sound at = next_among_between layout.rings ring.index front rest node sound.once at
+pub next_of_between : (layout : Layout) (ring : RingId) (prefix rest : List NodeId) (node : NodeId) → IsSound layout → nodes_of layout ring ≡ prefix ++ node ∷ rest → next_of layout node ≡ first_in rest
+next_of_between layout ring prefix rest node sound at = next_among_between layout.rings ring.index prefix rest node sound.once at

@@ -205,7 +205,7 @@ impl Rings {
     /// What holds of every layout: no node stands twice, and each that stands in a ring is there.
     ///
     /// It does nothing; its contract hands the fact to callers.
-    pub fn check_layout(&self)
+    pub fn lemma_layout(&self)
         ensures { IsSound self.now.layout }
     {
         let _ = &self.steps;

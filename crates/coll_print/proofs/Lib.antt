@@ -1,4 +1,4 @@
-pub mod PrintedDrafts
+pub mod PrintedStates
 pub mod PrintedLines
 pub mod PrintedParts
 pub mod PrintedReading

@@ -30,8 +30,8 @@ use Rattle.coll_nodes.specs.declared.declarations.Declaration.TheVariants as dec
 use Rattle.coll_nodes.specs.declared.entries.Entry.{Entry}
 use Rattle.coll_nodes.specs.OwnNames.{stands_for}
 use Rattle.coll_nodes.specs.Table.{name_of, text_of}
-use Rattle.coll_nodes.specs.Walks.{MetSection}
-use Rattle.coll_print.specs.CanonicalText.{spelled_behind, spelled_joined, spelled_id, spelled_string, spelled_own, spelled_names, spelled_weight, direction_word, spelled_position, spelled_rule, declaration_line, rules_line, is_own, entry_line, met_line}
+use Rattle.coll_nodes.specs.Walks.{VisitedSection}
+use Rattle.coll_print.specs.CanonicalText.{spelled_behind, spelled_joined, spelled_id, spelled_string, spelled_own, spelled_names, spelled_weight, direction_word, spelled_position, spelled_rule, declaration_line, rules_line, is_own, entry_line, visited_line}
 use Rattle.coll_print.proofs.PrintedTokens.{tokens_behind, tokens_joined, id_token, id_piece, own_tokens, names_tokens, weight_tokens, order_tokens, position_tokens, rule_tokens, rules_tokens, declaration_tokens, section_tokens, order_read, declaration_read, declaration_is_read, rules_line_is_read, order_is_read, section_is_read, order_end_is_read, category_end_is_read}
 use Rattle.coll_print.proofs.PrintedSpellings.{with_tokens, EndsWord, is_clean, is_letter, Spells, spells_both, spells_wider, spells_nothing, spells_word, spells_apart, separates_space, separates_semicolon, separates_comma, end_ends, space_ends, semicolon_ends, comma_ends, spells_id, spells_name, spells_string}
 
@@ -144,7 +144,7 @@ spells_begun c cs g ts most word h =
 
 -- The line that begins a section, and the lines of words alone.
 
-section_is_line : (name : List ℕ) → IsName name → IsLine (met_line (MetSection name)) (token.Word (codes "section")) (token.Symbol name ∷ [])
+section_is_line : (name : List ℕ) → IsName name → IsLine (visited_line (VisitedSection name)) (token.Word (codes "section")) (token.Symbol name ∷ [])
 unfolding is_letter is_clean directive operand_of past_blanks encode
 section_is_line name is =
     line_from (λ rest. codes "section" ++ 32 ∷ spelled_symbol name rest) (token.Word (codes "section")) (token.Symbol name ∷ []) (7 + (1 + 258))
@@ -279,7 +279,7 @@ entry_says e h =
     (id_token e.id, (if own then [] else tokens_joined (map (weight_tokens e.id) e.weights)), entry_is_line e.id e.weights own refl h.id h.weights h.few, order_is_read e.id e.weights h.weights)
 
 -- the line that begins a section
-pub section_says : (name : List ℕ) → IsName name → Says (met_line (MetSection name)) (line.Section name)
+pub section_says : (name : List ℕ) → IsName name → Says (visited_line (VisitedSection name)) (line.Section name)
 unfolding section_tokens
 section_says name is = (token.Word (codes "section"), token.Symbol name ∷ [], section_is_line name is, section_is_read name)
 

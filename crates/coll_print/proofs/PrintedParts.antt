@@ -8,12 +8,12 @@ use lib.Utf8.{encode}
 use Rattle.std.proofs.lemmas.Grind.{flat_map-append}
 use Rattle.std.proofs.lemmas.Str.{encodes-append}
 use Rattle.std.proofs.lemmas.List.{drop_more}
-use Rattle.coll_devices.specs.Devices.{AppendsFront, Sends}
+use Rattle.coll_devices.specs.Devices.{AppendsPrefix, Sends}
 use Rattle.coll_devices.specs.PhysicalLines.{line_feed}
 use Rattle.coll_lex.specs.Characters.{space}
 use Rattle.coll_lex.specs.Spelling.{spelled_symbol, spelled_code}
 use Rattle.coll_lex.proofs.SpellingLemmas.{spelled_symbol-append, spelled_code-append}
-use Rattle.coll_devices.proofs.WritingLemmas.{AppendsFront-before, AppendsFront-after, Sends-stopped, Sends-after}
+use Rattle.coll_devices.proofs.WritingLemmas.{AppendsPrefix-before, AppendsPrefix-after, Sends-stopped, Sends-after}
 use Rattle.coll_syntax.specs.declared.identifiers.Id.{Id}
 use Rattle.coll_syntax.specs.declared.identifiers.Id.TheVariants.{Char, Named, Undefined}
 use Rattle.coll_syntax.specs.declared.weights.Weight.{Weight}
@@ -21,9 +21,9 @@ use Rattle.coll_syntax.specs.declared.weights.Weight.TheVariants.{Ignore, Own, N
 use Rattle.coll_syntax.specs.declared.rules.Rule.{Rule}
 use Rattle.coll_nodes.specs.declared.declarations.Declaration.TheVariants as declaration
 use Rattle.coll_nodes.specs.Table.{Collation}
-use Rattle.coll_nodes.specs.Walks.{MetSection, met}
-use Rattle.coll_print.specs.CanonicalText.{spelled_all, spelled_behind, spelled_joined, spelled_id, spelled_string, spelled_own, spelled_names, spelled_weight, is_own, weights_behind, direction_word, spelled_position, spelled_rule, declaration_line, rules_line, met_line, closing_lines, canonical_lines, line_bytes, text}
-use Rattle.coll_print.specs.PrintedParts.{id_bytes, behind_bytes, char_bytes, symbol_bytes, text_bytes, element_bytes, equivalence_bytes, declaration_bytes, met_bytes, sections_bytes, category_bytes}
+use Rattle.coll_nodes.specs.Walks.{VisitedSection, visited}
+use Rattle.coll_print.specs.CanonicalText.{spelled_all, spelled_behind, spelled_joined, spelled_id, spelled_string, spelled_own, spelled_names, spelled_weight, is_own, weights_behind, direction_word, spelled_position, spelled_rule, declaration_line, rules_line, visited_line, closing_lines, canonical_lines, line_bytes, text}
+use Rattle.coll_print.specs.PrintedParts.{id_bytes, behind_bytes, char_bytes, symbol_bytes, text_bytes, element_bytes, equivalence_bytes, declaration_bytes, visited_bytes, sections_bytes, category_bytes}
 
 -- What is written.
 
@@ -32,8 +32,8 @@ pub sends_same : {T E : Type 0} (a b : Option (List ℕ)) (whole bytes : List �
 sends_same a b whole bytes r same sent = subst (λ bytes. Sends a b bytes r) (sym same) sent
 
 -- a call that stops in the first part of a whole
-pub stops_first : {T E : Type 0} (a b : Option (List ℕ)) (whole first rest : List ℕ) (r : Result T E) → whole ≡ first ++ rest → IsErr r → AppendsFront a b first → Sends a b whole r
-stops_first a b whole first rest r same stopped part = Sends-stopped a b whole r stopped (subst (AppendsFront a b) (sym same) (AppendsFront-before a b first rest part))
+pub stops_first : {T E : Type 0} (a b : Option (List ℕ)) (whole first rest : List ℕ) (r : Result T E) → whole ≡ first ++ rest → IsErr r → AppendsPrefix a b first → Sends a b whole r
+stops_first a b whole first rest r same stopped part = Sends-stopped a b whole r stopped (subst (AppendsPrefix a b) (sym same) (AppendsPrefix-before a b first rest part))
 
 -- a last call that writes the rest of a whole
 pub writes_rest : {T E : Type 0} (a b c : Option (List ℕ)) (whole first rest : List ℕ) (r : Result T E) → whole ≡ first ++ rest → Appends a b first → Sends b c rest r → Sends a c whole r
@@ -57,10 +57,10 @@ module _ {X : Type 0} (part : X → List ℕ) where
   )
 
   -- the next stops
-  pub written_front : (all left later : List X) (x : X) (a b c : Option (List ℕ)) → left ≡ x ∷ later → HasWritten all left a b → AppendsFront b c (part x) → AppendsFront a c (flat_map part all)
-  written_front all left later x a b c first h front =
-      subst (AppendsFront a c) (sym (h.1 ∙ ap (λ xs. h.0 ++ flat_map part xs) first))
-      (AppendsFront-after a b c h.0 (part x ++ flat_map part later) h.2 (AppendsFront-before b c (part x) (flat_map part later) front))
+  pub written_prefix : (all left later : List X) (x : X) (a b c : Option (List ℕ)) → left ≡ x ∷ later → HasWritten all left a b → AppendsPrefix b c (part x) → AppendsPrefix a c (flat_map part all)
+  written_prefix all left later x a b c first h prefix =
+      subst (AppendsPrefix a c) (sym (h.1 ∙ ap (λ xs. h.0 ++ flat_map part xs) first))
+      (AppendsPrefix-after a b c h.0 (part x ++ flat_map part later) h.2 (AppendsPrefix-before b c (part x) (flat_map part later) prefix))
 
   -- all are written
   pub written_all : (all left : List X) (a b : Option (List ℕ)) → left ≡ [] → HasWritten all left a b → Appends a b (flat_map part all)
@@ -141,7 +141,7 @@ unfolding encode
 symbol_parts name = refl
 
 -- the line that begins a section
-pub section_parts : (name : List ℕ) → met_bytes (MetSection name) ≡ codes "section " ++ (symbol_bytes name ++ line_feed ∷ [])
+pub section_parts : (name : List ℕ) → visited_bytes (VisitedSection name) ≡ codes "section " ++ (symbol_bytes name ++ line_feed ∷ [])
 unfolding encode
 section_parts name = refl
 
@@ -195,11 +195,11 @@ lines_of_members line (x ∷ xs) = ap (λ l. line_bytes (line x) ++ l) (lines_of
 pub text_parts : (table : Collation) → text table ≡ codes "comment_char %\nescape_char /\nLC_COLLATE\n" ++ category_bytes table
 unfolding text canonical_lines encode
 text_parts table =
-    let front = map declaration_line table.declared in
-    let middle = map met_line (met table.sections) in
+    let prefix = map declaration_line table.declared in
+    let middle = map visited_line (visited table.sections) in
     let closed : flat_map line_bytes (middle ++ closing_lines) ≡ sections_bytes table =
-    flat_map-append line_bytes middle closing_lines ∙ ap (λ l. l ++ flat_map line_bytes closing_lines) (lines_of_members met_line (met table.sections)) in
+    flat_map-append line_bytes middle closing_lines ∙ ap (λ l. l ++ flat_map line_bytes closing_lines) (lines_of_members visited_line (visited table.sections)) in
     ap (λ l. codes "comment_char %\nescape_char /\nLC_COLLATE\n" ++ l)
-    (flat_map-append line_bytes front (rules_line table.rules ∷ (middle ++ closing_lines))
+    (flat_map-append line_bytes prefix (rules_line table.rules ∷ (middle ++ closing_lines))
     ∙ ap (λ l. l ++ flat_map line_bytes (rules_line table.rules ∷ (middle ++ closing_lines))) (lines_of_members declaration_line table.declared)
     ∙ ap (λ l. flat_map declaration_bytes table.declared ++ (line_bytes (rules_line table.rules) ++ l)) closed)

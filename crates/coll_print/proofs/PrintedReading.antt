@@ -15,11 +15,11 @@ use Rattle.coll_lex.specs.declared.tokens.Token.{Token}
 use Rattle.coll_syntax.specs.declared.lines.TableLine.{TableLine}
 use Rattle.coll_syntax.specs.declared.lines.TableLine.TheVariants as line
 use Rattle.coll_nodes.specs.Table.{Collation}
-use Rattle.coll_draft.specs.Drafts.{Numbered, draft_of, table_of, with_own_weights, line_fault, is_end}
-use Rattle.coll_draft.specs.Reading.{Outcome, Decided, by_grammar, outcome_within, outcome_before, outcome_of}
+use Rattle.coll_builder.specs.BuilderStates.{Numbered, state_of, table_of, with_own_weights, line_fault, is_end}
+use Rattle.coll_builder.specs.Reading.{Outcome, Decided, by_grammar, outcome_within, outcome_before, outcome_of}
 use Rattle.coll_print.specs.CanonicalText.{opening_lines, line_bytes}
-use Rattle.coll_draft.proofs.DraftSteps.{draft_more}
-use Rattle.coll_print.proofs.PrintedDrafts.{Leads, EndsAs}
+use Rattle.coll_builder.proofs.StateSteps.{state_more}
+use Rattle.coll_print.proofs.PrintedStates.{Leads, EndsAs}
 use Rattle.coll_print.proofs.PrintedLines.{IsLine, Says}
 use Rattle.coll_print.proofs.PrintedTexts.{in_line, lexer_at, line_is_fed}
 
@@ -36,13 +36,13 @@ unfolding logical_lines served
 logical_line count line t ts more h room = rw (line_is_fed count line t ts h room) refl
 
 -- a line that is accepted: what the later ones decide is decided
-line_goes_on : (before : List Numbered) (number : ℕ) (read : TableLine) (later : Numbered → Outcome) → line_fault (draft_of before) (record { number = number; line = read }) ≡ None → is_end read ≡ false
+line_goes_on : (before : List Numbered) (number : ℕ) (read : TableLine) (later : Numbered → Outcome) → line_fault (state_of before) (record { number = number; line = read }) ≡ None → is_end read ≡ false
     → by_grammar number before (Ok read) later ≡ later (record { number = number; line = read })
 line_goes_on before number read later fault goes_on = rw (fault, goes_on) refl
 
 -- a line that ends the category
-line_ends : (before : List Numbered) (number : ℕ) (later : Numbered → Outcome) → line_fault (draft_of before) (record { number = number; line = line.EndCategory }) ≡ None
-    → by_grammar number before (Ok line.EndCategory) later ≡ Decided (Ok (table_of (with_own_weights (draft_of before))))
+line_ends : (before : List Numbered) (number : ℕ) (later : Numbered → Outcome) → line_fault (state_of before) (record { number = number; line = line.EndCategory }) ≡ None
+    → by_grammar number before (Ok line.EndCategory) later ≡ Decided (Ok (table_of (with_own_weights (state_of before))))
 line_ends before number later fault = rw fault refl
 
 -- one canonical line on
@@ -79,7 +79,7 @@ say_one line read h = (h, tt)
 
 -- canonical lines and the last one decide the table
 pub lines_decide : (table : Collation) (before : List Numbered) (count : ℕ) (lines : List (List ℕ)) (reads : List TableLine) (last : List ℕ)
-    → SayAll lines reads → Says last line.EndCategory → Leads (draft_of before) (suc count) reads (EndsAs table) → count + length lines < most_lines
+    → SayAll lines reads → Says last line.EndCategory → Leads (state_of before) (suc count) reads (EndsAs table) → count + length lines < most_lines
     → outcome_within before (logical_lines [] true (lexer_at count) (bytes_of lines ++ encode_utf8_all last ∷ [])) ≡ Decided (Ok table)
 unfolding SayAll Leads
 lines_decide table before count [] [] last h end leads room =
@@ -90,7 +90,7 @@ lines_decide table before count [] (read ∷ reads) last h end leads room = absu
 lines_decide table before count (line ∷ lines) [] last h end leads room = absurd h
 lines_decide table before count (line ∷ lines) (read ∷ reads) last h end leads room =
     let n : Numbered = record { number = suc count; line = read } in
-    let later = subst (λ d. Leads d (suc (suc count)) reads (EndsAs table)) (sym (draft_more before n leads.1)) leads.2 in
+    let later = subst (λ d. Leads d (suc (suc count)) reads (EndsAs table)) (sym (state_more before n leads.1)) leads.2 in
     one_decides before count line read (bytes_of lines ++ encode_utf8_all last ∷ []) h.0 (omega arith)
     ∙ line_goes_on before (suc count) read (λ (n : Numbered). outcome_within (before ++ n ∷ []) (logical_lines [] true (lexer_at (suc count)) (bytes_of lines ++ encode_utf8_all last ∷ []))) leads.0 leads.1
     ∙ lines_decide table (before ++ n ∷ []) (suc count) lines reads last h.1 end later (omega arith)

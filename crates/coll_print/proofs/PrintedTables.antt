@@ -18,14 +18,14 @@ use Rattle.coll_nodes.specs.OwnNames.{MeanSymbolsBehind}
 use Rattle.coll_nodes.specs.Table.{Collation, name_of, names_of, texts_of, joined_entries, ids_of, section_names, is_symbol, is_symbol_name}
 use Rattle.coll_nodes.specs.WellFormed.{IsKeptWeight, HasWeights, IsWeighted, IsWellFormed}
 use Rattle.coll_nodes.specs.Limits.{most_entries, most_declarations, most_sections}
-use Rattle.coll_nodes.specs.Walks.{Met, MetSection, MetEntry, met, entry_met}
+use Rattle.coll_nodes.specs.Walks.{Visited, VisitedSection, VisitedEntry, visited, entry_visited}
 use Rattle.coll_nodes.proofs.OwnNames.{own_declared, symbol_own}
 use Rattle.coll_lookups.proofs.Sameness.{same_name_decides, found_holds}
-use Rattle.coll_draft.proofs.MetEntries.{met_all}
-use Rattle.coll_draft.specs.Reading.{answer_at_end, outcome_of, reads}
-use Rattle.coll_print.specs.CanonicalText.{declaration_line, rules_line, met_line, opening_lines, canonical_lines, line_bytes, text, PrintedTablesAreReadBack}
+use Rattle.coll_builder.proofs.VisitedEntries.{visited_all}
+use Rattle.coll_builder.specs.Reading.{answer_at_end, outcome_of, reads}
+use Rattle.coll_print.specs.CanonicalText.{declaration_line, rules_line, visited_line, opening_lines, canonical_lines, line_bytes, text, PrintedTablesAreReadBack}
 use Rattle.coll_print.proofs.PrintedTokens.{declaration_read}
-use Rattle.coll_print.proofs.PrintedDrafts.{name_met, met_read, names_met, names_of_first, said, said_leads}
+use Rattle.coll_print.proofs.PrintedStates.{name_visited, visited_read, names_visited, names_of_first, said, said_leads}
 use Rattle.coll_print.proofs.PrintedSpellings.{is_clean}
 use Rattle.coll_print.proofs.PrintedLines.{IsSpelledDeclaration, IsSpelledEntry, declaration_says, rules_say, entry_says, section_says, order_end_says, category_end_says}
 use Rattle.coll_print.proofs.PrintedTexts.{in_line}
@@ -45,22 +45,22 @@ one_more declared new names is =
 
 -- its declarations, behind others
 declarations_spelled : (before later : List Declaration) → MeanSymbolsBehind before later → All IsName (names_of before) → All IsName (names_of later) → All IsElementText (texts_of later) → All IsSpelledDeclaration later
-declarations_spelled before [] meant front names texts = All-nil IsSpelledDeclaration
-declarations_spelled before (declaration.Symbol name ∷ later) meant front names texts =
+declarations_spelled before [] meant prefix names texts = All-nil IsSpelledDeclaration
+declarations_spelled before (declaration.Symbol name ∷ later) meant prefix names texts =
     let is = All-head IsName name (names_of later) names in
     All-cons IsSpelledDeclaration (declaration.Symbol name) later
     (record { name = is; own = is; texts = All-nil IsElementText })
-    (declarations_spelled (before ++ declaration.Symbol name ∷ []) later meant.1 (one_more before (declaration.Symbol name) front is) (All-tail IsName name (names_of later) names) texts)
-declarations_spelled before (declaration.Element name chars ∷ later) meant front names texts =
+    (declarations_spelled (before ++ declaration.Symbol name ∷ []) later meant.1 (one_more before (declaration.Symbol name) prefix is) (All-tail IsName name (names_of later) names) texts)
+declarations_spelled before (declaration.Element name chars ∷ later) meant prefix names texts =
     let is = All-head IsName name (names_of later) names in
     All-cons IsSpelledDeclaration (declaration.Element name chars) later
     (record { name = is; own = is; texts = All-cons IsElementText chars [] (All-head IsElementText chars (texts_of later) texts) (All-nil IsElementText) })
-    (declarations_spelled (before ++ declaration.Element name chars ∷ []) later meant.1 (one_more before (declaration.Element name chars) front is) (All-tail IsName name (names_of later) names) (All-tail IsElementText chars (texts_of later) texts))
-declarations_spelled before (declaration.Equivalence name symbol ∷ later) meant front names texts =
+    (declarations_spelled (before ++ declaration.Element name chars ∷ []) later meant.1 (one_more before (declaration.Element name chars) prefix is) (All-tail IsName name (names_of later) names) (All-tail IsElementText chars (texts_of later) texts))
+declarations_spelled before (declaration.Equivalence name symbol ∷ later) meant prefix names texts =
     let is = All-head IsName name (names_of later) names in
     All-cons IsSpelledDeclaration (declaration.Equivalence name symbol) later
-    (record { name = is; own = symbol_is_name before symbol front (not-false (is_symbol_name before symbol) meant.0); texts = All-nil IsElementText })
-    (declarations_spelled (before ++ declaration.Equivalence name symbol ∷ []) later meant.1 (one_more before (declaration.Equivalence name symbol) front is) (All-tail IsName name (names_of later) names) texts)
+    (record { name = is; own = symbol_is_name before symbol prefix (not-false (is_symbol_name before symbol) meant.0); texts = All-nil IsElementText })
+    (declarations_spelled (before ++ declaration.Equivalence name symbol ∷ []) later meant.1 (one_more before (declaration.Equivalence name symbol) prefix is) (All-tail IsName name (names_of later) names) texts)
 
 -- an entry
 entry_spelled : (levels : ℕ) (declared : List Declaration) (e : Entry) → levels ≤ 4 → IsId e.id → IsWeighted levels declared e → IsSpelledEntry e
@@ -76,54 +76,54 @@ entries_spelled levels declared (e ∷ entries) few ids weighted =
     (entry_spelled levels declared e few (All-head IsId e.id (ids_of entries) ids) (All-head (IsWeighted levels declared) e entries weighted))
     (entries_spelled levels declared entries few (All-tail IsId e.id (ids_of entries) ids) (All-tail (IsWeighted levels declared) e entries weighted))
 
--- what is met on a walk
-met_say : (ms : List Met) → All IsName (flat_map name_met ms) → All IsSpelledEntry (flat_map entry_met ms) → SayAll (map met_line ms) (map met_read ms)
-unfolding SayAll name_met met_read
-met_say [] names entries = tt
-met_say (MetSection name ∷ ms) names entries = (section_says name (All-head IsName name (flat_map name_met ms) names), met_say ms (All-tail IsName name (flat_map name_met ms) names) entries)
-met_say (MetEntry e ∷ ms) names entries = (entry_says e (All-head IsSpelledEntry e (flat_map entry_met ms) entries), met_say ms names (All-tail IsSpelledEntry e (flat_map entry_met ms) entries))
+-- what is visited on a walk
+visited_say : (ms : List Visited) → All IsName (flat_map name_visited ms) → All IsSpelledEntry (flat_map entry_visited ms) → SayAll (map visited_line ms) (map visited_read ms)
+unfolding SayAll name_visited visited_read
+visited_say [] names entries = tt
+visited_say (VisitedSection name ∷ ms) names entries = (section_says name (All-head IsName name (flat_map name_visited ms) names), visited_say ms (All-tail IsName name (flat_map name_visited ms) names) entries)
+visited_say (VisitedEntry e ∷ ms) names entries = (entry_says e (All-head IsSpelledEntry e (flat_map entry_visited ms) entries), visited_say ms names (All-tail IsSpelledEntry e (flat_map entry_visited ms) entries))
 
-count_met : (ms : List Met) → length ms ≡ length (flat_map entry_met ms) + length (flat_map name_met ms)
-unfolding name_met
-count_met [] = omega arith
-count_met (MetSection name ∷ ms) = omega (arith, count_met ms)
-count_met (MetEntry e ∷ ms) = omega (arith, count_met ms)
+count_visited : (ms : List Visited) → length ms ≡ length (flat_map entry_visited ms) + length (flat_map name_visited ms)
+unfolding name_visited
+count_visited [] = omega arith
+count_visited (VisitedSection name ∷ ms) = omega (arith, count_visited ms)
+count_visited (VisitedEntry e ∷ ms) = omega (arith, count_visited ms)
 
 -- The lines behind the opening ones, but for the last.
 
 body_lines : Collation → List (List ℕ)
-body_lines table = map declaration_line table.declared ++ (rules_line table.rules ∷ (map met_line (met table.sections) ++ codes "order_end" ∷ []))
+body_lines table = map declaration_line table.declared ++ (rules_line table.rules ∷ (map visited_line (visited table.sections) ++ codes "order_end" ∷ []))
 
 module _ (table : Collation) (w : IsWellFormed table) where
   -- each says what is read of it
   body_says : SayAll (body_lines table) (said table)
   unfolding body_lines said
   body_says =
-      let names = subst (All IsName) (sym (names_met table.sections)) (names_of_first table.sections w.built.first_unnamed).0 in
+      let names = subst (All IsName) (sym (names_visited table.sections)) (names_of_first table.sections w.built.first_unnamed).0 in
       let spelled = entries_spelled (length table.rules) table.declared (joined_entries table.sections) w.built.few_levels w.built.ids w.built.weighted in
-      let entries = subst (All IsSpelledEntry) (sym (met_all table.sections)) spelled in
-      say_append (map declaration_line table.declared) (rules_line table.rules ∷ (map met_line (met table.sections) ++ codes "order_end" ∷ [])) (map declaration_read table.declared) (line.OrderStart None (Some table.rules) ∷ (map met_read (met table.sections) ++ line.OrderEnd ∷ []))
+      let entries = subst (All IsSpelledEntry) (sym (visited_all table.sections)) spelled in
+      say_append (map declaration_line table.declared) (rules_line table.rules ∷ (map visited_line (visited table.sections) ++ codes "order_end" ∷ [])) (map declaration_read table.declared) (line.OrderStart None (Some table.rules) ∷ (map visited_read (visited table.sections) ++ line.OrderEnd ∷ []))
       (say_members declaration_line declaration_read IsSpelledDeclaration declaration_says table.declared (declarations_spelled [] table.declared w.built.meant (All-nil IsName) w.built.names w.built.texts))
-      (say_append (rules_line table.rules ∷ []) (map met_line (met table.sections) ++ codes "order_end" ∷ []) (line.OrderStart None (Some table.rules) ∷ []) (map met_read (met table.sections) ++ line.OrderEnd ∷ [])
+      (say_append (rules_line table.rules ∷ []) (map visited_line (visited table.sections) ++ codes "order_end" ∷ []) (line.OrderStart None (Some table.rules) ∷ []) (map visited_read (visited table.sections) ++ line.OrderEnd ∷ [])
       (say_one (rules_line table.rules) (line.OrderStart None (Some table.rules)) (rules_say table.rules w.some_levels w.built.few_levels))
-      (say_append (map met_line (met table.sections)) (codes "order_end" ∷ []) (map met_read (met table.sections)) (line.OrderEnd ∷ []) (met_say (met table.sections) names entries)
+      (say_append (map visited_line (visited table.sections)) (codes "order_end" ∷ []) (map visited_read (visited table.sections)) (line.OrderEnd ∷ []) (visited_say (visited table.sections) names entries)
       (say_one (codes "order_end") line.OrderEnd order_end_says)))
 
   -- they are few
   body_is_short : 3 + length (body_lines table) < most_lines
   unfolding body_lines
   body_is_short =
-      let ms = met table.sections in
-      let back = map met_line ms ++ codes "order_end" ∷ [] in
-      let entries : length (flat_map entry_met ms) ≡ length (joined_entries table.sections) = ap length (met_all table.sections) in
-      let names : length (flat_map name_met ms) ≡ length (section_names table.sections) = ap length (names_met table.sections) in
+      let ms = visited table.sections in
+      let back = map visited_line ms ++ codes "order_end" ∷ [] in
+      let entries : length (flat_map entry_visited ms) ≡ length (joined_entries table.sections) = ap length (visited_all table.sections) in
+      let names : length (flat_map name_visited ms) ≡ length (section_names table.sections) = ap length (names_visited table.sections) in
       let sections : suc (length (section_names table.sections)) ≡ length table.sections = (names_of_first table.sections w.built.first_unnamed).1 in
       let few_entries : length (joined_entries table.sections) ≤ most_entries = w.built.few_entries in
       let few_declarations : length table.declared ≤ most_declarations = w.built.few_declarations in
       let few_sections : length table.sections ≤ most_sections = w.built.few_sections in
-      let behind : length back ≡ length ms + 1 = length-append (map met_line ms) (codes "order_end" ∷ []) ∙ ap (λ n. n + 1) (length-map ms met_line) in
-      let front : length (map declaration_line table.declared) ≡ length table.declared = length-map table.declared declaration_line in
-      omega (arith, length-append (map declaration_line table.declared) (rules_line table.rules ∷ back), count_met ms)
+      let behind : length back ≡ length ms + 1 = length-append (map visited_line ms) (codes "order_end" ∷ []) ∙ ap (λ n. n + 1) (length-map ms visited_line) in
+      let prefix : length (map declaration_line table.declared) ≡ length table.declared = length-map table.declared declaration_line in
+      omega (arith, length-append (map declaration_line table.declared) (rules_line table.rules ∷ back), count_visited ms)
 
 -- The text.
 
@@ -131,12 +131,12 @@ module _ (table : Collation) (w : IsWellFormed table) where
 lines_in_parts : (table : Collation) → canonical_lines table ≡ opening_lines ++ (body_lines table ++ codes "END LC_COLLATE" ∷ [])
 unfolding canonical_lines body_lines
 lines_in_parts table =
-    let front = map declaration_line table.declared in
-    let middle = map met_line (met table.sections) in
+    let prefix = map declaration_line table.declared in
+    let middle = map visited_line (visited table.sections) in
     let last : List (List ℕ) = codes "END LC_COLLATE" ∷ [] in
     ap (λ back. opening_lines ++ back)
-    (ap (λ back. front ++ (rules_line table.rules ∷ back)) (sym (append_assoc middle (codes "order_end" ∷ []) last))
-    ∙ sym (append_assoc front (rules_line table.rules ∷ (middle ++ codes "order_end" ∷ [])) last))
+    (ap (λ back. prefix ++ (rules_line table.rules ∷ back)) (sym (append_assoc middle (codes "order_end" ∷ []) last))
+    ∙ sym (append_assoc prefix (rules_line table.rules ∷ (middle ++ codes "order_end" ∷ [])) last))
 
 -- no line feed is in the opening lines
 opening_in_line : All IsInLine (bytes_of opening_lines)

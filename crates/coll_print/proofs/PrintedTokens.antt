@@ -264,7 +264,7 @@ rules_are_read r rs short =
     let ops = map rule_tokens (r ∷ rs) in
     let count : length ops ≤ 4 = omega (arith, length-map (r ∷ rs) rule_tokens) in
     ap (λ ops. all_read (judged_levels ops)) (cut_members rule_tokens rule_is_operand r rs)
-    ∙ ap (λ front. all_read (map rule front ++ map (λ _. Err TooManyLevels) (drop 4 ops))) (take_all 4 ops count)
+    ∙ ap (λ prefix. all_read (map rule prefix ++ map (λ _. Err TooManyLevels) (drop 4 ops))) (take_all 4 ops count)
     ∙ ap (λ back. all_read (map rule ops ++ map (λ _. Err TooManyLevels) back)) (drop_all 4 ops count)
     ∙ ap all_read (append-nil (map rule ops))
     ∙ read_each rule rule_tokens (λ r. r) (λ r. Unit {0}) (λ r _. rule_is_read r) (r ∷ rs) (λ i x within. tt)

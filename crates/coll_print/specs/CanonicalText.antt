@@ -16,8 +16,8 @@ use Rattle.coll_nodes.specs.declared.declarations.Declaration.{Declaration}
 use Rattle.coll_nodes.specs.declared.declarations.Declaration.TheVariants.{Symbol, Element, Equivalence}
 use Rattle.coll_nodes.specs.declared.entries.Entry.{Entry}
 use Rattle.coll_nodes.specs.Table.{Collation}
-use Rattle.coll_nodes.specs.Walks.{Met, MetSection, MetEntry, met}
-use Rattle.coll_draft.specs.Reading.{reads}
+use Rattle.coll_nodes.specs.Walks.{Visited, VisitedSection, VisitedEntry, visited}
+use Rattle.coll_builder.specs.Reading.{reads}
 use Rattle.coll_nodes.specs.WellFormed.{IsWellFormed}
 
 -- A list of spellings.
@@ -107,10 +107,10 @@ weights_behind id weights = if list_all is_own weights then [] else space ∷ sp
 abbrev pub entry_line : Entry → List ℕ
 entry_line entry = spelled_id entry.id (weights_behind entry.id entry.weights)
 
--- the line of what one meets on a walk: that which begins a section, or that of an entry
-abbrev pub met_line : Met → List ℕ
-met_line (MetSection name) = codes "section " ++ spelled_symbol name []
-met_line (MetEntry entry) = entry_line entry
+-- the line of what one visits on a walk: that which begins a section, or that of an entry
+abbrev pub visited_line : Visited → List ℕ
+visited_line (VisitedSection name) = codes "section " ++ spelled_symbol name []
+visited_line (VisitedEntry entry) = entry_line entry
 
 -- the lines before the declarations: the comment character, the escape character, and the line that begins the category
 abbrev pub opening_lines : List (List ℕ)
@@ -123,7 +123,7 @@ closing_lines = codes "order_end" ∷ codes "END LC_COLLATE" ∷ []
 -- the canonical lines of a table
 unfoldable pub canonical_lines : Collation → List (List ℕ)
 canonical_lines table =
-    opening_lines ++ (map declaration_line table.declared ++ (rules_line table.rules ∷ (map met_line (met table.sections) ++ closing_lines)))
+    opening_lines ++ (map declaration_line table.declared ++ (rules_line table.rules ∷ (map visited_line (visited table.sections) ++ closing_lines)))
 
 -- the bytes of a line, with its line feed
 abbrev pub line_bytes : List ℕ → List ℕ

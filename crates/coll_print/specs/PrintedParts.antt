@@ -6,8 +6,8 @@ use Rattle.coll_devices.specs.PhysicalLines.{line_feed}
 use Rattle.coll_lex.specs.Spelling.{spelled_symbol, spelled_code}
 use Rattle.coll_syntax.specs.declared.identifiers.Id.{Id}
 use Rattle.coll_nodes.specs.declared.declarations.Declaration.{Declaration}
-use Rattle.coll_nodes.specs.Walks.{Met, met}
-use Rattle.coll_print.specs.CanonicalText.{spelled_id, declaration_line, met_line, rules_line, line_bytes}
+use Rattle.coll_nodes.specs.Walks.{Visited, visited}
+use Rattle.coll_print.specs.CanonicalText.{spelled_id, declaration_line, visited_line, rules_line, line_bytes}
 use Rattle.coll_nodes.specs.Table.{Collation}
 
 -- an identifier
@@ -26,9 +26,9 @@ behind_bytes spelled x = encode_utf8_all (semicolon ∷ spelled x [])
 abbrev pub declaration_bytes : Declaration → List ℕ
 declaration_bytes declaration = line_bytes (declaration_line declaration)
 
--- the line of what one meets on a walk
-abbrev pub met_bytes : Met → List ℕ
-met_bytes item = line_bytes (met_line item)
+-- the line of what one visits on a walk
+abbrev pub visited_bytes : Visited → List ℕ
+visited_bytes item = line_bytes (visited_line item)
 
 -- a name between its brackets
 abbrev pub symbol_bytes : List ℕ → List ℕ
@@ -48,7 +48,7 @@ equivalence_bytes name symbol = symbol_bytes name ++ (codes " " ++ (symbol_bytes
 
 -- the lines behind the rules
 abbrev pub sections_bytes : Collation → List ℕ
-sections_bytes table = flat_map met_bytes (met table.sections) ++ codes "order_end\nEND LC_COLLATE\n"
+sections_bytes table = flat_map visited_bytes (visited table.sections) ++ codes "order_end\nEND LC_COLLATE\n"
 
 -- the lines from the rules on
 abbrev pub order_bytes : Collation → List ℕ

@@ -7,9 +7,9 @@ ghost use Rattle.std.specs.Prelude.{◌++◌};
 ghost use Rattle.std.specs.List.{flat_map};
 ghost use Rattle.coll_devices.specs.Devices.{CountsErr, Sends};
 ghost use Rattle.coll_print.specs.CanonicalText.{PrintedTablesAreReadBack};
-ghost use Rattle.coll_print.specs.PrintedParts.{declaration_bytes, met_bytes};
+ghost use Rattle.coll_print.specs.PrintedParts.{declaration_bytes, visited_bytes};
 
-use crate::spelled_lines::{write_declaration, write_met};
+use crate::spelled_lines::{write_declaration, write_visited};
 use coll_devices::{Sink, WriteStop};
 use coll_nodes::{Declared, Walk};
 
@@ -29,12 +29,12 @@ pub fn write_declarations<W: Sink>(out: &mut W, declared: Declared<'_>) -> Resul
 
 /// Writes a line for each section with a name, and for each entry.
 pub fn write_walk<W: Sink>(out: &mut W, walk: Walk<'_>) -> Result<(), WriteStop>
-    ensures sent { Sends (W.taken out.old) (W.taken out.new) (flat_map met_bytes walk.entry) result }
+    ensures sent { Sends (W.taken out.old) (W.taken out.new) (flat_map visited_bytes walk.entry) result }
     ensures errors { CountsErr (W.failed out.old) (W.failed out.new) result }
 {
     let mut left = walk;
     'walk: while let Some(item) = left.next() {
-        if let Err(stop) = write_met(out, item) {
+        if let Err(stop) = write_visited(out, item) {
             return Err(stop);
         }
     }

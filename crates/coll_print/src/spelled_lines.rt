@@ -8,8 +8,8 @@ ghost use Rattle.std.specs.List.{flat_map};
 ghost use Rattle.coll_devices.specs.Devices.{CountsErr, Sends};
 ghost use Rattle.coll_devices.specs.PhysicalLines.{line_feed};
 ghost use Rattle.coll_print.specs.CanonicalText.{spelled_rule, spelled_joined, rules_line, line_bytes};
-ghost use Rattle.coll_print.specs.PrintedParts.{char_bytes, behind_bytes, declaration_bytes, met_bytes, symbol_bytes, element_bytes, equivalence_bytes};
-ghost use Rattle.coll_nodes.specs.WalkItems.{met_by, declared_by};
+ghost use Rattle.coll_print.specs.PrintedParts.{char_bytes, behind_bytes, declaration_bytes, visited_bytes, symbol_bytes, element_bytes, equivalence_bytes};
+ghost use Rattle.coll_nodes.specs.WalkItems.{visited_by, declared_by};
 
 use crate::spelled_entries::write_entry;
 use coll_devices::{Sink, WriteStop, write_bytes};
@@ -32,9 +32,9 @@ pub(crate) fn write_declaration<W: Sink>(
     }
 }
 
-/// Writes the line of what one meets on a walk: that which begins a section, or that of an entry.
-pub(crate) fn write_met<W: Sink>(out: &mut W, item: WalkItem<'_>) -> Result<(), WriteStop>
-    ensures sent { Sends (W.taken out.old) (W.taken out.new) (met_bytes (met_by item.entry)) result }
+/// Writes the line of what one visits on a walk: that which begins a section, or that of an entry.
+pub(crate) fn write_visited<W: Sink>(out: &mut W, item: WalkItem<'_>) -> Result<(), WriteStop>
+    ensures sent { Sends (W.taken out.old) (W.taken out.new) (visited_bytes (visited_by item.entry)) result }
     ensures errors { CountsErr (W.failed out.old) (W.failed out.new) result }
 {
     match item {

@@ -4,9 +4,9 @@ use Rattle.std.proofs.lemmas.List.{get_or-drop}
 use Rattle.coll_ranks.specs.RankLists.{WeightsValue}
 use Rattle.coll_ranks.specs.Ranks.{added_to, added_at, part_numbers}
 use Rattle.coll_ranks.specs.LevelWeights.{row_of, row_numbers}
-use Rattle.coll_ranks.specs.declared.parts.Part.{Part}
-use Rattle.coll_ranks.specs.declared.parts.Part.TheVariants.{Placed, Absent}
-use Rattle.coll_ranks.specs.declared.parts.PartRow.{PartRow}
+use Rattle.coll_ranks.specs.declared.parts.TextElement.{TextElement}
+use Rattle.coll_ranks.specs.declared.parts.TextElement.TheVariants.{Placed, Absent}
+use Rattle.coll_ranks.specs.declared.parts.ElementRow.{ElementRow}
 
 -- nothing is added to what has an entry
 added_none : (own : Bool) → let none : ℕ = 0 in (if own then none else none) ≡ none
@@ -14,14 +14,14 @@ added_none true = refl
 added_none false = refl
 
 -- the numbers of a part are those of its row
-pub row_of_part : (weights : WeightsValue) (level : ℕ) (part : Part) → row_numbers weights level (row_of weights part) ≡ part_numbers weights level part
+pub row_of_part : (weights : WeightsValue) (level : ℕ) (part : TextElement) → row_numbers weights level (row_of weights part) ≡ part_numbers weights level part
 row_of_part weights level (Placed rank) = ap (λ added. map (added_to added) (slice_index_or weights.lists (rank * weights.levels + level) [])) (added_none (slice_index_or weights.own level false))
 row_of_part weights level (Absent c) =
     let same : 0 + level ≡ 0 * weights.levels + level = omega arith in
     ap (λ place. map (added_to (added_at weights level c)) (slice_index_or weights.lists place [])) same
 
 -- and those of parts are those of their rows
-pub rows_of_parts : (weights : WeightsValue) (level : ℕ) (parts : List Part) → map (row_numbers weights level) (map (row_of weights) parts) ≡ map (part_numbers weights level) parts
+pub rows_of_parts : (weights : WeightsValue) (level : ℕ) (parts : List TextElement) → map (row_numbers weights level) (map (row_of weights) parts) ≡ map (part_numbers weights level) parts
 rows_of_parts weights level [] = refl
 rows_of_parts weights level (part ∷ parts) =
     ap (λ ns. ns ∷ map (row_numbers weights level) (map (row_of weights) parts)) (row_of_part weights level part)
@@ -39,7 +39,7 @@ times_added true times code once = ap (λ n. n * code) once ∙ omega arith
 times_added false times code never = ap (λ n. n * code) never ∙ omega arith
 
 -- the weights of one level give the numbers of rows there
-pub level_of_weights : (weights : WeightsValue) (level : ℕ) (lists : List (List ℕ)) (times : ℕ) → lists ≡ drop level weights.lists → times ≡ (if slice_index_or weights.own level false then 1 else 0) → (row : PartRow) → map (added_to (times * row.code)) (slice_index_or lists row.first []) ≡ row_numbers weights level row
+pub level_of_weights : (weights : WeightsValue) (level : ℕ) (lists : List (List ℕ)) (times : ℕ) → lists ≡ drop level weights.lists → times ≡ (if slice_index_or weights.own level false then 1 else 0) → (row : ElementRow) → map (added_to (times * row.code)) (slice_index_or lists row.first []) ≡ row_numbers weights level row
 level_of_weights weights level lists times later count row =
     ap (λ ls. map (added_to (times * row.code)) (slice_index_or ls row.first [])) later
     ∙ ap (map (added_to (times * row.code))) (behind level row.first weights.lists [])

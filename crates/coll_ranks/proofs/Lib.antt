@@ -1,4 +1,4 @@
-pub mod AlikeFronts
+pub mod AlikePrefixes
 pub mod CellLemmas
 pub mod LevelRows
 pub mod PartNumbers

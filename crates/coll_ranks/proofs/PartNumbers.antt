@@ -21,9 +21,9 @@ use Rattle.coll_ranks.specs.WeightNumbers.{numbers_at, weight_at, undefined_weig
 use Rattle.coll_elements.specs.Rank.{known_rank}
 use Rattle.coll_elements.specs.RankedElements.{RankedElement, ranked_text, ranked_in}
 use Rattle.coll_ranks.specs.Ranks.{RanksValue, AreRanksOf, parts_of, parts_behind, part_with, part_numbers, character_part, compiled_weight, compiled_by, compiled_entry, compiled_row_by, compiled_weights}
-use Rattle.coll_ranks.specs.AlikeFronts.{BeginAlike}
-use Rattle.coll_ranks.specs.declared.parts.Part.{Part}
-use Rattle.coll_ranks.specs.declared.parts.Part.TheVariants.{Placed}
+use Rattle.coll_ranks.specs.AlikePrefixes.{BeginAlike}
+use Rattle.coll_ranks.specs.declared.parts.TextElement.{TextElement}
+use Rattle.coll_ranks.specs.declared.parts.TextElement.TheVariants.{Placed}
 use Rattle.coll_elements.specs.declared.named_elements.FoundElement.{FoundElement}
 use Rattle.coll_elements.proofs.SplitTexts.{split_found}
 use Rattle.coll_elements.proofs.TableElementLemmas.{has_place}
@@ -65,12 +65,12 @@ some_characters None text found h = absurd (let no : Some found ≡ None = h in 
 some_characters (Some ranked) text found h = omega (arith, h.some, h.length_is)
 
 -- a text that begins with none has that of its first character first
-pub character_first : (ranks : RanksValue) (text rest behind : List ℕ) (first : ℕ) (part : Part) → text ≡ first ∷ rest → Finds (longest ranked_text ranks.elements text) text None → part ≡ part_with ranks.ids None first → behind ≡ rest → parts_of ranks text ≡ part ∷ parts_of ranks behind
+pub character_first : (ranks : RanksValue) (text rest behind : List ℕ) (first : ℕ) (part : TextElement) → text ≡ first ∷ rest → Finds (longest ranked_text ranks.elements text) text None → part ≡ part_with ranks.ids None first → behind ≡ rest → parts_of ranks text ≡ part ∷ parts_of ranks behind
 character_first ranks text rest behind first part is h same left = by (longest ranked_text ranks.elements text) refl h where
   by : (l : Option RankedElement) → longest ranked_text ranks.elements text ≡ l → Finds l text None → parts_of ranks text ≡ part ∷ parts_of ranks behind
   by None e h =
       ap (parts_of ranks) is
-      ∙ (part_of_character ranks first rest (ap (longest ranked_text ranks.elements) (sym is) ∙ e) ∙ ap₂ (λ (p : Part) (later : List ℕ). p ∷ parts_of ranks later) (sym same) (sym left))
+      ∙ (part_of_character ranks first rest (ap (longest ranked_text ranks.elements) (sym is) ∙ e) ∙ ap₂ (λ (p : TextElement) (later : List ℕ). p ∷ parts_of ranks later) (sym same) (sym left))
   by (Some ranked) e h = absurd h
 
 -- texts begin alike with a character that begins no element

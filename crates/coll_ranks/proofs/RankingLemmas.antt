@@ -10,10 +10,10 @@ use Rattle.coll_syntax.specs.declared.identifiers.Id.TheVariants.{Char, Named, U
 use Rattle.coll_lookups.specs.NamePlaces.{place_named}
 use Rattle.coll_nodes.specs.Placement.{place_among}
 use Rattle.coll_nodes.specs.Table.{Collation, entries_of, ids_of}
-use Rattle.coll_nodes.specs.Walks.{Met, MetSection, MetEntry, met, entry_met, entries_met}
+use Rattle.coll_nodes.specs.Walks.{Visited, VisitedSection, VisitedEntry, visited, entry_visited, entries_visited}
 use Rattle.coll_nodes.specs.WellFormed.{AreDistinct, IsWellFormed}
 use Rattle.coll_nodes.specs.declared.entries.Entry.{Entry}
-use Rattle.coll_draft.proofs.MetEntries.{met_all}
+use Rattle.coll_builder.proofs.VisitedEntries.{visited_all}
 use Rattle.coll_lookups.proofs.Sameness.{same_id_decides}
 use Rattle.coll_ranks.specs.WeightNumbers.{undefined_weights}
 use Rattle.coll_elements.specs.Rank.{known_rank}
@@ -29,22 +29,22 @@ or_all None b c = refl
 or_all (Some x) b c = refl
 
 -- what is counted, and what is left
-pub counted_met : (left later : List Met) (item : Met) (rank next total : ℕ) → left ≡ item ∷ later → next ≡ rank + length (entry_met item) → rank + length (entries_met left) ≡ total → next + length (entries_met later) ≡ total
-counted_met left later item rank next total first count all =
-    let whole : length (entries_met left) ≡ length (entry_met item) + length (entries_met later) = ap (λ items. length (entries_met items)) first ∙ length-append (entry_met item) (entries_met later) in
+pub counted_visited : (left later : List Visited) (item : Visited) (rank next total : ℕ) → left ≡ item ∷ later → next ≡ rank + length (entry_visited item) → rank + length (entries_visited left) ≡ total → next + length (entries_visited later) ≡ total
+counted_visited left later item rank next total first count all =
+    let whole : length (entries_visited left) ≡ length (entry_visited item) + length (entries_visited later) = ap (λ items. length (entries_visited items)) first ∙ length-append (entry_visited item) (entries_visited later) in
     omega arith
 
--- the last place of an identifier is the same, whether what one meets first has been ranked or not
-last_of_met : (item : Met) (rank : ℕ) (entries : List Entry) (id : Id) → last_place rank (entry_met item ++ entries) id ≡ option_or (last_place (rank + length (entry_met item)) entries id) (last_place rank (entry_met item) id)
-last_of_met (MetSection name) rank entries id = ap (λ n. last_place n entries id) (let same : rank ≡ rank + 0 = omega arith in same) ∙ sym (or_none (last_place (rank + 0) entries id))
-last_of_met (MetEntry entry) rank entries id = ap (λ n. option_or (last_place n entries id) (cond (same_id id entry.id) (Some (suc rank)) None)) (let same : suc rank ≡ rank + 1 = omega arith in same)
+-- the last place of an identifier is the same, whether what one visits first has been ranked or not
+last_of_visited : (item : Visited) (rank : ℕ) (entries : List Entry) (id : Id) → last_place rank (entry_visited item ++ entries) id ≡ option_or (last_place (rank + length (entry_visited item)) entries id) (last_place rank (entry_visited item) id)
+last_of_visited (VisitedSection name) rank entries id = ap (λ n. last_place n entries id) (let same : rank ≡ rank + 0 = omega arith in same) ∙ sym (or_none (last_place (rank + 0) entries id))
+last_of_visited (VisitedEntry entry) rank entries id = ap (λ n. option_or (last_place n entries id) (cond (same_id id entry.id) (Some (suc rank)) None)) (let same : suc rank ≡ rank + 1 = omega arith in same)
 
 -- the last place of what has a rank, or else the one it had
-pub ranked_met : (left later : List Met) (item : Met) (rank next : ℕ) (id : Id) (old new : Option ℕ) → left ≡ item ∷ later → next ≡ rank + length (entry_met item) → new ≡ option_or (last_place rank (entry_met item) id) old → option_or (last_place next (entries_met later) id) new ≡ option_or (last_place rank (entries_met left) id) old
-ranked_met left later item rank next id old new first count ranks =
-    ap₂ (λ (n : ℕ) (r : Option ℕ). option_or (last_place n (entries_met later) id) r) count ranks
-    ∙ (sym (or_all (last_place (rank + length (entry_met item)) (entries_met later) id) (last_place rank (entry_met item) id) old)
-    ∙ ap (λ p. option_or p old) (sym (ap (λ items. last_place rank (entries_met items) id) first ∙ last_of_met item rank (entries_met later) id)))
+pub ranked_visited : (left later : List Visited) (item : Visited) (rank next : ℕ) (id : Id) (old new : Option ℕ) → left ≡ item ∷ later → next ≡ rank + length (entry_visited item) → new ≡ option_or (last_place rank (entry_visited item) id) old → option_or (last_place next (entries_visited later) id) new ≡ option_or (last_place rank (entries_visited left) id) old
+ranked_visited left later item rank next id old new first count ranks =
+    ap₂ (λ (n : ℕ) (r : Option ℕ). option_or (last_place n (entries_visited later) id) r) count ranks
+    ∙ (sym (or_all (last_place (rank + length (entry_visited item)) (entries_visited later) id) (last_place rank (entry_visited item) id) old)
+    ∙ ap (λ p. option_or p old) (sym (ap (λ items. last_place rank (entries_visited items) id) first ∙ last_of_visited item rank (entries_visited later) id)))
 
 -- Places.
 
@@ -77,10 +77,10 @@ only_place before (entry ∷ entries) id h =
       moved (Some place) = ap Some (let one : suc before + place ≡ before + suc place = omega arith in one)
 
 -- what the walk gives the characters are their ranks in the table
-pub characters_of_table : (table : Collation) (characters : List ℕ) (items : List Met) → IsWellFormed table → items ≡ met table.sections → ((c : ℕ) → rank_of_char characters c ≡ last_place 0 (entries_met items) (Char c)) → AreCharRanksOf characters table
+pub characters_of_table : (table : Collation) (characters : List ℕ) (items : List Visited) → IsWellFormed table → items ≡ visited table.sections → ((c : ℕ) → rank_of_char characters c ≡ last_place 0 (entries_visited items) (Char c)) → AreCharRanksOf characters table
 characters_of_table table characters items well all ranks c =
     ranks c
-    ∙ (ap (λ es. last_place 0 es (Char c)) (ap entries_met all ∙ met_all table.sections)
+    ∙ (ap (λ es. last_place 0 es (Char c)) (ap entries_visited all ∙ visited_all table.sections)
     ∙ (only_place 0 (entries_of table) (Char c) well.built.distinct_entries
     ∙ (at_first (place_among (entries_of table) (Char c)) ∙ sym (or_none (place_among (entries_of table) (Char c)))))) where
       at_first : (p : Option ℕ) → behind 0 p ≡ p
@@ -97,16 +97,16 @@ ranks_of_table table ids names characters undefined Undefined = ap Some undefine
   known (Some n) last = refl
 
 -- a table has few entries
-pub few_met : (table : Collation) (items : List Met) → IsWellFormed table → items ≡ met table.sections → length (entries_met items) < 1_000_000
-few_met table items well all =
-    let same : length (entries_met items) ≡ length (entries_of table) = ap length (ap entries_met all ∙ met_all table.sections) in
+pub few_visited : (table : Collation) (items : List Visited) → IsWellFormed table → items ≡ visited table.sections → length (entries_visited items) < 1_000_000
+few_visited table items well all =
+    let same : length (entries_visited items) ≡ length (entries_of table) = ap length (ap entries_visited all ∙ visited_all table.sections) in
     omega (arith, same, well.built.few_entries)
 
 -- Weights.
 
 -- the compiled weights of UNDEFINED and of all entries are those of the table
-pub weights_of_table : (table ranked : Collation) (items : List Met) (first all : List (List ℕ)) (levels : ℕ) → ranked ≡ table → items ≡ met table.sections → levels ≡ length table.rules → first ≡ compiled_row_by (known_rank ranked) (length table.rules) Undefined (undefined_weights table) → all ≡ first ++ flat_map (compiled_entry (known_rank ranked) levels) (entries_met items) → all ≡ compiled_weights table
-weights_of_table table ranked items first all levels same met_items counted begun whole =
+pub weights_of_table : (table ranked : Collation) (items : List Visited) (first all : List (List ℕ)) (levels : ℕ) → ranked ≡ table → items ≡ visited table.sections → levels ≡ length table.rules → first ≡ compiled_row_by (known_rank ranked) (length table.rules) Undefined (undefined_weights table) → all ≡ first ++ flat_map (compiled_entry (known_rank ranked) levels) (entries_visited items) → all ≡ compiled_weights table
+weights_of_table table ranked items first all levels same visited_items counted begun whole =
     whole
-    ∙ (ap₂ (λ (row : List (List ℕ)) (es : List Entry). row ++ flat_map (compiled_entry (known_rank ranked) levels) es) begun (ap entries_met met_items ∙ met_all table.sections)
+    ∙ (ap₂ (λ (row : List (List ℕ)) (es : List Entry). row ++ flat_map (compiled_entry (known_rank ranked) levels) es) begun (ap entries_visited visited_items ∙ visited_all table.sections)
     ∙ ap₂ (λ (t : Collation) (n : ℕ). compiled_row_by (known_rank t) (length table.rules) Undefined (undefined_weights table) ++ flat_map (compiled_entry (known_rank t) n) (entries_of table)) same counted)

@@ -16,7 +16,7 @@ use Rattle.coll_elements.specs.Rank.{known_rank}
 use Rattle.coll_ranks.specs.RankLists.{WeightsValue}
 use Rattle.coll_ranks.specs.Ranks.{part_numbers, added_to, added_at, compiled_weight, compiled_by, compiled_row_by, filled_up}
 use Rattle.coll_ranks.specs.WeightNumbers.{number_of, numbers_at, weight_at, weights_or, weight_numbers, undefined_weights, code_point}
-use Rattle.coll_ranks.specs.declared.parts.Part.TheVariants.{Placed, Absent}
+use Rattle.coll_ranks.specs.declared.parts.TextElement.TheVariants.{Placed, Absent}
 
 -- Rows of compiled weights.
 

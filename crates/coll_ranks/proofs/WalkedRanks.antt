@@ -8,7 +8,7 @@ use Rattle.coll_syntax.specs.declared.identifiers.Id.{Id}
 use Rattle.coll_syntax.specs.declared.weights.Weight.{Weight}
 use Rattle.coll_nodes.specs.Placement.{place_among}
 use Rattle.coll_nodes.specs.Table.{Collation, entries_of, ids_of}
-use Rattle.coll_nodes.specs.Walks.{Met, MetSection, MetEntry, entry_met, entries_met}
+use Rattle.coll_nodes.specs.Walks.{Visited, VisitedSection, VisitedEntry, entry_visited, entries_visited}
 use Rattle.coll_nodes.specs.WellFormed.{AreDistinct}
 use Rattle.coll_nodes.specs.declared.entries.Entry.{Entry}
 use Rattle.coll_lookups.proofs.Sameness.{same_id_decides, same_id_itself}
@@ -44,22 +44,22 @@ place_of_first (first ∷ entries) later (suc rank) entry h e =
     absurd (let f = sym there ∙ none in cc))
     (λ off. ap (option_map (λ place. suc place)) there)
 
--- what one meets next has the next rank
-pub next_ranked : (table : Collation) (rank : ℕ) (left later : List Met) (item : Met) → AreDistinct same_id (ids_of (entries_of table)) → left ≡ item ∷ later → entries_met left ≡ drop rank (entries_of table) → HasNextRank table rank item
-next_ranked table rank left later (MetSection name) distinct first place = tt
-next_ranked table rank left later (MetEntry entry) distinct first place =
-    let next : entry ∷ entries_met later ≡ drop rank (entries_of table) = sym (ap entries_met first) ∙ place in
-    ap (λ p. unwrap_or (option_or p (rank_unplaced (length (entries_of table)) entry.id)) 0) (place_of_first (entries_of table) (entries_met later) rank entry distinct next)
+-- what one visits next has the next rank
+pub next_ranked : (table : Collation) (rank : ℕ) (left later : List Visited) (item : Visited) → AreDistinct same_id (ids_of (entries_of table)) → left ≡ item ∷ later → entries_visited left ≡ drop rank (entries_of table) → HasNextRank table rank item
+next_ranked table rank left later (VisitedSection name) distinct first place = tt
+next_ranked table rank left later (VisitedEntry entry) distinct first place =
+    let next : entry ∷ entries_visited later ≡ drop rank (entries_of table) = sym (ap entries_visited first) ∙ place in
+    ap (λ p. unwrap_or (option_or p (rank_unplaced (length (entries_of table)) entry.id)) 0) (place_of_first (entries_of table) (entries_visited later) rank entry distinct next)
     ∙ (let one : suc rank ≡ rank + 1 = omega arith in one)
 
 -- and behind it what is left has its places
-pub left_behind : (table : Collation) (rank next : ℕ) (left later : List Met) (item : Met) → left ≡ item ∷ later → next ≡ rank + length (entry_met item) → entries_met left ≡ drop rank (entries_of table) → entries_met later ≡ drop next (entries_of table)
-left_behind table rank next left later (MetSection name) first count place =
+pub left_behind : (table : Collation) (rank next : ℕ) (left later : List Visited) (item : Visited) → left ≡ item ∷ later → next ≡ rank + length (entry_visited item) → entries_visited left ≡ drop rank (entries_of table) → entries_visited later ≡ drop next (entries_of table)
+left_behind table rank next left later (VisitedSection name) first count place =
     let same : rank ≡ next = omega (arith, count) in
-    sym (ap entries_met first) ∙ (place ∙ ap (λ n. drop n (entries_of table)) same)
-left_behind table rank next left later (MetEntry entry) first count place =
+    sym (ap entries_visited first) ∙ (place ∙ ap (λ n. drop n (entries_of table)) same)
+left_behind table rank next left later (VisitedEntry entry) first count place =
     let more : suc rank ≡ next = omega (arith, count) in
-    left_later (entries_of table) (entries_met later) rank entry (sym (ap entries_met first) ∙ place) ∙ ap (λ n. drop n (entries_of table)) more
+    left_later (entries_of table) (entries_visited later) rank entry (sym (ap entries_visited first) ∙ place) ∙ ap (λ n. drop n (entries_of table)) more
 
 -- Rows.
 
@@ -71,10 +71,10 @@ row_more ranks now levels fewer owner weights later old new whole same one put i
     ∙ (ap₂ (λ (t : Collation) (n : ℕ). old ++ compiled_row_by (known_rank t) n owner weights) same (sym one) ∙ is))
 
 -- what is put in, and what is left of all rows
-pub rows_more : (ranks now : Collation) (levels : ℕ) (left later : List Met) (item : Met) (old new : WeightsValue) (whole : List (List ℕ)) → now ≡ ranks → old.levels ≡ levels → left ≡ item ∷ later → AddsRow old new (flat_map (compiled_entry (known_rank now) old.levels) (entry_met item)) → old.lists ++ flat_map (compiled_entry (known_rank ranks) levels) (entries_met left) ≡ whole → new.lists ++ flat_map (compiled_entry (known_rank ranks) levels) (entries_met later) ≡ whole
+pub rows_more : (ranks now : Collation) (levels : ℕ) (left later : List Visited) (item : Visited) (old new : WeightsValue) (whole : List (List ℕ)) → now ≡ ranks → old.levels ≡ levels → left ≡ item ∷ later → AddsRow old new (flat_map (compiled_entry (known_rank now) old.levels) (entry_visited item)) → old.lists ++ flat_map (compiled_entry (known_rank ranks) levels) (entries_visited left) ≡ whole → new.lists ++ flat_map (compiled_entry (known_rank ranks) levels) (entries_visited later) ≡ whole
 rows_more ranks now levels left later item old new whole same counted first put is =
-    ap (λ ls. ls ++ flat_map (compiled_entry (known_rank ranks) levels) (entries_met later)) put.lists_are
-    ∙ (ap₂ (λ (t : Collation) (n : ℕ). (old.lists ++ flat_map (compiled_entry (known_rank t) n) (entry_met item)) ++ flat_map (compiled_entry (known_rank ranks) levels) (entries_met later)) same counted
-    ∙ (append_assoc old.lists (flat_map (compiled_entry (known_rank ranks) levels) (entry_met item)) (flat_map (compiled_entry (known_rank ranks) levels) (entries_met later))
-    ∙ (ap (λ ls. old.lists ++ ls) (sym (flat_map-append (compiled_entry (known_rank ranks) levels) (entry_met item) (entries_met later)))
-    ∙ (ap (λ items. old.lists ++ flat_map (compiled_entry (known_rank ranks) levels) (entries_met items)) (sym first) ∙ is))))
+    ap (λ ls. ls ++ flat_map (compiled_entry (known_rank ranks) levels) (entries_visited later)) put.lists_are
+    ∙ (ap₂ (λ (t : Collation) (n : ℕ). (old.lists ++ flat_map (compiled_entry (known_rank t) n) (entry_visited item)) ++ flat_map (compiled_entry (known_rank ranks) levels) (entries_visited later)) same counted
+    ∙ (append_assoc old.lists (flat_map (compiled_entry (known_rank ranks) levels) (entry_visited item)) (flat_map (compiled_entry (known_rank ranks) levels) (entries_visited later))
+    ∙ (ap (λ ls. old.lists ++ ls) (sym (flat_map-append (compiled_entry (known_rank ranks) levels) (entry_visited item) (entries_visited later)))
+    ∙ (ap (λ items. old.lists ++ flat_map (compiled_entry (known_rank ranks) levels) (entries_visited items)) (sym first) ∙ is))))

@@ -4,9 +4,9 @@ use Rattle.coll_ranks.specs.RankLists.{WeightsValue}
 use Rattle.coll_ranks.specs.Ranks.{added_to, added_at}
 use Rattle.coll_ranks.specs.WeightCells.{cell_list}
 use Rattle.coll_ranks.specs.declared.level_weights.LevelWeights.{LevelWeights}
-use Rattle.coll_ranks.specs.declared.parts.Part.{Part}
-use Rattle.coll_ranks.specs.declared.parts.Part.TheVariants.{Placed, Absent}
-use Rattle.coll_ranks.specs.declared.parts.PartRow.{PartRow}
+use Rattle.coll_ranks.specs.declared.parts.TextElement.{TextElement}
+use Rattle.coll_ranks.specs.declared.parts.TextElement.TheVariants.{Placed, Absent}
+use Rattle.coll_ranks.specs.declared.parts.ElementRow.{ElementRow}
 use Rattle.coll_ranks.specs.declared.parts.WeightRanks.{WeightRanks}
 use Rattle.coll_ranks.specs.declared.parts.WeightRanks.TheVariants.{Ignored, Single, Several}
 
@@ -17,18 +17,18 @@ ranks_in (Single rank) = rank ∷ []
 ranks_in (Several ranks) = ranks.now
 
 -- the row of a part
-abbrev pub row_of : WeightsValue → Part → PartRow
+abbrev pub row_of : WeightsValue → TextElement → ElementRow
 row_of weights (Placed rank) = record { first = rank * weights.levels; code = 0 }
 row_of weights (Absent c) = record { first = 0; code = c }
 
 -- the numbers of a row at a level
-abbrev pub row_numbers : WeightsValue → (level : ℕ) → PartRow → List ℕ
+abbrev pub row_numbers : WeightsValue → (level : ℕ) → ElementRow → List ℕ
 row_numbers weights level row = map (added_to (added_at weights level row.code)) (slice_index_or weights.lists (row.first + level) [])
 
 -- the ranks of the weight of a row, by the weights of one level
-abbrev pub level_ranks : LevelWeights → PartRow → List ℕ
+abbrev pub level_ranks : LevelWeights → ElementRow → List ℕ
 level_ranks weights row = slice_index_or (map (cell_list weights.long.now) weights.cells.now) row.first []
 
 -- and the numbers of a row, by the weights of one level
-abbrev pub level_numbers : LevelWeights → PartRow → List ℕ
+abbrev pub level_numbers : LevelWeights → ElementRow → List ℕ
 level_numbers weights row = map (added_to (weights.times * row.code)) (level_ranks weights row)

@@ -1,4 +1,4 @@
-pub mod AlikeFronts
+pub mod AlikePrefixes
 pub mod LevelWeights
 pub mod RankLists
 pub mod Ranking

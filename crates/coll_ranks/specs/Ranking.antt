@@ -5,7 +5,7 @@ use Rattle.coll_syntax.specs.Identifier.{same_id}
 use Rattle.coll_syntax.specs.declared.identifiers.Id.{Id}
 use Rattle.coll_syntax.specs.declared.identifiers.Id.TheVariants.{Char}
 use Rattle.coll_nodes.specs.Table.{Collation}
-use Rattle.coll_nodes.specs.Walks.{Met, MetSection, MetEntry}
+use Rattle.coll_nodes.specs.Walks.{Visited, VisitedSection, VisitedEntry}
 use Rattle.coll_nodes.specs.declared.entries.Entry.{Entry}
 use Rattle.coll_elements.specs.Rank.{rank_of, known_rank}
 use Rattle.coll_ranks.specs.Ranks.{RanksById, rank_of_char, rank_with}
@@ -15,10 +15,10 @@ abbrev pub last_place : (before : ℕ) → List Entry → Id → Option ℕ
 last_place before [] id = None
 last_place before (entry ∷ entries) id = option_or (last_place (suc before) entries id) (if same_id id entry.id then Some (suc before) else None)
 
--- what one meets on a walk, if it is an entry, has the next rank in a table, behind so many others
-abbrev pub HasNextRank : Collation → (before : ℕ) → Met → Type 0
-HasNextRank table before (MetSection name) = Unit {0}
-HasNextRank table before (MetEntry entry) = known_rank table entry.id ≡ before + 1
+-- what one visits on a walk, if it is an entry, has the next rank in a table, behind so many others
+abbrev pub HasNextRank : Collation → (before : ℕ) → Visited → Type 0
+HasNextRank table before (VisitedSection name) = Unit {0}
+HasNextRank table before (VisitedEntry entry) = known_rank table entry.id ≡ before + 1
 
 -- these are the ranks of the characters of a table
 abbrev pub AreCharRanksOf : (characters : List ℕ) → Collation → Type 0

@@ -14,8 +14,8 @@ use Rattle.coll_elements.specs.Rank.{rank_of, known_rank}
 use Rattle.coll_elements.specs.RankedElements.{RankedElement, ranked_text, ranked_in}
 use Rattle.coll_ranks.specs.RankLists.{WeightsValue}
 use Rattle.coll_ranks.specs.WeightNumbers.{number_of, undefined_weights}
-use Rattle.coll_ranks.specs.declared.parts.Part.{Part}
-use Rattle.coll_ranks.specs.declared.parts.Part.TheVariants.{Placed, Absent}
+use Rattle.coll_ranks.specs.declared.parts.TextElement.{TextElement}
+use Rattle.coll_ranks.specs.declared.parts.TextElement.TheVariants.{Placed, Absent}
 
 -- the ranks of identifiers: the places of names, a list with a number for each code point, 0 for a character that has none, and the
 -- rank of UNDEFINED
@@ -60,26 +60,26 @@ abbrev pub added_at : WeightsValue → (level : ℕ) → ℕ → ℕ
 added_at weights level c = if slice_index_or weights.own level false then c else 0
 
 -- the numbers of a part at a level
-abbrev pub part_numbers : WeightsValue → (level : ℕ) → Part → List ℕ
+abbrev pub part_numbers : WeightsValue → (level : ℕ) → TextElement → List ℕ
 part_numbers weights level (Placed rank) = map (added_to 0) (compiled_weight weights rank level)
 part_numbers weights level (Absent c) = map (added_to (added_at weights level c)) (compiled_weight weights 0 level)
 
 -- the part of a character with this rank, if it has one
-abbrev pub character_part : Option ℕ → ℕ → Part
+abbrev pub character_part : Option ℕ → ℕ → TextElement
 character_part None c = Absent c
 character_part (Some rank) c = Placed rank
 
 -- a part: an element, or else the character
-abbrev pub part_with : RanksById → Option RankedElement → ℕ → Part
+abbrev pub part_with : RanksById → Option RankedElement → ℕ → TextElement
 part_with ids (Some ranked) c = Placed ranked.rank
 part_with ids None c = character_part (rank_with ids (Char c)) c
 
 -- the parts of a text behind this many characters
-abbrev pub parts_behind : RanksValue → (skipped : ℕ) → List ℕ → List Part
+abbrev pub parts_behind : RanksValue → (skipped : ℕ) → List ℕ → List TextElement
 parts_behind ranks skipped text = split ranked_text ranks.elements (part_with ranks.ids) skipped text
 
 -- the parts of a text
-unfoldable pub parts_of : RanksValue → List ℕ → List Part
+unfoldable pub parts_of : RanksValue → List ℕ → List TextElement
 parts_of ranks text = parts_behind ranks 0 text
 
 -- When they are those of a table.

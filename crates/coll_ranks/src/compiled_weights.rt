@@ -9,7 +9,7 @@ ghost use Rattle.coll_elements.specs.Rank.{known_rank};
 ghost use Rattle.coll_ranks.specs.Ranks.{compiled_row_by};
 
 use crate::level_weights::LevelWeights;
-use crate::parts::{Part, PartRow, PartWeight};
+use crate::parts::{ElementRow, ElementWeight, TextElement};
 use crate::recent_ranks::RecentRanks;
 use crate::table_ranks::TableRanks;
 use crate::weight_cells::WeightCells;
@@ -41,7 +41,7 @@ impl CompiledWeights {
     ghost use Rattle.coll_ranks.specs.RankLists.{AddsRow};
     ghost use Rattle.coll_ranks.specs.LevelWeights.{level_numbers, row_numbers, row_of};
     ghost use Rattle.coll_ranks.specs.Ranks.{compiled_weight, part_numbers, added_to, added_at};
-    ghost use Rattle.coll_ranks.specs.declared.parts.PartRow.{PartRow};
+    ghost use Rattle.coll_ranks.specs.declared.parts.ElementRow.{ElementRow};
 
     /// The weights of `UNDEFINED` at so many levels, with room for those of so many entries.
     pub(crate) fn new(
@@ -74,15 +74,15 @@ impl CompiledWeights {
 
     /// The row of a part.
     #[inline(always)]
-    pub fn row(&self, part: Part) -> PartRow
+    pub fn row(&self, part: TextElement) -> ElementRow
         ensures { result ≡ row_of self.now part }
     {
         match part {
-            Part::Placed(rank) => PartRow {
+            TextElement::Placed(rank) => ElementRow {
                 first: rank as usize * self.levels,
                 code: 0,
             },
-            Part::Absent(c) => PartRow {
+            TextElement::Absent(c) => ElementRow {
                 first: 0,
                 code: c as u32,
             },
@@ -92,7 +92,7 @@ impl CompiledWeights {
     /// The weights of a level.
     #[inline(always)]
     pub fn at_level(&self, level: usize) -> LevelWeights<'_>
-        ensures { (row : PartRow) → level_numbers result row ≡ row_numbers self.now level row }
+        ensures { (row : ElementRow) → level_numbers result row ≡ row_numbers self.now level row }
     {
         let (cells, long) = self.lists.from_place(level);
         LevelWeights {
@@ -112,16 +112,16 @@ impl CompiledWeights {
 
     /// What a part weighs at a level.
     #[inline(always)]
-    pub fn weight(&self, part: Part, level: usize) -> PartWeight<'_>
+    pub fn weight(&self, part: TextElement, level: usize) -> ElementWeight<'_>
         requires { level < self.now.levels }
         ensures { map (added_to result.added) result.ranks.now ≡ part_numbers self.now level part }
     {
         match part {
-            Part::Placed(rank) => PartWeight {
+            TextElement::Placed(rank) => ElementWeight {
                 ranks: self.compiled(rank, level),
                 added: 0,
             },
-            Part::Absent(c) => PartWeight {
+            TextElement::Absent(c) => ElementWeight {
                 ranks: self.compiled(0, level),
                 added: self.added(c, level),
             },

@@ -6,7 +6,7 @@
 ghost use Rattle.std.specs.Prelude.{◌≡◌, chars};
 ghost use Rattle.coll_syntax.specs.declared.identifiers.Id.TheVariants.{Char, Named};
 
-use crate::parts::Part;
+use crate::parts::TextElement;
 use coll_elements::CodePoints;
 use coll_lookups::NamePlaces;
 use coll_syntax::Id;
@@ -78,12 +78,12 @@ impl IdRanks {
     }
 
     /// The part that a character is which stands alone.
-    pub(crate) fn part(&self, c: char) -> Part
+    pub(crate) fn part(&self, c: char) -> TextElement
         ensures { result ≡ character_part (rank_with self.now (Char c)) c }
     {
         match self.rank_of_character(c) {
-            Some(rank) => Part::Placed(rank),
-            None => Part::Absent(c),
+            Some(rank) => TextElement::Placed(rank),
+            None => TextElement::Absent(c),
         }
     }
 }

@@ -5,7 +5,7 @@
 
 ghost use Rattle.std.specs.Prelude.{◌≡◌, ◌≤◌, ◌*◌};
 
-use crate::parts::{PartRow, WeightRanks};
+use crate::parts::{ElementRow, WeightRanks};
 use crate::rank_lists::RankLists;
 use crate::weight_cells::{WeightCell, ranks_at};
 
@@ -25,7 +25,7 @@ impl<'a> LevelWeights<'a> {
 
     /// The ranks of the weight of a part.
     #[inline(always)]
-    pub fn ranks(&self, row: PartRow) -> WeightRanks<'a>
+    pub fn ranks(&self, row: ElementRow) -> WeightRanks<'a>
         ensures { ranks_in result ≡ level_ranks self.now row }
     {
         ranks_at(self.cells, self.long, row.first)
@@ -33,7 +33,7 @@ impl<'a> LevelWeights<'a> {
 
     /// What is added to the number of each.
     #[inline(always)]
-    pub fn added(&self, row: PartRow) -> u32
+    pub fn added(&self, row: ElementRow) -> u32
         ensures { result ≡ self.now.times * row.code }
     {
         self.times * row.code

@@ -6,7 +6,7 @@
 //! - `id_ranks`: which rank an identifier has (`Rank` of `coll_elements`, `Ranks`);
 //! - `table_ranks`: which rank it has in a table whose entries are numbered (`Rank`), and `recent_ranks`: the same, where some ranks
 //!   are kept from one entry to the next (`RecentRanks`);
-//! - `parts`: what a text is split into (`AlikeFronts`);
+//! - `parts`: what a text is split into (`AlikePrefixes`);
 //! - `rank_lists`, `weight_cells`, `entry_rows` and `compiled_weights`: the weights of all entries as ranks, and what a part weighs
 //!   by them (`RankLists`, `WeightCells`, `Ranks`, `WeightNumbers`);
 //! - `level_weights`: the same at one level, for part after part (`LevelWeights`);
@@ -31,6 +31,6 @@ mod weight_cells;
 
 pub use compiled_weights::CompiledWeights;
 pub use level_weights::LevelWeights;
-pub use parts::{FirstPart, Part, PartRow, PartWeight, WeightRanks};
+pub use parts::{ElementRow, ElementWeight, FirstElement, TextElement, WeightRanks};
 pub use ranks::Ranks;
 pub use text_weights::TextWeights;

@@ -9,7 +9,7 @@ use std::marker::Model;
 
 /// A part of a text: a collating element, or a character.
 #[derive(Clone, Copy)]
-pub enum Part {
+pub enum TextElement {
     /// What has an entry: its rank.
     Placed(u32),
     /// A character without an entry.
@@ -18,9 +18,9 @@ pub enum Part {
 
 /// The part that a text begins with.
 #[derive(Clone, Copy)]
-pub struct FirstPart<'a> {
+pub struct FirstElement<'a> {
     /// The part.
-    pub part: Part,
+    pub part: TextElement,
     /// The number of its characters.
     pub characters: usize,
     /// The text behind it.
@@ -29,7 +29,7 @@ pub struct FirstPart<'a> {
 
 /// What a part weighs at a level: ranks, and what is added to the number of each.
 #[derive(Clone, Copy)]
-pub struct PartWeight<'a> {
+pub struct ElementWeight<'a> {
     /// The ranks of its weight.
     pub ranks: &'a [u32],
     /// What is added to the number of each.
@@ -38,7 +38,7 @@ pub struct PartWeight<'a> {
 
 /// A part by where its weights stand among compiled ones. It serves each level.
 #[derive(Clone, Copy)]
-pub struct PartRow {
+pub struct ElementRow {
     /// The place of its weight at the first level.
     pub first: usize,
     /// The code point of a character without an entry, which is added where `UNDEFINED` stands for itself. Of others it is 0.

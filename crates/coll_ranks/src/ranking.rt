@@ -12,8 +12,8 @@ ghost use Rattle.coll_syntax.specs.declared.weights.Weight.TheVariants.{Own};
 ghost use Rattle.coll_print.specs.CanonicalText.{is_own};
 ghost use Rattle.coll_nodes.specs.Table.{entries_of, ids_of};
 ghost use Rattle.coll_nodes.specs.TableLayout.{collation};
-ghost use Rattle.coll_nodes.specs.WalkItems.{met_by};
-ghost use Rattle.coll_nodes.specs.Walks.{entry_met, entries_met};
+ghost use Rattle.coll_nodes.specs.WalkItems.{visited_by};
+ghost use Rattle.coll_nodes.specs.Walks.{entry_visited, entries_visited};
 ghost use Rattle.coll_nodes.specs.WellFormed.{AreDistinct};
 ghost use Rattle.coll_ranks.specs.WeightNumbers.{undefined_weights};
 ghost use Rattle.coll_ranks.specs.Ranking.{last_place, AreCharRanksOf, AreIdRanksOf, HasNextRank};
@@ -63,7 +63,7 @@ fn ranked_and_compiled<'a>(
     ensures lists { IfOk result (λ made. made.1.lists ≡ compiled_weights (collation table.now)) }
     ensures own { IfOk result (λ made. made.1.own ≡ map is_own (undefined_weights (collation table.now))) }
 {
-    table.check_table();
+    table.lemma_well_formed();
     let mut weights = compiled_undefined(alloc, table, ranks, table.len())?;
     let mut recent = RecentRanks::new(ranks);
     let characters = put_walk(alloc, &mut weights, &mut recent, table.walk())?;
@@ -77,24 +77,24 @@ fn put_walk<'a>(
     ranks: &mut RecentRanks<'a>,
     walk: Walk<'a>,
 ) -> Result<CodePoints, AllocError>
-    requires few { length (entries_met walk) < 1_000_000 }
-    requires whole { entries_met walk ≡ entries_of ranks.old }
+    requires few { length (entries_visited walk) < 1_000_000 }
+    requires whole { entries_visited walk ≡ entries_of ranks.old }
     requires distinct { AreDistinct same_id (ids_of (entries_of ranks.old)) }
-    ensures ranks { IfOk result (λ characters. (c : ℕ) → rank_of_char characters c ≡ last_place 0 (entries_met walk.entry) (Char c)) }
-    ensures rows { OnOk result (AddsRow weights.old weights.new (flat_map (compiled_entry (known_rank ranks.old) weights.old.levels) (entries_met walk.entry))) }
+    ensures ranks { IfOk result (λ characters. (c : ℕ) → rank_of_char characters c ≡ last_place 0 (entries_visited walk.entry) (Char c)) }
+    ensures rows { OnOk result (AddsRow weights.old weights.new (flat_map (compiled_entry (known_rank ranks.old) weights.old.levels) (entries_visited walk.entry))) }
 {
     let mut characters = CodePoints::new(alloc);
     let mut left = walk;
     let mut rank = 0;
     'walk: while let Some(item) = left.next() {
-        rank = put_met(&mut characters, weights, ranks, item, rank)?;
+        rank = put_visited(&mut characters, weights, ranks, item, rank)?;
     }
     Ok(characters)
 }
 
-// Gives what one meets the next rank, if it is a character, and puts its compiled weights behind others, if it is an entry; and gives
+// Gives what one visits the next rank, if it is a character, and puts its compiled weights behind others, if it is an entry; and gives
 // the last rank.
-fn put_met<'a>(
+fn put_visited<'a>(
     characters: &mut CodePoints,
     weights: &mut CompiledWeights,
     ranks: &mut RecentRanks<'a>,
@@ -102,10 +102,10 @@ fn put_met<'a>(
     rank: u32,
 ) -> Result<u32, AllocError>
     requires few { rank < 1_000_000 }
-    requires next { HasNextRank ranks.old rank (met_by item) }
-    ensures count { IfOk result (λ last. last ≡ rank + length (entry_met (met_by item.entry))) }
-    ensures ranks { OnOk result ((c : ℕ) → rank_of_char characters.new c ≡ option_or (last_place rank (entry_met (met_by item.entry)) (Char c)) (rank_of_char characters.old c)) }
-    ensures rows { OnOk result (AddsRow weights.old weights.new (flat_map (compiled_entry (known_rank ranks.old) weights.old.levels) (entry_met (met_by item.entry)))) }
+    requires next { HasNextRank ranks.old rank (visited_by item) }
+    ensures count { IfOk result (λ last. last ≡ rank + length (entry_visited (visited_by item.entry))) }
+    ensures ranks { OnOk result ((c : ℕ) → rank_of_char characters.new c ≡ option_or (last_place rank (entry_visited (visited_by item.entry)) (Char c)) (rank_of_char characters.old c)) }
+    ensures rows { OnOk result (AddsRow weights.old weights.new (flat_map (compiled_entry (known_rank ranks.old) weights.old.levels) (entry_visited (visited_by item.entry)))) }
     ensures same { ranks.new ≡ ranks.old }
 {
     match item {
@@ -142,7 +142,7 @@ pub(crate) fn compiled_undefined(
     ensures lists { IfOk result (λ compiled. compiled.lists ≡ compiled_row_by (known_rank ranks.now) (length (collation table.now).rules) Undefined (undefined_weights (collation table.now))) }
     ensures own { IfOk result (λ compiled. compiled.own ≡ map is_own (undefined_weights (collation table.now))) }
 {
-    table.check_table();
+    table.lemma_well_formed();
     let levels = table.rules().len();
     match table.entry(&Id::Undefined) {
         Some(entry) => CompiledWeights::new(alloc, levels, entries, ranks, entry.weights()),

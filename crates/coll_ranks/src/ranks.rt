@@ -5,11 +5,11 @@
 
 ghost use Rattle.std.specs.Prelude.{◌≡◌, ◌<◌, ◌≤◌, ◌+◌, ◌∷◌, ℕ, [], chars, length, map, option_copied, Option, IfOk, IfSome, MatchOption};
 ghost use Rattle.coll_nodes.specs.TableLayout.{collation};
-ghost use Rattle.coll_ranks.specs.AlikeFronts.{BeginAlike};
+ghost use Rattle.coll_ranks.specs.AlikePrefixes.{BeginAlike};
 
 use crate::compiled_weights::CompiledWeights;
 use crate::id_ranks::IdRanks;
-use crate::parts::{FirstPart, Part};
+use crate::parts::{FirstElement, TextElement};
 use crate::ranking::ids_and_weights;
 use coll_elements::{PlacedElements, ranked_elements};
 use coll_lex::TextBuf;
@@ -67,7 +67,7 @@ impl Ranks {
 
     /// The part that a text begins with.
     #[inline(always)]
-    pub fn first_part<'a>(&self, text: &'a str) -> Option<FirstPart<'a>>
+    pub fn first_part<'a>(&self, text: &'a str) -> Option<FirstElement<'a>>
         ensures parts { MatchOption result (parts_of self.now (chars text.now) ≡ []) (λ first. parts_of self.now (chars text.now) ≡ first.part ∷ parts_of self.now (chars first.rest.now)) }
         ensures characters { MatchOption result (length (chars text.now) ≡ 0) (λ first. length (chars text.now) ≡ first.characters + length (chars first.rest.now)) }
         ensures some { IfSome result (λ first. 0 < first.characters) }
@@ -75,12 +75,12 @@ impl Ranks {
         let mut letters = text.chars();
         let first = letters.next()?;
         match self.elements.longest(text, first) {
-            Some(found) => Some(FirstPart {
-                part: Part::Placed(found.rank),
+            Some(found) => Some(FirstElement {
+                part: TextElement::Placed(found.rank),
                 characters: found.length,
                 rest: found.rest,
             }),
-            None => Some(FirstPart {
+            None => Some(FirstElement {
                 part: self.ids.part(first),
                 characters: 1,
                 rest: letters.as_str(),

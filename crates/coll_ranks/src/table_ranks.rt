@@ -63,7 +63,7 @@ impl<'a> TableRanks<'a> {
     fn rank_unplaced(&self, id: &Id) -> Option<u32>
         ensures { result ≡ rank_unplaced (length (entries_of self.now)) id.now }
     {
-        self.table.check_table();
+        self.table.lemma_well_formed();
         match id {
             Id::Undefined => Some(self.table.len() as u32 + 1),
             Id::Char(_) | Id::Named(_) => None,

@@ -14,13 +14,13 @@ ghost use Rattle.coll_ranks.specs.RankLists.{AddsRow};
 ghost use Rattle.coll_ranks.specs.Ranks.{part_numbers};
 ghost use Rattle.coll_ranks.specs.TextWeights.{element_parts, element_row};
 ghost use Rattle.coll_ranks.specs.WeightNumbers.{numbers_at};
-ghost use Rattle.coll_elements.specs.declared.text_elements.TextElement.{TextElement};
+ghost use Rattle.coll_elements.specs.declared.element_entries.ElementEntry.{ElementEntry};
 
 use crate::compiled_weights::CompiledWeights;
-use crate::parts::Part;
+use crate::parts::TextElement;
 use crate::ranking::compiled_undefined;
 use crate::table_ranks::TableRanks;
-use coll_elements::{TextElement, split_text};
+use coll_elements::{ElementEntry, split_text};
 use coll_lookups::EntryNumbers;
 use coll_table::Table;
 use std::alloc::{AllocError, Global};
@@ -31,7 +31,7 @@ use std::marker::Model;
 /// They are those of the table as it stood when they were made.
 #[derive(Drop)]
 pub struct TextWeights {
-    parts: Vec<Part>,
+    parts: Vec<TextElement>,
     weights: CompiledWeights,
 }
 
@@ -65,7 +65,7 @@ impl TextWeights {
     }
 
     /// The parts of the text.
-    pub fn parts(&self) -> &[Part]
+    pub fn parts(&self) -> &[TextElement]
         ensures { result.now ≡ self.now.parts }
     {
         &self.parts
@@ -84,8 +84,8 @@ fn compiled_parts(
     alloc: Global,
     weights: &mut CompiledWeights,
     ranks: &TableRanks<'_>,
-    elements: &[TextElement<'_>],
-) -> Result<Vec<Part>, AllocError>
+    elements: &[ElementEntry<'_>],
+) -> Result<Vec<TextElement>, AllocError>
     requires { length elements.now ≤ 65_536 }
     ensures parts { IfOk result (λ parts. parts.items ≡ element_parts 1 elements.now) }
     ensures rows { OnOk result (AddsRow weights.old weights.new (flat_map (element_row (known_rank ranks.now) weights.old.levels) elements.now)) }
@@ -100,25 +100,25 @@ fn compiled_parts(
 
 // Puts the part of an element behind others, and if it has an entry its weights too, which are this row; and gives the next row.
 fn push_element(
-    parts: &mut Vec<Part>,
+    parts: &mut Vec<TextElement>,
     weights: &mut CompiledWeights,
     ranks: &TableRanks<'_>,
-    element: TextElement<'_>,
+    element: ElementEntry<'_>,
     row: u32,
 ) -> Result<u32, AllocError>
     requires { row < 1_000_000 }
     ensures few { IfOk result (λ next. next ≤ row + 1) }
-    ensures parts { IfOk result (λ next. (later : List TextElement) → parts.new.items ++ element_parts next later ≡ parts.old.items ++ element_parts row (element.entry ∷ later)) }
+    ensures parts { IfOk result (λ next. (later : List ElementEntry) → parts.new.items ++ element_parts next later ≡ parts.old.items ++ element_parts row (element.entry ∷ later)) }
     ensures rows { OnOk result (AddsRow weights.old weights.new (element_row (known_rank ranks.now) weights.old.levels element.entry)) }
 {
     match element {
-        TextElement::Placed(entry) => {
+        ElementEntry::Placed(entry) => {
             weights.push(ranks, entry.id(), entry.weights())?;
-            parts.push(Part::Placed(row))?;
+            parts.push(TextElement::Placed(row))?;
             Ok(row + 1)
         }
-        TextElement::Absent(c) => {
-            parts.push(Part::Absent(c))?;
+        ElementEntry::Absent(c) => {
+            parts.push(TextElement::Absent(c))?;
             Ok(row)
         }
     }

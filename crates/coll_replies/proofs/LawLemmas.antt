@@ -1,4 +1,4 @@
--- A unit whose reply is a refusal leaves the history: a unit that changes it has a reply that begins with another word.
+-- A request whose reply is a refusal leaves the history: a request that changes it has a reply that begins with another word.
 use Rattle.std.proofs.Common.{◌≡◌, ℕ, zero, suc, Bool, true, false, List, [], ◌∷◌, Result, Ok, Err, refl, sym, ap, ◌∙◌, arith, length}
 use Rattle.std.specs.Prelude.{◌&&◌, if◌then◌else◌, codes}
 use Rattle.coll_history.specs.Histories.{History, judged, taken_back, put_again}
@@ -7,10 +7,10 @@ use Rattle.coll_history.specs.declared.history_faults.BenchFault.{BenchFault}
 use Rattle.coll_replies.specs.Laws.{RefusedChangesNothing}
 use Rattle.coll_replies.specs.Replies.{counted_line, count_reply, refused_line, reply, starved_line, history_or, history_after, may_starve, command_reply, history_after_command}
 use Rattle.coll_replies.specs.declared.faults.Fault.{Fault}
-use Rattle.coll_units.specs.declared.session_lines.Command.{Command}
-use Rattle.coll_units.specs.declared.session_lines.Command.TheVariants as command
-use Rattle.coll_units.specs.declared.units.Request.{Request}
-use Rattle.coll_units.specs.declared.units.Request.TheVariants as request
+use Rattle.coll_requests.specs.declared.session_lines.Command.{Command}
+use Rattle.coll_requests.specs.declared.session_lines.Command.TheVariants as command
+use Rattle.coll_requests.specs.declared.requests.Request.{Request}
+use Rattle.coll_requests.specs.declared.requests.Request.TheVariants as kind
 
 -- a character of a line, by how many stand before it
 at : ℕ → List ℕ → ℕ
@@ -73,16 +73,16 @@ by_command h command.History f e = refl
 by_command h (command.Withdraw k) f e = by_answer (codes "withdrawn") counted_withdrawn h (withdrawn h k) f e
 by_command h command.Check f e = refl
 
-by_unit : (h : History) (unit : Request) (f : Fault) → reply h unit ≡ refused_line f → history_after h unit ≡ h
+by_request : (h : History) (request : Request) (f : Fault) → reply h request ≡ refused_line f → history_after h request ≡ h
 unfolding reply history_after
-by_unit h (request.Asks c) f e = by_command h c f e
-by_unit h (request.States s) f e = by_answer (codes "ok") counted_ok h (judged h s) f e
-by_unit h (request.Refused fault) f e = refl
+by_request h (kind.Command c) f e = by_command h c f e
+by_request h (kind.Statement s) f e = by_answer (codes "ok") counted_ok h (judged h s) f e
+by_request h (kind.Refused fault) f e = refl
 
-by_want : (starves : Bool) (h : History) (unit : Request) (f : Fault) → (if starves then starved_line else reply h unit) ≡ refused_line f
-    → (if starves then h else history_after h unit) ≡ h
-by_want true h unit f e = refl
-by_want false h unit f e = by_unit h unit f e
+by_lack : (starves : Bool) (h : History) (request : Request) (f : Fault) → (if starves then starved_line else reply h request) ≡ refused_line f
+    → (if starves then h else history_after h request) ≡ h
+by_lack true h request f e = refl
+by_lack false h request f e = by_request h request f e
 
 pub refused_changes_nothing : RefusedChangesNothing
-refused_changes_nothing starved h unit f e = by_want (starved && may_starve h unit) h unit f e
+refused_changes_nothing starved h request f e = by_lack (starved && may_starve h request) h request f e

@@ -2,70 +2,70 @@
 use Rattle.std.proofs.Common.{◌≡◌, ℕ, ◌+◌, ◌≤◌, List, [], ◌∷◌, ◌++◌, Option, Some, None, length, map, suc, refl, sym, ap, ◌∙◌, append_assoc, length-append, arith}
 use Rattle.coll_nodes.specs.declared.entries.Entry.{Entry}
 use Rattle.coll_nodes.specs.Table.{Section, joined_entries}
-use Rattle.coll_nodes.specs.Walks.{Met, MetSection, MetEntry, met, met_name}
+use Rattle.coll_nodes.specs.Walks.{Visited, VisitedSection, VisitedEntry, visited, visited_name}
 use Rattle.coll_replies.specs.Replies.{header, listed_line, listed_lines, listed_sections}
-use Rattle.coll_replies.specs.Listing.{listed_met, met_line, rank_after}
+use Rattle.coll_replies.specs.Listing.{listed_visited, visited_line, rank_after}
 
-entries_listed : (rank : ℕ) (entries : List Entry) (rest : List Met) → listed_met rank (map MetEntry entries ++ rest) ≡ listed_lines rank entries ++ listed_met (rank + length entries) rest
-unfolding listed_met listed_lines
+entries_listed : (rank : ℕ) (entries : List Entry) (rest : List Visited) → listed_visited rank (map VisitedEntry entries ++ rest) ≡ listed_lines rank entries ++ listed_visited (rank + length entries) rest
+unfolding listed_visited listed_lines
 entries_listed rank [] rest =
     let same : rank ≡ rank + 0 = omega (arith) in
-    ap (λ (n : ℕ). listed_met n rest) same
+    ap (λ (n : ℕ). listed_visited n rest) same
 entries_listed rank (entry ∷ entries) rest =
     let same : suc rank + length entries ≡ rank + suc (length entries) = omega (arith) in
-    ap (λ (l : List ℕ). listed_line rank entry ++ l) (entries_listed (suc rank) entries rest ∙ ap (λ (n : ℕ). listed_lines (suc rank) entries ++ listed_met n rest) same)
-    ∙ sym (append_assoc (listed_line rank entry) (listed_lines (suc rank) entries) (listed_met (rank + suc (length entries)) rest))
+    ap (λ (l : List ℕ). listed_line rank entry ++ l) (entries_listed (suc rank) entries rest ∙ ap (λ (n : ℕ). listed_lines (suc rank) entries ++ listed_visited n rest) same)
+    ∙ sym (append_assoc (listed_line rank entry) (listed_lines (suc rank) entries) (listed_visited (rank + suc (length entries)) rest))
 
-name_listed : (rank : ℕ) (name : Option (List ℕ)) (rest : List Met) → listed_met rank (met_name name ++ rest) ≡ header name ++ listed_met rank rest
-unfolding listed_met
+name_listed : (rank : ℕ) (name : Option (List ℕ)) (rest : List Visited) → listed_visited rank (visited_name name ++ rest) ≡ header name ++ listed_visited rank rest
+unfolding listed_visited
 name_listed rank None rest = refl
 name_listed rank (Some name) rest = refl
 
 -- the lines of a walk through sections
-pub sections_listed : (rank : ℕ) (sections : List Section) → listed_met rank (met sections) ≡ listed_sections rank sections
-unfolding listed_met listed_sections
+pub sections_listed : (rank : ℕ) (sections : List Section) → listed_visited rank (visited sections) ≡ listed_sections rank sections
+unfolding listed_visited listed_sections
 sections_listed rank [] = refl
 sections_listed rank (section ∷ later) =
-    ap (listed_met rank) (append_assoc (met_name section.name) (map MetEntry section.entries) (met later))
-    ∙ name_listed rank section.name (map MetEntry section.entries ++ met later)
+    ap (listed_visited rank) (append_assoc (visited_name section.name) (map VisitedEntry section.entries) (visited later))
+    ∙ name_listed rank section.name (map VisitedEntry section.entries ++ visited later)
     ∙ ap (λ (l : List ℕ). header section.name ++ l)
-    (entries_listed rank section.entries (met later) ∙ ap (λ (l : List ℕ). listed_lines rank section.entries ++ l) (sections_listed (rank + length section.entries) later))
+    (entries_listed rank section.entries (visited later) ∙ ap (λ (l : List ℕ). listed_lines rank section.entries ++ l) (sections_listed (rank + length section.entries) later))
 
-length-mapped : (entries : List Entry) → length (map MetEntry entries) ≡ length entries
+length-mapped : (entries : List Entry) → length (map VisitedEntry entries) ≡ length entries
 length-mapped [] = refl
 length-mapped (entry ∷ entries) = ap suc (length-mapped entries)
 
-length-name : (name : Option (List ℕ)) → length (met_name name) ≤ 1
+length-name : (name : Option (List ℕ)) → length (visited_name name) ≤ 1
 length-name None = omega (arith)
 length-name (Some name) = omega (arith)
 
 -- no more is met than there are entries and sections
-pub length-met : (sections : List Section) → length (met sections) ≤ length (joined_entries sections) + length sections
-length-met [] = omega (arith)
-length-met (section ∷ later) =
-    let entries = map MetEntry section.entries in
+pub length-visited : (sections : List Section) → length (visited sections) ≤ length (joined_entries sections) + length sections
+length-visited [] = omega (arith)
+length-visited (section ∷ later) =
+    let entries = map VisitedEntry section.entries in
     omega (
       arith,
-      length-append (met_name section.name ++ entries) (met later),
-      length-append (met_name section.name) entries,
+      length-append (visited_name section.name ++ entries) (visited later),
+      length-append (visited_name section.name) entries,
       length-mapped section.entries,
       length-name section.name,
       length-append section.entries (joined_entries later),
-      length-met later,
+      length-visited later,
     )
 
 -- the lines of what is met begin with that of the first
-pub met_more : (rank next : ℕ) (first : Met) (left later : List Met) → left ≡ first ∷ later → next ≡ rank_after rank first → listed_met rank left ≡ met_line rank first ++ listed_met next later
-unfolding listed_met
-met_more rank next first left later steps counted =
-    ap (listed_met rank) steps ∙ ap (λ (n : ℕ). met_line rank first ++ listed_met n later) (sym counted)
+pub visited_more : (rank next : ℕ) (first : Visited) (left later : List Visited) → left ≡ first ∷ later → next ≡ rank_after rank first → listed_visited rank left ≡ visited_line rank first ++ listed_visited next later
+unfolding listed_visited
+visited_more rank next first left later steps counted =
+    ap (listed_visited rank) steps ∙ ap (λ (n : ℕ). visited_line rank first ++ listed_visited n later) (sym counted)
 
 -- where nothing is met no line follows
-pub met_none : (rank : ℕ) (left : List Met) → left ≡ [] → listed_met rank left ≡ []
-unfolding listed_met
-met_none rank left none = ap (listed_met rank) none
+pub visited_none : (rank : ℕ) (left : List Visited) → left ≡ [] → listed_visited rank left ≡ []
+unfolding listed_visited
+visited_none rank left none = ap (listed_visited rank) none
 
 -- the rank of the next entry is at most one higher
-pub rank-after : (rank : ℕ) (first : Met) → rank_after rank first ≤ suc rank
-rank-after rank (MetSection name) = omega (arith)
-rank-after rank (MetEntry entry) = omega (arith)
+pub rank-after : (rank : ℕ) (first : Visited) → rank_after rank first ≤ suc rank
+rank-after rank (VisitedSection name) = omega (arith)
+rank-after rank (VisitedEntry entry) = omega (arith)

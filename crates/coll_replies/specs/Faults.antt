@@ -4,14 +4,14 @@ use Rattle.coll_devices.specs.Stops.{read_stop_number, read_stop_name, write_sto
 use Rattle.coll_lex.specs.Faults.{lex_fault_number, lex_fault_name}
 use Rattle.coll_syntax.specs.SyntaxFaults.{syntax_fault_number, syntax_fault_name}
 use Rattle.coll_table.specs.Refusals.{refusal_number, refusal_name}
-use Rattle.coll_draft.specs.LoadFaults.{load_fault_number, load_fault_name}
+use Rattle.coll_builder.specs.LoadFaults.{load_fault_number, load_fault_name}
 use Rattle.coll_history.specs.HistoryFaults.{bench_fault_number, bench_fault_name}
 use Rattle.coll_key.specs.KeyFaults.{fault_number as key_fault_number, fault_name as key_fault_name}
-use Rattle.coll_draft.specs.declared.load_faults.LoadCause.TheVariants as load
-use Rattle.coll_units.specs.declared.delta_faults.DeltaCause.{DeltaCause}
-use Rattle.coll_units.specs.declared.delta_faults.DeltaCause.TheVariants as delta
-use Rattle.coll_units.specs.declared.unit_faults.UnitFault.{UnitFault}
-use Rattle.coll_units.specs.declared.unit_faults.UnitFault.TheVariants as unit
+use Rattle.coll_builder.specs.declared.load_faults.LoadCause.TheVariants as load
+use Rattle.coll_requests.specs.declared.delta_faults.DeltaCause.{DeltaCause}
+use Rattle.coll_requests.specs.declared.delta_faults.DeltaCause.TheVariants as delta
+use Rattle.coll_requests.specs.declared.request_faults.RequestFault.{RequestFault}
+use Rattle.coll_requests.specs.declared.request_faults.RequestFault.TheVariants as request
 use Rattle.coll_replies.specs.declared.faults.Fault.{Fault}
 use Rattle.coll_replies.specs.declared.faults.Fault.TheVariants as fault
 
@@ -46,16 +46,16 @@ fault_name fault.UnknownCommand = codes "UnknownCommand"
 fault_name fault.NoBlock = codes "NoBlock"
 
 -- a fault that was found apart from any table, as one of all faults
-abbrev pub fault_of : UnitFault → Fault
-fault_of (unit.Lex f) = fault.Lex f
-fault_of (unit.Syntax f) = fault.Syntax f
-fault_of unit.BlockOpen = fault.BlockOpen
-fault_of unit.BlockNotEnded = fault.BlockNotEnded
-fault_of unit.UnknownCommand = fault.UnknownCommand
-fault_of unit.NoBlock = fault.NoBlock
+abbrev pub fault_of : RequestFault → Fault
+fault_of (request.Lex f) = fault.Lex f
+fault_of (request.Syntax f) = fault.Syntax f
+fault_of request.BlockOpen = fault.BlockOpen
+fault_of request.BlockNotEnded = fault.BlockNotEnded
+fault_of request.UnknownCommand = fault.UnknownCommand
+fault_of request.NoBlock = fault.NoBlock
 
 -- a fault of a delta file, at a line of it, as one of all faults
 abbrev pub delta_fault_of : ℕ → DeltaCause → Fault
-delta_fault_of line (delta.Unit f) = fault_of f
+delta_fault_of line (delta.Request f) = fault_of f
 delta_fault_of line delta.NoCategory = fault.Load (record { line = line; cause = load.NoCategory })
 delta_fault_of line delta.NoEnd = fault.Load (record { line = line; cause = load.NoEnd })

@@ -1,4 +1,4 @@
--- The replies of a session (the project's own): what is written for each unit, from the history before it.
+-- The replies of a session (the project's own): what is written for each request, from the history before it.
 use Rattle.std.specs.Prelude.{ℕ, suc, ◌+◌, Bool, true, false, ◌&&◌, ◌||◌, if◌then◌else◌, List, [], ◌∷◌, ◌++◌, length, Option, Some, None, Result, Ok, Err, codes, decimal, encode_utf8_all}
 use Rattle.coll_lex.specs.LogicalLines.{first_choice, later_choices}
 use Rattle.coll_lex.specs.Spelling.{spelled_symbol}
@@ -25,12 +25,12 @@ use Rattle.coll_history.specs.declared.history_faults.BenchFault.{BenchFault}
 use Rattle.coll_history.specs.declared.history_faults.BenchFault.TheVariants as bench
 use Rattle.coll_replies.specs.declared.faults.Fault.{Fault}
 use Rattle.coll_replies.specs.declared.faults.Fault.TheVariants as fault
-use Rattle.coll_units.specs.declared.session_lines.Command.{Command}
-use Rattle.coll_units.specs.declared.session_lines.Command.TheVariants as command
-use Rattle.coll_units.specs.declared.units.Request.{Request}
-use Rattle.coll_units.specs.declared.units.Request.TheVariants as request
-use Rattle.coll_units.specs.declared.units.SessionUnit.{SessionUnit}
-use Rattle.coll_units.specs.declared.units.FaultAt.{FaultAt}
+use Rattle.coll_requests.specs.declared.session_lines.Command.{Command}
+use Rattle.coll_requests.specs.declared.session_lines.Command.TheVariants as command
+use Rattle.coll_requests.specs.declared.requests.Request.{Request}
+use Rattle.coll_requests.specs.declared.requests.Request.TheVariants as kind
+use Rattle.coll_requests.specs.declared.requests.RequestAt.{RequestAt}
+use Rattle.coll_requests.specs.declared.requests.FaultAt.{FaultAt}
 
 -- two words with a space between them, and the line's end
 abbrev pub worded : List ℕ → List ℕ → List ℕ
@@ -191,11 +191,11 @@ command_reply h command.History = history_listing h
 command_reply h (command.Withdraw k) = count_reply (codes "withdrawn") (withdrawn h k)
 command_reply h command.Check = checked_line (table_now h)
 
--- the reply to a unit
+-- the reply to a request
 unfoldable pub reply : History → Request → List ℕ
-reply h (request.Asks c) = command_reply h c
-reply h (request.States s) = count_reply (codes "ok") (judged h s)
-reply h (request.Refused f) = refused_line (fault_of f)
+reply h (kind.Command c) = command_reply h c
+reply h (kind.Statement s) = count_reply (codes "ok") (judged h s)
+reply h (kind.Refused f) = refused_line (fault_of f)
 
 -- the history where a call gave one, or the one from before
 abbrev pub history_or : History → Result History BenchFault → History
@@ -214,11 +214,11 @@ history_after_command h command.History = h
 history_after_command h (command.Withdraw k) = history_or h (withdrawn h k)
 history_after_command h command.Check = h
 
--- the history after a unit: one that is refused, and a listing, leave it
+-- the history after a request: one that is refused, and a listing, leave it
 unfoldable pub history_after : History → Request → History
-history_after h (request.Asks c) = history_after_command h c
-history_after h (request.States s) = history_or h (judged h s)
-history_after h (request.Refused f) = h
+history_after h (kind.Command c) = history_after_command h c
+history_after h (kind.Statement s) = history_or h (judged h s)
+history_after h (kind.Refused f) = h
 
 -- a command whose answer takes memory: a key, the order of two texts, and the withdrawal of a statement that remains
 abbrev pub may_starve_command : History → Command → Bool
@@ -232,31 +232,31 @@ may_starve_command h command.History = false
 may_starve_command h (command.Withdraw k) = is_numbered h k
 may_starve_command h command.Check = false
 
--- what takes memory to answer may be refused for want of it
+-- what takes memory to answer may be refused for lack of it
 abbrev pub may_starve : History → Request → Bool
-may_starve h (request.Asks c) = may_starve_command h c
-may_starve h (request.States s) = true
-may_starve h (request.Refused f) = false
+may_starve h (kind.Command c) = may_starve_command h c
+may_starve h (kind.Statement s) = true
+may_starve h (kind.Refused f) = false
 
--- the reply to want of memory
+-- the reply to lack of memory
 abbrev pub starved_line : List ℕ
 starved_line = refused_line (fault.Lex lex.OutOfMemory)
 
--- a unit that was starved has that reply and leaves the history
+-- a request that was starved has that reply and leaves the history
 abbrev pub reply_if : Bool → History → Request → List ℕ
-reply_if starved h unit = if starved && may_starve h unit then starved_line else reply h unit
+reply_if starved h request = if starved && may_starve h request then starved_line else reply h request
 
--- the history after a unit that was starved or not
+-- the history after a request that was starved or not
 abbrev pub history_after_if : Bool → History → Request → History
-history_after_if starved h unit = if starved && may_starve h unit then h else history_after h unit
+history_after_if starved h request = if starved && may_starve h request then h else history_after h request
 
 -- what is written for what a call of the history answered
 abbrev pub outcome_line : List ℕ → Result ℕ BenchFault → List ℕ
 outcome_line word (Ok n) = counted_line word n
 outcome_line word (Err f) = refused_line (fault.Bench f)
 
--- the replies to units, joined. A choice that is true stands for a unit that memory was refused for; where no choice
+-- the replies to requests, joined. A choice that is true stands for a request that memory was refused for; where no choice
 -- is left, memory was there
-unfoldable pub answers : History → List SessionUnit → List Bool → List ℕ
+unfoldable pub answers : History → List RequestAt → List Bool → List ℕ
 answers h [] starved = []
-answers h (unit ∷ later) starved = reply_if (first_choice starved) h unit.request ++ answers (history_after_if (first_choice starved) h unit.request) later (later_choices starved)
+answers h (request ∷ later) starved = reply_if (first_choice starved) h request.request ++ answers (history_after_if (first_choice starved) h request.request) later (later_choices starved)

@@ -6,14 +6,14 @@
 ghost use Rattle.std.specs.Prelude.{◌≡◌};
 ghost use Rattle.coll_replies.specs.Faults.{fault_number, fault_name, fault_of, delta_fault_of};
 
+use coll_builder::{LoadCause, LoadFault};
 use coll_devices::{ReadStop, WriteStop};
-use coll_draft::{LoadCause, LoadFault};
 use coll_history::BenchFault;
 use coll_key::KeyFault;
 use coll_lex::LexFault;
+use coll_requests::{DeltaCause, DeltaFault, RequestFault};
 use coll_syntax::SyntaxFault;
 use coll_table::Refusal;
-use coll_units::{DeltaCause, DeltaFault, UnitFault};
 use std::fmt;
 use thiserror::Error;
 
@@ -94,17 +94,17 @@ impl fmt::Display for Fault {
     }
 }
 
-impl From<UnitFault> for Fault {
+impl From<RequestFault> for Fault {
     ghost from_gives = { λ found fault. fault ≡ fault_of found };
 
-    fn from(found: UnitFault) -> Fault {
+    fn from(found: RequestFault) -> Fault {
         match found {
-            UnitFault::Lex(fault) => Fault::Lex(fault),
-            UnitFault::Syntax(fault) => Fault::Syntax(fault),
-            UnitFault::BlockOpen => Fault::BlockOpen,
-            UnitFault::BlockNotEnded => Fault::BlockNotEnded,
-            UnitFault::UnknownCommand => Fault::UnknownCommand,
-            UnitFault::NoBlock => Fault::NoBlock,
+            RequestFault::Lex(fault) => Fault::Lex(fault),
+            RequestFault::Syntax(fault) => Fault::Syntax(fault),
+            RequestFault::BlockOpen => Fault::BlockOpen,
+            RequestFault::BlockNotEnded => Fault::BlockNotEnded,
+            RequestFault::UnknownCommand => Fault::UnknownCommand,
+            RequestFault::NoBlock => Fault::NoBlock,
         }
     }
 }
@@ -115,7 +115,7 @@ impl From<DeltaFault> for Fault {
     fn from(found: DeltaFault) -> Fault {
         let line = found.line;
         match found.cause {
-            DeltaCause::Unit(fault) => Fault::from(fault),
+            DeltaCause::Request(fault) => Fault::from(fault),
             DeltaCause::NoCategory => Fault::Load(LoadFault {
                 line,
                 cause: LoadCause::NoCategory,

@@ -23,7 +23,7 @@ use std::alloc::{AllocError, Global};
 use std::cmp::Ordering;
 use std::marker::Model;
 
-/// Most bytes of a text that is looked up by itself: of each front of what is left of it a look-up is made, so that a text of twice
+/// Most bytes of a text that is looked up by itself: of each prefix of what is left of it a look-up is made, so that a text of twice
 /// the length takes four times as many. Words have fewer.
 const MOST_SHORT_LOOK: usize = 64;
 

@@ -62,7 +62,7 @@ impl RankedSession {
 
     /// Judges a statement, and answers how many statements then remain.
     ///
-    /// It is refused with `HistoryFull` where 65,535 remain, and else as the table refuses it. A refusal, want of memory
+    /// It is refused with `HistoryFull` where 65,535 remain, and else as the table refuses it. A refusal, lack of memory
     /// included, changes nothing.
     pub fn statement(&mut self, statement: Statement) -> Result<u32, BenchFault>
         requires proper { IsProper statement }
@@ -111,7 +111,7 @@ impl RankedSession {
     /// table at first again, in order.
     ///
     /// It is refused with `NoSuchStatement` exactly where no statement remains with the number, and nothing has then changed; else
-    /// with `StillNeeded` where another one is then refused. A refusal, want of memory included, leaves the history and the table.
+    /// with `StillNeeded` where another one is then refused. A refusal, lack of memory included, leaves the history and the table.
     pub fn withdraw(&mut self, number: u32) -> Result<u32, BenchFault>
         ensures withdrawn { IfOk result (λ _. withdrawn self.old.history number ≡ Ok self.new.history) }
         ensures count { IfOk result (λ n. n ≡ length self.new.history.remaining) }

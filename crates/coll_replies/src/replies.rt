@@ -1,7 +1,7 @@
 //! The replies of a session, written to its sink.
 //!
-//! Each unit has one reply, which is written piece by piece, without taking memory, and flushed. Where a write or the
-//! flush fails, the device has taken a front of the reply. A new unit is a new case of `respond`, and of the
+//! Each request has one reply, which is written piece by piece, without taking memory, and flushed. Where a write or the
+//! flush fails, the device has taken a prefix of the reply. A new request is a new case of `respond`, and of the
 //! definition of replies.
 
 ghost use Rattle.std.specs.Prelude.{◌≡◌, ◌≤◌, ◌++◌, ◌∷◌, [], Bool, true, chars, encode_utf8_all, IfOk, OnOk};
@@ -9,14 +9,14 @@ ghost use Rattle.std.specs.Io.KnownBytes.{Keeps};
 ghost use Rattle.coll_devices.specs.Devices.{CountsErr, Sends};
 ghost use Rattle.coll_lex.specs.Spelling.{spelled_symbol};
 ghost use Rattle.coll_nodes.specs.TableLayout.{collation};
-ghost use Rattle.coll_units.specs.ProperLines.{IsProperRequest};
+ghost use Rattle.coll_requests.specs.ProperLines.{IsProperRequest};
 ghost use Rattle.coll_print.specs.PrintedParts.{id_bytes};
-ghost use Rattle.coll_nodes.specs.WalkItems.{met_by};
-ghost use Rattle.coll_replies.specs.Listing.{met_line, rank_after};
+ghost use Rattle.coll_nodes.specs.WalkItems.{visited_by};
+ghost use Rattle.coll_replies.specs.Listing.{visited_line, rank_after};
 ghost use Rattle.coll_replies.specs.declared.faults.Fault.TheVariants.{Bench};
 ghost use Rattle.coll_replies.specs.Replies.{worded, count_part, levels_part, sections_part, declared_part, checked_line, counted_line, told_line, refused_line, refused_statement, still_needed_line, section_line, listed_line, listed_sections, listing, outcome_line, reply_if, history_after_if};
 
-mod past;
+mod history_reply;
 mod texts;
 
 use crate::faults::Fault;
@@ -26,19 +26,19 @@ use coll_history::BenchFault;
 use coll_lex::write_symbol;
 use coll_nodes::{Entry, WalkItem};
 use coll_print::write_id;
+use coll_requests::{Command, Request};
 use coll_syntax::Id;
 use coll_table::{Refusal, Table};
-use coll_units::{Command, Request};
+use history_reply::write_history;
 use itoa::Buffer;
-use past::write_history;
 use std::alloc::Global;
 use texts::{answer_compare, answer_key};
 pub use texts::{write_key_ended, write_order};
 
-/// Does what a unit asks for, writes its reply and flushes it.
+/// Does what a request asks for, writes its reply and flushes it.
 ///
-/// What is refused has its reply as well, want of memory included, and then changes nothing. Where the device fails, it has taken a
-/// front of the reply; the history is then as if the reply was written.
+/// What is refused has its reply as well, lack of memory included, and then changes nothing. Where the device fails, it has taken a
+/// prefix of the reply; the history is then as if the reply was written.
 pub fn answer<W: Sink>(
     alloc: Global,
     session: &mut RankedSession,
@@ -55,7 +55,7 @@ pub fn answer<W: Sink>(
     flush(out)
 }
 
-/// Writes the reply to a fault that ends a session, and flushes it. Where the device fails, it has taken a front of the reply.
+/// Writes the reply to a fault that ends a session, and flushes it. Where the device fails, it has taken a prefix of the reply.
 pub fn refuse<W: Sink>(fault: Fault, out: &mut W) -> Result<(), WriteStop>
     ensures sent { Sends (W.taken out.old) (W.taken out.new) (refused_line fault) result }
     ensures errors { CountsErr (W.failed out.old) (W.failed out.new) result }
@@ -77,7 +77,7 @@ fn flush<W: Sink>(out: &mut W) -> Result<(), WriteStop>
     }
 }
 
-// Does what a unit asks for, and writes its reply.
+// Does what a request asks for, and writes its reply.
 fn respond<W: Sink>(
     alloc: Global,
     session: &mut RankedSession,
@@ -90,8 +90,8 @@ fn respond<W: Sink>(
     ensures errors { CountsErr (W.failed out.old) (W.failed out.new) result }
 {
     match request {
-        Request::Asks(command) => obey(alloc, session, &command, out),
-        Request::States(statement) => {
+        Request::Command(command) => obey(alloc, session, &command, out),
+        Request::Statement(statement) => {
             let outcome = session.statement(statement);
             write_outcome(out, b"ok", outcome)
         }
@@ -106,8 +106,8 @@ fn obey<W: Sink>(
     command: &Command,
     out: &mut W,
 ) -> Result<(), WriteStop>
-    ensures answered { (starved : Bool) × Sends (W.taken out.old) (W.taken out.new) (reply_if starved session.old.history (Request.Asks command.now)) result
-        × (session.new.history ≡ history_after_if starved session.old.history (Request.Asks command.now)) }
+    ensures answered { (starved : Bool) × Sends (W.taken out.old) (W.taken out.new) (reply_if starved session.old.history (Request.Command command.now)) result
+        × (session.new.history ≡ history_after_if starved session.old.history (Request.Command command.now)) }
     ensures errors { CountsErr (W.failed out.old) (W.failed out.new) result }
 {
     match command {
@@ -157,7 +157,7 @@ fn write_listing<W: Sink>(out: &mut W, table: &Table) -> Result<(), WriteStop>
     write_counted(out, b"listed", table.len() as u64)
 }
 
-/// Writes how many entries, declarations, sections and levels a table has. Where a write fails, the device has taken a front of it.
+/// Writes how many entries, declarations, sections and levels a table has. Where a write fails, the device has taken a prefix of it.
 #[tactic(auto, unfolding(crate::specs::Replies::checked_line))]
 pub fn write_checked<W: Sink>(out: &mut W, table: &Table) -> Result<(), WriteStop>
     ensures sent { Sends (W.taken out.old) (W.taken out.new) (checked_line (collation table.now)) result }
@@ -209,10 +209,10 @@ fn write_walk<W: Sink>(out: &mut W, table: &Table) -> Result<(), WriteStop>
     ensures sent { Sends (W.taken out.old) (W.taken out.new) (listed_sections 1 (collation table.now).sections) result }
     ensures errors { CountsErr (W.failed out.old) (W.failed out.new) result }
 {
-    table.check_table();
+    table.lemma_well_formed();
     let mut rank = 1u64;
     for item in table.walk() {
-        match write_met(out, rank, &item) {
+        match write_visited(out, rank, &item) {
             Ok(next) => rank = next,
             Err(stop) => return Err(stop),
         }
@@ -221,10 +221,10 @@ fn write_walk<W: Sink>(out: &mut W, table: &Table) -> Result<(), WriteStop>
 }
 
 // Writes the line of a section's name, or of an entry with its rank. The answer is the rank of the next entry.
-fn write_met<W: Sink>(out: &mut W, rank: u64, item: &WalkItem<'_>) -> Result<u64, WriteStop>
+fn write_visited<W: Sink>(out: &mut W, rank: u64, item: &WalkItem<'_>) -> Result<u64, WriteStop>
     requires { rank ≤ 4_294_967_295 }
-    ensures sent { Sends (W.taken out.old) (W.taken out.new) (met_line rank (met_by item.now)) result }
-    ensures rank { IfOk result (λ next. next ≡ rank_after rank (met_by item.now)) }
+    ensures sent { Sends (W.taken out.old) (W.taken out.new) (visited_line rank (visited_by item.now)) result }
+    ensures rank { IfOk result (λ next. next ≡ rank_after rank (visited_by item.now)) }
     ensures errors { CountsErr (W.failed out.old) (W.failed out.new) result }
 {
     match item {

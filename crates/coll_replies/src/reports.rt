@@ -1,6 +1,6 @@
 //! How the fault that ended a run is told: a line, and an exit status.
 //!
-//! None of this takes memory, so that want of memory can be told as well.
+//! None of this takes memory, so that lack of memory can be told as well.
 
 ghost use Rattle.std.specs.Prelude.{◌≡◌, ◌<◌, ◌++◌, length, map, string_bytes, IfErr};
 ghost use Rattle.coll_devices.specs.Devices.{CountsErr, Sends};
@@ -13,7 +13,7 @@ use coll_devices::{Sink, WriteStop, write_bytes};
 /// Writes the line of a fault, `FILE:LINE: NUMBER NAME`, where FILE is the name of its input, and LINE is 0 where it comes from no
 /// line.
 ///
-/// There is a name for the input. Where a write fails, the device has taken a front of the line.
+/// There is a name for the input. Where a write fails, the device has taken a prefix of the line.
 pub fn write_fault<W: Sink>(fault: &RunFault, names: &[String], out: &mut W) -> Result<(), Fault>
     requires named { fault.now.input < length names.now }
     ensures sent { Sends (W.taken out.old) (W.taken out.new) (fault_line (map string_bytes names.now) fault.now) result }

@@ -5,7 +5,7 @@ use Rattle.std.proofs.lemmas.List.Folds.{list_any-append}
 use Rattle.std.proofs.lemmas.Bool.Decides.{Decides-eqb}
 use Rattle.coll_lookups.proofs.Sameness.{same_name_decides, decided_symmetric}
 use Rattle.coll_syntax.specs.Identifier.{same_name, same_id, has_name, has_id}
-use Rattle.coll_nodes.specs.LookUps.{with_name, places_of, AddsId}
+use Rattle.coll_nodes.specs.LookUps.{with_name, ids_in_set, AddsId}
 use Rattle.coll_syntax.specs.declared.identifiers.Id.{Id}
 use Rattle.coll_syntax.specs.declared.identifiers.Id.TheVariants.{Char, Named, Undefined}
 
@@ -43,7 +43,7 @@ or_false true = refl
 or_false false = refl
 
 -- an identifier is found in a look-up where it is found by its kind
-pub found_place : (names : List (List ℕ)) (characters : List ℕ) (undefined : Bool) (id : Id) → has_id (places_of names characters undefined) id ≡ found_by_kind names characters undefined id
+pub found_place : (names : List (List ℕ)) (characters : List ℕ) (undefined : Bool) (id : Id) → has_id (ids_in_set names characters undefined) id ≡ found_by_kind names characters undefined id
 found_place names characters undefined (Char c) =
     list_any-append (same_id (Char c)) (map Named names) _
     ∙ (ap (λ b. b || has_id (map Char characters ++ last_part undefined) (Char c)) (none_made (Char c) Named names (λ _. refl))
@@ -83,7 +83,7 @@ with_name_has names name other = by_there (has_name names name) refl where
     turned false false = refl
 
 -- with one name more, a look-up has that name more
-pub adds_name : (names : List (List ℕ)) (characters : List ℕ) (undefined : Bool) (name : List ℕ) → AddsId (places_of names characters undefined) (places_of (with_name names name) characters undefined) (Named name)
+pub adds_name : (names : List (List ℕ)) (characters : List ℕ) (undefined : Bool) (name : List ℕ) → AddsId (ids_in_set names characters undefined) (ids_in_set (with_name names name) characters undefined) (Named name)
 adds_name names characters undefined name (Char c) =
     found_place (with_name names name) characters undefined (Char c) ∙ sym (found_place names characters undefined (Char c))
 adds_name names characters undefined name (Named other) =
@@ -93,7 +93,7 @@ adds_name names characters undefined name Undefined =
     found_place (with_name names name) characters undefined Undefined ∙ sym (found_place names characters undefined Undefined)
 
 -- with one character more, a look-up has that character more
-pub adds_char : (names : List (List ℕ)) (old new : List ℕ) (undefined : Bool) (c : ℕ) → ((q : ℕ) → list_any (nat_eq q) new ≡ cond (nat_eq c q) true (list_any (nat_eq q) old)) → AddsId (places_of names old undefined) (places_of names new undefined) (Char c)
+pub adds_char : (names : List (List ℕ)) (old new : List ℕ) (undefined : Bool) (c : ℕ) → ((q : ℕ) → list_any (nat_eq q) new ≡ cond (nat_eq c q) true (list_any (nat_eq q) old)) → AddsId (ids_in_set names old undefined) (ids_in_set names new undefined) (Char c)
 adds_char names old new undefined c h (Char other) =
     found_place names new undefined (Char other)
     ∙ (h other ∙ (ap (λ b. cond b true (list_any (nat_eq other) old)) (decided_symmetric nat_eq Decides-eqb c other) ∙ (either (nat_eq other c) _

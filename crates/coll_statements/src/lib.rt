@@ -5,14 +5,14 @@
 //!
 //! - `own_names`: identifiers and weights by own names (`OwnNames` of coll_nodes, `SecondNames`);
 //! - `own_statements`: a statement by own names (`OwnStatements`);
-//! - `places`, with `names`: the identifiers of a block (`LookUps` of coll_nodes).
+//! - `id_sets`, with `names`: the identifiers of a block (`LookUps` of coll_nodes).
 #![tactic(auto)]
 
+mod id_sets;
 mod names;
 mod own_names;
 mod own_statements;
-mod places;
 
+pub use id_sets::IdSet;
 pub use own_names::{is_second, names_second, own_weights, second_names_are_not_placed};
 pub use own_statements::by_own_names;
-pub use places::Places;

@@ -1,7 +1,7 @@
 //! Names, with a look-up by hash.
 //!
 //! A `Names` is the list of its names in the order in which they came, each once. How a name is found may change.
-//! `Places` keeps in it which names a block has had; the names that a table declares are looked up in coll_nodes.
+//! `IdSet` keeps in it which names a block has had; the names that a table declares are looked up in coll_nodes.
 
 ghost use Rattle.std.specs.Prelude.{◌≡◌, [], OnOk, OnErr, chars};
 ghost use Rattle.coll_syntax.specs.Identifier.{has_name};

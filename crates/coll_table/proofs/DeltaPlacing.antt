@@ -12,12 +12,12 @@ use Rattle.coll_syntax.specs.declared.identifiers.Id.{Id}
 use Rattle.coll_syntax.specs.declared.statements.OrderLine.{OrderLine}
 use Rattle.coll_syntax.specs.declared.weights.Weight.{Weight}
 use Rattle.coll_syntax.specs.declared.weights.Weight.TheVariants.{Own}
-use Rattle.coll_draft.proofs.BuiltTables.{built_with}
+use Rattle.coll_builder.proofs.BuiltTables.{built_with}
 use Rattle.coll_table.proofs.DeltaRefusals.{Passes, passes, has_last, has_still}
 use Rattle.coll_nodes.proofs.EntryLemmas.{taken_out, others_without, distinct_without, all_without, none_without, length_without, distinct_after, all_after, length_after, has_after, entry_found, found_id, by_ids, to_ids}
 use Rattle.coll_lookups.proofs.Sameness.{same_id_decides, same_id_symmetric, same_id_itself}
 use Rattle.coll_nodes.proofs.SectionLemmas.{joined_moved, names_stay, as_many, first_stays}
-use Rattle.coll_draft.proofs.SoundLines.{weights_are}
+use Rattle.coll_builder.proofs.SoundLines.{weights_are}
 use Rattle.coll_table.specs.Delta.{standing, block_entry, moved, all_moved, lines_refusal, line_refusal, ids_given}
 use Rattle.coll_nodes.specs.Entries.{ids_named, weight_ids, weights_of, kept_weight, given_weights, names_only, entry_of}
 use Rattle.coll_table.specs.Judging.{entries_added, line_ids}
@@ -37,9 +37,9 @@ apart_when_new ids target id p q =
 -- What the entry of a line names in its weights.
 
 -- what holds of each of two lists holds of the first
-pub all_front : {X : Type 0} (P : X → Type 0) (xs ys : List X) → All P (xs ++ ys) → All P xs
-all_front P [] ys h = All-nil P
-all_front P (x ∷ xs) ys h = All-cons P x xs (All-head P x (xs ++ ys) h) (all_front P xs ys (All-tail P x (xs ++ ys) h))
+pub all_prefix : {X : Type 0} (P : X → Type 0) (xs ys : List X) → All P (xs ++ ys) → All P xs
+all_prefix P [] ys h = All-nil P
+all_prefix P (x ∷ xs) ys h = All-cons P x xs (All-head P x (xs ++ ys) h) (all_prefix P xs ys (All-tail P x (xs ++ ys) h))
 
 -- and of the second
 pub all_back : {X : Type 0} (P : X → Type 0) (xs ys : List X) → All P (xs ++ ys) → All P ys
@@ -61,7 +61,7 @@ module _ (P : Id → Type 0) where
   all_kept_names levels id [] h = own_names levels
   all_kept_names levels id (weight ∷ given) h =
       All-append P (weight_ids (kept_weight id weight)) (flat_map weight_ids (map (kept_weight id) given ++ replicate levels Own))
-      (kept_names id weight (all_front P (weight_ids weight) (flat_map weight_ids given) h))
+      (kept_names id weight (all_prefix P (weight_ids weight) (flat_map weight_ids given) h))
       (all_kept_names levels id given (all_back P (weight_ids weight) (flat_map weight_ids given) h))
 
   -- the entry of a line names what the line gives
@@ -248,6 +248,6 @@ all_named P table target before [] h were given = were
 all_named P table target before (line ∷ lines) h were given =
     let ids = flat_map weight_ids (given_weights line.weights) in
     let Q = λ (entry : Entry). All P (ids_named entry) in
-    let one : Q (block_entry table line) = entry_by table line Q (λ found e. (entry_found Q (entries_of table) line.id found were e).0) (entry_names P (length table.rules) (is_symbol table.declared line.id) line (all_front P ids (ids_given lines) given)) in
+    let one : Q (block_entry table line) = entry_by table line Q (λ found e. (entry_found Q (entries_of table) line.id found were e).0) (entry_names P (length table.rules) (is_symbol table.declared line.id) line (all_prefix P ids (ids_given lines) given)) in
     all_named P (moved table target line) line.id (before ++ line.id ∷ []) lines (others_follow table target before line lines h)
     (all_moved_entries table line target h.distinct Q were one) (all_back P ids (ids_given lines) given)

@@ -7,7 +7,7 @@ use Rattle.std.proofs.lemmas.List.Elements.{All-nil, All-cons, All-head, All-tai
 use Rattle.coll_order.proofs.Sameness.{by_test}
 use Rattle.coll_syntax.specs.Identifier.{same_id, same_name, has_id, has_name}
 use Rattle.coll_syntax.specs.declared.identifiers.Id.{Id}
-use Rattle.coll_table.proofs.DeltaPlacing.{all_front, all_back}
+use Rattle.coll_table.proofs.DeltaPlacing.{all_prefix, all_back}
 use Rattle.coll_lookups.proofs.Sameness.{same_name_decides, same_name_symmetric, same_id_decides, same_id_itself, neither}
 use Rattle.coll_nodes.specs.Placement.{has_section_name, sections_named, sections_without, sections_after, section_moved}
 use Rattle.coll_nodes.specs.Table.{Section, ids_of, joined_entries, section_names, named}
@@ -239,7 +239,7 @@ pub all_entries_moved : (P : Entry → Type 0) (sections : List Section) (name a
 all_entries_moved P sections name after h = to_entries (section_moved sections name after) (all_sections_moved (λ (section : Section). All P section.entries) sections name after (by_sections sections h)) where
   by_sections : (ss : List Section) → All P (joined_entries ss) → All (λ (section : Section). All P section.entries) ss
   by_sections [] h = All-nil (λ (section : Section). All P section.entries)
-  by_sections (s ∷ ss) h = All-cons (λ (section : Section). All P section.entries) s ss (all_front P s.entries (joined_entries ss) h) (by_sections ss (all_back P s.entries (joined_entries ss) h))
+  by_sections (s ∷ ss) h = All-cons (λ (section : Section). All P section.entries) s ss (all_prefix P s.entries (joined_entries ss) h) (by_sections ss (all_back P s.entries (joined_entries ss) h))
 
   to_entries : (ss : List Section) → All (λ (section : Section). All P section.entries) ss → All P (joined_entries ss)
   to_entries [] h = All-nil P

@@ -13,24 +13,24 @@ use Rattle.coll_syntax.specs.declared.rules.Rule.{Rule}
 use Rattle.coll_syntax.specs.declared.statements.OrderLine.{OrderLine}
 use Rattle.coll_syntax.specs.declared.statements.Statement.{Statement}
 use Rattle.coll_syntax.specs.declared.statements.Statement.TheVariants as statement
-use Rattle.coll_draft.proofs.BuiltTables.{built_declared, built_with}
-use Rattle.coll_table.proofs.DeltaPlacing.{MayFollow, has_all_moved, all_moved_rules, all_moved_built, all_named, all_front, entry_names}
+use Rattle.coll_builder.proofs.BuiltTables.{built_declared, built_with}
+use Rattle.coll_table.proofs.DeltaPlacing.{MayFollow, has_all_moved, all_moved_rules, all_moved_built, all_named, all_prefix, entry_names}
 use Rattle.coll_table.proofs.DeltaRefusals.{unrefused, or_unrefused, weights_pass, placed_ids}
 use Rattle.coll_table.proofs.DeltaSections.{section_moved_number, section_moved_entries, section_moved_names, section_moved_ids, section_moved_has, all_entries_moved, first_unmoved}
 use Rattle.coll_nodes.proofs.EntryLemmas.{by_ids, to_ids}
 use Rattle.coll_nodes.proofs.LayoutReads.{both_true}
 use Rattle.coll_lookups.proofs.Sameness.{same_id_decides, same_id_itself}
 use Rattle.coll_nodes.proofs.SectionLemmas.{names_stay, as_many, first_stays}
-use Rattle.coll_draft.proofs.SoundLines.{passed, not_false, weights_are}
+use Rattle.coll_builder.proofs.SoundLines.{passed, not_false, weights_are}
 use Rattle.coll_table.specs.Delta.{own_delta, or_refused, declaration_delta, declaration_refusal, section_delta, section_refusal, block_delta, block_result, looked_up, all_moved, lines_refusal, ids_given, weight_ids_refusal, reweight_delta, reweight_refusal, reweighted, weights_refusal}
 use Rattle.coll_nodes.specs.Table.{has_text}
-use Rattle.coll_draft.specs.Drafts.{refused_if}
+use Rattle.coll_builder.specs.BuilderStates.{refused_if}
 use Rattle.coll_nodes.specs.Entries.{ids_named, weight_ids, given_weights, entry_of}
 use Rattle.coll_table.specs.Judging.{line_ids}
 use Rattle.coll_nodes.specs.Limits.{most_entries, most_declarations, most_sections}
 use Rattle.coll_nodes.specs.OwnNames.{means_nothing, means_no_symbol}
 use Rattle.coll_nodes.specs.Placement.{with_entry, section_moved}
-use Rattle.coll_draft.specs.SoundDrafts.{IsProperDeclaration}
+use Rattle.coll_builder.specs.SoundStates.{IsProperDeclaration}
 use Rattle.coll_nodes.specs.Table.{Collation, Section, name_of, text_of, entries_of, ids_of, joined_entries, section_names, is_declared, is_known, is_placed, is_symbol}
 use Rattle.coll_nodes.specs.WellFormed.{AreDistinct, IsKnown, IsWeighted, HasPlacedWeights, IsBuilt, IsWellFormed}
 use Rattle.coll_nodes.specs.declared.declarations.Declaration.{Declaration}
@@ -210,7 +210,7 @@ reweight_well_formed table after line well proper e =
       some_levels = well.some_levels;
       weights_placed = subst (All Q) (sym joined) (replaced_all Q (entries_of table) entry
           (All-weaker (HasPlacedWeights table) Q (λ old all. All-weaker (λ id. IsTrue (is_placed table id)) P stays (ids_named old) all) (entries_of table) well.weights_placed)
-          (entry_names P (length table.rules) (is_symbol table.declared line.id) line (all_front P (flat_map weight_ids (given_weights line.weights)) [] looked.0)));
+          (entry_names P (length table.rules) (is_symbol table.declared line.id) line (all_prefix P (flat_map weight_ids (given_weights line.weights)) [] looked.0)));
     })
 
 -- a table that a proper statement results in is well formed

@@ -15,12 +15,12 @@ use Rattle.coll_nodes.proofs.BodyReads.{name_found, text_found}
 use Rattle.coll_table.proofs.ItemPlaces.{finds_once, node_by}
 use Rattle.coll_table.proofs.ItemRings.{linked_anew, section_still}
 use Rattle.coll_table.proofs.ItemsDone.{AreDone}
-use Rattle.coll_draft.proofs.LayoutEnds.{end_place}
+use Rattle.coll_builder.proofs.LayoutEnds.{end_place}
 use Rattle.coll_nodes.proofs.LayoutReads.{declared_read, read_known, sections_read}
 use Rattle.coll_nodes.proofs.NodeLists.{same_read}
 use Rattle.coll_nodes.proofs.RingPlaces.{get_put_other, place_off}
 use Rattle.coll_lookups.proofs.Sameness.{same_name_decides}
-use Rattle.coll_draft.proofs.SoundLines.{passed}
+use Rattle.coll_builder.proofs.SoundLines.{passed}
 use Rattle.coll_nodes.specs.Bodies.{IsLooseNode, with_link, without_link}
 use Rattle.coll_table.specs.Delta.{declaration_refusal}
 use Rattle.coll_nodes.specs.Table.{has_text}

@@ -21,7 +21,7 @@ use Rattle.coll_table.proofs.ItemPlaces.{entry_goes, finds_once, loose_suits, ne
 use Rattle.coll_table.proofs.ItemsDone.{AreDone, with_layout}
 use Rattle.coll_nodes.proofs.LayoutReads.{both_true}
 use Rattle.coll_lookups.proofs.Sameness.{same_id_decides, same_id_itself}
-use Rattle.coll_draft.proofs.SoundLines.{neither_found, passed}
+use Rattle.coll_builder.proofs.SoundLines.{neither_found, passed}
 use Rattle.coll_table.proofs.TurningSound.{item_on_sound}
 use Rattle.coll_nodes.specs.Bodies.{without_link}
 use Rattle.coll_table.specs.Delta.{all_moved, block_entry, line_refusal, lines_refusal, moved, standing, weights_refusal}

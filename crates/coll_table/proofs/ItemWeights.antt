@@ -15,7 +15,7 @@ use Rattle.coll_nodes.proofs.LayoutMoves.{declared_stays, sections_changed}
 use Rattle.coll_nodes.proofs.LayoutReads.{both_true, entries_read, in_rings, read_known}
 use Rattle.coll_nodes.proofs.NodeLists.{map_read, same_read}
 use Rattle.coll_lookups.proofs.Sameness.{neither, same_id_itself}
-use Rattle.coll_draft.proofs.SoundLines.{passed}
+use Rattle.coll_builder.proofs.SoundLines.{passed}
 use Rattle.coll_table.specs.Delta.{reweight_refusal, reweighted, standing, weights_refusal}
 use Rattle.coll_nodes.specs.Entries.{entry_of}
 use Rattle.coll_nodes.specs.Placement.{entry_at, with_entry}

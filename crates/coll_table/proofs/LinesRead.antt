@@ -1,15 +1,15 @@
 -- Lines that are handed in one after another are answered as the definition of reading says.
 use Rattle.std.proofs.Common.{◌≡◌, ℕ, suc, ◌+◌, Bool, true, false, List, [], ◌∷◌, length, Result, Ok, Err, sym, ap, ◌∙◌, refl, arith}
 use Rattle.coll_devices.specs.PhysicalLines.{lines_of}
-use Rattle.coll_draft.specs.Drafts.{Numbered, table_of}
-use Rattle.coll_draft.specs.Loading.{LoaderState, first_loader, loaded_line, loaded, past_line, answer_to}
-use Rattle.coll_draft.specs.Reading.{answer_at_end, reads}
-use Rattle.coll_draft.specs.declared.load_faults.LoadFault.{LoadFault}
+use Rattle.coll_builder.specs.BuilderStates.{Numbered, table_of}
+use Rattle.coll_builder.specs.Loading.{LoaderState, first_loader, loaded_line, loaded, past_line, answer_to}
+use Rattle.coll_builder.specs.Reading.{answer_at_end, reads}
+use Rattle.coll_builder.specs.declared.load_faults.LoadFault.{LoadFault}
 use Rattle.coll_table.proofs.LoadEnds.{loaded_ended, ends_here}
 use Rattle.coll_table.proofs.LoadSteps.{outcome_from, StandsAfter, Judged, stands_first, from_ended, judged}
 
 -- whether the category has ended, and what is answered then
-reads_ended : (before : List Numbered) (s : LoaderState) (count : ℕ) (lines : List (List ℕ)) → s.ended ≡ true → answer_at_end count (outcome_from true before s lines) ≡ Ok (table_of s.draft)
+reads_ended : (before : List Numbered) (s : LoaderState) (count : ℕ) (lines : List (List ℕ)) → s.ended ≡ true → answer_at_end count (outcome_from true before s lines) ≡ Ok (table_of s.builder)
 reads_ended before s count lines e = ap (answer_at_end count) (from_ended true before s lines e)
 
 module _ (count : ℕ) where

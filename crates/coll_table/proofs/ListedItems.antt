@@ -12,7 +12,7 @@ use Rattle.coll_syntax.specs.declared.identifiers.Id.{Id}
 use Rattle.coll_syntax.specs.declared.statements.OrderLine.{OrderLine}
 use Rattle.coll_syntax.specs.declared.statements.Statement.TheVariants as statement
 use Rattle.coll_syntax.specs.declared.weights.Weight.{Weight}
-use Rattle.coll_draft.proofs.SoundLines.{neither_found}
+use Rattle.coll_builder.proofs.SoundLines.{neither_found}
 use Rattle.coll_nodes.proofs.LayoutReads.{both_true}
 use Rattle.coll_lookups.proofs.Sameness.{same_id_itself, same_id_symmetric}
 use Rattle.coll_nodes.specs.Linking.{end_of_declarations}

@@ -7,16 +7,16 @@ use Rattle.coll_lex.specs.declared.faults.LexFault.TheVariants as lex
 use Rattle.coll_lex.proofs.LineSteps.{logical_lines-nil}
 use Rattle.coll_lex.proofs.LineEnds.{fed-too_long}
 use Rattle.coll_lex.proofs.OutsideLines.{outside-too_long}
-use Rattle.coll_draft.specs.Drafts.{Numbered, table_of, at_line}
-use Rattle.coll_draft.specs.Loading.{LoaderState, by_outside, by_fed, by_where, unless_faulty, loaded_line, early_end, loaded}
+use Rattle.coll_builder.specs.BuilderStates.{Numbered, table_of, at_line}
+use Rattle.coll_builder.specs.Loading.{LoaderState, by_outside, by_fed, by_where, unless_faulty, loaded_line, early_end, loaded}
 use Rattle.coll_table.specs.Loads.{IsUndecided}
-use Rattle.coll_draft.specs.Reading.{Decided, Undecided, outcome_within, answer_at_end}
-use Rattle.coll_draft.specs.declared.load_faults.LoadCause.TheVariants.{Lex, NoCategory}
+use Rattle.coll_builder.specs.Reading.{Decided, Undecided, outcome_within, answer_at_end}
+use Rattle.coll_builder.specs.declared.load_faults.LoadCause.TheVariants.{Lex, NoCategory}
 use Rattle.coll_table.proofs.LoadSteps.{outcome_before-nil, outcome_within-nil, outcome_within-cons, outcome_from, StandsAfter, from_ended, from_within, from_before}
 
 module _ (before : List Numbered) (s : LoaderState) (stands : StandsAfter before s) where
   -- where the category has ended, the table is the answer
-  pub loaded_ended : s.ended ≡ true → loaded s ≡ Ok (table_of s.draft)
+  pub loaded_ended : s.ended ≡ true → loaded s ≡ Ok (table_of s.builder)
   unfolding loaded
   loaded_ended e = rw stands.faultless (rw e refl)
 

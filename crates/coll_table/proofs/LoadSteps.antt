@@ -12,13 +12,13 @@ use Rattle.coll_lex.proofs.OutsideLines.{outside-one, outside-closed}
 use Rattle.coll_syntax.specs.TableLines.{table_line}
 use Rattle.coll_syntax.specs.declared.lines.TableLine.{TableLine}
 use Rattle.coll_syntax.specs.declared.syntax_faults.SyntaxFault.{SyntaxFault}
-use Rattle.coll_draft.specs.Drafts.{Numbered, draft_of, table_of, with_own_weights, line_fault, is_end}
-use Rattle.coll_draft.specs.Loading.{LoaderState, first_loader, draft_after, by_outside, by_fed, by_read, taken_line, by_where, unless_faulty, loaded_line}
-use Rattle.coll_draft.specs.Reading.{Outcome, Decided, Undecided, at_fault, accepted, line_judged, by_grammar, by_tokens, outcome_within, outcome_before}
-use Rattle.coll_draft.specs.declared.load_faults.LoadFault.{LoadFault}
-use Rattle.coll_draft.specs.declared.load_faults.LoadCause.TheVariants.{Lex, NoCategory, NoEnd}
-use Rattle.coll_draft.proofs.DraftSteps.{draft_more}
-use Rattle.coll_draft.proofs.EndedDrafts.{own_at_end}
+use Rattle.coll_builder.specs.BuilderStates.{Numbered, state_of, table_of, with_own_weights, line_fault, is_end}
+use Rattle.coll_builder.specs.Loading.{LoaderState, first_loader, state_after, by_outside, by_fed, by_read, taken_line, by_where, unless_faulty, loaded_line}
+use Rattle.coll_builder.specs.Reading.{Outcome, Decided, Undecided, at_fault, accepted, line_judged, by_grammar, by_tokens, outcome_within, outcome_before}
+use Rattle.coll_builder.specs.declared.load_faults.LoadFault.{LoadFault}
+use Rattle.coll_builder.specs.declared.load_faults.LoadCause.TheVariants.{Lex, NoCategory, NoEnd}
+use Rattle.coll_builder.proofs.StateSteps.{state_more}
+use Rattle.coll_builder.proofs.EndedStates.{own_at_end}
 use Rattle.coll_table.proofs.LineNumbers.{IsOpenWithin, none_open, fed_within}
 
 -- The definition of reading, one line on.
@@ -58,14 +58,14 @@ outcome_within-cons before line lines = refl
 -- what the rest of the lines decides: nothing where the category has ended; in it, by the lines that were accepted
 abbrev pub outcome_from : (ends : Bool) → List Numbered → LoaderState → List (List ℕ) → Outcome
 outcome_from ends before s lines =
-    if s.ended then Decided (Ok (table_of s.draft))
+    if s.ended then Decided (Ok (table_of s.builder))
     else (if s.begun then outcome_within before (logical_lines [] ends s.lexer lines)
     else outcome_before ends s.lexer lines)
 
 -- these lines were accepted, what they say is stored, until the category ends, and no fault is; before the category there are
 -- none, and no logical line is open; one that is open is one of the lines handed in
 pub record StandsAfter (before : List Numbered) (s : LoaderState) : Type 0 where
-  pub said : s.ended ≡ false → s.draft ≡ draft_of before
+  pub said : s.ended ≡ false → s.builder ≡ state_of before
   pub faultless : s.fault ≡ None
   pub none_before : s.begun ≡ false → before ≡ []
   pub closed : s.begun ≡ false → s.lexer.line ≡ None
@@ -89,7 +89,7 @@ Judged before s taken (Err fault) = (ends : Bool) (lines : List (List ℕ)) → 
 pub stands_first : StandsAfter [] first_loader
 stands_first = record { said = λ _. refl; faultless = refl; none_before = λ _. refl; closed = λ _. refl; few = omega arith; opens = none_open first_loader.lexer refl }
 
-pub from_ended : (ends : Bool) (before : List Numbered) (s : LoaderState) (lines : List (List ℕ)) → s.ended ≡ true → outcome_from ends before s lines ≡ Decided (Ok (table_of s.draft))
+pub from_ended : (ends : Bool) (before : List Numbered) (s : LoaderState) (lines : List (List ℕ)) → s.ended ≡ true → outcome_from ends before s lines ≡ Decided (Ok (table_of s.builder))
 from_ended ends before s lines e = rw e refl
 
 pub from_within : (ends : Bool) (before : List Numbered) (s : LoaderState) (lines : List (List ℕ)) → s.ended ≡ false → s.begun ≡ true → outcome_from ends before s lines ≡ outcome_within before (logical_lines [] ends s.lexer lines)
@@ -175,36 +175,36 @@ module _ (before : List Numbered) (s : LoaderState) (taken : List ℕ) (stands :
             ∙ ap (λ r. by_grammar given.number before r (λ n. outcome_within (before ++ n ∷ []) (logical_lines [] ends after lines))) f))
 
         -- the same with the lines before, by what they say
-        by_judgement : (n : Numbered) (fault : Option LoadFault) → n.number ≡ given.number → table_line given.tokens ≡ Ok n.line → line_fault s.draft n ≡ fault → (ends : Bool) (lines : List (List ℕ)) → outcome_from ends before s (taken ∷ lines) ≡ line_judged before n fault (outcome_within (before ++ n ∷ []) (logical_lines [] ends after lines))
+        by_judgement : (n : Numbered) (fault : Option LoadFault) → n.number ≡ given.number → table_line given.tokens ≡ Ok n.line → line_fault s.builder n ≡ fault → (ends : Bool) (lines : List (List ℕ)) → outcome_from ends before s (taken ∷ lines) ≡ line_judged before n fault (outcome_within (before ++ n ∷ []) (logical_lines [] ends after lines))
         by_judgement n fault same f g ends lines =
             by_said (Ok n.line) f ends lines
             ∙ (ap (λ number. by_grammar number before (Ok n.line) (λ m. outcome_within (before ++ m ∷ []) (logical_lines [] ends after lines))) (sym same)
             ∙ ap (λ c. line_judged before n c (outcome_within (before ++ n ∷ []) (logical_lines [] ends after lines))) (ap (λ d. line_fault d n) (sym (stands.said going)) ∙ g))
 
-        accepted_by : (n : Numbered) (ended : Bool) (later : Outcome) → is_end n.line ≡ ended → accepted before n later ≡ (if ended then Decided (Ok (table_of (with_own_weights (draft_of before)))) else later)
+        accepted_by : (n : Numbered) (ended : Bool) (later : Outcome) → is_end n.line ≡ ended → accepted before n later ≡ (if ended then Decided (Ok (table_of (with_own_weights (state_of before)))) else later)
         accepted_by n ended later is = rw is refl
 
         -- a line that is accepted
-        judged_accepted : (n : Numbered) (ended : Bool) → n.number ≡ given.number → table_line given.tokens ≡ Ok n.line → line_fault s.draft n ≡ None → is_end n.line ≡ ended → LeadsOn before s taken (record s { lexer = after; draft = draft_after s.draft n; ended = ended })
+        judged_accepted : (n : Numbered) (ended : Bool) → n.number ≡ given.number → table_line given.tokens ≡ Ok n.line → line_fault s.builder n ≡ None → is_end n.line ≡ ended → LeadsOn before s taken (record s { lexer = after; builder = state_after s.builder n; ended = ended })
         judged_accepted n ended same f g is =
             let counts = fed-one s.lexer taken (Some given) after e stands.few in
             record {
               next = before ++ n ∷ [];
-              stands = record { said = λ none. ap (λ d. draft_after d n) (stands.said going) ∙ sym (draft_more before n (is ∙ none)); faultless = stands.faultless; none_before = λ none. absurd (false≢true (sym none ∙ within)); closed = λ none. absurd (false≢true (sym none ∙ within)); few = omega (arith, counts.0, counts.1); opens = fed_within s.lexer after taken (Some given) stands.opens stands.few e };
+              stands = record { said = λ none. ap (λ d. state_after d n) (stands.said going) ∙ sym (state_more before n (is ∙ none)); faultless = stands.faultless; none_before = λ none. absurd (false≢true (sym none ∙ within)); closed = λ none. absurd (false≢true (sym none ∙ within)); few = omega (arith, counts.0, counts.1); opens = fed_within s.lexer after taken (Some given) stands.opens stands.few e };
               went_on = λ none. going;
               counts = λ none. counts;
               decides = λ ends lines. by_judgement n None same f g ends lines ∙ (accepted_by n ended _ is ∙ decides ended is ends lines);
             } where
-              decides : (ended : Bool) → is_end n.line ≡ ended → (ends : Bool) (lines : List (List ℕ)) → (if ended then Decided (Ok (table_of (with_own_weights (draft_of before)))) else outcome_within (before ++ n ∷ []) (logical_lines [] ends after lines)) ≡ outcome_from ends (before ++ n ∷ []) (record s { lexer = after; draft = draft_after s.draft n; ended = ended }) lines
-              decides true is ends lines = ap (λ d. Decided (Ok (table_of d))) (ap with_own_weights (sym (stands.said going)) ∙ sym (own_at_end s.draft n.number n.line is))
-              decides false is ends lines = sym (from_within ends (before ++ n ∷ []) (record s { lexer = after; draft = draft_after s.draft n; ended = false }) lines refl within)
+              decides : (ended : Bool) → is_end n.line ≡ ended → (ends : Bool) (lines : List (List ℕ)) → (if ended then Decided (Ok (table_of (with_own_weights (state_of before)))) else outcome_within (before ++ n ∷ []) (logical_lines [] ends after lines)) ≡ outcome_from ends (before ++ n ∷ []) (record s { lexer = after; builder = state_after s.builder n; ended = ended }) lines
+              decides true is ends lines = ap (λ d. Decided (Ok (table_of d))) (ap with_own_weights (sym (stands.said going)) ∙ sym (own_at_end s.builder n.number n.line is))
+              decides false is ends lines = sym (from_within ends (before ++ n ∷ []) (record s { lexer = after; builder = state_after s.builder n; ended = false }) lines refl within)
 
-        judged_line : (n : Numbered) (fault : Option LoadFault) → n.number ≡ given.number → table_line given.tokens ≡ Ok n.line → line_fault s.draft n ≡ fault → Judged before s taken (taken_line (record s { lexer = after }) n fault)
+        judged_line : (n : Numbered) (fault : Option LoadFault) → n.number ≡ given.number → table_line given.tokens ≡ Ok n.line → line_fault s.builder n ≡ fault → Judged before s taken (taken_line (record s { lexer = after }) n fault)
         judged_line n (Some fault) same f g = λ ends lines. by_judgement n (Some fault) same f g ends lines
         judged_line n None same f g = judged_accepted n (is_end n.line) same f g refl
 
         judged_read : (said : Result TableLine SyntaxFault) → table_line given.tokens ≡ said → Judged before s taken (by_read (record s { lexer = after }) given.number said)
-        judged_read (Ok read) f = judged_line (record { number = given.number; line = read }) (line_fault s.draft (record { number = given.number; line = read })) refl f refl
+        judged_read (Ok read) f = judged_line (record { number = given.number; line = read }) (line_fault s.builder (record { number = given.number; line = read })) refl f refl
         judged_read (Err fault) f = λ ends lines. by_said (Err fault) f ends lines
 
       -- a line of the category

@@ -1,9 +1,9 @@
--- No refusal of an order line outside a block is a want of memory: nothing is grown for it.
+-- No refusal of an order line outside a block is a lack of memory: nothing is grown for it.
 use Rattle.std.proofs.Common.{◌≡◌, Bool, true, false, List, [], ◌∷◌, Option, Some, None, Result, Ok, Err, IfErr, ap, subst, ◌∙◌}
 use Rattle.std.specs.Option.{option_or}
 use Rattle.coll_syntax.specs.declared.identifiers.Id.{Id}
 use Rattle.coll_syntax.specs.declared.statements.OrderLine.{OrderLine}
-use Rattle.coll_draft.specs.Drafts.{refused_if}
+use Rattle.coll_builder.specs.BuilderStates.{refused_if}
 use Rattle.coll_table.specs.Delta.{ids_given, looked_up, or_refused, reweight_delta, reweight_refusal, reweighted, unless_refused, weight_id_refusal, weight_ids_refusal, weights_refusal}
 use Rattle.coll_nodes.specs.Table.{Collation}
 use Rattle.coll_table.specs.declared.refusals.Refusal.{Refusal}
@@ -55,8 +55,8 @@ reweight_own table line =
     let after = reweighted table line in
     or_own (reweight_refusal table line) (looked_up after (line ∷ [])) (line_own table line) (unless_own (weight_ids_refusal after (ids_given (line ∷ []))) after (ids_own after (ids_given (line ∷ []))))
 
--- so a want of memory is no answer to it
+-- so a lack of memory is no answer to it
 pub reweight_unstarved : {U : Type 0} (Taken : Type 0) (r : Result U Refusal) (table : Collation) (line : OrderLine) (refusal : Option Refusal) → reweight_delta table line ≡ unless_refused refusal (reweighted table line)
     → IfErr r (λ it. refusal ≡ Some it) → IfErr r (λ it. it ≡ OutOfMemory → Taken)
 reweight_unstarved Taken (Ok u) table line refusal is some = tt
-reweight_unstarved Taken (Err it) table line refusal is some = λ want. absurd (subst OwnAnswer (is ∙ ap (λ r. unless_refused r (reweighted table line)) (some ∙ ap Some want)) (reweight_own table line))
+reweight_unstarved Taken (Err it) table line refusal is some = λ lack. absurd (subst OwnAnswer (is ∙ ap (λ r. unless_refused r (reweighted table line)) (some ∙ ap Some lack)) (reweight_own table line))

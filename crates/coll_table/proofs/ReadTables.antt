@@ -19,25 +19,25 @@ use Rattle.coll_syntax.specs.declared.lines.TableLine.TheVariants as line
 use Rattle.coll_syntax.specs.declared.rules.Rule.{Rule}
 use Rattle.coll_syntax.specs.declared.syntax_faults.SyntaxFault.{SyntaxFault}
 use Rattle.coll_syntax.proofs.ProperLines.{table_row-proper}
-use Rattle.coll_draft.specs.Drafts.{Numbered, DraftState, draft_of, table_of, second_name, own_order, rules_given, rules_differ, section_cause, section_cause_if, cause_after, at_line, fault_at_end, line_fault}
-use Rattle.coll_draft.specs.Loading.{LoaderState, first_loader, rules_after, with_section_if, draft_with, by_outside, by_fed, by_read, taken_line, by_where, unless_faulty, loaded_line, early_end, loaded, past_line, answer_to}
-use Rattle.coll_draft.specs.Reading.{TextsAreWellFormed}
-use Rattle.coll_draft.specs.SoundDrafts.{IsSoundDraft}
+use Rattle.coll_builder.specs.BuilderStates.{Numbered, BuilderState, state_of, table_of, second_name, own_order, rules_given, rules_differ, section_cause, section_cause_if, cause_after, at_line, fault_at_end, line_fault}
+use Rattle.coll_builder.specs.Loading.{LoaderState, first_loader, rules_after, with_section_if, state_with, by_outside, by_fed, by_read, taken_line, by_where, unless_faulty, loaded_line, early_end, loaded, past_line, answer_to}
+use Rattle.coll_builder.specs.Reading.{TextsAreWellFormed}
+use Rattle.coll_builder.specs.SoundStates.{IsSoundBuilderState}
 use Rattle.coll_nodes.specs.Table.{Collation, entries_of}
 use Rattle.coll_nodes.specs.WellFormed.{IsBuilt, IsWellFormed, IsWeighted}
 use Rattle.coll_nodes.specs.declared.declarations.Declaration.TheVariants as declaration
-use Rattle.coll_draft.specs.declared.load_faults.LoadCause.{LoadCause}
-use Rattle.coll_draft.specs.declared.load_faults.LoadCause.TheVariants.{RulesDiffer, OutsideOrder}
-use Rattle.coll_draft.specs.declared.load_faults.LoadFault.{LoadFault}
+use Rattle.coll_builder.specs.declared.load_faults.LoadCause.{LoadCause}
+use Rattle.coll_builder.specs.declared.load_faults.LoadCause.TheVariants.{RulesDiffer, OutsideOrder}
+use Rattle.coll_builder.specs.declared.load_faults.LoadFault.{LoadFault}
 use Rattle.coll_nodes.proofs.OwnNames.{own_id_proper}
-use Rattle.coll_draft.proofs.EndedDrafts.{own_at_end, well_formed_at_end}
-use Rattle.coll_draft.proofs.SoundLines.{passed, sound_declared, sound_own, sound_section, sound_entry, may_be_put}
+use Rattle.coll_builder.proofs.EndedStates.{own_at_end, well_formed_at_end}
+use Rattle.coll_builder.proofs.SoundLines.{passed, sound_declared, sound_own, sound_section, sound_entry, may_be_put}
 use Rattle.coll_table.proofs.LinesRead.{lines_read}
 
 -- Each accepted line keeps what the lines say together sound.
 
 -- an order is opened, with these rules where there are none yet
-opened : (d : DraftState) (was given : Option (List Rule)) → d.rules ≡ was → IsSoundDraft d → AreRulesIfGiven given → IsSoundDraft (record d { order_open = true; rules = rules_after was given })
+opened : (d : BuilderState) (was given : Option (List Rule)) → d.rules ≡ was → IsSoundBuilderState d → AreRulesIfGiven given → IsSoundBuilderState (record d { order_open = true; rules = rules_after was given })
 opened d (Some rules) given e sound proper = record {
   built = subst (λ r. IsBuilt (table_of (record d { rules = r }))) e sound.built;
   started = λ n. refl;
@@ -79,13 +79,13 @@ opened d None given e sound proper =
       given_are some f = cc
 
 -- a section begins, if one does
-begun : (d : DraftState) (name : Option (List ℕ)) → IsSoundDraft d → IsNameIfGiven name → section_cause_if d name ≡ None → IsSoundDraft (record d { sections = with_section_if d.sections name })
+begun : (d : BuilderState) (name : Option (List ℕ)) → IsSoundBuilderState d → IsNameIfGiven name → section_cause_if d name ≡ None → IsSoundBuilderState (record d { sections = with_section_if d.sections name })
 begun d None sound is e = sound
 begun d (Some name) sound is e = sound_section d name sound is e
 
 -- a line that is accepted
-sound_line : (d : DraftState) (number : ℕ) (l : TableLine) → IsSoundDraft d → IsProperTableLine l → cause_after d l ≡ None → IsSoundDraft (draft_with d number l)
-unfolding draft_with
+sound_line : (d : BuilderState) (number : ℕ) (l : TableLine) → IsSoundBuilderState d → IsProperTableLine l → cause_after d l ≡ None → IsSoundBuilderState (state_with d number l)
+unfolding state_with
 sound_line d number (line.Symbol name) sound proper e = sound_declared d (declaration.Symbol name) sound proper e
 sound_line d number (line.Element name text) sound proper e = sound_declared d (declaration.Element name text) sound proper e
 sound_line d number (line.Equivalence name symbol) sound proper e = sound_declared d (second_name d.declared name symbol) sound proper.0 e
@@ -108,8 +108,8 @@ not_refused number (Some cause) later e = cc
 
 record IsSoundState (s : LoaderState) : Type 0 where
   text : HoldsText s.lexer
-  draft : IsSoundDraft s.draft
-  ended : s.ended ≡ true → IsWellFormed (table_of s.draft)
+  builder : IsSoundBuilderState s.builder
+  ended : s.ended ≡ true → IsWellFormed (table_of s.builder)
 
 abbrev StaysSound : Result LoaderState LoadFault → Type 0
 StaysSound r = IfOk r IsSoundState
@@ -122,24 +122,24 @@ proper_tokens (first ∷ rest) (Ok read) are e = table_row-proper (first ∷ res
 proper_tokens (first ∷ rest) (Err fault) are e = tt
 
 module _ (s : LoaderState) (sound : IsSoundState s) where
-  taken_sound : (n : Numbered) (fault : Option LoadFault) → IsProperTableLine n.line → line_fault s.draft n ≡ fault → StaysSound (taken_line s n fault)
+  taken_sound : (n : Numbered) (fault : Option LoadFault) → IsProperTableLine n.line → line_fault s.builder n ≡ fault → StaysSound (taken_line s n fault)
   unfolding line_fault
   taken_sound n (Some fault) proper e = tt
   taken_sound n None proper e =
-      let after = sound_line s.draft n.number n.line sound.draft proper (not_refused n.number (cause_after s.draft n.line) (fault_at_end s.draft n.line) e) in
+      let after = sound_line s.builder n.number n.line sound.builder proper (not_refused n.number (cause_after s.builder n.line) (fault_at_end s.builder n.line) e) in
       record {
         text = sound.text;
-        draft = after;
-        ended = λ ends. subst (λ d. IsWellFormed (table_of d)) (sym (own_at_end s.draft n.number n.line ends)) (well_formed_at_end s.draft n e ends sound.draft);
+        builder = after;
+        ended = λ ends. subst (λ d. IsWellFormed (table_of d)) (sym (own_at_end s.builder n.number n.line ends)) (well_formed_at_end s.builder n e ends sound.builder);
       }
 
   read_sound : (number : ℕ) (said : Result TableLine SyntaxFault) → IfOk said IsProperTableLine → StaysSound (by_read s number said)
-  read_sound number (Ok read) proper = taken_sound (record { number = number; line = read }) (line_fault s.draft (record { number = number; line = read })) proper refl
+  read_sound number (Ok read) proper = taken_sound (record { number = number; line = read }) (line_fault s.builder (record { number = number; line = read })) proper refl
   read_sound number (Err fault) proper = tt
 
 -- another place of the lexer, with text in its open line, changes nothing that is said
 elsewhere : (s : LoaderState) (after : LexerState) → IsSoundState s → HoldsText after → IsSoundState (record s { lexer = after })
-elsewhere s after sound text = record { text = text; draft = sound.draft; ended = sound.ended }
+elsewhere s after sound text = record { text = text; builder = sound.builder; ended = sound.ended }
 
 module _ (s : LoaderState) (physical : List ℕ) (sound : IsSoundState s) where
   fed_sound : (r : Result (Option Line × LexerState) LexFault) → fed s.lexer physical ≡ r → StaysSound (by_fed s r)
@@ -150,7 +150,7 @@ module _ (s : LoaderState) (physical : List ℕ) (sound : IsSoundState s) where
   fed_sound (Err fault) e = tt
 
   outside_sound : (r : Result (Bool × LexerState) LexFault) → outside s.lexer physical ≡ r → StaysSound (by_outside s r)
-  outside_sound (Ok (begins, after)) e = record { text = outside-text s.lexer after physical begins e; draft = sound.draft; ended = sound.ended }
+  outside_sound (Ok (begins, after)) e = record { text = outside-text s.lexer after physical begins e; builder = sound.builder; ended = sound.ended }
   outside_sound (Err fault) e = tt
 
   where_sound : (ended begun : Bool) → StaysSound (if ended then Ok s else (if begun then by_fed s (fed s.lexer physical) else by_outside s (outside s.lexer physical)))
@@ -167,7 +167,7 @@ module _ (s : LoaderState) (physical : List ℕ) (sound : IsSoundState s) where
   line_sound = unless_sound s.fault
 
 -- the table of a loader whose category has ended
-table_sound : (s : LoaderState) (fault : Option LoadFault) (ended : Bool) → IsSoundState s → s.ended ≡ ended → IfOk (unless_faulty fault (if ended then Ok (table_of s.draft) else Err (early_end s s.lexer.line))) IsWellFormed
+table_sound : (s : LoaderState) (fault : Option LoadFault) (ended : Bool) → IsSoundState s → s.ended ≡ ended → IfOk (unless_faulty fault (if ended then Ok (table_of s.builder) else Err (early_end s s.lexer.line))) IsWellFormed
 table_sound s (Some fault) ended sound e = tt
 table_sound s None true sound e = sound.ended e
 table_sound s None false sound e = tt
@@ -182,10 +182,10 @@ answer_sound [] s sound = table_sound s s.fault s.ended sound refl
 answer_sound (first ∷ lines) s sound = past_sound (loaded_line s first) lines (line_sound s first sound) (λ after now. answer_sound lines after now)
 
 -- what the lines of no text say is sound
-first_sound : IsSoundDraft (draft_of [])
-unfolding draft_of
+first_sound : IsSoundBuilderState (state_of [])
+unfolding state_of
 first_sound = search rules
 
 -- whatever text is a table, that table is well formed
 pub texts_well_formed : TextsAreWellFormed
-texts_well_formed text table e = subst (λ (r : Result Collation LoadFault). IfOk r IsWellFormed) (lines_read text ∙ e) (answer_sound (lines_of text) first_loader (record { text = first-text; draft = first_sound; ended = λ n. absurd (false≢true n) }))
+texts_well_formed text table e = subst (λ (r : Result Collation LoadFault). IfOk r IsWellFormed) (lines_read text ∙ e) (answer_sound (lines_of text) first_loader (record { text = first-text; builder = first_sound; ended = λ n. absurd (false≢true n) }))

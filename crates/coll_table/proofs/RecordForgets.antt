@@ -56,7 +56,7 @@ loose_behind layout node others are = record {
 
 -- one item more
 abbrev Drops : TableLayout → List NodeId → List NodeId → Type 0
-Drops layout front rest = AreLoose layout front × AreLoose (without_loose layout front) rest × (without_loose layout (front ++ rest) ≡ without_loose (without_loose layout front) rest)
+Drops layout prefix rest = AreLoose layout prefix × AreLoose (without_loose layout prefix) rest × (without_loose layout (prefix ++ rest) ≡ without_loose (without_loose layout prefix) rest)
 
 drops_none : (layout : TableLayout) (rest : List NodeId) → AreLoose layout rest → Drops layout [] rest
 drops_none layout rest are =

@@ -13,14 +13,14 @@ use Rattle.coll_devices.specs.declared.stops.ReadStop.TheVariants as stop
 use Rattle.coll_syntax.specs.declared.syntax_faults.SyntaxFault.TheVariants as syntax
 use Rattle.coll_nodes.specs.Table.{Collation}
 use Rattle.coll_nodes.specs.TableLayout.{TableValue, collation}
-use Rattle.coll_draft.specs.Drafts.{Numbered, table_of, at_line}
-use Rattle.coll_draft.specs.Loading.{LoaderState, first_loader, loaded_line, loaded}
+use Rattle.coll_builder.specs.BuilderStates.{Numbered, table_of, at_line}
+use Rattle.coll_builder.specs.Loading.{LoaderState, first_loader, loaded_line, loaded}
 use Rattle.coll_table.specs.Loads.{with_feeds, stop_fault, IsUndecided, Starves, FaultSays, Loads, counted_by, CountsFault}
-use Rattle.coll_draft.specs.Reading.{Outcome, Decided, outcome_of, answer_at_end, reads}
+use Rattle.coll_builder.specs.Reading.{Outcome, Decided, outcome_of, answer_at_end, reads}
 use Rattle.coll_table.specs.SoundLoaders.{IsLineCause}
-use Rattle.coll_draft.specs.declared.load_faults.LoadFault.{LoadFault}
-use Rattle.coll_draft.specs.declared.load_faults.LoadCause.{LoadCause}
-use Rattle.coll_draft.specs.declared.load_faults.LoadCause.TheVariants.{Lex, Syntax, ReadFault, OutOfMemory}
+use Rattle.coll_builder.specs.declared.load_faults.LoadFault.{LoadFault}
+use Rattle.coll_builder.specs.declared.load_faults.LoadCause.{LoadCause}
+use Rattle.coll_builder.specs.declared.load_faults.LoadCause.TheVariants.{Lex, Syntax, ReadFault, OutOfMemory}
 use Rattle.coll_table.proofs.LoadEnds.{loaded_ended, ends_here, undecided_here, long_line}
 use Rattle.coll_table.proofs.LineNumbers.{next_within}
 use Rattle.coll_table.proofs.LoadSteps.{outcome_from, StandsAfter, CountsOne, LeadsOn, Judged, stands_first, from_ended, judged}
@@ -145,7 +145,7 @@ module _ (start : Option (List ℕ)) (reader : ReaderState) (left : Option (List
         let at = way.read text e in
         let first = gives_first reader new left left_after failed failed_after at.rest at.unread gives in
         fault_says text left_after fault.line fault.cause own
-        (λ want. starved fault.line gives (number want way.stands.faultless) text e)
+        (λ lack. starved fault.line gives (number lack way.stands.faultless) text e)
         (λ memory.
         let decides : (ends : Bool) (lines : List (List ℕ)) → outcome_from ends way.before s (new.line ∷ lines) ≡ Decided (Err fault) = subst (Judged way.before s new.line) (says memory) (judged way.before s new.line way.stands) in
         reads_decided text (Err fault) (from_here text e (new.line ∷ lines_of first.rest) first.first ∙ decides true (lines_of first.rest)))
@@ -202,7 +202,7 @@ module _ (start : Option (List ℕ)) (reader : ReaderState) (left : Option (List
 pub ended_reads : (start : Option (List ℕ)) (reader : ReaderState) (left : Option (List ℕ)) (s : LoaderState) → OnWay start reader left s → s.ended ≡ true → (text : List ℕ) → start ≡ Some text → reads text ≡ loaded s
 ended_reads start reader left s way ended text e =
     let at = way.read text e in
-    reads_decided text (Ok (table_of s.draft))
+    reads_decided text (Ok (table_of s.builder))
     (ap (outcome_of true) at.lines ∙ (at.decides true (lines_of at.rest) ∙ from_ended true way.before s (lines_of at.rest) ended))
     ∙ sym (loaded_ended way.before s way.stands ended)
 
@@ -210,7 +210,7 @@ ended_reads start reader left s way ended text e =
 pub loads : (start left_after : Option (List ℕ)) (s : LoaderState) (result : Result TableValue LoadFault) → s.fault ≡ None → ((text : List ℕ) → start ≡ Some text → reads text ≡ loaded s) → IfOk result (λ table. loaded s ≡ Ok (collation table)) → IfErr result (λ fault. loaded s ≡ Err fault) → IfErr result (λ fault. IsLineCause fault.cause) → IfErr result (λ fault. s.fault ≡ None → fault.cause ≢ OutOfMemory) → Loads start left_after result
 loads start left_after s (Ok table) faultless all ok err own spared = λ text e. all text e ∙ ok
 loads start left_after s (Err fault) faultless all ok err own spared = λ text e.
-    fault_says text left_after fault.line fault.cause own (λ want. absurd (spared faultless want)) (λ memory. all text e ∙ err)
+    fault_says text left_after fault.line fault.cause own (λ lack. absurd (spared faultless lack)) (λ memory. all text e ∙ err)
 
 counted_lines : (cause : LoadCause) (count : ℕ) → IsLineCause cause → counted_by cause count ≡ count
 counted_lines ReadFault count own = absurd own

@@ -68,16 +68,16 @@ pub record AreBack (first : TableLayout) (given : List Item) (before at : ℕ) (
 -- a list of which the members up to a number stand, and its next is written
 module _ {X : Type 0} where
   -- what stands there
-  front_read : (xs tail : List X) (k : ℕ) (d : X) → k < length xs → get_or (take (suc k) xs ++ tail) k d ≡ get_or xs k d
-  front_read [] tail k d below = absurd (omega arith)
-  front_read (x ∷ xs) tail zero d below = refl
-  front_read (x ∷ xs) tail (suc k) d below = front_read xs tail k d (omega arith)
+  prefix_read : (xs tail : List X) (k : ℕ) (d : X) → k < length xs → get_or (take (suc k) xs ++ tail) k d ≡ get_or xs k d
+  prefix_read [] tail k d below = absurd (omega arith)
+  prefix_read (x ∷ xs) tail zero d below = refl
+  prefix_read (x ∷ xs) tail (suc k) d below = prefix_read xs tail k d (omega arith)
 
   -- and what stands once it is written
-  front_set : (xs tail : List X) (k : ℕ) (new : X) → k < length xs → set (take (suc k) xs ++ tail) k new ≡ take k xs ++ new ∷ tail
-  front_set [] tail k new below = absurd (omega arith)
-  front_set (x ∷ xs) tail zero new below = refl
-  front_set (x ∷ xs) tail (suc k) new below = ap (λ ys. x ∷ ys) (front_set xs tail k new (omega arith))
+  prefix_set : (xs tail : List X) (k : ℕ) (new : X) → k < length xs → set (take (suc k) xs ++ tail) k new ≡ take k xs ++ new ∷ tail
+  prefix_set [] tail k new below = absurd (omega arith)
+  prefix_set (x ∷ xs) tail zero new below = refl
+  prefix_set (x ∷ xs) tail (suc k) new below = ap (λ ys. x ∷ ys) (prefix_set xs tail k new (omega arith))
 
   whole : (xs : List X) → xs ≡ take (length xs) xs ++ []
   whole [] = refl
@@ -126,7 +126,7 @@ back_init layout given before low = record {
 module _ (layout : TableLayout) (given : List Item) (before k : ℕ) (now : TableLayout) (items : List Item) (count steps : ℕ) (are : AreBack layout given before (suc k) now items count steps) (below : k < length given) (d : Item) where
   -- the next item stands
   next_read : get_or items k d ≡ get_or given k d
-  next_read = ap (λ xs. get_or xs k d) are.exchanged ∙ front_read given (items_back layout (drop (suc k) given)) k d below
+  next_read = ap (λ xs. get_or xs k d) are.exchanged ∙ prefix_read given (items_back layout (drop (suc k) given)) k d below
 
   -- and can be taken back
   pub back_next : CanTurnBack layout given → CanGoBack now (get_or items k d)
@@ -146,7 +146,7 @@ module _ (layout : TableLayout) (given : List Item) (before k : ℕ) (now : Tabl
       let is_count : count + more ≡ item_steps (get_or given k d) + steps_of later = let was = are.counted in let here = is_more ∙ ap item_steps next_read in omega (arith, was, here) in
       record {
         turned = is_after ∙ (ap (λ l. item_back l (get_or items k d)) are.turned ∙ (ap (item_back (turned_back layout later)) next_read ∙ ap (turned_back layout) (sym next)));
-        exchanged = ap (λ xs. set xs k turned) are.exchanged ∙ (front_set given (items_back layout later) k turned below
+        exchanged = ap (λ xs. set xs k turned) are.exchanged ∙ (prefix_set given (items_back layout later) k turned below
             ∙ (ap (λ item. take k given ++ item ∷ items_back layout later) (is_turned ∙ (ap (λ l. with_exchanged l (get_or items k d)) are.turned ∙ ap (with_exchanged (turned_back layout later)) next_read))
             ∙ ap (λ xs. take k given ++ items_back layout xs) (sym next)));
         counted = is_count ∙ ap steps_of (sym next);
@@ -187,10 +187,10 @@ on_init layout given before low goes = record {
 
 -- a list of which a member is written
 module _ {X : Type 0} where
-  set_front : (xs : List X) (k : ℕ) (new : X) → k < length xs → take (suc k) (set xs k new) ≡ take k xs ++ new ∷ []
-  set_front [] k new below = absurd (omega arith)
-  set_front (x ∷ xs) zero new below = refl
-  set_front (x ∷ xs) (suc k) new below = ap (λ ys. x ∷ ys) (set_front xs k new (omega arith))
+  set_prefix : (xs : List X) (k : ℕ) (new : X) → k < length xs → take (suc k) (set xs k new) ≡ take k xs ++ new ∷ []
+  set_prefix [] k new below = absurd (omega arith)
+  set_prefix (x ∷ xs) zero new below = refl
+  set_prefix (x ∷ xs) (suc k) new below = ap (λ ys. x ∷ ys) (set_prefix xs k new (omega arith))
 
   -- lists that go on alike from a number on have the same there, and go on alike behind it
   same_rest : (xs ys : List X) (k : ℕ) (d : X) → length xs ≡ length ys → k < length ys → drop k xs ≡ drop k ys → (get_or xs k d ≡ get_or ys k d) × (drop (suc k) xs ≡ drop (suc k) ys)
@@ -227,7 +227,7 @@ module _ (layout : TableLayout) (given : List Item) (before k : ℕ) (now : Tabl
             ∙ (ap (λ own. take k items ++ own ∷ items_on (item_on now item) (placed_items (item_on now item) later)) (sym (is_turned ∙ ap (λ own. with_exchanged now (placed_item now own)) same_next.0))
             ∙ (ap (λ l. take k items ++ turned ∷ items_on l (placed_items l later)) (sym stands)
             ∙ (sym (append_assoc (take k items) (turned ∷ []) (items_on after (placed_items after later)))
-            ∙ ap (λ xs. xs ++ items_on after (placed_items after later)) (sym (set_front items k turned (omega (arith, below, as_many))))))));
+            ∙ ap (λ xs. xs ++ items_on after (placed_items after later)) (sym (set_prefix items k turned (omega (arith, below, as_many))))))));
         counted = (let was = are.counted ∙ ap (λ xs. count + steps_of xs) next in let here = is_more ∙ ap item_steps same_next.0 in omega (arith, was, here));
         rises = rises ∙ (ap (λ s. more_steps s more) are.rises ∙ more_twice before count more);
       }

@@ -8,13 +8,13 @@ use Rattle.coll_lex.specs.declared.faults.LexFault.TheVariants as lex
 use Rattle.coll_devices.specs.declared.stops.ReadStop.{ReadStop}
 use Rattle.coll_devices.specs.declared.stops.ReadStop.TheVariants as stop
 use Rattle.coll_nodes.specs.TableLayout.{TableValue, collation}
-use Rattle.coll_draft.specs.Drafts.{at_line}
-use Rattle.coll_draft.specs.Loading.{LoaderState, loaded}
-use Rattle.coll_draft.specs.Reading.{Outcome, Decided, Undecided, outcome_of, reads}
+use Rattle.coll_builder.specs.BuilderStates.{at_line}
+use Rattle.coll_builder.specs.Loading.{LoaderState, loaded}
+use Rattle.coll_builder.specs.Reading.{Outcome, Decided, Undecided, outcome_of, reads}
 use Rattle.coll_syntax.specs.declared.syntax_faults.SyntaxFault.TheVariants as syntax
-use Rattle.coll_draft.specs.declared.load_faults.LoadFault.{LoadFault}
-use Rattle.coll_draft.specs.declared.load_faults.LoadCause.{LoadCause}
-use Rattle.coll_draft.specs.declared.load_faults.LoadCause.TheVariants.{Lex, Syntax, ReadFault, OutOfMemory}
+use Rattle.coll_builder.specs.declared.load_faults.LoadFault.{LoadFault}
+use Rattle.coll_builder.specs.declared.load_faults.LoadCause.{LoadCause}
+use Rattle.coll_builder.specs.declared.load_faults.LoadCause.TheVariants.{Lex, Syntax, ReadFault, OutOfMemory}
 
 -- lines with their line feeds, one after another
 abbrev pub with_feeds : List (List ℕ) → List ℕ
@@ -51,7 +51,7 @@ StarvesWithin text number =
 abbrev pub Starves : (text : List ℕ) → (number : ℕ) → Type 0
 Starves text number = (number ≡ 0) ⊎ StarvesWithin text number
 
--- what a fault says of the text, by its cause; a want of memory has one spelling
+-- what a fault says of the text, by its cause; a lack of memory has one spelling
 abbrev pub FaultSays : LoadCause → ℕ → List ℕ → Option (List ℕ) → Type 0
 FaultSays OutOfMemory line text left = Starves text line
 FaultSays (Lex lex.OutOfMemory) line text left = ⊥

@@ -2,7 +2,7 @@
 //!
 //! `apply` is `delta` of `specs/Delta.antt`: a statement is taken by own names (`specs/OwnStatements.antt`) and judged first
 //! (`judging`), then all that it needs is grown (`preparing`), and then its nodes are linked, where no growth comes. So a refusal,
-//! want of memory included, changes nothing, and what was done is a record that takes it back. A new statement, or a new refusal
+//! lack of memory included, changes nothing, and what was done is a record that takes it back. A new statement, or a new refusal
 //! of one, is a case of `delta` first.
 
 ghost use Rattle.std.specs.Prelude.{◌≡◌, ◌≢◌, ◌≤◌, length, true, false, unwrap_or, IsOk, Ok, Err, IfOk, IfErr, OnOk, OnErr};
@@ -67,7 +67,7 @@ impl Table {
         ensures items { statement_items (own_statement (collation self.now) statement.now) ≡ statement_items statement.now }
         ensures memory { OnErr result (uses_second (collation self.now).declared statement.now ≡ true) }
     {
-        self.check_table();
+        self.lemma_well_formed();
         by_own_names(&self.body, statement)
     }
 
@@ -128,7 +128,7 @@ impl Table {
         ensures unchanged { OnErr result (self.new ≡ self.old) }
     {
         let items = self.prepare_declaration(new)?;
-        self.check_table();
+        self.lemma_well_formed();
         Ok(self.carry_out(items))
     }
 
@@ -140,7 +140,7 @@ impl Table {
         ensures unchanged { OnErr result (self.new ≡ self.old) }
     {
         let items = self.prepare_block(target, lines)?;
-        self.check_table();
+        self.lemma_well_formed();
         Ok(self.carry_out(items))
     }
 
@@ -152,7 +152,7 @@ impl Table {
         ensures unchanged { OnErr result (self.new ≡ self.old) }
     {
         let items = self.prepare_section(moved, after)?;
-        self.check_table();
+        self.lemma_well_formed();
         Ok(self.carry_out(items))
     }
 
@@ -164,7 +164,7 @@ impl Table {
         ensures unchanged { OnErr result (self.new ≡ self.old) }
     {
         let items = self.prepare_reweight(line)?;
-        self.check_table();
+        self.lemma_well_formed();
         Ok(self.carry_out(items))
     }
 

@@ -1,7 +1,7 @@
 //! Tables of a collation order, and the statements that rewrite them.
 //!
 //! A `Table` is read by `load`, or by a `Loader` line by line, and rewritten by `apply`, which gives a `Record` that `flip` turns
-//! back. It stands on `coll_nodes`, which keeps what a table is made of, on `coll_draft`, which judges the lines of a table text,
+//! back. It stands on `coll_nodes`, which keeps what a table is made of, on `coll_builder`, which judges the lines of a table text,
 //! on `coll_print`, which spells the canonical text, and on `coll_statements`, which takes a statement by own names; what a user
 //! of tables needs of them is handed on here. A way through the crate, each file with its definitions in `specs/`:
 //!
@@ -23,7 +23,7 @@ mod refusals;
 mod tables;
 mod turning;
 
-pub use coll_draft::{LoadCause, LoadFault};
+pub use coll_builder::{LoadCause, LoadFault};
 pub use coll_lookups::{EntryNumbers, HashKeys, NamePlaces};
 pub use coll_nodes::{
     Declaration, Declared, DeclaredItem, Entry, MOST_DECLARATIONS, MOST_ENTRIES, MOST_SECTIONS,
@@ -34,8 +34,9 @@ pub use coll_statements::second_names_are_not_placed;
 pub use loaders::{Loader, lines_are_read};
 pub use loading::{load, load_keyed, texts_are_well_formed};
 pub use record_laws::{
-    records_add_alike, records_fit_narrower, records_fit_where_named, records_fit_wider,
-    records_turn_back, undone_records_put_in, wider_tables_read_alike,
+    lemma_records_add_alike, lemma_records_fit_narrower, lemma_records_fit_where_named,
+    lemma_records_fit_wider, lemma_records_turn_back, lemma_undone_records_put_in,
+    lemma_wider_tables_read_alike,
 };
 pub use records::{Item, Record};
 pub use refusals::Refusal;

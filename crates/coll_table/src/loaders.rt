@@ -1,7 +1,7 @@
 //! A table text, handed in line by line.
 //!
-//! A `Loader` stores what the next line is judged by (`LoaderState` of coll_draft, `specs/Loading.antt`), and each call is the
-//! definition applied to what is stored and the line handed in. It joins a lexer and a draft: what a line is belongs to the
+//! A `Loader` stores what the next line is judged by (`LoaderState` of coll_builder, `specs/Loading.antt`), and each call is the
+//! definition applied to what is stored and the line handed in. It joins a lexer and a builder: what a line is belongs to the
 //! first, and what it means to the second; here lines are passed on, and faults get the number of their line. A fault is stored
 //! where it is met, in `line` alone.
 
@@ -9,16 +9,16 @@ ghost use Rattle.std.specs.Prelude.{◌≡◌, ◌≢◌, true, false, None, Ok,
 ghost use Rattle.coll_lex.specs.LogicalLines.{number_of, fed, outside, takes_memory};
 ghost use Rattle.coll_lex.specs.Names.{AreTokens};
 ghost use Rattle.coll_syntax.specs.TableLines.{table_line};
-ghost use Rattle.coll_draft.specs.Drafts.{table_of};
-ghost use Rattle.coll_draft.specs.Loading.{LinesAreRead};
+ghost use Rattle.coll_builder.specs.BuilderStates.{table_of};
+ghost use Rattle.coll_builder.specs.Loading.{LinesAreRead};
 ghost use Rattle.coll_table.specs.SoundLoaders.{IsLineCause, MayTake};
-ghost use Rattle.coll_draft.specs.declared.load_faults.LoadFault.{LoadFault};
+ghost use Rattle.coll_builder.specs.declared.load_faults.LoadFault.{LoadFault};
 ghost use Rattle.coll_nodes.specs.TableLayout.{collation};
 ghost use Rattle.coll_nodes.specs.WellFormed.{IsWellFormed};
-ghost use Rattle.coll_draft.specs.declared.load_faults.LoadCause.TheVariants.{OutOfMemory};
+ghost use Rattle.coll_builder.specs.declared.load_faults.LoadCause.TheVariants.{OutOfMemory};
 
 use crate::Table;
-use coll_draft::{Draft, LoadCause, LoadFault};
+use coll_builder::{LoadCause, LoadFault, TableBuilder};
 use coll_lex::{LexFault, Lexer, Line};
 use coll_lookups::HashKeys;
 use coll_syntax::parse_table_line;
@@ -36,25 +36,25 @@ pub struct Loader {
     begun: bool,
     // Whether the category has ended.
     ended: bool,
-    draft: Draft,
+    builder: TableBuilder,
     // The first fault, which each later call answers.
     fault: Option<LoadFault>,
     alloc: Global,
 }
 
 impl Model for Loader {
-    ghost use Rattle.coll_draft.specs.Loading.{LoaderState};
+    ghost use Rattle.coll_builder.specs.Loading.{LoaderState};
     ghost use Rattle.coll_table.specs.SoundLoaders.{IsSoundLoader};
 
     ghost Value = { LoaderState };
 
-    ghost view = { λ l. record { lexer = l.lexer; begun = l.begun; ended = l.ended; draft = l.draft; fault = l.fault } };
+    ghost view = { λ l. record { lexer = l.lexer; begun = l.begun; ended = l.ended; builder = l.builder; fault = l.fault } };
 
-    ghost invariant = { λ l. IsSoundLoader (record { lexer = l.lexer; begun = l.begun; ended = l.ended; draft = l.draft; fault = l.fault }) };
+    ghost invariant = { λ l. IsSoundLoader (record { lexer = l.lexer; begun = l.begun; ended = l.ended; builder = l.builder; fault = l.fault }) };
 }
 
 impl Loader {
-    ghost use Rattle.coll_draft.specs.Loading.{LoaderState, first_loader, loaded_line, loaded, by_where, by_outside, by_fed, by_read, early_end};
+    ghost use Rattle.coll_builder.specs.Loading.{LoaderState, first_loader, loaded_line, loaded, by_where, by_outside, by_fed, by_read, early_end};
 
     /// A loader before the first line, for a text that one trusts: its names are looked up under keys that anyone knows.
     pub fn new(alloc: Global) -> Result<Loader, AllocError>
@@ -68,12 +68,12 @@ impl Loader {
         ensures { IfOk result (λ loader. loader ≡ first_loader) }
     {
         let lexer = Lexer::new(alloc)?;
-        let draft = Draft::new(alloc, keys)?;
+        let builder = TableBuilder::new(alloc, keys)?;
         Ok(Loader {
             lexer,
             begun: false,
             ended: false,
-            draft,
+            builder,
             fault: None,
             alloc,
         })
@@ -81,10 +81,10 @@ impl Loader {
 
     /// Hands in the next physical line, without its line feed.
     ///
-    /// The first fault is stored, want of memory as any other, and each later call answers it again. Behind the end of the
+    /// The first fault is stored, lack of memory as any other, and each later call answers it again. Behind the end of the
     /// category nothing is looked at. Memory is taken in the category alone, and there where the lexer takes it or a line has
     /// tokens. A line that is refused doesn't end the category.
-    #[tactic(auto, unfolding(coll_draft::specs::Loading::loaded_line))]
+    #[tactic(auto, unfolding(coll_builder::specs::Loading::loaded_line))]
     pub fn line(&mut self, line: &[u8]) -> Result<(), LoadFault>
         ensures ok { OnOk result (loaded_line self.old line.now ≡ Ok self.new) }
         ensures err { IfErr result (λ fault. fault.cause ≢ OutOfMemory → loaded_line self.old line.now ≡ Err fault) }
@@ -122,7 +122,7 @@ impl Loader {
 
     /// The table, where the category has ended; otherwise the fault that is stored, or that of a text that ends here. It takes
     /// no memory.
-    #[tactic(auto, unfolding(coll_draft::specs::Loading::loaded))]
+    #[tactic(auto, unfolding(coll_builder::specs::Loading::loaded))]
     pub fn finish(self) -> Result<Table, LoadFault>
         ensures ok { IfOk result (λ table. loaded self ≡ Ok (collation table)) }
         ensures err { IfErr result (λ fault. loaded self ≡ Err fault) }
@@ -134,17 +134,17 @@ impl Loader {
             drop(self);
             return Err(fault);
         }
-        let Loader { lexer, draft, .. } = self;
+        let Loader { lexer, builder, .. } = self;
         drop(lexer);
-        let (rules, body) = draft.into_parts();
+        let (rules, body) = builder.into_parts();
         Ok(Table { rules, body })
     }
 
     /// The fault that is stored, or that of a text that ends here; none where the category has ended.
-    #[tactic(auto, unfolding(coll_draft::specs::Loading::loaded))]
+    #[tactic(auto, unfolding(coll_builder::specs::Loading::loaded))]
     fn end_fault(&self) -> Option<LoadFault>
         ensures fault { IfSome result (λ fault. loaded self.now ≡ Err fault) }
-        ensures none { IfNone result (loaded self.now ≡ Ok (table_of self.now.draft)) }
+        ensures none { IfNone result (loaded self.now ≡ Ok (table_of self.now.builder)) }
         ensures ended { IfNone result (self.now.ended ≡ true) }
         ensures cause { IfSome result (λ fault. IsLineCause fault.cause) }
         ensures spared { IfSome result (λ fault. self.now.fault ≡ None → fault.cause ≢ OutOfMemory) }
@@ -252,7 +252,7 @@ impl Loader {
     {
         match parse_table_line(self.alloc, line) {
             Ok(read) => {
-                self.ended = self.draft.take(line.number, read)?;
+                self.ended = self.builder.take(line.number, read)?;
                 Ok(())
             }
             Err(fault) => Err(LoadFault {

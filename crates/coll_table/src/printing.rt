@@ -16,7 +16,7 @@ use coll_print::{write_declarations, write_rules_line, write_walk};
 impl Table {
     /// Writes the canonical text. It takes no memory.
     ///
-    /// Where it stops, the device has taken a front of the text.
+    /// Where it stops, the device has taken a prefix of the text.
     pub fn print<W: Sink>(&self, out: &mut W) -> Result<(), WriteStop>
         ensures sent { Sends (W.taken out.old) (W.taken out.new) (text (collation self.now)) result }
         ensures errors { CountsErr (W.failed out.old) (W.failed out.new) result }

@@ -5,36 +5,36 @@
 ghost use Rattle.coll_table.specs.RecordLaws.{RecordsTurnBack, RecordsAddAlike, RecordsFitWider, RecordsFitWhereNamed, RecordsFitNarrower, WiderReadsAlike, UndonePutIn};
 
 /// Turning a record that fits gives a table, and turning it again gives back the first.
-pub fn records_turn_back()
+pub fn lemma_records_turn_back()
     ensures { RecordsTurnBack }
 {}
 
 /// A record has the same added nodes once it is turned.
-pub fn records_add_alike()
+pub fn lemma_records_add_alike()
     ensures { RecordsAddAlike }
 {}
 
 /// A record that fits a table fits each table that extends it.
-pub fn records_fit_wider()
+pub fn lemma_records_fit_wider()
     ensures { RecordsFitWider }
 {}
 
 /// A record that fits a table fits each table that this one extends, if its items name only nodes of that table.
-pub fn records_fit_where_named()
+pub fn lemma_records_fit_where_named()
     ensures { RecordsFitWhereNamed }
 {}
 
 /// A record in force that fits a table fits each table that this one extends.
-pub fn records_fit_narrower()
+pub fn lemma_records_fit_narrower()
     ensures { RecordsFitNarrower }
 {}
 
 /// A table that extends another one reads as that.
-pub fn wider_tables_read_alike()
+pub fn lemma_wider_tables_read_alike()
     ensures { WiderReadsAlike }
 {}
 
 /// An undone record puts in nodes that are loose, each once.
-pub fn undone_records_put_in()
+pub fn lemma_undone_records_put_in()
     ensures { UndonePutIn }
 {}

@@ -49,7 +49,7 @@ impl Table {
     ghost use Rattle.coll_nodes.specs.SoundLayouts.{IsTable};
     ghost use Rattle.coll_nodes.specs.Table.{entries_of, is_known, is_placed, is_symbol};
     ghost use Rattle.coll_nodes.specs.TableLayout.{collation};
-    ghost use Rattle.coll_nodes.specs.Walks.{met};
+    ghost use Rattle.coll_nodes.specs.Walks.{visited};
     ghost use Rattle.coll_nodes.specs.WellFormed.{IsWellFormed};
 
     /// The rules of its levels, one to four.
@@ -111,7 +111,7 @@ impl Table {
     pub fn number_entries(&self, numbers: &mut EntryNumbers) -> Result<(), AllocError>
         ensures { OnOk result (AreNumbersOf numbers.new self.now.layout) }
     {
-        self.check_table();
+        self.lemma_well_formed();
         self.body.number_entries(numbers)?;
         Ok(())
     }
@@ -151,9 +151,9 @@ impl Table {
 
     /// A walk through the sections and entries, in order. It takes no memory.
     pub fn walk(&self) -> Walk<'_>
-        ensures { result ≡ met (collation self.now).sections }
+        ensures { result ≡ visited (collation self.now).sections }
     {
-        self.check_table();
+        self.lemma_well_formed();
         self.body.walk()
     }
 
@@ -190,11 +190,11 @@ impl Table {
     /// What holds of every table: its layout is sound, and it is well formed.
     ///
     /// It does nothing; its contract hands the facts to callers.
-    pub fn check_table(&self)
+    pub fn lemma_well_formed(&self)
         ensures table { IsTable self.now }
         ensures well_formed { IsWellFormed (collation self.now) }
     {
-        self.body.check_layout();
+        self.body.lemma_layout();
     }
 
     /// Where it takes memory.

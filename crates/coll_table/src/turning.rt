@@ -31,7 +31,7 @@ impl Table {
         ensures count { result ≡ steps_of kept.old.items }
         ensures steps { self.new.steps ≡ more_steps self.old.steps result }
     {
-        self.check_table();
+        self.lemma_well_formed();
         turn_record(&mut self.body, kept)
     }
 
@@ -40,7 +40,7 @@ impl Table {
         requires loose { AreLoose self.old.layout (dropped_nodes kept) }
         ensures { self.new ≡ without_nodes self.old (dropped_nodes kept) }
     {
-        self.check_table();
+        self.lemma_well_formed();
         if !kept.undone {
             return;
         }
@@ -90,7 +90,7 @@ pub(crate) fn take_items_back(body: &mut Body, items: &mut [Item]) -> u32
     ensures count { result ≡ steps_of items.old }
     ensures steps { body.new.steps ≡ more_steps body.old.steps result }
 {
-    check_steps(body);
+    lemma_steps(body);
     let mut count = 0;
     for at in (0..items.len()).rev() {
         count += take_back(body, &mut items[at]);
@@ -110,7 +110,7 @@ pub(crate) fn do_items(body: &mut Body, items: &mut [Item]) -> u32
     ensures count { result ≡ steps_of items.old }
     ensures steps { body.new.steps ≡ more_steps body.old.steps result }
 {
-    check_steps(body);
+    lemma_steps(body);
     let mut count = 0;
     for item in items.iter_mut() {
         count += do_item(body, item);
@@ -126,7 +126,7 @@ fn take_back(body: &mut Body, item: &mut Item) -> u32
     ensures count { result ≡ item_steps item.entry.now }
     ensures steps { body.new.steps ≡ more_steps body.old.steps result }
 {
-    body.check_layout();
+    body.lemma_layout();
     let Item {
         node,
         old,
@@ -146,7 +146,7 @@ fn do_item(body: &mut Body, item: &mut Item) -> u32
     ensures count { result ≡ item_steps item.entry.now }
     ensures steps { body.new.steps ≡ more_steps body.old.steps result }
 {
-    body.check_layout();
+    body.lemma_layout();
     let count = move_on(body, item);
     exchange_weights(body, item.node, &mut item.weights);
     count
@@ -159,7 +159,7 @@ fn move_back(body: &mut Body, node: NodeId, had: Option<Place>, gets: Option<Pla
     ensures count { result ≡ steps_between had gets }
     ensures steps { body.new.steps ≡ more_steps body.old.steps result }
 {
-    check_steps(body);
+    lemma_steps(body);
     let Some(_) = gets else {
         return 0;
     };
@@ -183,7 +183,7 @@ fn move_on(body: &mut Body, item: &mut Item) -> u32
     ensures count { result ≡ item_steps item.entry.now }
     ensures steps { body.new.steps ≡ more_steps body.old.steps result }
 {
-    check_steps(body);
+    lemma_steps(body);
     let Some(place) = item.new else {
         return 0;
     };
@@ -240,7 +240,7 @@ fn drop_if_added(body: &mut Body, item: &Item)
 // What holds of every count of ring steps: it is below 2 to the power 64.
 //
 // It does nothing; its contract hands the fact to callers.
-fn check_steps(body: &Body)
+fn lemma_steps(body: &Body)
     ensures { body.now.steps < 2 ^ 64 }
 {
     let _steps = body.steps();

@@ -6,9 +6,9 @@ use crate::assertions::assert_same;
 use coll_bench::{BenchFault, Fault, RunFault};
 use coll_key::KeyFault;
 use coll_lex::{LexFault, ReadStop, WriteStop};
+use coll_requests::{DeltaCause, RequestFault};
 use coll_syntax::SyntaxFault;
 use coll_table::{LoadCause, LoadFault, Refusal};
-use coll_units::{DeltaCause, UnitFault};
 use std::alloc::Global;
 use std::fmt::Display;
 use std::process::Abort;
@@ -94,20 +94,20 @@ const KEY_FAULTS: &[(KeyFault, &str)] = &[
     (KeyFault::OutOfMemory, "70 OutOfMemory"),
 ];
 
-const UNIT_FAULTS: &[(UnitFault, &str)] = &[
-    (UnitFault::Lex(LexFault::BadName), "4 BadName"),
+const UNIT_FAULTS: &[(RequestFault, &str)] = &[
+    (RequestFault::Lex(LexFault::BadName), "4 BadName"),
     (
-        UnitFault::Syntax(SyntaxFault::EmptyString),
+        RequestFault::Syntax(SyntaxFault::EmptyString),
         "28 EmptyString",
     ),
-    (UnitFault::BlockOpen, "62 BlockOpen"),
-    (UnitFault::BlockNotEnded, "63 BlockNotEnded"),
-    (UnitFault::UnknownCommand, "64 UnknownCommand"),
-    (UnitFault::NoBlock, "69 NoBlock"),
+    (RequestFault::BlockOpen, "62 BlockOpen"),
+    (RequestFault::BlockNotEnded, "63 BlockNotEnded"),
+    (RequestFault::UnknownCommand, "64 UnknownCommand"),
+    (RequestFault::NoBlock, "69 NoBlock"),
 ];
 
 const DELTA_CAUSES: &[(DeltaCause, &str)] = &[
-    (DeltaCause::Unit(UnitFault::NoBlock), "69 NoBlock"),
+    (DeltaCause::Request(RequestFault::NoBlock), "69 NoBlock"),
     (DeltaCause::NoCategory, "30 NoCategory"),
     (DeltaCause::NoEnd, "43 NoEnd"),
 ];

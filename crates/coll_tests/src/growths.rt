@@ -1,7 +1,7 @@
 //! Tests that `tests/refuse_growths.py` runs anew with one growth of memory refused: the first that is counted, then the second, and
 //! so on, until none is left to be refused.
 //!
-//! A test counts the growths of the calls that it shows, and no others. Where such a call answers want of memory, the test says so,
+//! A test counts the growths of the calls that it shows, and no others. Where such a call answers lack of memory, the test says so,
 //! looks whether all stands as it did, and makes the call again, which then has to answer. Tests of `sessions::histories`, of `keys`
 //! and of `ordered_rings` do so as well.
 
@@ -23,7 +23,7 @@ pub fn count_no_growths<R: Abort + Print>(rt: &R) {
     println!(rt; "growths go by").expect(rt, "a line");
 }
 
-/// Says that a call answered want of memory.
+/// Says that a call answered lack of memory.
 pub fn tell_refused<R: Abort + Print>(rt: &R) {
     println!(rt; "a growth was refused").expect(rt, "a line");
 }

@@ -1,7 +1,7 @@
 //! Tests of the crates below, through their public calls alone.
 //!
 //! A module shows each crate: `lines` is of `coll_devices` and `coll_lex`, `ordered_rings` of `coll_order`, `grammar` of
-//! `coll_syntax`, `tables` of `coll_table`, `keys` of `coll_key`, `sessions` and `batches` of `coll_units` and `coll_bench`, and
+//! `coll_syntax`, `tables` of `coll_table`, `keys` of `coll_key`, `sessions` and `batches` of `coll_requests` and `coll_bench`, and
 //! `faults` of the shown text of the faults of all of them. `writes` is of what any of them writes to a device that fails, and
 //! `endless` of readers that never end; `growths` says which of them are run with growths of memory refused. `statements` makes
 //! statements of their lines, `devices` has the devices that they use, `long_texts` makes their longest texts, and `assertions`

@@ -3,17 +3,17 @@
 use std::alloc::Global;
 use std::process::Abort;
 
-/// A front, a part so many times, and a rest.
+/// A prefix, a part so many times, and a rest.
 pub fn repeated(
     rt: &impl Abort,
     alloc: Global,
-    front: &[u8],
+    prefix: &[u8],
     part: &[u8],
     count: usize,
     rest: &[u8],
 ) -> Vec<u8> {
     let mut text = Vec::new(alloc);
-    extend(rt, &mut text, front, 1);
+    extend(rt, &mut text, prefix, 1);
     extend(rt, &mut text, part, count);
     extend(rt, &mut text, rest, 1);
     text

@@ -155,7 +155,7 @@ fn drop_node(rt: &impl Abort, rings: &mut Rings, node: NodeId) {
 // Asserts that a node has a tag, and answers the node after it.
 fn after_tag(rt: &impl Abort, rings: &Rings, node: NodeId, tag: usize) -> Option<NodeId> {
     assert_that(rt, "a linked node", rings.is_linked(node));
-    rings.check_layout();
+    rings.lemma_layout();
     assert_same(rt, "a tag", rings.tag(node), tag);
     rings.next(node)
 }

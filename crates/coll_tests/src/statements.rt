@@ -3,8 +3,8 @@
 ghost use Rattle.std.specs.Prelude.{IfSome};
 ghost use Rattle.coll_syntax.specs.Proper.{IsProper};
 
+use coll_requests::DeltaReader;
 use coll_syntax::Statement;
-use coll_units::DeltaReader;
 use std::alloc::Global;
 use std::process::Abort;
 

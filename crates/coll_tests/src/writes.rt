@@ -1,6 +1,6 @@
 //! Whatever is written, each write and each flush of it fails in turn, or takes no byte, until none is left to fail.
 //!
-//! What a device has taken where it fails is a front of what is written, and it is called no more.
+//! What a device has taken where it fails is a prefix of what is written, and it is called no more.
 
 ghost use Rattle.coll_ranks.specs.Ranks.{AreRanksOf};
 ghost use Rattle.coll_nodes.specs.TableLayout.{collation};
@@ -184,7 +184,7 @@ fn wanted(rt: &impl Abort, alloc: Global, what: Written) -> Vec<u8> {
     }
 }
 
-// Whether there is no n-th write or flush that could fail. Asserts that all is written if so, and else a front of it, that the answer
+// Whether there is no n-th write or flush that could fail. Asserts that all is written if so, and else a prefix of it, that the answer
 // is the fault, and that the device is called no more.
 fn is_whole(
     rt: &impl Abort,
@@ -211,7 +211,7 @@ fn is_whole(
     false
 }
 
-fn assert_fronts(rt: &impl Abort, alloc: Global, what: Written) {
+fn assert_prefixes(rt: &impl Abort, alloc: Global, what: Written) {
     let wanted = wanted(rt, alloc, what);
     for fails in FAILED_WRITES {
         let whole = (1..1_000).find(|at| is_whole(rt, alloc, what, &wanted, *fails, *at));
@@ -233,8 +233,8 @@ const ALL: &[Written] = &[
 ];
 
 #[test]
-fn a_write_that_fails_leaves_a_front(rt: HostRuntime) {
+fn a_write_that_fails_leaves_a_prefix(rt: HostRuntime) {
     for what in ALL {
-        assert_fronts(&rt, rt.alloc(), *what);
+        assert_prefixes(&rt, rt.alloc(), *what);
     }
 }

@@ -5,7 +5,7 @@
 
 ghost use Rattle.std.specs.Prelude.{◌≡◌, option_map, option_to_list, IfSome, IfErr, OnOk, Ok, None, Some};
 ghost use Rattle.coll_devices.specs.LineReading.{no_line};
-ghost use Rattle.coll_units.specs.DeltaReading.{delta_end, first_delta};
+ghost use Rattle.coll_requests.specs.DeltaReading.{delta_end, first_delta};
 ghost use Rattle.coll_syntax.specs.Proper.{IsProper};
 ghost use Rattle.coll_table.specs.Delta.{delta as delta_of};
 ghost use Rattle.coll_nodes.specs.TableLayout.{collation};
@@ -16,8 +16,8 @@ ghost use Rattle.coll_bench.specs.BatchRuns.{ending_of};
 use coll_devices::{LineReader, ReadStop, Source};
 use coll_lex::LexFault;
 use coll_replies::{Fault, RunFault};
+use coll_requests::{DeltaFault, DeltaReader, StatementAt};
 use coll_table::Table;
-use coll_units::{DeltaFault, DeltaReader, StatementAt};
 use std::alloc::Global;
 
 /// Rewrites a table by a delta file, which is the input with this number.

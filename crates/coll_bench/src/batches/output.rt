@@ -23,7 +23,7 @@ use coll_replies::{Fault, write_checked, write_key_ended, write_order};
 use coll_table::Table;
 use std::alloc::Global;
 
-/// Writes what a batch asks for. No text is too long. A write that fails, and want of memory, leave a front of it.
+/// Writes what a batch asks for. No text is too long. A write that fails, and lack of memory, leave a prefix of it.
 #[tactic(auto, unfolding(crate::specs::BatchOutcome::batch_output))]
 pub(crate) fn write_output<W: Sink>(
     alloc: Global,

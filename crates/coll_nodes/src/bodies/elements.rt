@@ -31,7 +31,7 @@ impl Body {
     pub fn element_name(&self, text: &str) -> Option<&TextBuf>
         ensures { option_copied result ≡ element_name (declared_at self.now.layout) (chars text.now) }
     {
-        self.check_layout();
+        self.lemma_layout();
         match self.keys.texts.find_text(text) {
             Some(node) => name_of_element(self.nodes.content(node)),
             None => None,
@@ -42,7 +42,7 @@ impl Body {
     pub fn entry_named(&self, name: &TextBuf) -> Option<&Entry>
         ensures { option_copied result ≡ entry_at (joined_entries (sections_at self.now.layout)) (Named name.now) }
     {
-        self.nodes.check_layout();
+        self.nodes.lemma_layout();
         match self.keys.placed.find_name(name) {
             Some(node) => entry_of(self.nodes.content(node)),
             None => None,

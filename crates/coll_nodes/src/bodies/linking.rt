@@ -54,7 +54,7 @@ impl Body {
         ensures steps { self.new.steps ≡ self.old.steps }
         ensures err { OnErr result (self.new ≡ self.old) }
     {
-        self.nodes.check_layout();
+        self.nodes.lemma_layout();
         self.keys.reserve(&node)?;
         self.nodes.make(node)
     }
@@ -68,7 +68,7 @@ impl Body {
         ensures steps { self.new.steps ≡ self.old.steps }
         ensures err { OnErr result (self.new ≡ self.old) }
     {
-        self.nodes.check_layout();
+        self.nodes.lemma_layout();
         self.keys.reserve_section(&name)?;
         self.nodes.make_section(name)
     }
@@ -87,8 +87,8 @@ impl Body {
             self.nodes.drop_loose(made);
             return Err(refusal);
         }
-        self.nodes.check_layout();
-        self.nodes.check_few();
+        self.nodes.lemma_layout();
+        self.nodes.lemma_few();
         self.counts = self.counts.with(self.nodes.content(made));
         self.nodes.link(made, place);
         Ok(made)
@@ -101,8 +101,8 @@ impl Body {
         ensures layout { self.new.layout ≡ with_link self.old.layout node place }
         ensures steps { self.new.steps ≡ one_step_more self.old.steps }
     {
-        self.nodes.check_layout();
-        self.nodes.check_few();
+        self.nodes.lemma_layout();
+        self.nodes.lemma_few();
         let content = self.nodes.content(node);
         self.keys.set(content, Some(node));
         self.counts = self.counts.with(content);
@@ -117,7 +117,7 @@ impl Body {
         ensures layout { self.new.layout ≡ without_link self.old.layout node }
         ensures steps { self.new.steps ≡ one_step_more self.old.steps }
     {
-        self.nodes.check_layout();
+        self.nodes.lemma_layout();
         let place = self.nodes.unlink(node);
         let content = self.nodes.content(node);
         self.keys.set(content, None);
@@ -133,7 +133,7 @@ impl Body {
         ensures layout { self.new.layout ≡ with_link (without_link self.old.layout node) node place }
         ensures steps { self.new.steps ≡ one_step_more (one_step_more self.old.steps) }
     {
-        self.nodes.check_layout();
+        self.nodes.lemma_layout();
         let from = self.nodes.unlink(node);
         self.nodes.link(node, place);
         from
@@ -146,7 +146,7 @@ impl Body {
         ensures weights { Some weights.new ≡ exchanged (Some weights.old) (content_of self.old.layout node) }
         ensures steps { self.new.steps ≡ self.old.steps }
     {
-        self.nodes.check_layout();
+        self.nodes.lemma_layout();
         self.nodes.exchange(node, weights);
     }
 
@@ -156,7 +156,7 @@ impl Body {
         ensures layout { self.new.layout ≡ record self.old.layout { nodes = nodes_without (node ∷ []) self.old.layout.nodes } }
         ensures steps { self.new.steps ≡ self.old.steps }
     {
-        self.nodes.check_layout();
+        self.nodes.lemma_layout();
         self.nodes.drop_loose(node);
     }
 }

@@ -28,7 +28,7 @@ impl Body {
         requires distinct { AreDistinct same_id (ids_of (joined_entries (sections_at self.now.layout))) }
         ensures { OnOk result (AreNumbersOf numbers.new self.now.layout) }
     {
-        self.check_layout();
+        self.lemma_layout();
         number_sections(&self.nodes, self.sections, numbers)?;
         Ok(())
     }

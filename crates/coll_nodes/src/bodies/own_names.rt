@@ -44,7 +44,7 @@ impl Body {
     pub fn declaration(&self, name: &str) -> Option<&Declaration>
         ensures { option_copied result ≡ declaration_at (declared_at self.now.layout) (chars name.now) }
     {
-        self.nodes.check_layout();
+        self.nodes.lemma_layout();
         match self.keys.names.find_text(name) {
             Some(node) => declaration_of(self.nodes.content(node)),
             None => None,
@@ -65,7 +65,7 @@ impl Body {
     pub fn is_own_name(&self, name: &TextBuf) -> bool
         ensures { result ≡ is_own_name (declared_at self.now.layout) name.now }
     {
-        self.check_layout();
+        self.lemma_layout();
         match self.declaration(name.get()) {
             Some(Declaration::Symbol(_)) => true,
             Some(Declaration::Element { .. }) => true,
@@ -78,7 +78,7 @@ impl Body {
     pub fn is_symbol_name(&self, name: &TextBuf) -> bool
         ensures { result ≡ is_symbol_name (declared_at self.now.layout) name.now }
     {
-        self.check_layout();
+        self.lemma_layout();
         match self.declaration(name.get()) {
             Some(Declaration::Symbol(_)) => true,
             Some(Declaration::Element { .. }) => false,
@@ -91,7 +91,7 @@ impl Body {
     pub fn is_second_name(&self, name: &TextBuf) -> bool
         ensures { result ≡ list_any (declares_second name.now) (declared_at self.now.layout) }
     {
-        self.check_layout();
+        self.lemma_layout();
         match self.declaration(name.get()) {
             Some(Declaration::Symbol(_)) => false,
             Some(Declaration::Element { .. }) => false,

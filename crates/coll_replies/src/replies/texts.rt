@@ -4,8 +4,8 @@ ghost use Rattle.std.specs.Prelude.{◌≡◌, ◌++◌, ◌∷◌, [], Bool, tr
 ghost use Rattle.coll_devices.specs.Devices.{CountsErr, Sends};
 ghost use Rattle.coll_key.specs.WrittenKey.{has_key_form, written_key};
 ghost use Rattle.coll_replies.specs.Replies.{order_word, reply_if};
-ghost use Rattle.coll_units.specs.declared.session_lines.Command.TheVariants.{Key, Compare};
-ghost use Rattle.coll_units.specs.declared.units.Request.TheVariants.{Asks};
+ghost use Rattle.coll_requests.specs.declared.session_lines.Command.TheVariants.{Key, Compare};
+ghost use Rattle.coll_requests.specs.declared.requests.Request.TheVariants.{Command};
 
 use super::{write_ended, write_refused};
 use crate::faults::Fault;
@@ -17,14 +17,14 @@ use coll_syntax::Rule;
 use std::alloc::Global;
 use std::cmp::Ordering;
 
-/// Writes the sort key of a text. A text that is too long, and want of memory, are refused.
+/// Writes the sort key of a text. A text that is too long, and lack of memory, are refused.
 pub(crate) fn answer_key<W: Sink>(
     alloc: Global,
     session: &mut RankedSession,
     text: &TextBuf,
     out: &mut W,
 ) -> Result<(), WriteStop>
-    ensures answered { (starved : Bool) × Sends (W.taken out.old) (W.taken out.new) (reply_if starved session.old.history (Asks (Key text.now))) result }
+    ensures answered { (starved : Bool) × Sends (W.taken out.old) (W.taken out.new) (reply_if starved session.old.history (Command (Key text.now))) result }
     ensures unchanged { session.new ≡ session.old }
     ensures errors { CountsErr (W.failed out.old) (W.failed out.new) result }
 {
@@ -38,7 +38,7 @@ pub(crate) fn answer_key<W: Sink>(
     }
 }
 
-/// Writes a key, which has the form of one, and the line's end. Where a write fails, the device has taken a front of it.
+/// Writes a key, which has the form of one, and the line's end. Where a write fails, the device has taken a prefix of it.
 pub fn write_key_ended<W: Sink>(out: &mut W, rules: &[Rule], key: &[u64]) -> Result<(), WriteStop>
     requires { has_key_form rules.now key.now ≡ true }
     ensures sent { Sends (W.taken out.old) (W.taken out.new) (written_key rules.now key.now ++ 10 ∷ []) result }
@@ -48,7 +48,7 @@ pub fn write_key_ended<W: Sink>(out: &mut W, rules: &[Rule], key: &[u64]) -> Res
     write_bytes(out, b"\n")
 }
 
-/// Writes the order of two texts. A text that is too long, and want of memory, are refused.
+/// Writes the order of two texts. A text that is too long, and lack of memory, are refused.
 pub(crate) fn answer_compare<W: Sink>(
     alloc: Global,
     session: &mut RankedSession,
@@ -56,7 +56,7 @@ pub(crate) fn answer_compare<W: Sink>(
     other: &TextBuf,
     out: &mut W,
 ) -> Result<(), WriteStop>
-    ensures answered { (starved : Bool) × Sends (W.taken out.old) (W.taken out.new) (reply_if starved session.old.history (Asks (Compare text.now other.now))) result }
+    ensures answered { (starved : Bool) × Sends (W.taken out.old) (W.taken out.new) (reply_if starved session.old.history (Command (Compare text.now other.now))) result }
     ensures unchanged { session.new ≡ session.old }
     ensures errors { CountsErr (W.failed out.old) (W.failed out.new) result }
 {
@@ -66,7 +66,7 @@ pub(crate) fn answer_compare<W: Sink>(
     }
 }
 
-/// Writes the word of an order, and the line's end. Where a write fails, the device has taken a front of it.
+/// Writes the word of an order, and the line's end. Where a write fails, the device has taken a prefix of it.
 pub fn write_order<W: Sink>(out: &mut W, order: Ordering) -> Result<(), WriteStop>
     ensures sent { Sends (W.taken out.old) (W.taken out.new) (order_word order ++ 10 ∷ []) result }
     ensures errors { CountsErr (W.failed out.old) (W.failed out.new) result }

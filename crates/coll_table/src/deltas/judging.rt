@@ -4,14 +4,14 @@
 //! as it stands, once the statement is taken by own names. The weights of a block are looked up in the table that results: an
 //! identifier is placed there where it is placed now, or has a line in the block (`specs/Judging.antt`). What only judges gives a
 //! refusal or none. Memory is taken for a statement that uses a second name, which is copied, and for a block whose target is
-//! placed, and for no other: what may want it gives an `AllocError` beside the refusal, and `check` joins the two. A new statement,
+//! placed, and for no other: what may lack it gives an `AllocError` beside the refusal, and `check` joins the two. A new statement,
 //! or a new refusal of one, is a case of `own_delta` first.
 
 ghost use Rattle.std.specs.Prelude.{◌≡◌, ◌≢◌, ◌∷◌, [], true, IsOk, Ok, Err, Some, None, IfOk, IfErr, OnOk, OnErr, length, nat_le};
 ghost use Rattle.std.specs.List.{flat_map};
 ghost use Rattle.coll_syntax.specs.Proper.{IsProper};
 ghost use Rattle.coll_table.specs.Delta.{all_moved, block_delta, declaration_refusal, delta, ids_given, line_refusal, lines_refusal, own_delta, reweight_delta, reweight_refusal, reweighted, section_refusal, unless_refused, weights_refusal};
-ghost use Rattle.coll_draft.specs.Drafts.{refused_if};
+ghost use Rattle.coll_builder.specs.BuilderStates.{refused_if};
 ghost use Rattle.coll_nodes.specs.Entries.{given_weights, weight_ids};
 ghost use Rattle.coll_table.specs.Judging.{entries_added, HaveSame, id_refusal, ids_refusal, judging_takes_memory, line_ids, own_judging_takes_memory};
 ghost use Rattle.coll_nodes.specs.Limits.{most_declarations};
@@ -21,10 +21,10 @@ ghost use Rattle.coll_nodes.specs.declared.declarations.Declaration.TheVariants 
 ghost use Rattle.coll_table.specs.declared.refusals.Refusal.TheVariants.{Full, OutOfMemory};
 
 use crate::{Refusal, Table};
-use coll_draft::given_len;
+use coll_builder::given_len;
 use coll_lex::TextBuf;
 use coll_nodes::{MOST_DECLARATIONS, MOST_ENTRIES};
-use coll_statements::Places;
+use coll_statements::IdSet;
 use coll_syntax::{Id, OrderLine, Statement, Weight};
 use std::alloc::AllocError;
 
@@ -149,7 +149,7 @@ impl Table {
         if let Some(refusal) = self.reweight_line_refusal(line) {
             return Some(refusal);
         }
-        let none = Places::new(self.alloc(), self.hash_keys());
+        let none = IdSet::new(self.alloc(), self.hash_keys());
         let refusal = self.given_refusal(&none, line);
         drop(none);
         refusal
@@ -192,7 +192,7 @@ impl Table {
         if !self.is_placed(target) {
             return Ok(Some(Refusal::TargetNotPlaced));
         }
-        let mut ids = Places::new(self.alloc(), self.hash_keys());
+        let mut ids = IdSet::new(self.alloc(), self.hash_keys());
         let answer = self.placed_refusal(&mut ids, target, lines);
         drop(ids);
         answer
@@ -201,7 +201,7 @@ impl Table {
     /// The same where the target is placed, with the identifiers of the target and of the lines put in where there are none yet.
     fn placed_refusal(
         &self,
-        ids: &mut Places,
+        ids: &mut IdSet,
         target: &Id,
         lines: &[OrderLine],
     ) -> Result<Option<Refusal>, AllocError>
@@ -212,7 +212,7 @@ impl Table {
         if let Some(refusal) = self.lines_refusal(ids, target, lines)? {
             return Ok(Some(refusal));
         }
-        self.check_table();
+        self.lemma_well_formed();
         if self.added_len(lines) > MOST_ENTRIES - self.len() {
             return Ok(Some(Refusal::Full));
         }
@@ -223,7 +223,7 @@ impl Table {
     /// there alone memory is taken.
     fn lines_refusal(
         &self,
-        ids: &mut Places,
+        ids: &mut IdSet,
         target: &Id,
         lines: &[OrderLine],
     ) -> Result<Option<Refusal>, AllocError>
@@ -242,7 +242,7 @@ impl Table {
     }
 
     /// Why a line of a block is refused, if it is, from the identifiers of the target and of the lines before it.
-    fn line_refusal(&self, before: &Places, line: &OrderLine) -> Option<Refusal>
+    fn line_refusal(&self, before: &IdSet, line: &OrderLine) -> Option<Refusal>
         ensures { result ≡ line_refusal (collation self.now) before.now line.now }
     {
         if before.contains(&line.id) {
@@ -268,7 +268,7 @@ impl Table {
     }
 
     /// Why the first identifier that may not stand in the weights of these lines may not, where more is placed.
-    fn all_given_refusal(&self, more: &Places, lines: &[OrderLine]) -> Option<Refusal>
+    fn all_given_refusal(&self, more: &IdSet, lines: &[OrderLine]) -> Option<Refusal>
         ensures { result ≡ ids_refusal (collation self.now) more.now (ids_given lines.now) }
     {
         for line in lines {
@@ -280,7 +280,7 @@ impl Table {
     }
 
     /// The same of one line.
-    fn given_refusal(&self, more: &Places, line: &OrderLine) -> Option<Refusal>
+    fn given_refusal(&self, more: &IdSet, line: &OrderLine) -> Option<Refusal>
         ensures { result ≡ ids_refusal (collation self.now) more.now (flat_map weight_ids (given_weights line.now.weights)) }
     {
         match &line.weights {
@@ -290,7 +290,7 @@ impl Table {
     }
 
     /// The same of weights.
-    fn named_refusal(&self, more: &Places, weights: &[Weight]) -> Option<Refusal>
+    fn named_refusal(&self, more: &IdSet, weights: &[Weight]) -> Option<Refusal>
         ensures { result ≡ ids_refusal (collation self.now) more.now (flat_map weight_ids weights.now) }
     {
         for weight in weights {
@@ -302,7 +302,7 @@ impl Table {
     }
 
     /// The same of one weight.
-    fn weight_refusal(&self, more: &Places, weight: &Weight) -> Option<Refusal>
+    fn weight_refusal(&self, more: &IdSet, weight: &Weight) -> Option<Refusal>
         ensures { result ≡ ids_refusal (collation self.now) more.now (weight_ids weight.now) }
     {
         match weight {
@@ -312,7 +312,7 @@ impl Table {
     }
 
     /// The same of identifiers.
-    fn ids_refusal(&self, more: &Places, ids: &[Id]) -> Option<Refusal>
+    fn ids_refusal(&self, more: &IdSet, ids: &[Id]) -> Option<Refusal>
         ensures { result ≡ ids_refusal (collation self.now) more.now ids.now }
     {
         for id in ids {
@@ -325,10 +325,10 @@ impl Table {
 
     /// Why an identifier may not stand in a weight, where more is placed, if it may not: what is placed now was declared, so a
     /// second look is taken only at what isn't.
-    fn id_refusal(&self, more: &Places, id: &Id) -> Option<Refusal>
+    fn id_refusal(&self, more: &IdSet, id: &Id) -> Option<Refusal>
         ensures { result ≡ id_refusal (collation self.now) more.now id.now }
     {
-        self.check_table();
+        self.lemma_well_formed();
         if self.is_placed(id) {
             return None;
         }

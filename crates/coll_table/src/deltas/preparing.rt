@@ -16,7 +16,7 @@ ghost use Rattle.coll_nodes.specs.Moving.{MayBeLoose};
 ghost use Rattle.coll_nodes.specs.declared.contents.Content.TheVariants as content;
 
 use crate::{Item, Record, Table};
-use coll_draft::kept_weights;
+use coll_builder::kept_weights;
 use coll_lex::{ListBuf, TextBuf};
 use coll_nodes::{Content, Declaration, Entry};
 use coll_order::{NodeId, Place};
@@ -36,7 +36,7 @@ impl Table {
         ensures unchanged { OnErr result (self.new ≡ self.old) }
     {
         let mut items = Vec::with_capacity(self.alloc(), lines.len())?;
-        self.body.check_layout();
+        self.body.lemma_layout();
         let Some(node) = self.body.entry_node(target) else {
             unreachable!();
         };
@@ -79,7 +79,7 @@ impl Table {
         requires after { has_name (section_names (collation self.now).sections) after.now ≡ true }
         ensures { IfOk result (λ items. IsPreparedSection self.now.layout moved.now after.now items.items) }
     {
-        self.body.check_layout();
+        self.body.lemma_layout();
         let mut items = Vec::with_capacity(self.alloc(), 1)?;
         let Some(node) = self.body.section_node(moved) else {
             unreachable!();
@@ -104,7 +104,7 @@ impl Table {
     {
         let mut items = Vec::with_capacity(self.alloc(), 1)?;
         let weights = self.weights_to(line)?;
-        self.body.check_layout();
+        self.body.lemma_layout();
         let Some(node) = self.body.entry_node(&line.id) else {
             unreachable!();
         };
@@ -146,7 +146,7 @@ impl Table {
     {
         let weights = self.weights_to(line)?;
         let place = Some(Place::After(before));
-        self.body.check_layout();
+        self.body.lemma_layout();
         match self.body.entry_node(&line.id) {
             Some(node) => Ok(Item {
                 node,
@@ -206,7 +206,7 @@ impl Table {
         ensures added { IfOk result (λ made. AddsLoose self.old self.new (made ∷ [])) }
         ensures unchanged { OnErr result (self.new ≡ self.old) }
     {
-        self.body.check_layout();
+        self.body.lemma_layout();
         let made = self.body.make(node)?;
         Ok(made)
     }

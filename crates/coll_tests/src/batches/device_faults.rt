@@ -1,4 +1,4 @@
-//! Batches whose inputs fail to be read. That what is written to an output that fails is a front, `writes` shows.
+//! Batches whose inputs fail to be read. That what is written to an output that fails is a prefix, `writes` shows.
 
 use super::asked::{Asked, assert_told};
 use super::runs::{BASE_LISTING, PRINTED};

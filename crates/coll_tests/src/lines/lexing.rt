@@ -346,7 +346,7 @@ enum To {
 
 use To::{Feed, Outside};
 
-// The front of a line, the number of blanks behind it, whether it gives a logical line or begins the category, or its fault, and the
+// The prefix of a line, the number of blanks behind it, whether it gives a logical line or begins the category, or its fault, and the
 // number of the first line of the one that is open then.
 type Call = (
     To,
@@ -418,8 +418,8 @@ fn feed(lexer: &mut Lexer, line: &[u8]) -> Result<bool, LexFault> {
 }
 
 fn assert_call(rt: &impl Abort, alloc: Global, lexer: &mut Lexer, call: &Call) {
-    let (to, front, blanks, wanted, pending) = call;
-    let line = repeated(rt, alloc, front, b" ", *blanks, b"");
+    let (to, prefix, blanks, wanted, pending) = call;
+    let line = repeated(rt, alloc, prefix, b" ", *blanks, b"");
     let given = match to {
         Feed => feed(lexer, &line),
         Outside => lexer.outside(&line),

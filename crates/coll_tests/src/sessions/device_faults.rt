@@ -1,4 +1,4 @@
-//! Sessions whose reader or writer fails in mid-text. That what is written is then a front of the replies, `writes` shows.
+//! Sessions whose reader or writer fails in mid-text. That what is written is then a prefix of the replies, `writes` shows.
 
 use crate::assertions::{assert_same, assert_text, assert_that};
 use crate::devices::{FAILED_READS, NarrowWriter, Script, ShortReader, Step};
@@ -63,13 +63,13 @@ fn a_read_that_fails_ends_the_session_without_a_reply(rt: HostRuntime) {
     }
 }
 
-// The front of the first session up to its first `:undo` and the bytes `:re`, which get no reply.
+// The prefix of the first session up to its first `:undo` and the bytes `:re`, which get no reply.
 const CUT: &[u8] = b"reorder-after <U0061>\n<U0063>\nreorder-end\n:undo\n:re";
 
 #[test]
 fn a_cut_line_gets_no_reply(rt: HostRuntime) {
     let course = Session::Moved.course(&rt, rt.alloc(), CUT.len());
-    assert_that(&rt, "the front", course.text.as_slice().starts_with(CUT));
+    assert_that(&rt, "the prefix", course.text.as_slice().starts_with(CUT));
     assert_text(&rt, rt.alloc(), &course.replies, b"ok 1\nundone 0\n");
     drop(course);
 }

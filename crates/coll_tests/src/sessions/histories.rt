@@ -440,7 +440,7 @@ fn assert_withdrawn<R: Abort + Print>(
     }
 }
 
-// What is taken back or put again takes no memory, so it is never refused for want of it.
+// What is taken back or put again takes no memory, so it is never refused for lack of it.
 fn assert_call<R: Abort + Print>(
     rt: &R,
     alloc: Global,

@@ -234,7 +234,7 @@ pub struct Change {
 
 impl Change {
     // The lines before those that are changed.
-    fn front<'a>(&self, lines: &'a [&'static str]) -> &'a [&'static str] {
+    fn prefix<'a>(&self, lines: &'a [&'static str]) -> &'a [&'static str] {
         &lines[..self.first.saturating_sub(1).min(lines.len())]
     }
 
@@ -245,7 +245,7 @@ impl Change {
 
     // Hands the changed lines to a loader.
     fn hand_in(&self, loader: &mut Loader, lines: &[&'static str]) -> Result<(), LoadFault> {
-        hand_in(loader, self.front(lines))?;
+        hand_in(loader, self.prefix(lines))?;
         hand_in(loader, self.others)?;
         hand_in(loader, self.rest(lines))
     }
@@ -259,7 +259,7 @@ impl Change {
 
     /// The changed lines behind a text.
     pub fn push(&self, text: &mut Vec<u8>, lines: &[&'static str]) -> Result<(), AllocError> {
-        push_lines(text, self.front(lines))?;
+        push_lines(text, self.prefix(lines))?;
         push_lines(text, self.others)?;
         push_lines(text, self.rest(lines))
     }

@@ -1,4 +1,4 @@
-//! Tables loaded from a reader that fails in mid-text, and from each front of a text.
+//! Tables loaded from a reader that fails in mid-text, and from each prefix of a text.
 
 use crate::assertions::{assert_same, assert_text};
 use crate::devices::{FAILED_READS, Script, ShortReader, Step};
@@ -141,7 +141,7 @@ fn cause(letter: u8) -> Option<LoadCause> {
 }
 
 // Asserts that a text that ends in the line of a number has the fault of a letter there, or none.
-fn assert_front(rt: &impl Abort, alloc: Global, text: &[u8], line: u32, letter: u8) {
+fn assert_prefix(rt: &impl Abort, alloc: Global, text: &[u8], line: u32, letter: u8) {
     let fault = match cause(letter) {
         Some(cause) => Some(LoadFault { line, cause }),
         None => None,
@@ -161,17 +161,17 @@ fn assert_line(
     assert_same(rt, line, letters.len(), line.len() + 1);
     for (byte, letter) in line.bytes().zip(letters.bytes()) {
         text.push(byte).expect(rt, "room");
-        assert_front(rt, alloc, text.as_slice(), number, letter);
+        assert_prefix(rt, alloc, text.as_slice(), number, letter);
     }
     text.push(b'\n').expect(rt, "room");
     let letter = letters.bytes().last().expect(rt, "a letter");
-    assert_front(rt, alloc, text.as_slice(), number, letter);
+    assert_prefix(rt, alloc, text.as_slice(), number, letter);
 }
 
 #[test]
-fn each_front_of_a_table_has_its_fault(rt: HostRuntime) {
+fn each_prefix_of_a_table_has_its_fault(rt: HostRuntime) {
     let mut text = Vec::new(rt.alloc());
-    assert_front(&rt, rt.alloc(), &text, 0, b'c');
+    assert_prefix(&rt, rt.alloc(), &text, 0, b'c');
     for (number, row) in (1_u32..).zip(FRONTS.split("\n\n")) {
         let (line, letters) = row.split_once('\n').expect(&rt, "letters below a line");
         assert_line(&rt, rt.alloc(), &mut text, number, line, letters);

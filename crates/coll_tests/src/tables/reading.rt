@@ -104,8 +104,8 @@ const SPELLINGS_PRINTED: Lines = &[
 ];
 
 // Asserts that a table is so, shown in short.
-fn assert_shown(rt: &impl Abort, table: &Table, want: &str) {
-    assert_same(rt, "the table", past_table(rt, want, table), "");
+fn assert_shown(rt: &impl Abort, table: &Table, lack: &str) {
+    assert_same(rt, "the table", past_table(rt, lack, table), "");
 }
 
 fn assert_read(rt: &impl Abort, alloc: Global, row: &Read) {
@@ -153,11 +153,11 @@ const ENTRIES: &[(&str, &str)] = &[
     ("L", ""),
 ];
 
-fn assert_entry(rt: &impl Abort, alloc: Global, table: &Table, text: &str, want: &str) {
+fn assert_entry(rt: &impl Abort, alloc: Global, table: &Table, text: &str, lack: &str) {
     let id = id(alloc, text).expect(rt, text);
     let rest = match table.entry(&id) {
-        Some(entry) => past_entry(rt, want, entry),
-        None => want,
+        Some(entry) => past_entry(rt, lack, entry),
+        None => lack,
     };
     assert_same(rt, text, rest, "");
     drop(id);
@@ -174,8 +174,8 @@ const OWN_ENTRIES: &[(&str, &str)] = &[
 // Asserts what a table of three entries has for identifiers.
 fn assert_entries(rt: &impl Abort, alloc: Global, table: &mut Table, entries: &[(&str, &str)]) {
     assert_same(rt, "the entries", table.len(), 3);
-    for (text, want) in entries {
-        assert_entry(rt, alloc, table, text, want);
+    for (text, lack) in entries {
+        assert_entry(rt, alloc, table, text, lack);
     }
 }
 

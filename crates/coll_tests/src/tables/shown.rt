@@ -45,12 +45,12 @@ fn past_element<'a>(rt: &impl Abort, wanted: &'a str, name: &str, text: &str) ->
 fn past_walk<'a>(rt: &impl Abort, wanted: &'a str, table: &Table) -> &'a str {
     let mut rest = wanted;
     for item in table.walk() {
-        rest = past_met(rt, rest, &item);
+        rest = past_visited(rt, rest, &item);
     }
     rest
 }
 
-fn past_met<'a>(rt: &impl Abort, wanted: &'a str, item: &WalkItem<'_>) -> &'a str {
+fn past_visited<'a>(rt: &impl Abort, wanted: &'a str, item: &WalkItem<'_>) -> &'a str {
     match item {
         WalkItem::Section(name) => past_section(rt, wanted, name),
         WalkItem::Entry(entry) => past_entry(rt, wanted, entry),

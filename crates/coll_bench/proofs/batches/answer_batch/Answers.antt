@@ -1,4 +1,4 @@
--- A text is too long, or the output is written, or a front of it.
+-- A text is too long, or the output is written, or a prefix of it.
 use Rattle.std.proofs.Common.{sym, ◌∙◌}
 use Rattle.coll_bench.proofs.RunCases.{text_fails, output_done, output_stops}
 use Rattle.coll_bench.proofs.batches.answer_batch.Goals as goal

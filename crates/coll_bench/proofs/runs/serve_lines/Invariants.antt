@@ -8,7 +8,7 @@ use Rattle.coll_bench.specs.Underway.{Underway}
 use Rattle.coll_bench.proofs.runs.serve_lines.Given as goal
 
 abbrev pub decreases-lines : goal.decreases-lines
-decreases-lines g l = most_lines - l.desk.listener.count
+decreases-lines g l = most_lines - l.state.parser.count
 
 abbrev pub invariant-lines : goal.invariant-lines
 invariant-lines g l =
@@ -17,6 +17,6 @@ invariant-lines g l =
       reads : g.R.Source.failed l.input ≡ g.R.Source.failed l.initial.input;
       writes : g.W.Sink.failed l.output ≡ g.W.Sink.failed l.initial.output;
       flushed : g.W.Sink.flushed l.initial.output ≡ true → g.W.Sink.flushed l.output ≡ true;
-      underway : (table : Collation) (text before : List ℕ) → IsBegun l.initial.desk table → g.R.Source.left l.initial.input ≡ Some text → g.W.Sink.taken l.initial.output ≡ Some before
-          → Underway table text before l.reader.ended (unread l.reader (g.R.Source.left l.input)) (g.W.Sink.taken l.output) l.desk;
+      underway : (table : Collation) (text before : List ℕ) → IsBegun l.initial.state table → g.R.Source.left l.initial.input ≡ Some text → g.W.Sink.taken l.initial.output ≡ Some before
+          → Underway table text before l.reader.ended (unread l.reader (g.R.Source.left l.input)) (g.W.Sink.taken l.output) l.state;
     }

@@ -1,5 +1,5 @@
 use Rattle.std.proofs.Common.{◌++◌}
-use Rattle.coll_devices.proofs.WritingLemmas.{AppendsFront-before, Sends-after, Sends-stopped}
+use Rattle.coll_devices.proofs.WritingLemmas.{AppendsPrefix-before, Sends-after, Sends-stopped}
 use Rattle.coll_replies.specs.Replies.{refused_line}
 use Rattle.coll_replies.specs.declared.faults.Fault.TheVariants.{Lex}
 use Rattle.coll_bench.proofs.serving.write_dropped.Goals as goal
@@ -8,9 +8,9 @@ pub returns-in_err-refuse_if-clause-sent : goal.returns-in_err-refuse_if-clause-
 returns-in_err-refuse_if-clause-sent g c =
     let taken = g.W.Sink.taken in
     let rest = refused_line (Lex c.args.fault) in
-    let front = rw c.dropped_fault.ensures at c.in_err-refuse_if.ensures.sent in
+    let prefix = rw c.dropped_fault.ensures at c.in_err-refuse_if.ensures.sent in
     Sends-stopped (taken c.args.output.now) (taken c.refuse_if.new.output) (_ ++ rest) c.from_residual.result c.from_residual.ensures.0
-    (AppendsFront-before (taken c.args.output.now) (taken c.refuse_if.new.output) _ rest front)
+    (AppendsPrefix-before (taken c.args.output.now) (taken c.refuse_if.new.output) _ rest prefix)
 
 pub returns-clause-sent : goal.returns-clause-sent
 returns-clause-sent g c =

@@ -10,7 +10,7 @@ use Rattle.coll_elements.proofs.TableElementLemmas.{have_strings, elements_ranke
 use Rattle.coll_elements.proofs.table_elements.named_elements.Goals as goal
 
 pub put_all-requires-clause-some : goal.put_all-requires-clause-some
-put_all-requires-clause-some c = subst (All HasString) (sym c.declared.ensures) (have_strings _ c.check_table.ensures.well_formed.built.texts)
+put_all-requires-clause-some c = subst (All HasString) (sym c.declared.ensures) (have_strings _ c.lemma_well_formed.ensures.well_formed.built.texts)
 
 pub returns-clause-elements : goal.returns-clause-elements
 returns-clause-elements c =

@@ -1,4 +1,4 @@
--- The front without the last member, and of it the end.
+-- The prefix without the last member, and of it the end.
 use Rattle.std.proofs.Common.{arith}
 use Rattle.coll_history.proofs.PairedStatements.{stands_before}
 use Rattle.coll_history.proofs.withdrawing.before_last.Goals as goal

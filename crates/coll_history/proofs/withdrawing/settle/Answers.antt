@@ -8,7 +8,7 @@ use Rattle.coll_table.specs.Record.{AreLoose, Extends, dropped_nodes}
 use Rattle.coll_table.specs.declared.records.Record.{Record}
 use Rattle.coll_nodes.specs.TableLayout.{TableValue}
 use Rattle.coll_history.proofs.GivenUp.{extends_on, extends_without, in_order, loose_first, loose_later, without_first}
-use Rattle.coll_history.proofs.PairedStatements.{same_front}
+use Rattle.coll_history.proofs.PairedStatements.{same_prefix}
 use Rattle.coll_history.proofs.withdrawing.settle.Goals as goal
 
 pub give_up_one-requires : goal.give_up_one-requires
@@ -35,7 +35,7 @@ returns-clause-table c =
 pub returns-clause-remaining : goal.returns-clause-remaining
 returns-clause-remaining c = λ rest last e.
     c.pair.ensures.remaining
-    ∙ ap (λ (ks : List Kept). c.args.remaining.now.items ++ paired ks (reverse c.reverse.new.self.items)) (same_front c.take_last.new.self.items rest c.take_last.result last (sym c.take_last.ensures.items ∙ e))
+    ∙ ap (λ (ks : List Kept). c.args.remaining.now.items ++ paired ks (reverse c.reverse.new.self.items)) (same_prefix c.take_last.new.self.items rest c.take_last.result last (sym c.take_last.ensures.items ∙ e))
     ∙ ap (λ (rs : List Record). c.args.remaining.now.items ++ paired (reverse rest) rs) (ap reverse c.reverse.ensures.items ∙ reverse-reverse c.args.fresh.now.items)
 
 pub returns-clause-dropped : goal.returns-clause-dropped

@@ -29,24 +29,24 @@ returns-in-Err-clause-unchanged c =
 
 pub settle-requires-clause-loose : goal.settle-requires-clause-loose
 settle-requires-clause-loose c =
-    loose_rebuilt c.records_turn_back.ensures c.undone_records_put_in.ensures (uncounted c.take_down.new.table) (uncounted c.rebuild.new.table) c.take_down.new.undone.items _ (table_uncounted c.take_down.new.table c.check_table.ensures.table) c.take_down.ensures.leads_on c.in_default.ensures.rebuilt
+    loose_rebuilt c.lemma_records_turn_back.ensures c.lemma_undone_records_put_in.ensures (uncounted c.take_down.new.table) (uncounted c.rebuild.new.table) c.take_down.new.undone.items _ (table_uncounted c.take_down.new.table c.lemma_well_formed.ensures.table) c.take_down.ensures.leads_on c.in_default.ensures.rebuilt
 
 -- the later statements stand before the last one that was taken back
-parts_of : (c : goal.After-check_table-3) → StandsBeforeLast c.take_down.new.undone.items c.before_last.result.now
+parts_of : (c : goal.After-lemma_well_formed-3) → StandsBeforeLast c.take_down.new.undone.items c.before_last.result.now
 parts_of c = subst (λ (ks : List Kept). StandsBeforeLast ks c.before_last.result.now) c.deref.ensures.value c.before_last.ensures.parts
 
 -- what remains
-remaining_is : (c : goal.After-check_table-3) → c.settle.new.remaining.items ≡ c.take_down.new.remaining.items ++ paired (reverse c.before_last.result.now) c.rebuild.new.fresh.items
+remaining_is : (c : goal.After-lemma_well_formed-3) → c.settle.new.remaining.items ≡ c.take_down.new.remaining.items ++ paired (reverse c.before_last.result.now) c.rebuild.new.fresh.items
 remaining_is c =
     let p = parts_of c in
     c.settle.ensures.remaining (p.earlier ++ c.before_last.result.now) p.last p.parts
     ∙ ap (λ (ks : List Kept). c.take_down.new.remaining.items ++ ks) (paired_later c.before_last.result.now p.earlier c.rebuild.new.fresh.items (omega (arith, c.in_default.ensures.count, c.rebuild.new.fresh.ok.0)))
 
-settled : (c : goal.After-check_table-3) → LeadsSettled (uncounted c.settle.new.table) (uncounted c.take_down.new.table) c.settle.new.remaining.items c.take_down.new.remaining.items
+settled : (c : goal.After-lemma_well_formed-3) → LeadsSettled (uncounted c.settle.new.table) (uncounted c.take_down.new.table) c.settle.new.remaining.items c.take_down.new.remaining.items
 settled c =
-    leads_settled c.records_turn_back.ensures c.records_fit_wider.ensures c.records_fit_narrower.ensures c.wider_tables_read_alike.ensures
+    leads_settled c.lemma_records_turn_back.ensures c.lemma_records_fit_wider.ensures c.lemma_records_fit_narrower.ensures c.lemma_wider_tables_read_alike.ensures
     (uncounted c.take_down.new.table) (uncounted c.rebuild.new.table) (uncounted c.settle.new.table) c.take_down.new.remaining.items _ c.settle.new.remaining.items
-    (table_uncounted c.rebuild.new.table c.check_table-2.ensures.table) (table_uncounted c.settle.new.table c.check_table-3.ensures.table)
+    (table_uncounted c.rebuild.new.table c.lemma_well_formed-2.ensures.table) (table_uncounted c.settle.new.table c.lemma_well_formed-3.ensures.table)
     c.take_down.ensures.leads c.in_default.ensures.rebuilt
     (extends_uncounted c.rebuild.new.table c.settle.new.table c.settle.ensures.table)
     (remaining_is c)

@@ -27,7 +27,7 @@ returns-then-is_ne-clause-ok c =
     let table = collation c.args.table.now in
     let parts = parts_of ranks (chars c.args.text.now) in
     let others = parts_of ranks (chars c.args.other.now) in
-    let by_parts = order_by_parts ranks table c.requires c.check_table.ensures.well_formed (chars c.args.text.now) (chars c.args.other.now) in
+    let by_parts = order_by_parts ranks table c.requires c.lemma_well_formed.ensures.well_formed (chars c.args.text.now) (chars c.args.other.now) in
     let decided = order_decided (part_numbers ranks.compiled) parts others c.loop-level.level c.rules-rule-items.result.now table.rules _ c.in_ok-order.order c.rules-rule-items.ensures c.loop-level-test.true c.if-is_ne.ensures c.in_ok-order.ensures.ok in
     sym (by_parts ∙ c.loop-level.invariant ∙ decided)
 
@@ -37,6 +37,6 @@ returns-clause-ok c =
     let table = collation c.args.table.now in
     let parts = parts_of ranks (chars c.args.text.now) in
     let others = parts_of ranks (chars c.args.other.now) in
-    let by_parts = order_by_parts ranks table c.requires c.check_table.ensures.well_formed (chars c.args.text.now) (chars c.args.other.now) in
+    let by_parts = order_by_parts ranks table c.requires c.lemma_well_formed.ensures.well_formed (chars c.args.text.now) (chars c.args.other.now) in
     let undecided = order_undecided (part_numbers ranks.compiled) parts others c.loop-level.level c.rules-rule-items.result.now table.rules c.rules-rule-items.ensures c.loop-level-test.false in
     sym (by_parts ∙ c.loop-level.invariant ∙ undecided)

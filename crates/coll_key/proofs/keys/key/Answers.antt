@@ -24,9 +24,9 @@ returns-clause-ok c =
     let parts = parts_of ranks (chars c.args.text.now) in
     let are : c.deref.result.now ≡ map (row_of c.weights.result.now) parts = c.deref.ensures.value ∙ c.in_ok-rows.ensures.ok ∙ ap (λ w. map (row_of w) parts) (sym c.weights.ensures) in
     let made = c.in_ok-key.ensures ∙ ap (flat_map ended) (lists_by_rows c.weights.result.now c.deref.result.now parts are c.rules.result.now) in
-    key_is_made ranks (collation c.args.table.now) c.requires c.check_table.ensures.well_formed (chars c.args.text.now) c.weights.result.now c.rules.result.now parts c.in_ok-key.key.items c.weights.ensures c.rules.ensures refl made
+    key_is_made ranks (collation c.args.table.now) c.requires c.lemma_well_formed.ensures.well_formed (chars c.args.text.now) c.weights.result.now c.rules.result.now parts c.in_ok-key.key.items c.weights.ensures c.rules.ensures refl made
 
 pub returns-clause-form : goal.returns-clause-form
 returns-clause-form c =
     let table = collation c.args.table.now in
-    ap (has_key_form table.rules) (returns-clause-ok c) ∙ key_form table c.check_table.ensures.well_formed (chars c.args.text.now)
+    ap (has_key_form table.rules) (returns-clause-ok c) ∙ key_form table c.lemma_well_formed.ensures.well_formed (chars c.args.text.now)

@@ -8,4 +8,4 @@ use Rattle.coll_key.proofs.text_keys.key_of_text.Goals as goal
 pub returns-clause-form : goal.returns-clause-form
 returns-clause-form c =
     let table = collation c.args.table.now in
-    ap (has_key_form table.rules) c.in_ok-key.ensures ∙ key_form table c.check_table.ensures.well_formed (chars c.args.text.now)
+    ap (has_key_form table.rules) c.in_ok-key.ensures ∙ key_form table c.lemma_well_formed.ensures.well_formed (chars c.args.text.now)

@@ -6,7 +6,7 @@ use Rattle.coll_nodes.specs.TableLayout.{collation}
 use Rattle.coll_ranks.specs.LevelWeights.{row_of}
 use Rattle.coll_ranks.specs.RankLists.{WeightsValue}
 use Rattle.coll_ranks.specs.Ranks.{part_numbers}
-use Rattle.coll_ranks.specs.declared.parts.Part.{Part}
+use Rattle.coll_ranks.specs.declared.parts.TextElement.{TextElement}
 use Rattle.coll_key.specs.LevelList.{level_lists_from}
 use Rattle.coll_key.specs.SortKey.{ended}
 use Rattle.coll_key.proofs.OrderLemmas.{key_by_numbers}
@@ -22,6 +22,6 @@ returns c =
     let are : c.deref.result.now ≡ map (row_of weights) parts = c.deref.ensures.value ∙ c.in_ok-rows.ensures in
     let by_parts = ap (flat_map ended) (lists_by_rows weights c.deref.result.now parts are c.rules.result.now) in
     let by_weights = ap (λ (w : WeightsValue). flat_map ended (level_lists_from c.rules.result.now 0 (part_numbers w) parts)) c.weights-weights.ensures in
-    let same = ap₂ (λ (rules : List Rule) (parts : List Part). flat_map ended (level_lists_from rules 0 (part_numbers made.weights) parts)) c.rules.ensures c.parts.ensures in
+    let same = ap₂ (λ (rules : List Rule) (parts : List TextElement). flat_map ended (level_lists_from rules 0 (part_numbers made.weights) parts)) c.rules.ensures c.parts.ensures in
     let key = key_by_numbers table (chars c.args.text.now) (part_numbers made.weights) made.parts c.in_ok-made.ensures.numbers in
     subst (λ (list : List ℕ). IfOk c.key_of_rows.result (λ key. key.items ≡ list)) (by_parts ∙ by_weights ∙ same ∙ sym key) c.key_of_rows.ensures

@@ -4,7 +4,7 @@ use Rattle.std.specs.List.{flat_map}
 use Rattle.coll_lex.specs.Characters.{space}
 use Rattle.coll_syntax.specs.declared.rules.Rule.{Rule}
 use Rattle.coll_key.specs.WrittenKey.{behind_space, joined_by_spaces, key_words, level_words}
-use Rattle.coll_key.proofs.WritingSteps.{left_front, left_less}
+use Rattle.coll_key.proofs.WritingSteps.{left_prefix, left_less}
 use Rattle.coll_key.proofs.WrittenKeys.{levels_left}
 use Rattle.coll_key.proofs.written_keys.write_later_levels.Goals as goal
 
@@ -17,7 +17,7 @@ returns-in-Err-clause-sent g c =
     let level = c.split_level.result.0.now in
     let later = c.split_level.result.1.now in
     let none : Rule = record { backward = false; position = false } in
-    left_front (flat_map behind_space (key_words rules c.args.key.now)) (flat_map behind_space (key_words (drop i rules) left)) (space ∷ joined_by_spaces (level_words (get_or rules i none).position level)) (flat_map behind_space (key_words (drop (i + 1) rules) later)) (taken c.args.out.now) (taken c.loop-rule.out) (taken c.write_level_behind.new.out)
+    left_prefix (flat_map behind_space (key_words rules c.args.key.now)) (flat_map behind_space (key_words (drop i rules) left)) (space ∷ joined_by_spaces (level_words (get_or rules i none).position level)) (flat_map behind_space (key_words (drop (i + 1) rules) later)) (taken c.args.out.now) (taken c.loop-rule.out) (taken c.write_level_behind.new.out)
     (levels_left rules i none c.loop-rule-test.true left level later c.split_level.ensures.level c.split_level.ensures.later) c.loop-rule.invariant.sent c.in-Err.ensures.sent
 
 pub loop-rule-preserved : goal.loop-rule-preserved

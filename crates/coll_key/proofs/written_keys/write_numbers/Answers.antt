@@ -2,7 +2,7 @@
 use Rattle.std.proofs.Common.{◌+◌, ◌&&◌, not, drop, get_or, ◌∙◌}
 use Rattle.std.specs.List.{flat_map}
 use Rattle.coll_key.specs.WrittenKey.{before_space, word_of, words_of}
-use Rattle.coll_key.proofs.WritingSteps.{left_front, left_less}
+use Rattle.coll_key.proofs.WritingSteps.{left_prefix, left_less}
 use Rattle.coll_key.proofs.WrittenKeys.{numbers_left}
 use Rattle.coll_key.proofs.written_keys.write_numbers.Goals as goal
 
@@ -13,7 +13,7 @@ returns-in-Err-clause-sent g c =
     let i = c.loop-number.number-index in
     let position = c.args.position in
     let at = c.loop-number.at_position in
-    left_front (flat_map before_space (words_of position position numbers)) (flat_map before_space (words_of position at (drop i numbers))) (before_space (word_of at (get_or numbers i 0))) (flat_map before_space (words_of position (position && not at) (drop (i + 1) numbers))) (taken c.args.out.now) (taken c.loop-number.out) (taken c.write_word.new.out)
+    left_prefix (flat_map before_space (words_of position position numbers)) (flat_map before_space (words_of position at (drop i numbers))) (before_space (word_of at (get_or numbers i 0))) (flat_map before_space (words_of position (position && not at) (drop (i + 1) numbers))) (taken c.args.out.now) (taken c.loop-number.out) (taken c.write_word.new.out)
     (numbers_left position at numbers i c.loop-number-test.true) c.loop-number.invariant.sent c.in-Err.ensures.sent
 
 pub loop-number-preserved : goal.loop-number-preserved

@@ -17,4 +17,4 @@ pub returns : goal.returns
 returns c =
     let l = c.loop-at in
     let none : l.at ≡ zero = omega arith in
-    sym ((rw none at l.invariant.digits) ∙ ap (λ front. front ++ l.digits) (hex_digits-zero l.rest))
+    sym ((rw none at l.invariant.digits) ∙ ap (λ prefix. prefix ++ l.digits) (hex_digits-zero l.rest))

@@ -1,7 +1,7 @@
 use Rattle.std.proofs.Common.{◌≡◌, [], ◌∷◌, ◌++◌, chars, encode_utf8_all, ap, ◌∙◌}
 use Rattle.std.proofs.lemmas.Str.{encodes-chars}
 use Rattle.coll_lex.specs.Spelling.{spelled_name, spelled_symbol}
-use Rattle.coll_devices.proofs.WritingLemmas.{AppendsFront-before, AppendsFront-after, Sends-after, Sends-stopped}
+use Rattle.coll_devices.proofs.WritingLemmas.{AppendsPrefix-before, AppendsPrefix-after, Sends-after, Sends-stopped}
 use Rattle.coll_lex.proofs.SpellingLemmas.{encodes-spelled_symbol}
 use Rattle.coll_lex.proofs.spelling.write_long_symbol.Goals as goal
 
@@ -13,7 +13,7 @@ returns-in_err-write_bytes-clause-sent g c =
     encodes-spelled_symbol (chars name) ∙ ap (λ l. 60 ∷ (spelled_name l [] ++ 62 ∷ [])) (encodes-chars name c.utf8.name) in
     rw whole
     (Sends-stopped (taken c.args.out.now) (taken c.write_bytes.new.out) ((60 ∷ []) ++ (spelled_name name [] ++ 62 ∷ [])) c.from_residual.result c.from_residual.ensures.0
-    (AppendsFront-before _ _ (60 ∷ []) (spelled_name name [] ++ 62 ∷ []) c.in_err-write_bytes.ensures.sent))
+    (AppendsPrefix-before _ _ (60 ∷ []) (spelled_name name [] ++ 62 ∷ []) c.in_err-write_bytes.ensures.sent))
 
 pub returns-in_err-write_name-clause-sent : goal.returns-in_err-write_name-clause-sent
 returns-in_err-write_name-clause-sent g c =
@@ -25,7 +25,7 @@ returns-in_err-write_name-clause-sent g c =
     rw whole
     (Sends-stopped (taken c.args.out.now) (taken c.write_name.new.out) ((60 ∷ []) ++ (spelled_name name [] ++ 62 ∷ [])) c.from_residual-in_err-write_name.result
     c.from_residual-in_err-write_name.ensures.0
-    (AppendsFront-after _ _ _ (60 ∷ []) (spelled_name name [] ++ 62 ∷ []) c.in_ok-write_bytes.ensures.sent (AppendsFront-before _ _ (spelled_name name []) (62 ∷ []) part)))
+    (AppendsPrefix-after _ _ _ (60 ∷ []) (spelled_name name [] ++ 62 ∷ []) c.in_ok-write_bytes.ensures.sent (AppendsPrefix-before _ _ (spelled_name name []) (62 ∷ []) part)))
 
 pub returns-clause-sent : goal.returns-clause-sent
 returns-clause-sent g c =

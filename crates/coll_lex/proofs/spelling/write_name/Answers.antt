@@ -2,7 +2,7 @@ use Rattle.std.proofs.Common.{◌≡◌, ◌+◌, ◌-◌, [], ◌∷◌, ◌++�
 use Rattle.std.proofs.KnownBytes.{Appends-trans}
 use Rattle.std.proofs.lemmas.List.{take_rest, drop-drop, get_or-drop}
 use Rattle.coll_lex.specs.Spelling.{spelled_name}
-use Rattle.coll_devices.proofs.WritingLemmas.{AppendsFront-before, AppendsFront-after, Sends-after, Sends-stopped}
+use Rattle.coll_devices.proofs.WritingLemmas.{AppendsPrefix-before, AppendsPrefix-after, Sends-after, Sends-stopped}
 use Rattle.coll_lex.proofs.SpellingLemmas.{spelled_name-all_bare, spelled_name-cut}
 use Rattle.coll_lex.proofs.spelling.write_name.Goals as goal
 
@@ -18,7 +18,7 @@ returns-in_err-write_bytes-clause-sent g c =
     let part = rw c.split_at.ensures.front at c.in_err-write_bytes.ensures.sent in
     rw whole
     (Sends-stopped (taken c.args.out.now) (taken c.write_bytes.new.out) (sent.0 ++ (take at rest ++ more)) c.from_residual.result c.from_residual.ensures.0
-    (AppendsFront-after _ _ _ sent.0 (take at rest ++ more) sent.2 (AppendsFront-before _ _ (take at rest) more part)))
+    (AppendsPrefix-after _ _ _ sent.0 (take at rest ++ more) sent.2 (AppendsPrefix-before _ _ (take at rest) more part)))
 
 pub returns-in_err-write_bytes-2-clause-sent : goal.returns-in_err-write_bytes-2-clause-sent
 returns-in_err-write_bytes-2-clause-sent g c =
@@ -37,8 +37,8 @@ returns-in_err-write_bytes-2-clause-sent g c =
     rw whole
     (Sends-stopped (taken c.args.out.now) (taken c.write_bytes-in-Some.new.out) (sent.0 ++ (take at rest ++ (two ++ more))) c.from_residual-in_err-write_bytes-2.result
     c.from_residual-in_err-write_bytes-2.ensures.0
-    (AppendsFront-after _ _ _ sent.0 (take at rest ++ (two ++ more)) sent.2
-    (AppendsFront-after _ _ _ (take at rest) (two ++ more) run (AppendsFront-before _ _ two more part))))
+    (AppendsPrefix-after _ _ _ sent.0 (take at rest ++ (two ++ more)) sent.2
+    (AppendsPrefix-after _ _ _ (take at rest) (two ++ more) run (AppendsPrefix-before _ _ two more part))))
 
 pub escapes-preserved : goal.escapes-preserved
 escapes-preserved g c =

@@ -11,7 +11,7 @@ pub entries-smaller : goal.entries-smaller
 entries-smaller c =
     let layout = c.args.nodes.now.layout in
     let there : has_node (nodes_in layout c.args.ring) c.in-Some.node ≡ true = subst (StandsIfAny layout c.args.ring) c.in-Some.is c.entries.invariant.stands in
-    let left = ap length (ap (left_of layout c.args.ring) c.in-Some.is ∙ left_next layout c.args.ring c.in-Some.node c.next-left.result c.check_layout.ensures there c.next-left.ensures) in
+    let left = ap length (ap (left_of layout c.args.ring) c.in-Some.is ∙ left_next layout c.args.ring c.in-Some.node c.next-left.result c.lemma_layout.ensures there c.next-left.ensures) in
     omega (arith, left)
 
 pub entries-preserved : goal.entries-preserved
@@ -19,11 +19,11 @@ entries-preserved c =
     let layout = c.args.nodes.now.layout in
     let there : has_node (nodes_in layout c.args.ring) c.in-Some.node ≡ true = subst (StandsIfAny layout c.args.ring) c.in-Some.is c.entries.invariant.stands in
     let left : left_of layout c.args.ring c.entries.left ≡ c.in-Some.node ∷ left_of layout c.args.ring c.next-left.result =
-    ap (left_of layout c.args.ring) c.in-Some.is ∙ left_next layout c.args.ring c.in-Some.node c.next-left.result c.check_layout.ensures there c.next-left.ensures in
+    ap (left_of layout c.args.ring) c.in-Some.is ∙ left_next layout c.args.ring c.in-Some.node c.next-left.result c.lemma_layout.ensures there c.next-left.ensures in
     let counted = ap length left in
     let one : c.entries.last + 1 ≡ suc c.entries.last = omega arith in
     record {
-      stands = stands_next layout c.args.ring c.in-Some.node c.next-left.result c.check_layout.ensures there c.next-left.ensures;
+      stands = stands_next layout c.args.ring c.in-Some.node c.next-left.result c.lemma_layout.ensures there c.next-left.ensures;
       count = omega (arith, counted, c.entries.invariant.count);
       numbers = λ node. one_numbered _ _ c.in-Some.node c.entries.last (c.entries.last + 1) c.entries.numbers c.set.new.self left one c.in_ok-set.ensures node ∙ c.entries.invariant.numbers node;
     }

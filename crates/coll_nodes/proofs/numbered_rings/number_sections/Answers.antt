@@ -23,7 +23,7 @@ pub sections-smaller : goal.sections-smaller
 sections-smaller c =
     let layout = c.args.nodes.now.layout in
     let there : has_node (nodes_in layout sections_ring) c.in-Some.section ≡ true = subst (StandsIfAny layout sections_ring) c.in-Some.is c.sections.invariant.stands in
-    let left = ap length (ap (left_of layout sections_ring) c.in-Some.is ∙ left_next layout sections_ring c.in-Some.section c.next-left.result c.check_layout.ensures there c.next-left.ensures) in
+    let left = ap length (ap (left_of layout sections_ring) c.in-Some.is ∙ left_next layout sections_ring c.in-Some.section c.next-left.result c.lemma_layout.ensures there c.next-left.ensures) in
     omega (arith, left)
 
 pub sections-preserved : goal.sections-preserved
@@ -33,10 +33,10 @@ sections-preserved c =
     let here = read_at (entry_nodes_in layout) layout c.in-Some.section in
     let later = entry_nodes_of layout (left_of layout sections_ring c.next-left.result) in
     let left : entry_nodes_of layout (left_of layout sections_ring c.sections.left) ≡ here ++ later =
-    ap (entry_nodes_of layout) (ap (left_of layout sections_ring) c.in-Some.is ∙ left_next layout sections_ring c.in-Some.section c.next-left.result c.check_layout.ensures there c.next-left.ensures) in
+    ap (entry_nodes_of layout) (ap (left_of layout sections_ring) c.in-Some.is ∙ left_next layout sections_ring c.in-Some.section c.next-left.result c.lemma_layout.ensures there c.next-left.ensures) in
     let counted = ap length left ∙ length-append here later in
     record {
-      stands = stands_next layout sections_ring c.in-Some.section c.next-left.result c.check_layout.ensures there c.next-left.ensures;
+      stands = stands_next layout sections_ring c.in-Some.section c.next-left.result c.lemma_layout.ensures there c.next-left.ensures;
       count = omega (arith, counted, c.in_ok-last.ensures.count, c.sections.invariant.count);
       numbers = λ node. section_numbered _ here later c.sections.last c.in_ok-last.last c.sections.numbers c.number_section.new.numbers left c.in_ok-last.ensures.count c.in_ok-last.ensures.numbers node ∙ c.sections.invariant.numbers node;
     }

@@ -2,13 +2,13 @@
 use Rattle.std.proofs.Common.{◌∙◌}
 use Rattle.coll_print.specs.PrintedParts.{declaration_bytes}
 use Rattle.coll_nodes.specs.WalkItems.{declared_by}
-use Rattle.coll_print.proofs.PrintedParts.{written_front, written_more}
+use Rattle.coll_print.proofs.PrintedParts.{written_prefix, written_more}
 use Rattle.coll_print.proofs.canonical_lists.write_declarations.Goals as goal
 
 pub returns-in-Err-clause-sent : goal.returns-in-Err-clause-sent
 returns-in-Err-clause-sent g c =
     let taken = g.W.Sink.taken in
-    written_front declaration_bytes c.args.declared c.declared.left c.next.new.self (declared_by c.in-Some.item) (taken c.args.out.now) (taken c.declared.out) (taken c.write_declaration.new.out)
+    written_prefix declaration_bytes c.args.declared c.declared.left c.next.new.self (declared_by c.in-Some.item) (taken c.args.out.now) (taken c.declared.out) (taken c.write_declaration.new.out)
     c.in-Some.ensures.steps c.declared.invariant.sent c.in-Err.ensures.sent
 
 pub declared-preserved : goal.declared-preserved

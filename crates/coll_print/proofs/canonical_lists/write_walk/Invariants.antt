@@ -1,12 +1,12 @@
 -- What is written and what is left are the whole.
 use Rattle.std.proofs.Common.{◌≡◌}
-use Rattle.coll_print.specs.PrintedParts.{met_bytes}
+use Rattle.coll_print.specs.PrintedParts.{visited_bytes}
 use Rattle.coll_print.proofs.PrintedParts.{HasWritten}
 use Rattle.coll_print.proofs.canonical_lists.write_walk.Given as goal
 
 abbrev pub invariant-walk : goal.invariant-walk
 invariant-walk g l =
     record {
-      sent : HasWritten met_bytes l.initial.left l.left (g.W.Sink.taken l.initial.out) (g.W.Sink.taken l.out);
+      sent : HasWritten visited_bytes l.initial.left l.left (g.W.Sink.taken l.initial.out) (g.W.Sink.taken l.out);
       count : g.W.Sink.failed l.out ≡ g.W.Sink.failed l.initial.out;
     }

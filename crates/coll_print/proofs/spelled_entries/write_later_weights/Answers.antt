@@ -2,13 +2,13 @@
 use Rattle.std.proofs.Common.{◌+◌, drop, ◌∙◌}
 use Rattle.coll_print.specs.CanonicalText.{spelled_weight}
 use Rattle.coll_print.specs.PrintedParts.{behind_bytes}
-use Rattle.coll_print.proofs.PrintedParts.{left_begins, written_front, written_more}
+use Rattle.coll_print.proofs.PrintedParts.{left_begins, written_prefix, written_more}
 use Rattle.coll_print.proofs.spelled_entries.write_later_weights.Goals as goal
 
 pub returns-in-Err-clause-sent : goal.returns-in-Err-clause-sent
 returns-in-Err-clause-sent g c =
     let taken = g.W.Sink.taken in
-    written_front (behind_bytes (spelled_weight c.args.owner.now)) c.args.weights.now (drop c.loop-weight.weight-index c.args.weights.now) (drop (c.loop-weight.weight-index + 1) c.args.weights.now) c.weight-item.result (taken c.args.out.now) (taken c.loop-weight.out) (taken c.write_weight_behind.new.out)
+    written_prefix (behind_bytes (spelled_weight c.args.owner.now)) c.args.weights.now (drop c.loop-weight.weight-index c.args.weights.now) (drop (c.loop-weight.weight-index + 1) c.args.weights.now) c.weight-item.result (taken c.args.out.now) (taken c.loop-weight.out) (taken c.write_weight_behind.new.out)
     (left_begins c.args.weights.now c.loop-weight.weight-index c.weight-item.result c.loop-weight-test.true c.weight-item.is) c.loop-weight.invariant.sent c.in-Err.ensures.sent
 
 pub loop-weight-preserved : goal.loop-weight-preserved

@@ -4,7 +4,7 @@ use Rattle.std.proofs.lemmas.List.{drop_more}
 use Rattle.coll_syntax.specs.declared.rules.Rule.{Rule}
 use Rattle.coll_print.specs.CanonicalText.{spelled_rule}
 use Rattle.coll_print.specs.PrintedParts.{behind_bytes}
-use Rattle.coll_print.proofs.PrintedParts.{written_front, written_more}
+use Rattle.coll_print.proofs.PrintedParts.{written_prefix, written_more}
 use Rattle.coll_print.proofs.spelled_lines.write_later_rules.Goals as goal
 
 pub returns-in-Err-clause-sent : goal.returns-in-Err-clause-sent
@@ -13,7 +13,7 @@ returns-in-Err-clause-sent g c =
     let rules = c.args.rules.now in
     let i = c.loop-rule.rule-index in
     let none : Rule = record { backward = false; position = false } in
-    written_front (behind_bytes spelled_rule) rules (drop i rules) (drop (i + 1) rules) (get_or rules i none) (taken c.args.out.now) (taken c.loop-rule.out) (taken c.write_rule_behind.new.out)
+    written_prefix (behind_bytes spelled_rule) rules (drop i rules) (drop (i + 1) rules) (get_or rules i none) (taken c.args.out.now) (taken c.loop-rule.out) (taken c.write_rule_behind.new.out)
     (drop_more rules i none c.loop-rule-test.true) c.loop-rule.invariant.sent c.in-Err.ensures.sent
 
 pub loop-rule-preserved : goal.loop-rule-preserved

@@ -1,4 +1,4 @@
--- The law, by the kind of unit.
+-- The law, by the kind of request.
 use Rattle.coll_replies.proofs.LawLemmas.{refused_changes_nothing}
 use Rattle.coll_replies.proofs.laws.refused_lines_change_nothing.Goals as goal
 

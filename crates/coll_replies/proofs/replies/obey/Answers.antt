@@ -3,7 +3,7 @@ use Rattle.std.proofs.Common.{codes, refl, ap, ◌∙◌}
 use Rattle.coll_print.specs.CanonicalText.{text}
 use Rattle.coll_history.specs.Histories.{SessionValue, table_now, taken_back, put_again}
 use Rattle.coll_replies.specs.Replies.{listing, checked_line, history_listing}
-use Rattle.coll_units.specs.declared.session_lines.Command.TheVariants as command
+use Rattle.coll_requests.specs.declared.session_lines.Command.TheVariants as command
 use Rattle.coll_replies.proofs.ReplyLemmas.{history_stays, outcome_is, obeys, obeys_outcome, obeys_starving, obeys_withdraw, key_leaves, order_leaves}
 use Rattle.coll_replies.proofs.replies.obey.Goals as goal
 

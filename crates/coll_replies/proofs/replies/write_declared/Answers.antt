@@ -1,5 +1,5 @@
 use Rattle.std.proofs.Common.{◌++◌, length, codes}
-use Rattle.coll_devices.proofs.WritingLemmas.{AppendsFront-before, Sends-after, Sends-stopped}
+use Rattle.coll_devices.proofs.WritingLemmas.{AppendsPrefix-before, Sends-after, Sends-stopped}
 use Rattle.coll_nodes.specs.TableLayout.{collation}
 use Rattle.coll_replies.specs.Replies.{count_part, sections_part}
 use Rattle.coll_replies.proofs.replies.write_declared.Goals as goal
@@ -11,7 +11,7 @@ returns-in_err-write_part-clause-sent g c =
     let rest = sections_part (collation c.args.table.now) in
     let sent = rw c.declared_len.ensures at c.in_err-write_part.ensures.sent in
     Sends-stopped (taken c.args.out.now) (taken c.write_part.new.out) (part ++ rest) c.from_residual.result c.from_residual.ensures.0
-    (AppendsFront-before (taken c.args.out.now) (taken c.write_part.new.out) part rest sent)
+    (AppendsPrefix-before (taken c.args.out.now) (taken c.write_part.new.out) part rest sent)
 
 pub returns-clause-sent : goal.returns-clause-sent
 returns-clause-sent g c =

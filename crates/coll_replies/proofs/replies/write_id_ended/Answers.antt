@@ -1,5 +1,5 @@
 use Rattle.std.proofs.Common.{[], ◌∷◌, ◌++◌}
-use Rattle.coll_devices.proofs.WritingLemmas.{AppendsFront-before, Sends-after, Sends-stopped}
+use Rattle.coll_devices.proofs.WritingLemmas.{AppendsPrefix-before, Sends-after, Sends-stopped}
 use Rattle.coll_print.specs.PrintedParts.{id_bytes}
 use Rattle.coll_replies.proofs.replies.write_id_ended.Goals as goal
 
@@ -7,7 +7,7 @@ pub returns-in_err-write_id-clause-sent : goal.returns-in_err-write_id-clause-se
 returns-in_err-write_id-clause-sent g c =
     let taken = g.W.Sink.taken in
     Sends-stopped (taken c.args.out.now) (taken c.write_id.new.out) ((id_bytes c.args.id.now) ++ (10 ∷ [])) c.from_residual.result c.from_residual.ensures.0
-    (AppendsFront-before (taken c.args.out.now) (taken c.write_id.new.out) (id_bytes c.args.id.now) (10 ∷ []) c.in_err-write_id.ensures.sent)
+    (AppendsPrefix-before (taken c.args.out.now) (taken c.write_id.new.out) (id_bytes c.args.id.now) (10 ∷ []) c.in_err-write_id.ensures.sent)
 
 pub returns-clause-sent : goal.returns-clause-sent
 returns-clause-sent g c =

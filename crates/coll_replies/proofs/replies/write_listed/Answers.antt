@@ -1,5 +1,5 @@
 use Rattle.std.proofs.Common.{◌≡◌, [], ◌∷◌, ◌++◌, decimal, ◌∙◌}
-use Rattle.coll_devices.proofs.WritingLemmas.{AppendsFront-before, Sends-after, Sends-stopped}
+use Rattle.coll_devices.proofs.WritingLemmas.{AppendsPrefix-before, Sends-after, Sends-stopped}
 use Rattle.coll_print.specs.PrintedParts.{id_bytes}
 use Rattle.coll_replies.specs.Replies.{listed_line}
 use Rattle.coll_replies.proofs.replies.write_listed.Goals as goal
@@ -13,7 +13,7 @@ returns-in_err-write_spaced-clause-sent g c =
     let number : c.as_bytes.result.now ≡ decimal c.args.rank = c.as_bytes.ensures.value ∙ c.format.ensures.text in
     let part = rw number at c.in_err-write_spaced.ensures.sent in
     Sends-stopped (taken c.args.out.now) (taken c.write_spaced.new.out) (first ++ rest) c.from_residual.result c.from_residual.ensures.0
-    (AppendsFront-before (taken c.args.out.now) (taken c.write_spaced.new.out) first rest part)
+    (AppendsPrefix-before (taken c.args.out.now) (taken c.write_spaced.new.out) first rest part)
 
 pub returns-clause-sent : goal.returns-clause-sent
 unfolding listed_line

@@ -1,5 +1,5 @@
 use Rattle.std.proofs.Common.{◌++◌, length, codes}
-use Rattle.coll_devices.proofs.WritingLemmas.{AppendsFront-before, Sends-after, Sends-stopped}
+use Rattle.coll_devices.proofs.WritingLemmas.{AppendsPrefix-before, Sends-after, Sends-stopped}
 use Rattle.coll_nodes.specs.Table.{entries_of}
 use Rattle.coll_nodes.specs.TableLayout.{collation}
 use Rattle.coll_replies.specs.Replies.{listed_sections, counted_line, listing}
@@ -11,7 +11,7 @@ returns-in_err-write_walk-clause-sent g c =
     let taken = g.W.Sink.taken in
     let table = collation c.args.table.now in
     Sends-stopped (taken c.args.out.now) (taken c.write_walk.new.out) (listed_sections 1 table.sections ++ counted_line (codes "listed") (length (entries_of table))) c.from_residual.result c.from_residual.ensures.0
-    (AppendsFront-before (taken c.args.out.now) (taken c.write_walk.new.out) (listed_sections 1 table.sections) (counted_line (codes "listed") (length (entries_of table))) c.in_err-write_walk.ensures.sent)
+    (AppendsPrefix-before (taken c.args.out.now) (taken c.write_walk.new.out) (listed_sections 1 table.sections) (counted_line (codes "listed") (length (entries_of table))) c.in_err-write_walk.ensures.sent)
 
 pub returns-clause-sent : goal.returns-clause-sent
 unfolding listing

@@ -1,5 +1,5 @@
 use Rattle.std.proofs.Common.{◌≡◌, ◌++◌, decimal, ◌∙◌}
-use Rattle.coll_devices.proofs.WritingLemmas.{AppendsFront-before, Sends-after, Sends-stopped}
+use Rattle.coll_devices.proofs.WritingLemmas.{AppendsPrefix-before, Sends-after, Sends-stopped}
 use Rattle.coll_replies.proofs.replies.write_part.Goals as goal
 
 pub returns-in_err-write_bytes-clause-sent : goal.returns-in_err-write_bytes-clause-sent
@@ -7,7 +7,7 @@ returns-in_err-write_bytes-clause-sent g c =
     let taken = g.W.Sink.taken in
     let rest = decimal c.args.count in
     Sends-stopped (taken c.args.out.now) (taken c.write_bytes.new.out) (c.args.word.now ++ rest) c.from_residual.result c.from_residual.ensures.0
-    (AppendsFront-before (taken c.args.out.now) (taken c.write_bytes.new.out) c.args.word.now rest c.in_err-write_bytes.ensures.sent)
+    (AppendsPrefix-before (taken c.args.out.now) (taken c.write_bytes.new.out) c.args.word.now rest c.in_err-write_bytes.ensures.sent)
 
 pub returns-clause-sent : goal.returns-clause-sent
 returns-clause-sent g c =

@@ -1,5 +1,5 @@
 use Rattle.std.proofs.Common.{[], ◌∷◌, ◌++◌, codes, chars, encode_utf8_all}
-use Rattle.coll_devices.proofs.WritingLemmas.{AppendsFront-before, Sends-after, Sends-stopped}
+use Rattle.coll_devices.proofs.WritingLemmas.{AppendsPrefix-before, Sends-after, Sends-stopped}
 use Rattle.coll_lex.specs.Spelling.{spelled_symbol}
 use Rattle.coll_replies.specs.Replies.{section_line}
 use Rattle.coll_replies.proofs.replies.write_section.Goals as goal
@@ -11,7 +11,7 @@ returns-in_err-write_spaced-clause-sent g c =
     let first = codes "section" ++ 32 ∷ [] in
     let rest = encode_utf8_all (spelled_symbol (chars c.args.name.now) []) ++ 10 ∷ [] in
     Sends-stopped (taken c.args.out.now) (taken c.write_spaced.new.out) (first ++ rest) c.from_residual.result c.from_residual.ensures.0
-    (AppendsFront-before (taken c.args.out.now) (taken c.write_spaced.new.out) first rest c.in_err-write_spaced.ensures.sent)
+    (AppendsPrefix-before (taken c.args.out.now) (taken c.write_spaced.new.out) first rest c.in_err-write_spaced.ensures.sent)
 
 pub returns-clause-sent : goal.returns-clause-sent
 unfolding section_line

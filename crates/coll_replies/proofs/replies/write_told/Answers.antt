@@ -1,5 +1,5 @@
 use Rattle.std.proofs.Common.{◌≡◌, ◌++◌, decimal, ap, ◌∙◌}
-use Rattle.coll_devices.proofs.WritingLemmas.{AppendsFront-before, Sends-after, Sends-stopped}
+use Rattle.coll_devices.proofs.WritingLemmas.{AppendsPrefix-before, Sends-after, Sends-stopped}
 use Rattle.coll_replies.specs.Faults.{fault_number, fault_name}
 use Rattle.coll_replies.specs.Replies.{worded}
 use Rattle.coll_replies.proofs.replies.write_told.Goals as goal
@@ -9,7 +9,7 @@ returns-in_err-write_bytes-clause-sent g c =
     let taken = g.W.Sink.taken in
     let rest = worded (decimal (fault_number c.args.fault)) (fault_name c.args.fault) in
     Sends-stopped (taken c.args.out.now) (taken c.write_bytes.new.out) (c.args.word.now ++ rest) c.from_residual.result c.from_residual.ensures.0
-    (AppendsFront-before (taken c.args.out.now) (taken c.write_bytes.new.out) c.args.word.now rest c.in_err-write_bytes.ensures.sent)
+    (AppendsPrefix-before (taken c.args.out.now) (taken c.write_bytes.new.out) c.args.word.now rest c.in_err-write_bytes.ensures.sent)
 
 pub returns-clause-sent : goal.returns-clause-sent
 returns-clause-sent g c =

@@ -1,5 +1,5 @@
 use Rattle.std.proofs.Common.{◌++◌, codes}
-use Rattle.coll_devices.proofs.WritingLemmas.{AppendsFront-before, Sends-after, Sends-stopped}
+use Rattle.coll_devices.proofs.WritingLemmas.{AppendsPrefix-before, Sends-after, Sends-stopped}
 use Rattle.coll_replies.specs.Replies.{count_part, told_line}
 use Rattle.coll_replies.proofs.reports.write_placed.Goals as goal
 
@@ -9,7 +9,7 @@ returns-in_err-write_part-clause-sent g c =
     let part = count_part (codes ":") c.args.fault.now.line in
     let rest = told_line (codes ": ") c.args.fault.now.fault in
     Sends-stopped (taken c.args.out.now) (taken c.write_part.new.out) (part ++ rest) c.from_residual.result c.from_residual.ensures.0
-    (AppendsFront-before (taken c.args.out.now) (taken c.write_part.new.out) part rest c.in_err-write_part.ensures.sent)
+    (AppendsPrefix-before (taken c.args.out.now) (taken c.write_part.new.out) part rest c.in_err-write_part.ensures.sent)
 
 pub returns-clause-sent : goal.returns-clause-sent
 returns-clause-sent g c =

@@ -2,7 +2,7 @@
 use Rattle.std.proofs.Common.{◌≡◌, Ok, Err, refl, sym, ap, subst, ◌∙◌, arith}
 use Rattle.std.proofs.lemmas.Result.{err_from_is_err_and}
 use Rattle.coll_devices.specs.LineReading.{ReaderState}
-use Rattle.coll_draft.specs.Loading.{LoaderState, loaded_line}
+use Rattle.coll_builder.specs.Loading.{LoaderState, loaded_line}
 use Rattle.coll_table.specs.Loads.{stop_fault, counted_by}
 use Rattle.coll_table.proofs.TextLoading.{sets_out, gives_line, gives_none, goes_on, refused, stopped, counts, all_read, ended_reads, counts_none, counts_end, counts_stop}
 use Rattle.coll_table.proofs.loading.read_lines.Goals as goal

@@ -13,7 +13,7 @@ all_done : (c : goal.After-loop-item) → AllOn c.args.body.now.layout c.args.it
 all_done c = on_done c.args.body.now.layout c.args.items.now c.args.body.now.steps c.loop-item.item-index c.loop-item.body.layout c.loop-item.items c.loop-item.count c.loop-item.body.steps c.loop-item.invariant c.loop-item-test.false
 
 pub loop-item-init : goal.loop-item-init
-loop-item-init c = on_init c.args.body.now.layout c.args.items.now c.args.body.now.steps c.check_steps.ensures c.requires.goes
+loop-item-init c = on_init c.args.body.now.layout c.args.items.now c.args.body.now.steps c.lemma_steps.ensures c.requires.goes
 
 pub do_item-count-requires : goal.do_item-count-requires
 do_item-count-requires c = record {

@@ -19,7 +19,7 @@ taken c = back_more c.args.body.now.layout c.args.items.now c.args.body.now.step
     c.take_back-count.new.body.layout c.take_back-count.new.item c.take_back-count.result c.take_back-count.new.body.steps c.take_back-count.ensures.layout c.take_back-count.ensures.item c.take_back-count.ensures.count c.take_back-count.ensures.steps
 
 pub loop-at-init : goal.loop-at-init
-loop-at-init c = back_init c.args.body.now.layout c.args.items.now c.args.body.now.steps c.check_steps.ensures
+loop-at-init c = back_init c.args.body.now.layout c.args.items.now c.args.body.now.steps c.lemma_steps.ensures
 
 pub take_back-count-requires : goal.take_back-count-requires
 take_back-count-requires c = record {

@@ -3,7 +3,7 @@ use Rattle.std.proofs.Common.{◌≡◌, List, ℕ, None, Ok, arith, refl, sym, 
 use Rattle.coll_devices.specs.LineReading.{ReaderState, no_line}
 use Rattle.coll_nodes.specs.TableLayout.{collation}
 use Rattle.coll_table.proofs.TextLoading.{gives_line, gives_none}
-use Rattle.coll_units.specs.DeltaReading.{DeltaState}
+use Rattle.coll_requests.specs.DeltaReading.{DeltaState}
 use Rattle.coll_bench.specs.BatchReading.{FailsAs, IsFaultNumber, line_taken}
 use Rattle.coll_bench.specs.BatchRuns.{ending_of}
 use Rattle.coll_bench.proofs.DeltaTexts.{OnWay, sets_out, goes_on, given_whole, refused, stopped, ends_file, counts}

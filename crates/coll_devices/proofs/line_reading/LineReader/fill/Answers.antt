@@ -18,7 +18,7 @@ returns-in_err-count-clause-filled g c =
     let value : c.deref_mut-buffer.result.now ≡ c.self.inside.buffer.items = c.deref_mut-buffer.ensures.value in
     let was : slice_range room at (at + h) ≡ c.args.self.now.held = (rw value at c.make_room-start.ensures.kept) ∙ ap (λ (r : ReaderState). r.held) c.self.view_is in
     let held : slice_range (with_items c.self.inside.buffer new).items at (at + h) ≡ c.args.self.now.held =
-    ap (λ l. slice_range l at (at + h)) items ∙ part-same room new at (at + h) c.in_err-count.ensures.front ∙ was in
+    ap (λ l. slice_range l at (at + h)) items ∙ part-same room new at (at + h) c.in_err-count.ensures.prefix ∙ was in
     rw p.1 (same_reader _ _ _ _ _ _ _ _ refl held (ap (λ (r : ReaderState). r.stop) c.self.view_is) (ap (λ (r : ReaderState). r.ended) c.self.view_is), c.in_err-count.ensures.bytes)
 
 pub returns-clause-filled : goal.returns-clause-filled
@@ -33,5 +33,5 @@ returns-clause-filled g c =
     let was : slice_range room at (at + h) ≡ c.args.self.now.held = (rw value at c.make_room-start.ensures.kept) ∙ ap (λ (r : ReaderState). r.held) c.self.view_is in
     let more = slice_range new (at + h) (at + h + n) in
     let held : slice_range (with_items c.self.inside.buffer new).items at (at + h + n) ≡ c.args.self.now.held ++ more =
-    ap (λ l. slice_range l at (at + h + n)) items ∙ part-grown room new at h n c.in_ok-count.ensures.front ∙ ap (λ l. l ++ more) was in
+    ap (λ l. slice_range l at (at + h + n)) items ∙ part-grown room new at h n c.in_ok-count.ensures.prefix ∙ ap (λ l. l ++ more) was in
     (more, same_reader _ _ _ _ _ _ _ _ refl held (ap (λ (r : ReaderState). r.stop) c.self.view_is) (ap (λ (r : ReaderState). r.ended) c.self.view_is), omega (arith, length-between new (at + h) (at + h + n) c.in_ok-count.ensures.bound), c.in_ok-count.ensures.bytes, c.in_ok-count.ensures.end)

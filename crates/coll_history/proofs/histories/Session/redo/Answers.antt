@@ -20,7 +20,7 @@ returns-in_default-clause-refused c =
 turned_record : (c : goal.After-len) → IsTurned (uncounted c.self.inside.table) c.in-Some.kept (record { statement = c.in-Some.kept.statement; change = c.flip.new.kept }) (uncounted c.flip.new.self)
 turned_record c =
     let s = c.self.inside in
-    is_turned c.records_turn_back.ensures s.table c.flip.new.self c.in-Some.kept _ c.check_table.ensures.table
+    is_turned c.lemma_records_turn_back.ensures s.table c.flip.new.self c.in-Some.kept _ c.lemma_well_formed.ensures.table
     (leads_next (uncounted s.table) c.pop.new.self.items c.in-Some.kept (subst (λ (ks : List Kept). LeadsOn (uncounted s.table) (reverse ks)) c.in-Some.ensures.items c.self.invariant.leads_on)).fits
     refl c.flip.ensures.turned c.flip.ensures.record
 

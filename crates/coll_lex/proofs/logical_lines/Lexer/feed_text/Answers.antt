@@ -43,14 +43,14 @@ pub returns-in_err-take_line-clause-memory : goal.returns-in_err-take_line-claus
 returns-in_err-take_line-clause-memory c =
     let p = err_from_is_err_and c.from_residual.result c.from_residual.ensures.1 in
     let sound = rw (← c.self.view_is) at c.requires.sound in
-    rw (p.1, p.2, ← c.self.view_is) (λ want. text_starved _ c.args.logical c.args.line.now c.args.bytes sound (c.in_err-take_line.ensures.memory want))
+    rw (p.1, p.2, ← c.self.view_is) (λ lack. text_starved _ c.args.logical c.args.line.now c.args.bytes sound (c.in_err-take_line.ensures.memory lack))
 
 pub returns-in_err-tokens-clause-memory : goal.returns-in_err-tokens-clause-memory
 returns-in_err-tokens-clause-memory c =
     let p = err_from_is_err_and c.from_residual-in_err-tokens.result c.from_residual-in_err-tokens.ensures.1 in
     let sound = rw (← c.self.view_is) at c.requires.sound in
     rw (p.1, p.2, ← c.self.view_is)
-    (λ want. text_word_starved _ c.args.logical c.args.line.now c.args.bytes c.take_line.new.self sound c.in_ok-take_line.ensures.ok (c.in_err-tokens.ensures.memory want))
+    (λ lack. text_word_starved _ c.args.logical c.args.line.now c.args.bytes c.take_line.new.self sound c.in_ok-take_line.ensures.ok (c.in_err-tokens.ensures.memory lack))
 
 pub returns-in_err-keep-clause-memory : goal.returns-in_err-keep-clause-memory
 returns-in_err-keep-clause-memory c =

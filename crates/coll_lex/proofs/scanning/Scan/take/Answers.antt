@@ -10,7 +10,7 @@ returns-in_err-take_literal-clause-err c =
 pub returns-in_err-take_literal-clause-memory : goal.returns-in_err-take_literal-clause-memory
 returns-in_err-take_literal-clause-memory c =
     let p = err_from_is_err_and c.from_residual.result c.from_residual.ensures.1 in
-    rw (p.1, p.2) (λ want. literal_gathers c.args.special c.args.self.now c.args.c c.if-self.true (c.in_err-take_literal.ensures.memory want c.args.special.comment))
+    rw (p.1, p.2) (λ lack. literal_gathers c.args.special c.args.self.now c.args.c c.if-self.true (c.in_err-take_literal.ensures.memory lack c.args.special.comment))
 
 pub returns-then-self-clause-ok : goal.returns-then-self-clause-ok
 returns-then-self-clause-ok c =
@@ -27,7 +27,7 @@ returns-in_err-take_plain-clause-err c =
 pub returns-in_err-take_plain-clause-memory : goal.returns-in_err-take_plain-clause-memory
 returns-in_err-take_plain-clause-memory c =
     let p = err_from_is_err_and c.from_residual-in_err-take_plain.result c.from_residual-in_err-take_plain.ensures.1 in
-    rw (p.1, p.2) (λ want. plain_gathers c.args.special c.args.self.now c.args.c c.if-self.false c.if-c-special.false (c.in_err-take_plain.ensures.memory want))
+    rw (p.1, p.2) (λ lack. plain_gathers c.args.special c.args.self.now c.args.c c.if-self.false c.if-c-special.false (c.in_err-take_plain.ensures.memory lack))
 
 pub returns-clause-ok : goal.returns-clause-ok
 returns-clause-ok c =

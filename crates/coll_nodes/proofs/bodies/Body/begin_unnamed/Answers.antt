@@ -4,5 +4,5 @@ use Rattle.coll_nodes.proofs.bodies.Body.begin_unnamed.Goals as goal
 
 pub put_in-requires-clause-suits : goal.put_in-requires-clause-suits
 put_in-requires-clause-suits c =
-    unnamed_suits c.args.self.now.layout c.check_layout.ensures.shaped c.make_section.new.self.layout c.in_ok-node.node c.in_ok-node.ring c.args.place
+    unnamed_suits c.args.self.now.layout c.lemma_layout.ensures.shaped c.make_section.new.self.layout c.in_ok-node.node c.in_ok-node.ring c.args.place
     c.in_ok-node.ensures.made.node c.in_ok-node.ensures.made.apart c.in_ok-node.ensures.made.rings c.in_ok-node.ensures.made.ring c.requires.place

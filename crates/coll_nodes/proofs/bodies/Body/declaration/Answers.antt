@@ -8,7 +8,7 @@ use Rattle.coll_nodes.proofs.BodyReads.{declaration_known, no_declaration, found
 use Rattle.coll_nodes.proofs.bodies.Body.declaration.Goals as goal
 
 pub content-requires : goal.content-requires
-content-requires c = found_made c.self.inside.nodes.layout c.self.invariant.shaped same_name names_in (node_named c.self.inside.keys.names) (chars c.args.name.now) c.in-Some.node c.self.invariant.found.names (sym c.find_text.ensures ∙ c.in-Some.is) c.check_layout.ensures
+content-requires c = found_made c.self.inside.nodes.layout c.self.invariant.shaped same_name names_in (node_named c.self.inside.keys.names) (chars c.args.name.now) c.in-Some.node c.self.invariant.found.names (sym c.find_text.ensures ∙ c.in-Some.is) c.lemma_layout.ensures
 
 pub returns-in-Some : goal.returns-in-Some
 returns-in-Some c = rw (← c.self.view_is) (c.declaration_of.ensures ∙ declaration_known c.self.inside.nodes.layout c.self.invariant.shaped (node_named c.self.inside.keys.names) (chars c.args.name.now) c.in-Some.node c.content.result.now c.self.invariant.found.names (sym c.find_text.ensures ∙ c.in-Some.is) c.content.ensures)

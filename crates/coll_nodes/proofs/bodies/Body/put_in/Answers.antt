@@ -11,7 +11,7 @@ pub with-self-inside-requires : goal.with-self-inside-requires
 with-self-inside-requires c =
     let layout = c.self.inside.nodes.layout in
     let loose = rw (← c.self.view_is) at c.requires.loose in
-    record { room = subst (HasRoomFor c.content-content.result.now) (sym c.self.invariant.counted) (has_room layout c.args.node c.check_layout.ensures c.self.invariant.shaped c.check_few.ensures loose c.content-content.result.now) }
+    record { room = subst (HasRoomFor c.content-content.result.now) (sym c.self.invariant.counted) (has_room layout c.args.node c.lemma_layout.ensures c.self.invariant.shaped c.lemma_few.ensures loose c.content-content.result.now) }
 
 pub link-requires-clause-place : goal.link-requires-clause-place
 link-requires-clause-place c =
@@ -27,5 +27,5 @@ invariant_of-self c =
     let found : Some c.content-content.result.now ≡ Some suits.0 = sym c.content-content.ensures ∙ suits.1 in
     let it : suits.0 ≡ c.content-content.result.now = cc in
     rw (c.link.ensures.layout) (put_sound p.nodes.layout c.args.node c.content-content.result.now c.args.place p.declarations p.sections p.keys c.set.new.self p.counts c.with-self-inside.result
-    c.self.invariant c.check_layout.ensures.once c.content-content.ensures loose.apart (subst (IsPlaceFor p.nodes.layout c.args.place) it suits.2.0) (subst (IsApart p.nodes.layout) it suits.2.1)
+    c.self.invariant c.lemma_layout.ensures.once c.content-content.ensures loose.apart (subst (IsPlaceFor p.nodes.layout c.args.place) it suits.2.0) (subst (IsApart p.nodes.layout) it suits.2.1)
     c.set.ensures.set c.set.ensures.keeps c.with-self-inside.ensures)

@@ -20,4 +20,4 @@ invariant_of-self c =
     let linked = rw (← c.self.view_is) at c.requires.linked in
     let suits = rw (← c.self.view_is) at c.requires.suits in
     rw (c.link.ensures.layout, c.unlink-from.ensures.layout) (moved_sound p.nodes.layout c.args.node suits.0 c.unlink-from.result c.args.place p.declarations p.sections p.keys p.counts
-    c.self.invariant c.check_layout.ensures.once suits.1 c.unlink-from.ensures.place linked suits.2.0)
+    c.self.invariant c.lemma_layout.ensures.once suits.1 c.unlink-from.ensures.place linked suits.2.0)

@@ -12,7 +12,7 @@ without-self-inside-requires c =
     let known : content_of layout c.args.node ≡ Some c.content-content.result.now = ap (λ (l : TableLayout). content_of l c.args.node) (sym c.unlink-place.ensures.layout) ∙ c.content-content.ensures in
     record {
       one = one_there c.content-content.result.now c.self.inside.counts _ (c.self.invariant.counted ∙ counts_taken layout c.args.node c.content-content.result.now c.unlink-place.result known c.unlink-place.ensures.place
-          c.check_layout.ensures.once c.self.invariant.shaped linked (may_be_loose layout c.args.node c.content-content.result.now known suits));
+          c.lemma_layout.ensures.once c.self.invariant.shaped linked (may_be_loose layout c.args.node c.content-content.result.now known suits));
     }
 
 pub invariant_of-self : goal.invariant_of-self
@@ -23,5 +23,5 @@ invariant_of-self c =
     let suits = rw (← c.self.view_is) at c.requires.suits in
     let known : content_of layout c.args.node ≡ Some c.content-content.result.now = ap (λ (l : TableLayout). content_of l c.args.node) (sym c.unlink-place.ensures.layout) ∙ c.content-content.ensures in
     rw (c.unlink-place.ensures.layout) (taken_sound layout c.args.node c.content-content.result.now c.unlink-place.result p.declarations p.sections p.keys c.set.new.self p.counts c.without-self-inside.result
-    c.self.invariant c.check_layout.ensures.once known c.unlink-place.ensures.place linked (may_be_loose layout c.args.node c.content-content.result.now known suits)
+    c.self.invariant c.lemma_layout.ensures.once known c.unlink-place.ensures.place linked (may_be_loose layout c.args.node c.content-content.result.now known suits)
     c.set.ensures.set c.set.ensures.keeps c.without-self-inside.ensures)

@@ -3,4 +3,4 @@ use Rattle.coll_nodes.proofs.WalkShapes.{has_sections}
 use Rattle.coll_nodes.proofs.bodies.Body.walk.Goals as goal
 
 pub new-requires-clause-sections : goal.new-requires-clause-sections
-new-requires-clause-sections c = rw c.nodes.ensures (has_sections c.args.self.now.layout c.check_layout.ensures.shaped c.requires)
+new-requires-clause-sections c = rw c.nodes.ensures (has_sections c.args.self.now.layout c.lemma_layout.ensures.shaped c.requires)

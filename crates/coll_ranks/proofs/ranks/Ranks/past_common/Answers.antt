@@ -1,6 +1,6 @@
 -- Each step goes one part further in both texts.
 use Rattle.std.proofs.Common.{rules}
-use Rattle.coll_ranks.proofs.AlikeFronts.{alike_further}
+use Rattle.coll_ranks.proofs.AlikePrefixes.{alike_further}
 use Rattle.coll_ranks.proofs.ranks.Ranks.past_common.Goals as goal
 
 pub same-preserved : goal.same-preserved

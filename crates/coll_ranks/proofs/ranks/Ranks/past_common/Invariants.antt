@@ -2,7 +2,7 @@ use Rattle.std.proofs.Common.{chars, length}
 use denote.Shadow.{shadow}
 use denote.Text.{Utf8}
 use Rattle.coll_ranks.specs.Ranks.{parts_of}
-use Rattle.coll_ranks.specs.AlikeFronts.{BeginAlike}
+use Rattle.coll_ranks.specs.AlikePrefixes.{BeginAlike}
 use Rattle.coll_ranks.proofs.ranks.Ranks.past_common.Given as goal
 
 abbrev pub invariant-same : goal.invariant-same

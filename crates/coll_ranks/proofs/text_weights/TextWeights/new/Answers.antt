@@ -2,8 +2,8 @@
 use Rattle.std.proofs.Common.{List, chars, sym, subst, arith}
 use Rattle.coll_nodes.specs.TableLayout.{collation}
 use Rattle.coll_elements.specs.Elements.{elements_of}
-use Rattle.coll_elements.specs.TextElements.{AreElementsOf}
-use Rattle.coll_elements.specs.declared.text_elements.TextElement.{TextElement}
+use Rattle.coll_elements.specs.ElementEntries.{AreElementsOf}
+use Rattle.coll_elements.specs.declared.element_entries.ElementEntry.{ElementEntry}
 use Rattle.coll_ranks.proofs.TextRows.{few_elements, few_parts_of, text_numbers}
 use Rattle.coll_ranks.proofs.text_weights.TextWeights.new.Goals as goal
 
@@ -20,12 +20,12 @@ compiled_parts-requires c =
 pub returns-clause-numbers : goal.returns-clause-numbers
 returns-clause-numbers c =
     let table = collation c.args.table.now in
-    let are = subst (λ (elements : List TextElement). AreElementsOf table (elements_of table (chars c.args.text.now)) elements) (sym c.deref.ensures.value) c.in_ok-elements.ensures in
+    let are = subst (λ (elements : List ElementEntry). AreElementsOf table (elements_of table (chars c.args.text.now)) elements) (sym c.deref.ensures.value) c.in_ok-elements.ensures in
     let undefined = c.in_ok-weights.ensures in
     text_numbers table c.new-ranks.result c.in_ok-weights.weights c.compiled_parts.new.weights (chars c.args.text.now) c.deref.result.now c.in_ok-parts.parts.items are c.new-ranks.ensures undefined.levels undefined.lists undefined.own c.in_ok-parts.ensures.rows c.in_ok-parts.ensures.parts
 
 pub returns-clause-count : goal.returns-clause-count
 returns-clause-count c =
     let table = collation c.args.table.now in
-    let are = subst (λ (elements : List TextElement). AreElementsOf table (elements_of table (chars c.args.text.now)) elements) (sym c.deref.ensures.value) c.in_ok-elements.ensures in
+    let are = subst (λ (elements : List ElementEntry). AreElementsOf table (elements_of table (chars c.args.text.now)) elements) (sym c.deref.ensures.value) c.in_ok-elements.ensures in
     few_parts_of table (chars c.args.text.now) c.deref.result.now c.in_ok-parts.parts.items are c.in_ok-parts.ensures.parts

@@ -1,4 +1,4 @@
--- Memory may be taken for a line that ends a logical line with tokens, and a want of it carries the line's number.
+-- Memory may be taken for a line that ends a logical line with tokens, and a lack of it carries the line's number.
 use Rattle.coll_table.proofs.LineMemory.{whole_takes, whole_numbered}
 use Rattle.coll_table.proofs.loaders.Loader.take_physical.Goals as goal
 

@@ -6,7 +6,7 @@ use Rattle.coll_syntax.specs.declared.statements.OrderLine.{OrderLine}
 use Rattle.coll_nodes.specs.Entries.{given_weights, weight_ids}
 use Rattle.coll_table.specs.Judging.{id_refusal, ids_refusal}
 use Rattle.coll_nodes.specs.TableLayout.{collation}
-use Rattle.coll_draft.proofs.FirstCauses.{first_found, first_left}
+use Rattle.coll_builder.proofs.FirstCauses.{first_found, first_left}
 use Rattle.coll_table.proofs.tables.Table.all_given_refusal.Goals as goal
 
 -- the identifiers in the weights of a line

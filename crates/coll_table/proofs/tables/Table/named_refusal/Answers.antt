@@ -3,7 +3,7 @@ use Rattle.std.proofs.Common.{refl}
 use Rattle.coll_nodes.specs.Entries.{weight_ids}
 use Rattle.coll_table.specs.Judging.{id_refusal, ids_refusal}
 use Rattle.coll_nodes.specs.TableLayout.{collation}
-use Rattle.coll_draft.proofs.FirstCauses.{first_found, first_left}
+use Rattle.coll_builder.proofs.FirstCauses.{first_found, first_left}
 use Rattle.coll_table.proofs.tables.Table.named_refusal.Goals as goal
 
 pub returns-in-Some : goal.returns-in-Some

@@ -4,7 +4,7 @@ use Rattle.coll_table.proofs.OwnStatements.{own_statement_items, own_statement_p
 use Rattle.coll_table.proofs.tables.Table.own_statement.Goals as goal
 
 pub returns-clause-proper : goal.returns-clause-proper
-returns-clause-proper c = own_statement_proper (collation c.args.self.now) c.args.statement.now c.check_table.ensures.well_formed
+returns-clause-proper c = own_statement_proper (collation c.args.self.now) c.args.statement.now c.lemma_well_formed.ensures.well_formed
 
 pub returns-clause-items : goal.returns-clause-items
 returns-clause-items c = own_statement_items (collation c.args.self.now) c.args.statement.now

@@ -11,7 +11,7 @@ use Rattle.coll_table.proofs.tables.Table.prepare_block.Goals as goal
 
 pub unreachable-requires : goal.unreachable-requires
 unreachable-requires c =
-    placed_has_node c.args.self.now (subst (λ (t : TableValue). IsShaped t.layout) c.self.view_is c.check_layout.ensures.shaped) c.args.target.now c.requires.placed
+    placed_has_node c.args.self.now (subst (λ (t : TableValue). IsShaped t.layout) c.self.view_is c.lemma_layout.ensures.shaped) c.args.target.now c.requires.placed
     (subst (λ (t : TableValue). (node : NodeId) → has_key same_id ids_in t.layout c.args.target.now node ≡ false) c.self.view_is c.in_default.ensures)
 
 pub returns-in-Ok-clause-prepared : goal.returns-in-Ok-clause-prepared

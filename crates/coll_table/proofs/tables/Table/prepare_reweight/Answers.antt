@@ -9,5 +9,5 @@ use Rattle.coll_table.proofs.tables.Table.prepare_reweight.Goals as goal
 
 pub unreachable-requires : goal.unreachable-requires
 unreachable-requires c =
-    placed_has_node c.args.self.now (subst (λ (t : TableValue). IsShaped t.layout) c.self.view_is c.check_layout.ensures.shaped) c.args.line.now.id c.requires.placed
+    placed_has_node c.args.self.now (subst (λ (t : TableValue). IsShaped t.layout) c.self.view_is c.lemma_layout.ensures.shaped) c.args.line.now.id c.requires.placed
     (subst (λ (t : TableValue). (node : NodeId) → has_key same_id ids_in t.layout c.args.line.now.id node ≡ false) c.self.view_is c.in_default.ensures)

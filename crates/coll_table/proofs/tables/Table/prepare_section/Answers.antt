@@ -9,10 +9,10 @@ use Rattle.coll_table.proofs.tables.Table.prepare_section.Goals as goal
 
 pub unreachable-requires : goal.unreachable-requires
 unreachable-requires c =
-    named_has_node c.args.self.now (subst (λ (t : TableValue). IsShaped t.layout) c.self.view_is c.check_layout.ensures.shaped) c.args.moved.now c.requires.moved
+    named_has_node c.args.self.now (subst (λ (t : TableValue). IsShaped t.layout) c.self.view_is c.lemma_layout.ensures.shaped) c.args.moved.now c.requires.moved
     (subst (λ (t : TableValue). (node : NodeId) → has_key same_name section_names_in t.layout c.args.moved.now node ≡ false) c.self.view_is c.in_default.ensures)
 
 pub unreachable-requires-in_default-section_node : goal.unreachable-requires-in_default-section_node
 unreachable-requires-in_default-section_node c =
-    named_has_node c.args.self.now (subst (λ (t : TableValue). IsShaped t.layout) c.self.view_is c.check_layout.ensures.shaped) c.args.after.now c.requires.after
+    named_has_node c.args.self.now (subst (λ (t : TableValue). IsShaped t.layout) c.self.view_is c.lemma_layout.ensures.shaped) c.args.after.now c.requires.after
     (subst (λ (t : TableValue). (node : NodeId) → has_key same_name section_names_in t.layout c.args.after.now node ≡ false) c.self.view_is c.in_default-section_node.ensures)

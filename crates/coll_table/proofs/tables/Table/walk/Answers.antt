@@ -1,7 +1,7 @@
 -- A table's sections are those of its body.
 use Rattle.std.proofs.Common.{ap, ◌∙◌}
 use Rattle.coll_nodes.specs.TableLayout.{TableValue, collation, sections_at}
-use Rattle.coll_nodes.specs.Walks.{met}
+use Rattle.coll_nodes.specs.Walks.{visited}
 use Rattle.coll_nodes.proofs.WalkShapes.{first_alone}
 use Rattle.coll_table.proofs.tables.Table.walk.Goals as goal
 
@@ -11,4 +11,4 @@ walk-requires c = first_alone (sections_at c.self.inside.body.layout) c.self.inv
 
 pub returns : goal.returns
 unfolding collation
-returns c = c.walk.ensures ∙ ap (λ (table : TableValue). met (collation table).sections) c.self.view_is
+returns c = c.walk.ensures ∙ ap (λ (table : TableValue). visited (collation table).sections) c.self.view_is

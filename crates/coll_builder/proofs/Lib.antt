@@ -1,0 +1,13 @@
+pub mod AgainJudged
+pub mod BuilderSteps
+pub mod BuiltTables
+pub mod StateSteps
+pub mod EndedStates
+pub mod EntryWeights
+pub mod FirstCauses
+pub mod LayoutEnds
+pub mod VisitedEntries
+pub mod OwnChanges
+pub mod RuleLists
+pub mod SoundLines
+pub mod WeightCauses

@@ -1,7 +1,0 @@
-pub mod Building
-pub mod Drafts
-pub mod LoadFaults
-pub mod Loading
-pub mod OwnWeights
-pub mod Reading
-pub mod SoundDrafts

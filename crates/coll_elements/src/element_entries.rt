@@ -1,0 +1,125 @@
+//! The elements of one text, each with its entry.
+//!
+//! Where the ranks of a whole table aren't worth their time, the elements of a text are looked up one by one: of each prefix of what
+//! is left of the text it is asked whether it is the string of an element that is placed, and the longest decides. At each place
+//! that takes as many look-ups as what is left has characters, so it is for short texts.
+
+ghost use Rattle.std.specs.Prelude.{◌≡◌, ◌<◌, ◌+◌, ◌∷◌, ◌++◌, [], ℕ, suc, List, chars, length, IfOk, IfSome, MatchOption};
+ghost use Rattle.coll_syntax.specs.declared.identifiers.Id.{Id};
+ghost use Rattle.coll_syntax.specs.declared.identifiers.Id.TheVariants.{Char};
+ghost use Rattle.coll_nodes.specs.ElementTexts.{element_entry};
+ghost use Rattle.coll_nodes.specs.TableLayout.{collation};
+ghost use Rattle.coll_elements.specs.Elements.{elements_of};
+ghost use Rattle.coll_elements.specs.ElementEntries.{longest_prefix, AreElementsOf, FindsPrefix, IsElementOf};
+
+use coll_nodes::Entry;
+use coll_syntax::Id;
+use coll_table::Table;
+use std::alloc::{AllocError, Global};
+
+/// An element of a text.
+#[derive(Clone, Copy)]
+pub enum ElementEntry<'a> {
+    /// What has an entry.
+    Placed(&'a Entry),
+    /// A character without an entry.
+    Absent(char),
+}
+
+/// The entry of an element whose string a text begins with, and the text behind the string.
+#[derive(Clone, Copy)]
+struct FoundPrefix<'a, 'b> {
+    entry: &'a Entry,
+    rest: &'b str,
+}
+
+/// The elements of a text, in new memory: at each place the longest element that is placed, or else the character that stands there.
+///
+/// It looks up each prefix of what is left of the text, so it takes as many look-ups as the square of the text's length.
+pub fn split_text<'a>(
+    alloc: Global,
+    table: &'a Table,
+    text: &str,
+) -> Result<Vec<ElementEntry<'a>>, AllocError>
+    ensures { IfOk result (λ elements. AreElementsOf (collation table.now) (elements_of (collation table.now) (chars text.now)) elements.items) }
+{
+    let mut elements = Vec::new(alloc);
+    let mut left = text;
+    'elements: while let Some((element, rest)) = first_element(table, left) {
+        elements.push(element)?;
+        left = rest;
+    }
+    Ok(elements)
+}
+
+// The element that a text begins with, and the text behind it; none where the text is empty.
+fn first_element<'a, 'b>(table: &'a Table, text: &'b str) -> Option<(ElementEntry<'a>, &'b str)>
+    ensures none { MatchOption result (chars text.now ≡ []) (λ first. length (chars first.1.now) < length (chars text.now)) }
+    ensures element { IfSome result (λ first. (id : Id) × (elements_of (collation table.now) (chars text.now) ≡ id ∷ elements_of (collation table.now) (chars first.1.now)) × IsElementOf (collation table.now) id first.0) }
+{
+    table.lemma_well_formed();
+    let mut letters = text.chars();
+    let first = letters.next()?;
+    match longest_element(table, text) {
+        Some(found) => Some((ElementEntry::Placed(found.entry), found.rest)),
+        None => Some((character(table, first), letters.as_str())),
+    }
+}
+
+// A character that stands alone.
+fn character(table: &Table, c: char) -> ElementEntry<'_>
+    ensures { IsElementOf (collation table.now) (Char c) result }
+{
+    match table.entry(&Id::Char(c)) {
+        Some(entry) => ElementEntry::Placed(entry),
+        None => ElementEntry::Absent(c),
+    }
+}
+
+// The longest element that is placed and that a text begins with, and the text behind its string.
+fn longest_element<'a, 'b>(table: &'a Table, text: &'b str) -> Option<FoundPrefix<'a, 'b>>
+    ensures { FindsPrefix (chars text.now) (longest_prefix (element_entry (collation table.now)) (chars text.now) (length (chars text.now))) result }
+{
+    let mut longest = None;
+    let mut rest = text;
+    'prefixes: while let Some(later) = past_first(rest) {
+        longest = longer_prefix(table, text, later, longest);
+        rest = later;
+    }
+    longest
+}
+
+// A text behind its first character.
+fn past_first(text: &str) -> Option<&str>
+    ensures none { MatchOption result (chars text.now ≡ []) (λ rest. length (chars text.now) ≡ suc (length (chars rest.now))) }
+    ensures rest { IfSome result (λ rest. (prefix : List ℕ) × (text.now ≡ prefix ++ rest.now)) }
+{
+    let mut letters = text.chars();
+    letters.next()?;
+    Some(letters.as_str())
+}
+
+// The element that is what stands before the rest of a text, or else the longest of the shorter ones.
+fn longer_prefix<'a, 'b>(
+    table: &'a Table,
+    text: &'b str,
+    rest: &'b str,
+    shorter: Option<FoundPrefix<'a, 'b>>,
+) -> Option<FoundPrefix<'a, 'b>>
+    requires { (prefix : List ℕ) × (text.now ≡ prefix ++ rest.now) }
+    ensures { (size : ℕ) → suc size + length (chars rest.now) ≡ length (chars text.now) → FindsPrefix (chars text.now) (longest_prefix (element_entry (collation table.now)) (chars text.now) size) shorter.entry → FindsPrefix (chars text.now) (longest_prefix (element_entry (collation table.now)) (chars text.now) (suc size)) result }
+{
+    match table.element_entry(before(text, rest)) {
+        Some(entry) => Some(FoundPrefix { entry, rest }),
+        None => shorter,
+    }
+}
+
+// What of a text stands before its rest.
+fn before<'a>(text: &'a str, rest: &str) -> &'a str
+    requires { (prefix : List ℕ) × (text.now ≡ prefix ++ rest.now) }
+    ensures { chars text.now ≡ chars result.now ++ chars rest.now }
+{
+    let (prefix, _) = text.split_at(text.len() - rest.len());
+    prefix
+}

@@ -1,0 +1,13 @@
+pub mod BlockLaws
+pub mod BlockLemmas
+pub mod BlockRequests
+pub mod CommandLemmas
+pub mod DeltaBlocks
+pub mod DeltaLinesRead
+pub mod DeltaSteps
+pub mod DeltaTaking
+pub mod ParsingLemmas
+pub mod LineStops
+pub mod NumeralLemmas
+pub mod PhysicalTaking
+pub mod TakingLemmas

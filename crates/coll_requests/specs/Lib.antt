@@ -1,0 +1,15 @@
+pub mod Commands
+pub mod DeltaFaults
+pub mod DeltaFiles
+pub mod DeltaReading
+pub mod BlockParts
+pub mod Parsing
+pub mod Laws
+pub mod Limits
+pub mod Numerals
+pub mod OpenBlocks
+pub mod ProperLines
+pub mod SessionLines
+pub mod Taking
+pub mod RequestFaults
+pub mod Requests
