@@ -17,18 +17,18 @@ pub returns-in-Some-Symbol-clause-own : goal.returns-in-Some-Symbol-clause-own
 returns-in-Some-Symbol-clause-own c =
     let d = c.args.self.now in
     let found = sym (c.declaration.ensures ∙ ap (λ (it : BuilderState). declaration_of it.declared c.args.symbol) c.self.view_is) ∙ (ap option_copied c.in-Some-Symbol.is ∙ ap Some c.in-Some-Symbol.field-0-is) in
-    sym (named_own_same d.declared c.args.symbol c.check.ensures.built.distinct_names (own_told d.declared c.args.symbol c.check.ensures.built.distinct_names _ found))
+    sym (named_own_same d.declared c.args.symbol c.lemma_sound.ensures.built.distinct_names (own_told d.declared c.args.symbol c.lemma_sound.ensures.built.distinct_names _ found))
 
 pub returns-in-Some-Symbol-clause-symbol : goal.returns-in-Some-Symbol-clause-symbol
 returns-in-Some-Symbol-clause-symbol c =
     let d = c.args.self.now in
     let found = sym (c.declaration.ensures ∙ ap (λ (it : BuilderState). declaration_of it.declared c.args.symbol) c.self.view_is) ∙ (ap option_copied c.in-Some-Symbol.is ∙ ap Some c.in-Some-Symbol.field-0-is) in
-    symbol_told d.declared c.args.symbol c.check.ensures.built.distinct_names _ found
+    symbol_told d.declared c.args.symbol c.lemma_sound.ensures.built.distinct_names _ found
 
 pub returns-in-Some-Element-clause-err : goal.returns-in-Some-Element-clause-err
 returns-in-Some-Element-clause-err c =
     let d = c.args.self.now in
-    let distinct = c.check.ensures.built.distinct_names in
+    let distinct = c.lemma_sound.ensures.built.distinct_names in
     let found = sym (c.declaration.ensures ∙ ap (λ (it : BuilderState). declaration_of it.declared c.args.symbol) c.self.view_is) ∙ (ap option_copied c.in-Some-Element.is ∙ ap Some c.in-Some-Element.field-0-is) in
     let own = own_told d.declared c.args.symbol distinct _ found in
     λ _ name. meaning_told d.declared name c.args.symbol true false (named_own_same d.declared c.args.symbol distinct own) own (symbol_told d.declared c.args.symbol distinct _ found)
@@ -36,10 +36,10 @@ returns-in-Some-Element-clause-err c =
 pub returns-in_ok-own-in-Some-Equivalence-clause-symbol : goal.returns-in_ok-own-in-Some-Equivalence-clause-symbol
 returns-in_ok-own-in-Some-Equivalence-clause-symbol c =
     let d = c.args.self.now in
-    let distinct = c.check.ensures.built.distinct_names in
+    let distinct = c.lemma_sound.ensures.built.distinct_names in
     let found = sym (c.declaration.ensures ∙ ap (λ (it : BuilderState). declaration_of it.declared c.args.symbol) c.self.view_is) ∙ (ap option_copied c.in-Some-Equivalence.is ∙ ap Some c.in-Some-Equivalence.field-0-is) in
     let own = c.in_ok-own-in-Some-Equivalence.ensures ∙ sym (ap (λ (it : Option Declaration). unwrap_or (option_map stands_for it) c.args.symbol) found) in
-    ap (is_symbol_name d.declared) own ∙ second_is_symbol d.declared c.args.symbol c.check.ensures.built.meant distinct (second_told d.declared c.args.symbol distinct _ found)
+    ap (is_symbol_name d.declared) own ∙ second_is_symbol d.declared c.args.symbol c.lemma_sound.ensures.built.meant distinct (second_told d.declared c.args.symbol distinct _ found)
 
 pub returns-in_err-own-in-Some-Equivalence-clause-memory : goal.returns-in_err-own-in-Some-Equivalence-clause-memory
 returns-in_err-own-in-Some-Equivalence-clause-memory c =
@@ -47,12 +47,12 @@ returns-in_err-own-in-Some-Equivalence-clause-memory c =
     let found = sym (c.declaration.ensures ∙ ap (λ (it : BuilderState). declaration_of it.declared c.args.symbol) c.self.view_is) ∙ (ap option_copied c.in-Some-Equivalence.is ∙ ap Some c.in-Some-Equivalence.field-0-is) in
     let Second : Type 0 = list_any (declares_second c.args.symbol) d.declared ≡ true in
     IfErr-weaker c.from_residual.result (λ _. Second) (λ cause. cause ≡ OutOfMemory → Second) (λ _ second _. second)
-    (on_err Second _ (second_told d.declared c.args.symbol c.check.ensures.built.distinct_names _ found))
+    (on_err Second _ (second_told d.declared c.args.symbol c.lemma_sound.ensures.built.distinct_names _ found))
 
 pub returns-in-None-clause-err : goal.returns-in-None-clause-err
 returns-in-None-clause-err c =
     let d = c.args.self.now in
-    let distinct = c.check.ensures.built.distinct_names in
+    let distinct = c.lemma_sound.ensures.built.distinct_names in
     let found = sym (c.declaration.ensures ∙ ap (λ (it : BuilderState). declaration_of it.declared c.args.symbol) c.self.view_is) ∙ ap option_copied c.in-None.is in
     λ _ name. meaning_told d.declared name c.args.symbol false false (ap (λ (it : Option Declaration). unwrap_or (option_map stands_for it) c.args.symbol) found)
     (own_told d.declared c.args.symbol distinct _ found) (symbol_told d.declared c.args.symbol distinct _ found)

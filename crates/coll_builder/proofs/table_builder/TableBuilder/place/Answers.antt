@@ -11,4 +11,4 @@ pub put-requires : goal.put-requires
 put-requires c =
     let d = c.args.self.now in
     subst (MayBePut d) (sym c.in_ok-entry.ensures)
-    (subst (λ (line : OrderLine). MayBePut d (entry_of (levels_of d.rules) d.declared line)) (sym c.in_ok-line.ensures.own) (may_be_put d (own_order d.declared c.args.line) c.check.ensures (proper_own d c.args.line c.check.ensures c.requires) (subst (λ (line : OrderLine). order_cause d line ≡ None) c.in_ok-line.ensures.own (sym c.in_default.ensures))))
+    (subst (λ (line : OrderLine). MayBePut d (entry_of (levels_of d.rules) d.declared line)) (sym c.in_ok-line.ensures.own) (may_be_put d (own_order d.declared c.args.line) c.lemma_sound.ensures (proper_own d c.args.line c.lemma_sound.ensures c.requires) (subst (λ (line : OrderLine). order_cause d line ≡ None) c.in_ok-line.ensures.own (sym c.in_default.ensures))))
