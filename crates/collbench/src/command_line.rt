@@ -131,12 +131,15 @@ fn asked_for<'a>(
 {
     match request_of(alloc, matches)? {
         Some(request) => Ok(request),
-        None => Err(unasked(command, matches)?),
+        None => Err(no_request(command, matches)?),
     }
 }
 
 // What words come to that ask for no work on a table.
-fn unasked<'a>(command: &mut Command<'a>, matches: &ArgMatches<'a>) -> Result<Unasked, AllocError> {
+fn no_request<'a>(
+    command: &mut Command<'a>,
+    matches: &ArgMatches<'a>,
+) -> Result<Unasked, AllocError> {
     match matches.subcommand() {
         Some((VERSION, _)) => Ok(Unasked::Version),
         _ => Ok(Unasked::Told(command.error(
