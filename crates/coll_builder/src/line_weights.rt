@@ -37,7 +37,7 @@ pub fn kept_weights(
     Ok(ListBuf::new(weights))
 }
 
-/// The weights that a line gives, as a list that may grow.
+// The weights that a line gives, as a list that may grow.
 fn given_list(alloc: Global, given: Option<ListBuf<Weight>>) -> Vec<Weight>
     ensures { result.items ≡ given_weights given }
 {
@@ -47,7 +47,7 @@ fn given_list(alloc: Global, given: Option<ListBuf<Weight>>) -> Vec<Weight>
     }
 }
 
-/// Replaces each list that names only this identifier by the entry's own weight.
+// Replaces each list that names only this identifier by the entry's own weight.
 fn keep_each(id: &Id, weights: &mut [Weight])
     ensures each { weights.new ≡ map (kept_weight id.now) weights.old }
     ensures len { length weights.new ≡ length weights.old }
@@ -57,7 +57,7 @@ fn keep_each(id: &Id, weights: &mut [Weight])
     }
 }
 
-/// Replaces a list that names only this identifier by the entry's own weight.
+// Replaces a list that names only this identifier by the entry's own weight.
 fn keep(id: &Id, weight: &mut Weight)
     ensures { weight.new ≡ kept_weight id.now weight.old }
 {
@@ -66,7 +66,7 @@ fn keep(id: &Id, weight: &mut Weight)
     }
 }
 
-/// Whether a weight is a list that names only this identifier.
+// Whether a weight is a list that names only this identifier.
 fn is_only(id: &Id, weight: &Weight) -> bool
     ensures { result ≡ names_only id.now weight.now }
 {
@@ -92,7 +92,7 @@ pub(crate) fn name_the_same(weight: &Weight, other: &Weight) -> bool
     }
 }
 
-/// Puts the entry's own weight at each level behind those that are there.
+// Puts the entry's own weight at each level behind those that are there.
 fn fill_up(weights: &mut Vec<Weight>, levels: usize) -> Result<(), AllocError>
     ensures { OnOk result (weights.new.items ≡ weights.old.items ++ replicate (levels - length weights.old.items) Own) }
 {

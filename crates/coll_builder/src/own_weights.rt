@@ -46,7 +46,7 @@ pub(crate) fn give_own_weights(body: &mut Body) -> Result<(), AllocError>
     Ok(())
 }
 
-/// Whether a second name is declared.
+// Whether a second name is declared.
 fn has_second_names(body: &Body) -> bool
     ensures { result ≡ list_any is_equivalence (declared_at body.now.layout) }
 {
@@ -58,14 +58,14 @@ fn has_second_names(body: &Body) -> bool
     false
 }
 
-/// Whether what is declared is a second name.
+// Whether what is declared is a second name.
 fn is_second_name(item: &DeclaredItem<'_>) -> bool
     ensures { result ≡ is_equivalence (declared_by item.now) }
 {
     matches!(item, DeclaredItem::Equivalence(..))
 }
 
-/// The weights by own names of all entries whose weights name a second name.
+// The weights by own names of all entries whose weights name a second name.
 fn changes_of(body: &Body) -> Result<Vec<Change>, AllocError>
     requires { FirstAloneUnnamed (sections_at body.now.layout) }
     ensures { IfOk result (λ changes. AreChanges body.now.layout changes.items) }
@@ -85,14 +85,14 @@ fn changes_of(body: &Body) -> Result<Vec<Change>, AllocError>
     Ok(changes)
 }
 
-/// Whether weights name something by a second name.
+// Whether weights name something by a second name.
 fn have_second_names(body: &Body, weights: &[Weight]) -> bool
     ensures { result ≡ list_any (uses_second (declared_at body.now.layout)) weights.now }
 {
     weights.iter().any(|weight| names_second(body, weight))
 }
 
-/// The node of an entry, and its weights by own names.
+// The node of an entry, and its weights by own names.
 fn change_of(body: &Body, entry: &Entry) -> Result<Change, AllocError>
     requires { StandsIn body.now.layout entry.now }
     ensures { IfOk result (λ change. IsChangeOf body.now.layout entry.now change) }
@@ -105,7 +105,7 @@ fn change_of(body: &Body, entry: &Entry) -> Result<Change, AllocError>
     Ok(Change { node, weights })
 }
 
-/// Exchanges the weights of these nodes for those that they are to get.
+// Exchanges the weights of these nodes for those that they are to get.
 fn exchange_all(body: &mut Body, changes: Vec<Change>)
     requires { All (λ (change : Change). IsTrue (is_in body.old.layout.rings change.node)) changes.items }
     ensures { body.new.layout ≡ record body.old.layout { nodes = changed_nodes changes.items body.old.layout.nodes } }
@@ -115,7 +115,7 @@ fn exchange_all(body: &mut Body, changes: Vec<Change>)
     }
 }
 
-/// Exchanges the weights of a node for those that it is to get.
+// Exchanges the weights of a node for those that it is to get.
 fn exchange(body: &mut Body, change: Change)
     requires { is_in body.old.layout.rings change.node ≡ true }
     ensures { body.new.layout ≡ record body.old.layout { nodes = weighed_nodes change.node (Some change.weights) body.old.layout.nodes } }

@@ -120,7 +120,7 @@ impl TableBuilder {
         (rules, builder.into_body())
     }
 
-    /// Judges a line by those before it, weights aside, and keeps what it says.
+    // Judges a line by those before it, weights aside, and keeps what it says.
     #[tactic(auto, unfolding(crate::specs::Loading::state_with))]
     fn keep(&mut self, number: u32, line: TableLine) -> Result<(), LoadCause>
         requires proper { IsProperTableLine line }
@@ -141,7 +141,7 @@ impl TableBuilder {
         }
     }
 
-    /// `collating-symbol`.
+    // `collating-symbol`.
     fn declare_symbol(&mut self, name: TextBuf) -> Result<(), LoadCause>
         requires { IsName name }
         ensures ok { OnOk result (declaration_cause self.old.declared (declaration.Symbol name) ≡ None) }
@@ -154,7 +154,7 @@ impl TableBuilder {
         self.declare(Declaration::Symbol(name))
     }
 
-    /// `collating-element`.
+    // `collating-element`.
     fn declare_element(&mut self, name: TextBuf, text: TextBuf) -> Result<(), LoadCause>
         requires name { IsName name }
         requires text { IsElementText text }
@@ -171,7 +171,7 @@ impl TableBuilder {
         self.declare(Declaration::Element { name, text })
     }
 
-    /// `symbol-equivalence`.
+    // `symbol-equivalence`.
     fn declare_second(&mut self, name: TextBuf, symbol: TextBuf) -> Result<(), LoadCause>
         requires { IsName name }
         ensures ok { OnOk result (declaration_cause self.old.declared (second_name self.old.declared name symbol) ≡ None) }
@@ -187,8 +187,8 @@ impl TableBuilder {
         }
     }
 
-    /// The own name of what a second name is for, which has to be a collating symbol. Lack of memory is
-    /// answered for a second name alone.
+    // The own name of what a second name is for, which has to be a collating symbol. Lack of memory is
+    // answered for a second name alone.
     fn own_symbol(&self, symbol: TextBuf) -> Result<TextBuf, LoadCause>
         ensures own { IfOk result (λ own. own ≡ named_own self.now.declared symbol) }
         ensures symbol { IfOk result (λ own. is_symbol_name self.now.declared own ≡ true) }
@@ -207,7 +207,7 @@ impl TableBuilder {
         }
     }
 
-    /// Puts a declaration behind all others, where there is room for one more.
+    // Puts a declaration behind all others, where there is room for one more.
     fn declare(&mut self, new: Declaration) -> Result<(), LoadCause>
         requires proper { IsProperDeclaration new }
         requires name { is_declared self.old.declared (name_of new) ≡ false }
@@ -224,7 +224,7 @@ impl TableBuilder {
         Ok(())
     }
 
-    /// `order_start`: a section may begin, and the rules stand from the first one on.
+    // `order_start`: a section may begin, and the rules stand from the first one on.
     fn start(&mut self, section: Option<TextBuf>, rules: Option<Rules>) -> Result<(), LoadCause>
         requires name { IsNameIfGiven section }
         requires rules { AreRulesIfGiven rules }
@@ -240,7 +240,7 @@ impl TableBuilder {
         Ok(())
     }
 
-    /// Whether rules are given, and differ from those of the table.
+    // Whether rules are given, and differ from those of the table.
     fn rules_differ(&self, given: &Option<Rules>) -> bool
         ensures { result ≡ rules_differ self.now.rules given.now }
     {
@@ -250,7 +250,7 @@ impl TableBuilder {
         }
     }
 
-    /// An order is open from here on, with these rules if there are none yet.
+    // An order is open from here on, with these rules if there are none yet.
     fn open_order(&mut self, given: Option<Rules>)
         requires { AreRulesIfGiven given }
         ensures { self.new ≡ record self.old { order_open = true; rules = rules_after self.old.rules given } }
@@ -260,7 +260,7 @@ impl TableBuilder {
         self.order_open = true;
     }
 
-    /// A section begins, if a name is given.
+    // A section begins, if a name is given.
     fn begin_if_named(&mut self, name: Option<TextBuf>) -> Result<(), LoadCause>
         requires { IsNameIfGiven name }
         ensures ok { OnOk result (section_cause_if self.old name ≡ None) }
@@ -273,7 +273,7 @@ impl TableBuilder {
         }
     }
 
-    /// A section begins.
+    // A section begins.
     fn begin(&mut self, name: TextBuf) -> Result<(), LoadCause>
         requires { IsName name }
         ensures ok { OnOk result (section_cause self.old name ≡ None) }
@@ -287,7 +287,7 @@ impl TableBuilder {
         Ok(())
     }
 
-    /// Why a section that begins is refused, if it is.
+    // Why a section that begins is refused, if it is.
     fn section_cause(&self, name: &TextBuf) -> Option<LoadCause>
         ensures { result ≡ section_cause self.now name.now }
     {
@@ -300,7 +300,7 @@ impl TableBuilder {
         None
     }
 
-    /// `order_end`.
+    // `order_end`.
     fn stop(&mut self) -> Result<(), LoadCause>
         ensures ok { OnOk result (cause_after self.old OrderEnd ≡ None) }
         ensures after { OnOk result (self.new ≡ record self.old { order_open = false }) }
@@ -313,7 +313,7 @@ impl TableBuilder {
         Ok(())
     }
 
-    /// `section`.
+    // `section`.
     fn section(&mut self, name: TextBuf) -> Result<(), LoadCause>
         requires { IsName name }
         ensures ok { OnOk result (cause_after self.old (Section name) ≡ None) }
@@ -327,8 +327,8 @@ impl TableBuilder {
         Ok(())
     }
 
-    /// `END LC_COLLATE`, the weights not yet judged: they stand by own names from here on. It takes memory only where a second name
-    /// is declared.
+    // `END LC_COLLATE`, the weights not yet judged: they stand by own names from here on. It takes memory only where a second name
+    // is declared.
     fn end(&mut self) -> Result<(), LoadCause>
         ensures ok { OnOk result (cause_after self.old EndCategory ≡ None) }
         ensures after { OnOk result (self.new ≡ with_own_weights self.old) }
@@ -345,7 +345,7 @@ impl TableBuilder {
         Ok(())
     }
 
-    /// An order line, which has this number.
+    // An order line, which has this number.
     fn place(&mut self, number: u32, line: OrderLine) -> Result<(), LoadCause>
         requires { IsProperLine line }
         ensures ok { OnOk result (order_cause self.old (own_order self.old.declared line) ≡ None) }
@@ -362,8 +362,8 @@ impl TableBuilder {
         Ok(())
     }
 
-    /// An order line, with its identifier by its own name, and whether that is a symbol, if it may stand in a section: both by one
-    /// look-up. Lack of memory is answered for a second name alone.
+    // An order line, with its identifier by its own name, and whether that is a symbol, if it may stand in a section: both by one
+    // look-up. Lack of memory is answered for a second name alone.
     fn own_order(&self, line: OrderLine) -> Result<(OrderLine, Option<bool>), AllocError>
         ensures own { IfOk result (λ own. own.0 ≡ own_order self.now.declared line) }
         ensures known { IfOk result (λ own. is_some own.1 ≡ is_known self.now.declared own.0.id) }
@@ -375,8 +375,8 @@ impl TableBuilder {
         Ok((OrderLine { id, weights }, symbol))
     }
 
-    /// An identifier by its own name, and whether that is a symbol, if it may stand in a section. Lack of memory is
-    /// answered for a second name alone.
+    // An identifier by its own name, and whether that is a symbol, if it may stand in a section. Lack of memory is
+    // answered for a second name alone.
     fn own_id(&self, id: Id) -> Result<(Id, Option<bool>), AllocError>
         ensures own { IfOk result (λ own. own.0 ≡ own_id self.now.declared id) }
         ensures known { IfOk result (λ own. is_some own.1 ≡ is_known self.now.declared own.0) }
@@ -393,8 +393,8 @@ impl TableBuilder {
         }
     }
 
-    /// The own name of a name, and whether it is that of a symbol, if the own name is declared. Lack of memory is
-    /// answered for a second name alone.
+    // The own name of a name, and whether it is that of a symbol, if the own name is declared. Lack of memory is
+    // answered for a second name alone.
     fn own_name(&self, name: TextBuf) -> Result<(TextBuf, Option<bool>), AllocError>
         ensures own { IfOk result (λ own. own.0 ≡ named_own self.now.declared name) }
         ensures known { IfOk result (λ own. is_some own.1 ≡ is_own_name self.now.declared own.0) }
@@ -413,14 +413,14 @@ impl TableBuilder {
         }
     }
 
-    /// What holds of every builder. It does nothing; its contract says so.
+    // What holds of every builder. It does nothing; its contract says so.
     fn lemma_sound(&self)
         ensures { IsSoundBuilderState self.now }
     {
         let _ = &self.order_open;
     }
 
-    /// Why an order line is refused, if it is. Whether its identifier is a symbol, if it may stand in a section, was looked up.
+    // Why an order line is refused, if it is. Whether its identifier is a symbol, if it may stand in a section, was looked up.
     fn order_cause(&self, line: &OrderLine, symbol: Option<bool>) -> Option<LoadCause>
         requires known { is_some symbol ≡ is_known self.now.declared line.now.id }
         requires symbol { unwrap_or symbol false ≡ is_symbol self.now.declared line.now.id }
@@ -447,7 +447,7 @@ impl TableBuilder {
         None
     }
 
-    /// The entry of an order line, whose identifier is a symbol or not.
+    // The entry of an order line, whose identifier is a symbol or not.
     fn entry_of(&self, line: OrderLine, symbol: bool) -> Result<Entry, AllocError>
         requires { symbol ≡ is_symbol self.now.declared line.id }
         ensures { IfOk result (λ entry. entry ≡ entry_of (levels_of self.now.rules) self.now.declared line) }
@@ -461,7 +461,7 @@ impl TableBuilder {
         Ok(Entry::new(id, weights))
     }
 
-    /// Puts an entry last, with the number of its line.
+    // Puts an entry last, with the number of its line.
     fn put(&mut self, number: u32, entry: Entry) -> Result<(), AllocError>
         requires { MayBePut self.old entry }
         ensures { OnOk result (self.new ≡ with_entry self.old number entry) }
@@ -472,8 +472,8 @@ impl TableBuilder {
         Ok(())
     }
 
-    /// Why an identifier in a weight is refused, if it is: what is placed was declared, so a second look is taken only at
-    /// what isn't.
+    // Why an identifier in a weight is refused, if it is: what is placed was declared, so a second look is taken only at
+    // what isn't.
     fn weight_cause(&self, id: &Id) -> Option<LoadCause>
         ensures cause { result ≡ weight_cause self.now.declared self.now.sections id.now }
         ensures spared { IfSome result (λ cause. cause ≢ OutOfMemory) }
@@ -487,7 +487,7 @@ impl TableBuilder {
         Some(LoadCause::NotDeclared)
     }
 
-    /// Why the first of these identifiers that is refused in a weight is.
+    // Why the first of these identifiers that is refused in a weight is.
     fn ids_cause(&self, ids: &[Id]) -> Option<LoadCause>
         ensures cause { result ≡ ids_cause self.now.declared self.now.sections ids.now }
         ensures spared { IfSome result (λ cause. cause ≢ OutOfMemory) }
@@ -500,7 +500,7 @@ impl TableBuilder {
         None
     }
 
-    /// Why a weight is refused, if it is. None of the identifiers of the weight that was judged before it, if one was, is refused.
+    // Why a weight is refused, if it is. None of the identifiers of the weight that was judged before it, if one was, is refused.
     fn named_cause(&self, weight: &Weight, judged: Option<&Weight>) -> Option<LoadCause>
         requires judged { IfSome judged (λ weight. ids_cause self.now.declared self.now.sections (weight_ids weight.now) ≡ None) }
         ensures cause { result ≡ ids_cause self.now.declared self.now.sections (weight_ids weight.now) }
@@ -517,8 +517,8 @@ impl TableBuilder {
         }
     }
 
-    /// Why the first of these weights that is refused is. Of those of the entry before, none is refused; most name at a level what
-    /// they did there, which isn't looked up again.
+    // Why the first of these weights that is refused is. Of those of the entry before, none is refused; most name at a level what
+    // they did there, which isn't looked up again.
     fn weights_cause(&self, weights: &[Weight], before: &[Weight]) -> Option<LoadCause>
         requires judged { ids_cause self.now.declared self.now.sections (flat_map weight_ids before.now) ≡ None }
         ensures cause { result ≡ ids_cause self.now.declared self.now.sections (flat_map weight_ids weights.now) }
@@ -532,7 +532,7 @@ impl TableBuilder {
         None
     }
 
-    /// Judges the weights of all entries, where the category ends.
+    // Judges the weights of all entries, where the category ends.
     fn judge_weights(&self) -> Result<(), LoadFault>
         ensures ok { OnOk result (weights_fault self.now ≡ None) }
         ensures err { IfErr result (λ fault. weights_fault self.now ≡ Some fault) }
@@ -541,7 +541,7 @@ impl TableBuilder {
         self.judge_visited(&self.numbers, self.builder.walk())
     }
 
-    /// Judges the weights of the entries that a walk meets, each with the number of its line.
+    // Judges the weights of the entries that a walk meets, each with the number of its line.
     fn judge_visited<'a>(&self, mut numbers: &[u32], walk: Walk<'a>) -> Result<(), LoadFault>
         requires { length numbers.now ≡ length (entries_visited walk) }
         ensures ok { OnOk result (entries_fault self.now numbers.now (entries_visited walk.entry) ≡ None) }
@@ -570,14 +570,14 @@ impl TableBuilder {
     }
 }
 
-/// Whether a line ends the category.
+// Whether a line ends the category.
 fn ends_category(line: &TableLine) -> bool
     ensures { result ≡ is_end line.now }
 {
     matches!(line, TableLine::EndCategory)
 }
 
-/// The rules that stand, or else those given; one level, compared forward, where none are given.
+// The rules that stand, or else those given; one level, compared forward, where none are given.
 fn first_rules(rules: Option<Rules>, given: Option<Rules>) -> Rules
     ensures { Some result ≡ rules_after rules given }
 {
@@ -593,7 +593,7 @@ fn first_rules(rules: Option<Rules>, given: Option<Rules>) -> Rules
     }
 }
 
-/// The number of levels.
+// The number of levels.
 fn levels(rules: &Option<Rules>) -> usize
     ensures { result ≡ levels_of rules.now }
 {

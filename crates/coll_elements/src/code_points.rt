@@ -9,7 +9,7 @@ use std::alloc::{AllocError, Global};
 use std::marker::Model;
 
 /// By how many places the list of numbers grows, so that the characters behind one mostly have theirs.
-const PLACES_AT_ONCE: usize = 128;
+const PLACES_AT_ONCE: usize = 1_024;
 
 /// Numbers by code point, one for each character, which is 0 until it is set.
 #[derive(Drop)]

@@ -234,7 +234,7 @@ fn make_room(remaining: &mut Vec<Kept>, undone: &mut Vec<Kept>) -> Result<(), Al
     Ok(())
 }
 
-// Gives up the records of statements that will not be put again. The table stays, without the nodes that they would put in.
+/// Gives up the records of statements that will not be put again. The table stays, without the nodes that they would put in.
 pub(crate) fn give_up(table: &mut Table, undone: &mut Vec<Kept>)
     requires loose { AreLoose table.old.layout (added_by_all (reverse undone.old.items)) }
     ensures table { Extends table.old table.new }
@@ -249,7 +249,7 @@ pub(crate) fn give_up(table: &mut Table, undone: &mut Vec<Kept>)
     }
 }
 
-// Gives up the record of a statement. The table stays, without the nodes that an undone one would put in.
+/// Gives up the record of a statement. The table stays, without the nodes that an undone one would put in.
 pub(crate) fn give_up_one(table: &mut Table, kept: Kept)
     requires loose { AreLoose table.old.layout (dropped_nodes kept.change) }
     ensures { table.new ≡ without_nodes table.old (dropped_nodes kept.change) }

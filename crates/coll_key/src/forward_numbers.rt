@@ -91,7 +91,7 @@ impl<'a> ForwardNumbers<'a> {
     }
 }
 
-/// How many gaps a part with these ranks is: one where it has none.
+// How many gaps a part with these ranks is: one where it has none.
 fn gap_count(ranks: &[u32]) -> u64
     ensures { result ≡ gap_count ranks.now }
 {

@@ -37,7 +37,7 @@ fn is_barred(c: char) -> bool
     is_blank(c) || c < ' ' || c == '\u{7f}'
 }
 
-// Whether a text is short enough for a name, and has no character that is barred from names.
+/// Whether a text is short enough for a name, and has no character that is barred from names.
 pub(crate) fn has_name_chars(text: &str) -> bool
     ensures { result ≡ has_only_name_chars (chars text.now) }
 {
@@ -68,7 +68,7 @@ fn hex_number(digits: &[u8]) -> Option<u32>
     Some(number)
 }
 
-// The number of the code point that a symbol names as `U` and four to eight hexadecimal digits.
+/// The number of the code point that a symbol names as `U` and four to eight hexadecimal digits.
 pub(crate) fn code_point(name: &str) -> Option<u32>
     ensures { result ≡ option_map (λ n. min n PAST_CODE_POINTS) (code_point_of (chars name.now)) }
 {

@@ -60,7 +60,7 @@ pub(crate) fn copied_own_id(body: &Body, id: &Id) -> Result<Id, AllocError>
     }
 }
 
-/// The own name of a name, in new memory.
+// The own name of a name, in new memory.
 fn copied_own_name(body: &Body, name: &TextBuf) -> Result<TextBuf, AllocError>
     ensures { IfOk result (λ own. own ≡ named_own (declared_at body.now.layout) name.now) }
 {
@@ -81,7 +81,7 @@ pub fn own_weights(body: &Body, weights: &[Weight]) -> Result<ListBuf<Weight>, A
     Ok(ListBuf::new(own))
 }
 
-/// A weight, with the identifiers that it names by their own names, in new memory.
+// A weight, with the identifiers that it names by their own names, in new memory.
 fn own_weight(body: &Body, weight: &Weight) -> Result<Weight, AllocError>
     ensures { IfOk result (λ own. own ≡ own_weight (declared_at body.now.layout) weight.now) }
 {
@@ -95,7 +95,7 @@ fn own_weight(body: &Body, weight: &Weight) -> Result<Weight, AllocError>
     }
 }
 
-/// Identifiers by their own names, in new memory.
+// Identifiers by their own names, in new memory.
 fn own_ids(body: &Body, ids: &[Id]) -> Result<ListBuf<Id>, AllocError>
     ensures { IfOk result (λ own. own ≡ map (own_id (declared_at body.now.layout)) ids.now) }
 {

@@ -41,7 +41,7 @@ pub fn parse_delta_line(alloc: Global, line: &Line) -> Result<DeltaLine, SyntaxF
     row(alloc, first, rest)
 }
 
-/// What a line says by its first token and those after it.
+// What a line says by its first token and those after it.
 fn row(alloc: Global, first: &Token, rest: &[Token]) -> Result<DeltaLine, SyntaxFault>
     ensures ok { IfOk result (λ read. delta_row first.now rest.now ≡ Ok read) }
     ensures err { IfErr result (λ fault. fault ≢ OutOfMemory → delta_row first.now rest.now ≡ Err fault) }
@@ -54,7 +54,7 @@ fn row(alloc: Global, first: &Token, rest: &[Token]) -> Result<DeltaLine, Syntax
     keyword_row(alloc, keyword, rest)
 }
 
-/// What a line says by its keyword and its operands.
+// What a line says by its keyword and its operands.
 fn keyword_row(
     alloc: Global,
     keyword: Keyword,

@@ -43,7 +43,7 @@ pub(crate) fn element(alloc: Global, operands: &[Token]) -> Result<(TextBuf, Tex
     Ok((name, text))
 }
 
-/// The word `from` and the string.
+// The word `from` and the string.
 fn from_text(alloc: Global, operands: &[Token]) -> Result<TextBuf, SyntaxFault>
     ensures ok { IfOk result (λ text. spelled_from operands.now ≡ Ok text) }
     ensures err { IfErr result (λ fault. fault ≢ OutOfMemory → spelled_from operands.now ≡ Err fault) }
@@ -58,7 +58,7 @@ fn from_text(alloc: Global, operands: &[Token]) -> Result<TextBuf, SyntaxFault>
     Ok(text)
 }
 
-/// One operand, the string of a collating element.
+// One operand, the string of a collating element.
 fn only_text(alloc: Global, operands: &[Token]) -> Result<TextBuf, SyntaxFault>
     ensures ok { IfOk result (λ text. only text_in operands.now ≡ Ok text) }
     ensures err { IfErr result (λ fault. fault ≢ OutOfMemory → only text_in operands.now ≡ Err fault) }
@@ -73,7 +73,7 @@ fn only_text(alloc: Global, operands: &[Token]) -> Result<TextBuf, SyntaxFault>
     ended(text, rest)
 }
 
-/// The characters that the string of a collating element spells.
+// The characters that the string of a collating element spells.
 fn element_text(alloc: Global, pieces: &[Piece]) -> Result<TextBuf, SyntaxFault>
     ensures ok { IfOk result (λ text. spelled_text pieces.now ≡ Ok text) }
     ensures err { IfErr result (λ fault. fault ≢ OutOfMemory → spelled_text pieces.now ≡ Err fault) }
@@ -106,7 +106,7 @@ pub fn characters(alloc: Global, pieces: &[Piece]) -> Result<TextBuf, SyntaxFaul
     Ok(TextBuf::new(text))
 }
 
-/// Puts a character at the end of a text.
+// Puts a character at the end of a text.
 fn push(text: &mut String, c: char) -> Result<(), AllocError>
     ensures { OnOk result (chars (string_bytes text.new) ≡ chars (string_bytes text.old) ++ c ∷ []) }
 {
@@ -121,7 +121,7 @@ pub(crate) fn is_element_text(text: &str) -> bool
     is_element_length(text.chars().count())
 }
 
-/// Whether a text of so many characters may be that of a collating element.
+// Whether a text of so many characters may be that of a collating element.
 fn is_element_length(count: usize) -> bool
     ensures { result ≡ (nat_le 2 count && nat_le count 16) }
 {

@@ -74,7 +74,7 @@ impl Id {
     }
 }
 
-/// Whether this is a character, that is a Unicode scalar value. Each `char` is one, so nothing is left to test.
+// Whether this is a character, that is a Unicode scalar value. Each `char` is one, so nothing is left to test.
 fn is_character(_c: char) -> bool
     ensures { result ≡ scalar _c }
 {

@@ -44,7 +44,7 @@ pub(crate) fn rules(tokens: &[Token]) -> Result<Rules, SyntaxFault>
     Ok(Rules::from_slots(slots, levels))
 }
 
-/// The rule of one operand, which stands between two semicolons.
+// The rule of one operand, which stands between two semicolons.
 fn operand_rule(operand: &[Token]) -> Option<Rule>
     ensures { result ≡ spelled_operand operand.now }
 {
@@ -55,7 +55,7 @@ fn operand_rule(operand: &[Token]) -> Option<Rule>
     }
 }
 
-/// The rule of one directive. `position` alone means `forward,position`.
+// The rule of one directive. `position` alone means `forward,position`.
 fn one_directive(directive: Option<Directive>) -> Option<Rule>
     ensures { result ≡ rule_of_one directive }
 {
@@ -75,7 +75,7 @@ fn one_directive(directive: Option<Directive>) -> Option<Rule>
     }
 }
 
-/// The rule of two directives: a direction and `position`, in either order.
+// The rule of two directives: a direction and `position`, in either order.
 fn two_directives(first: Option<Directive>, second: Option<Directive>) -> Option<Rule>
     ensures { result ≡ rule_of_two first second }
 {
@@ -92,7 +92,7 @@ fn two_directives(first: Option<Directive>, second: Option<Directive>) -> Option
     })
 }
 
-/// The directive that a word spells.
+// The directive that a word spells.
 fn directive_of(token: &Token) -> Option<Directive>
     ensures { result ≡ spelled_directive token.now }
 {

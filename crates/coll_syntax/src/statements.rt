@@ -44,7 +44,7 @@ impl OrderLine {
     }
 }
 
-/// Whether all of these weights are proper.
+// Whether all of these weights are proper.
 fn are_proper_weights(weights: &[Weight]) -> bool
     ensures { result ≡ list_all is_proper_weight weights.now }
 {
@@ -102,7 +102,7 @@ impl Statement {
     }
 }
 
-/// Whether the statement is proper, by its kind.
+// Whether the statement is proper, by its kind.
 #[tactic(auto, unfolding(crate::specs::Proper::is_proper))]
 fn is_proper(statement: &Statement) -> bool
     ensures { result ≡ passes statement.now }
@@ -130,7 +130,7 @@ fn is_proper(statement: &Statement) -> bool
     }
 }
 
-/// Whether both of these texts are names.
+// Whether both of these texts are names.
 fn are_names(first: &TextBuf, second: &TextBuf) -> bool
     ensures { result ≡ (is_proper_name first.now && is_proper_name second.now) }
 {
@@ -140,7 +140,7 @@ fn are_names(first: &TextBuf, second: &TextBuf) -> bool
     is_name(second.get())
 }
 
-/// Whether all of these lines are proper.
+// Whether all of these lines are proper.
 fn are_proper_lines(lines: &[OrderLine]) -> bool
     ensures { result ≡ list_all is_proper_line lines.now }
 {

@@ -40,7 +40,7 @@ pub fn parse_table_line(alloc: Global, line: &Line) -> Result<TableLine, SyntaxF
     row(alloc, first, rest)
 }
 
-/// What a line says by its first token and those after it.
+// What a line says by its first token and those after it.
 fn row(alloc: Global, first: &Token, rest: &[Token]) -> Result<TableLine, SyntaxFault>
     ensures ok { IfOk result (λ read. table_row first.now rest.now ≡ Ok read) }
     ensures err { IfErr result (λ fault. fault ≢ OutOfMemory → table_row first.now rest.now ≡ Err fault) }
@@ -53,7 +53,7 @@ fn row(alloc: Global, first: &Token, rest: &[Token]) -> Result<TableLine, Syntax
     keyword_row(alloc, keyword, rest)
 }
 
-/// What a line says by its keyword and its operands.
+// What a line says by its keyword and its operands.
 fn keyword_row(
     alloc: Global,
     keyword: Keyword,
@@ -94,7 +94,7 @@ fn keyword_row(
     }
 }
 
-/// The operands of `order_start`.
+// The operands of `order_start`.
 fn order_start(alloc: Global, operands: &[Token]) -> Result<TableLine, SyntaxFault>
     ensures ok { IfOk result (λ read. spelled_start operands.now ≡ Ok read) }
     ensures err { IfErr result (λ fault. fault ≢ OutOfMemory → spelled_start operands.now ≡ Err fault) }
@@ -126,7 +126,7 @@ fn order_start(alloc: Global, operands: &[Token]) -> Result<TableLine, SyntaxFau
     }
 }
 
-/// What stands behind the name of a section: nothing, or a semicolon and the rules.
+// What stands behind the name of a section: nothing, or a semicolon and the rules.
 fn section_rules(operands: &[Token]) -> Result<Option<Rules>, SyntaxFault>
     ensures ok { IfOk result (λ read. spelled_section_rules operands.now ≡ Ok read) }
     ensures err { IfErr result (λ fault. spelled_section_rules operands.now ≡ Err fault) }

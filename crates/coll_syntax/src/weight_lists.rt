@@ -28,7 +28,7 @@ pub(crate) fn weights(alloc: Global, tokens: &[Token]) -> Result<ListBuf<Weight>
     Ok(ListBuf::new(weights))
 }
 
-/// The weight of one operand, which stands between two semicolons.
+// The weight of one operand, which stands between two semicolons.
 fn operand_weight(alloc: Global, operand: &[Token]) -> Result<Weight, SyntaxFault>
     ensures ok { IfOk result (λ read. spelled_operand operand.now ≡ Ok read) }
     ensures err { IfErr result (λ fault. fault ≢ OutOfMemory → spelled_operand operand.now ≡ Err fault) }
@@ -43,7 +43,7 @@ fn operand_weight(alloc: Global, operand: &[Token]) -> Result<Weight, SyntaxFaul
     Err(left_over(next))
 }
 
-/// The weight that one token spells.
+// The weight that one token spells.
 fn weight(alloc: Global, token: &Token) -> Result<Weight, SyntaxFault>
     ensures ok { IfOk result (λ read. spelled_weight token.now ≡ Ok read) }
     ensures err { IfErr result (λ fault. fault ≢ OutOfMemory → spelled_weight token.now ≡ Err fault) }
@@ -62,7 +62,7 @@ fn weight(alloc: Global, token: &Token) -> Result<Weight, SyntaxFault>
     Ok(weight)
 }
 
-/// The weight of one identifier.
+// The weight of one identifier.
 fn one_id(alloc: Global, id: Id) -> Result<Weight, AllocError>
     ensures { IfOk result (λ weight. weight ≡ one_id id) }
 {
@@ -71,7 +71,7 @@ fn one_id(alloc: Global, id: Id) -> Result<Weight, AllocError>
     Ok(Weight::Names(ListBuf::new(ids)))
 }
 
-/// The weight that a string spells: its characters and names, 1 to 32.
+// The weight that a string spells: its characters and names, 1 to 32.
 fn string_weight(alloc: Global, pieces: &[Piece]) -> Result<Weight, SyntaxFault>
     ensures ok { IfOk result (λ read. spelled_string pieces.now ≡ Ok read) }
     ensures err { IfErr result (λ fault. fault ≢ OutOfMemory → spelled_string pieces.now ≡ Err fault) }
@@ -86,7 +86,7 @@ fn string_weight(alloc: Global, pieces: &[Piece]) -> Result<Weight, SyntaxFault>
     Ok(Weight::Names(ids))
 }
 
-/// The identifiers of the pieces of a string.
+// The identifiers of the pieces of a string.
 fn piece_ids(alloc: Global, pieces: &[Piece]) -> Result<ListBuf<Id>, AllocError>
     ensures { IfOk result (λ ids. ids ≡ map spelled_piece pieces.now) }
 {
@@ -98,7 +98,7 @@ fn piece_ids(alloc: Global, pieces: &[Piece]) -> Result<ListBuf<Id>, AllocError>
     Ok(ListBuf::new(ids))
 }
 
-/// The character or the name of a piece of a string. A name is a copy, in new memory.
+// The character or the name of a piece of a string. A name is a copy, in new memory.
 fn piece_id(alloc: Global, piece: &Piece) -> Result<Id, AllocError>
     ensures { IfOk result (λ id. id ≡ spelled_piece piece.now) }
 {
@@ -111,7 +111,7 @@ fn piece_id(alloc: Global, piece: &Piece) -> Result<Id, AllocError>
     }
 }
 
-/// The fault of a token that stands where a semicolon is wanted.
+// The fault of a token that stands where a semicolon is wanted.
 fn left_over(token: &Token) -> SyntaxFault
     ensures { result ≡ spelled_left_over token.now }
 {
@@ -122,7 +122,7 @@ fn left_over(token: &Token) -> SyntaxFault
     }
 }
 
-/// Whether a token could begin an operand.
+// Whether a token could begin an operand.
 fn begins_operand(token: &Token) -> bool
     ensures { result ≡ spelled_begin token.now }
 {

@@ -61,7 +61,7 @@ impl Weight {
     }
 }
 
-/// Whether all of these may stand in a weight.
+// Whether all of these may stand in a weight.
 fn are_weight_ids(ids: &[Id]) -> bool
     ensures { result ≡ list_all is_weight_id ids.now }
 {

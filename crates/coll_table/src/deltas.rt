@@ -92,7 +92,7 @@ impl Table {
         Ok(kept)
     }
 
-    /// Rewrites the table by a statement of own names that it accepts.
+    // Rewrites the table by a statement of own names that it accepts.
     fn rewrite(&mut self, statement: &Statement) -> Result<Record, AllocError>
         requires proper { IsProper statement.now }
         requires accepted { IsOk (own_delta (collation self.old) statement.now) }
@@ -120,7 +120,7 @@ impl Table {
         }
     }
 
-    /// Puts a declaration behind all others.
+    // Puts a declaration behind all others.
     fn declare(&mut self, new: Declaration) -> Result<Record, AllocError>
         requires proper { IsProper (declaring new) }
         requires accepted { IsOk (own_delta (collation self.old) (declaring new)) }
@@ -132,7 +132,7 @@ impl Table {
         Ok(self.carry_out(items))
     }
 
-    /// Places the lines of a block, the first after the target and each further one after the line before.
+    // Places the lines of a block, the first after the target and each further one after the line before.
     fn apply_block(&mut self, target: &Id, lines: &[OrderLine]) -> Result<Record, AllocError>
         requires proper { IsProper (statement.Block target.now lines.now) }
         requires accepted { IsOk (own_delta (collation self.old) (statement.Block target.now lines.now)) }
@@ -144,7 +144,7 @@ impl Table {
         Ok(self.carry_out(items))
     }
 
-    /// Moves a section, whole, directly after another.
+    // Moves a section, whole, directly after another.
     fn move_section(&mut self, moved: &TextBuf, after: &TextBuf) -> Result<Record, AllocError>
         requires proper { IsProper (statement.SectionAfter moved.now after.now) }
         requires accepted { IsOk (own_delta (collation self.old) (statement.SectionAfter moved.now after.now)) }
@@ -156,7 +156,7 @@ impl Table {
         Ok(self.carry_out(items))
     }
 
-    /// Replaces the weights of an entry, which stays where it is.
+    // Replaces the weights of an entry, which stays where it is.
     fn reweight(&mut self, line: &OrderLine) -> Result<Record, AllocError>
         requires proper { IsProper (statement.Reweight line.now) }
         requires accepted { IsOk (own_delta (collation self.old) (statement.Reweight line.now)) }
@@ -168,7 +168,7 @@ impl Table {
         Ok(self.carry_out(items))
     }
 
-    /// Does the items of a statement that is accepted, from the first to the last. It takes no memory.
+    // Does the items of a statement that is accepted, from the first to the last. It takes no memory.
     fn carry_out(&mut self, items: Vec<Item>) -> Record
         requires goes { CanDo self.old.layout items.items }
         requires few { length items.items ≤ 4096 }

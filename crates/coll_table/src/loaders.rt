@@ -140,7 +140,7 @@ impl Loader {
         Ok(Table { rules, body })
     }
 
-    /// The fault that is stored, or that of a text that ends here; none where the category has ended.
+    // The fault that is stored, or that of a text that ends here; none where the category has ended.
     #[tactic(auto, unfolding(coll_builder::specs::Loading::loaded))]
     fn end_fault(&self) -> Option<LoadFault>
         ensures fault { IfSome result (λ fault. loaded self.now ≡ Err fault) }
@@ -158,7 +158,7 @@ impl Loader {
         Some(self.early_end())
     }
 
-    /// The fault of a text that ends here, before its category does.
+    // The fault of a text that ends here, before its category does.
     fn early_end(&self) -> LoadFault
         ensures fault { result ≡ early_end self.now self.now.lexer.line }
         ensures cause { IsLineCause result.cause }
@@ -180,7 +180,7 @@ impl Loader {
         }
     }
 
-    /// Judges a line by where it stands: behind the category, in it, or before it.
+    // Judges a line by where it stands: behind the category, in it, or before it.
     fn judge(&mut self, line: &[u8]) -> Result<(), LoadFault>
         ensures ok { OnOk result (by_where self.old line.now ≡ Ok self.new) }
         ensures err { IfErr result (λ fault. fault.cause ≢ OutOfMemory → by_where self.old line.now ≡ Err fault) }
@@ -198,7 +198,7 @@ impl Loader {
         self.skip_physical(line)
     }
 
-    /// Takes a line before the category, which may begin with it.
+    // Takes a line before the category, which may begin with it.
     fn skip_physical(&mut self, line: &[u8]) -> Result<(), LoadFault>
         ensures ok { OnOk result (by_outside self.old (outside self.old.lexer line.now) ≡ Ok self.new) }
         ensures err { IfErr result (λ fault. by_outside self.old (outside self.old.lexer line.now) ≡ Err fault) }
@@ -219,7 +219,7 @@ impl Loader {
         }
     }
 
-    /// Takes a line of the category.
+    // Takes a line of the category.
     fn take_physical(&mut self, line: &[u8]) -> Result<(), LoadFault>
         requires { self.old.ended ≡ false }
         ensures ok { OnOk result (by_fed self.old (fed self.old.lexer line.now) ≡ Ok self.new) }
@@ -240,7 +240,7 @@ impl Loader {
         }
     }
 
-    /// Takes a logical line of the category.
+    // Takes a logical line of the category.
     fn take_logical(&mut self, line: &Line) -> Result<(), LoadFault>
         requires tokens { AreTokens line.now.tokens }
         requires going { self.old.ended ≡ false }

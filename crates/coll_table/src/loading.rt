@@ -53,7 +53,7 @@ pub fn load_keyed<R: Source>(
     }
 }
 
-/// Hands the lines of a text to a new loader, up to the end of the category.
+// Hands the lines of a text to a new loader, up to the end of the category.
 fn read_text<R: Source>(alloc: Global, input: &mut R, loader: &mut Loader) -> Result<(), LoadFault>
     requires { loader.old ≡ first_loader }
     ensures read { OnOk result (AnswersText (R.left input.old) loader.new) }
@@ -65,7 +65,7 @@ fn read_text<R: Source>(alloc: Global, input: &mut R, loader: &mut Loader) -> Re
     read_lines(input, &mut reader, loader)
 }
 
-/// Hands the lines that a new reader gives to a new loader, up to the end of the category.
+// Hands the lines that a new reader gives to a new loader, up to the end of the category.
 fn read_lines<R: Source>(
     input: &mut R,
     reader: &mut LineReader,
@@ -97,7 +97,7 @@ pub fn texts_are_well_formed()
     ensures { TextsAreWellFormed }
 {}
 
-/// The fault that is answered where the reader stops before the line with this number.
+// The fault that is answered where the reader stops before the line with this number.
 fn stop_fault(number: u32, stop: ReadStop) -> LoadFault
     ensures { result ≡ stop_fault number stop }
 {

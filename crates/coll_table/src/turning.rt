@@ -80,7 +80,7 @@ fn turn_items(body: &mut Body, undone: bool, items: &mut [Item]) -> u32
     take_items_back(body, items)
 }
 
-// Takes items back, from the last to the first. The answer is the number of ring steps.
+/// Takes items back, from the last to the first. The answer is the number of ring steps.
 pub(crate) fn take_items_back(body: &mut Body, items: &mut [Item]) -> u32
     requires goes { CanTurnBack body.old.layout items.old }
     requires few { length items.old ≤ 4096 }
@@ -98,9 +98,9 @@ pub(crate) fn take_items_back(body: &mut Body, items: &mut [Item]) -> u32
     count
 }
 
-// Does items, from the first to the last. The answer is the number of ring steps.
-//
-// An item whose node stands somewhere gets the place where it stood; it may say any place before.
+/// Does items, from the first to the last. The answer is the number of ring steps.
+///
+/// An item whose node stands somewhere gets the place where it stood; it may say any place before.
 pub(crate) fn do_items(body: &mut Body, items: &mut [Item]) -> u32
     requires goes { CanDo body.old.layout items.old }
     requires few { length items.old ≤ 4096 }

@@ -46,7 +46,7 @@ fn token_of(piece: Piece) -> Token
 impl Scan {
     ghost use Rattle.coll_lex.specs.Scanning.{TakesMark, Refuses};
 
-    // Reads a character of a symbol outside strings that is not escaped.
+    /// Reads a character of a symbol outside strings that is not escaped.
     pub(super) fn take_in_symbol(&mut self, c: char) -> Result<(), LexFault>
         requires { self.old.mode ≡ Mode.Symbol }
         ensures ok { OnOk result ((comment : ℕ) → TakesMark comment self.old (Plain c) self.new) }
@@ -63,7 +63,7 @@ impl Scan {
         Ok(())
     }
 
-    // Reads a character of a symbol in a string that is not escaped.
+    /// Reads a character of a symbol in a string that is not escaped.
     pub(super) fn take_in_text_symbol(&mut self, c: char) -> Result<(), LexFault>
         requires { self.old.mode ≡ Mode.SymbolInText }
         ensures ok { OnOk result ((comment : ℕ) → TakesMark comment self.old (Plain c) self.new) }

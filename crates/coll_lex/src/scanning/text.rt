@@ -15,7 +15,7 @@ use std::mem;
 impl Scan {
     ghost use Rattle.coll_lex.specs.Scanning.{TakesMark, Refuses};
 
-    // Reads a character of a string that is not escaped.
+    /// Reads a character of a string that is not escaped.
     pub(super) fn take_in_text(&mut self, c: char) -> Result<(), AllocError>
         requires { self.old.mode ≡ Mode.Text }
         ensures { OnOk result ((comment : ℕ) → TakesMark comment self.old (Plain c) self.new) }
@@ -34,7 +34,7 @@ impl Scan {
         Ok(())
     }
 
-    // Reads an escaped character of a string.
+    /// Reads an escaped character of a string.
     pub(super) fn take_literal_in_text(&mut self, c: char) -> Result<(), LexFault>
         requires { self.old.mode ≡ Mode.Text }
         ensures ok { OnOk result ((comment : ℕ) → TakesMark comment self.old (Literal c) self.new) }

@@ -15,7 +15,7 @@ use std::alloc::AllocError;
 impl Scan {
     ghost use Rattle.coll_lex.specs.Scanning.{TakesMark, Refuses, Gathers, word_token};
 
-    // Reads a character outside symbols and strings that is not escaped.
+    /// Reads a character outside symbols and strings that is not escaped.
     pub(super) fn take_outside(&mut self, comment: char, c: char) -> Result<(), AllocError>
         requires { self.old.mode ≡ Mode.Plain }
         ensures ok { OnOk result (TakesMark comment self.old (Plain c) self.new) }
@@ -51,7 +51,7 @@ impl Scan {
         Ok(())
     }
 
-    // Reads an escaped character outside symbols and strings.
+    /// Reads an escaped character outside symbols and strings.
     pub(super) fn take_literal_outside(&mut self, c: char) -> Result<(), LexFault>
         requires { self.old.mode ≡ Mode.Plain }
         ensures ok { OnOk result ((comment : ℕ) → TakesMark comment self.old (Literal c) self.new) }
@@ -65,7 +65,7 @@ impl Scan {
         Ok(())
     }
 
-    // Makes a token of the word so far, if one has begun.
+    /// Makes a token of the word so far, if one has begun.
     pub(super) fn end_word(&mut self) -> Result<(), AllocError>
         ensures ok { OnOk result
             (self.new ≡ record self.old { partial = []; tokens = self.old.tokens ++ word_token self.old.partial }) }

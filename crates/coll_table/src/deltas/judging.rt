@@ -47,7 +47,7 @@ impl Table {
         }
     }
 
-    // Judges a statement of own names, as `check` does.
+    /// Judges a statement of own names, as `check` does.
     #[tactic(auto, unfolding(crate::specs::Delta::own_delta))]
     pub(super) fn check_own(&self, statement: &Statement) -> Result<(), Refusal>
         requires proper { IsProper statement.now }
@@ -72,7 +72,7 @@ impl Table {
         }
     }
 
-    /// Why the declaration of a collating symbol is refused, if it is.
+    // Why the declaration of a collating symbol is refused, if it is.
     #[tactic(auto, unfolding(coll_nodes::specs::TableLayout::collation))]
     fn symbol_refusal(&self, name: &TextBuf) -> Option<Refusal>
         ensures { result ≡ declaration_refusal (collation self.now) (declaration.Symbol name.now) }
@@ -83,7 +83,7 @@ impl Table {
         self.room_refusal()
     }
 
-    /// Why the declaration of a collating element is refused, if it is.
+    // Why the declaration of a collating element is refused, if it is.
     #[tactic(auto, unfolding(coll_nodes::specs::TableLayout::collation))]
     fn element_refusal(&self, name: &TextBuf, text: &TextBuf) -> Option<Refusal>
         ensures { result ≡ declaration_refusal (collation self.now) (declaration.Element name.now text.now) }
@@ -97,7 +97,7 @@ impl Table {
         self.room_refusal()
     }
 
-    /// Why the declaration of a second name is refused, if it is.
+    // Why the declaration of a second name is refused, if it is.
     #[tactic(auto, unfolding(coll_nodes::specs::TableLayout::collation))]
     fn equivalence_refusal(&self, name: &TextBuf, symbol: &TextBuf) -> Option<Refusal>
         ensures { result ≡ declaration_refusal (collation self.now) (declaration.Equivalence name.now symbol.now) }
@@ -114,7 +114,7 @@ impl Table {
         self.room_refusal()
     }
 
-    /// Why one declaration more is refused, if it is.
+    // Why one declaration more is refused, if it is.
     #[tactic(auto, unfolding(coll_nodes::specs::TableLayout::collation))]
     fn room_refusal(&self) -> Option<Refusal>
         ensures { result ≡ refused_if (nat_le most_declarations (length (collation self.now).declared)) Full None }
@@ -125,7 +125,7 @@ impl Table {
         None
     }
 
-    /// Why a section isn't moved, if it isn't.
+    // Why a section isn't moved, if it isn't.
     #[tactic(auto, unfolding(coll_nodes::specs::TableLayout::collation))]
     fn section_refusal(&self, moved: &TextBuf, after: &TextBuf) -> Option<Refusal>
         ensures { result ≡ section_refusal (collation self.now) moved.now after.now }
@@ -142,7 +142,7 @@ impl Table {
         None
     }
 
-    /// Why an order line outside a block is refused, if it is.
+    // Why an order line outside a block is refused, if it is.
     fn reweight_refusal(&self, line: &OrderLine) -> Option<Refusal>
         ensures { reweight_delta (collation self.now) line.now ≡ unless_refused result (reweighted (collation self.now) line.now) }
     {
@@ -155,7 +155,7 @@ impl Table {
         refusal
     }
 
-    /// The same, the identifiers in its weights aside.
+    // The same, the identifiers in its weights aside.
     fn reweight_line_refusal(&self, line: &OrderLine) -> Option<Refusal>
         ensures { result ≡ reweight_refusal (collation self.now) line.now }
     {
@@ -171,7 +171,7 @@ impl Table {
         self.weights_refusal(line)
     }
 
-    /// Why the number of weights that a line gives is refused, if it is.
+    // Why the number of weights that a line gives is refused, if it is.
     fn weights_refusal(&self, line: &OrderLine) -> Option<Refusal>
         ensures { result ≡ weights_refusal (collation self.now) line.now None }
     {
@@ -184,7 +184,7 @@ impl Table {
         None
     }
 
-    /// Why a block is refused, if it is.
+    // Why a block is refused, if it is.
     fn block_refusal(&self, target: &Id, lines: &[OrderLine]) -> Result<Option<Refusal>, AllocError>
         ensures refusal { IfOk result (λ refusal. block_delta (collation self.now) target.now lines.now ≡ unless_refused refusal (all_moved (collation self.now) target.now lines.now)) }
         ensures placed { OnErr result (is_placed (collation self.now) target.now ≡ true) }
@@ -198,7 +198,7 @@ impl Table {
         answer
     }
 
-    /// The same where the target is placed, with the identifiers of the target and of the lines put in where there are none yet.
+    // The same where the target is placed, with the identifiers of the target and of the lines put in where there are none yet.
     fn placed_refusal(
         &self,
         ids: &mut IdSet,
@@ -219,8 +219,8 @@ impl Table {
         Ok(self.all_given_refusal(ids, lines))
     }
 
-    /// Why the first line of a block that is refused is, the identifiers in the weights aside. Each is put in once it is judged:
-    /// there alone memory is taken.
+    // Why the first line of a block that is refused is, the identifiers in the weights aside. Each is put in once it is judged:
+    // there alone memory is taken.
     fn lines_refusal(
         &self,
         ids: &mut IdSet,
@@ -241,7 +241,7 @@ impl Table {
         Ok(None)
     }
 
-    /// Why a line of a block is refused, if it is, from the identifiers of the target and of the lines before it.
+    // Why a line of a block is refused, if it is, from the identifiers of the target and of the lines before it.
     fn line_refusal(&self, before: &IdSet, line: &OrderLine) -> Option<Refusal>
         ensures { result ≡ line_refusal (collation self.now) before.now line.now }
     {
@@ -254,7 +254,7 @@ impl Table {
         self.weights_refusal(line)
     }
 
-    /// The number of lines whose identifiers aren't placed yet.
+    // The number of lines whose identifiers aren't placed yet.
     fn added_len(&self, lines: &[OrderLine]) -> usize
         ensures { result ≡ entries_added (collation self.now) lines.now }
     {
@@ -267,7 +267,7 @@ impl Table {
         added
     }
 
-    /// Why the first identifier that may not stand in the weights of these lines may not, where more is placed.
+    // Why the first identifier that may not stand in the weights of these lines may not, where more is placed.
     fn all_given_refusal(&self, more: &IdSet, lines: &[OrderLine]) -> Option<Refusal>
         ensures { result ≡ ids_refusal (collation self.now) more.now (ids_given lines.now) }
     {
@@ -279,7 +279,7 @@ impl Table {
         None
     }
 
-    /// The same of one line.
+    // The same of one line.
     fn given_refusal(&self, more: &IdSet, line: &OrderLine) -> Option<Refusal>
         ensures { result ≡ ids_refusal (collation self.now) more.now (flat_map weight_ids (given_weights line.now.weights)) }
     {
@@ -289,7 +289,7 @@ impl Table {
         }
     }
 
-    /// The same of weights.
+    // The same of weights.
     fn named_refusal(&self, more: &IdSet, weights: &[Weight]) -> Option<Refusal>
         ensures { result ≡ ids_refusal (collation self.now) more.now (flat_map weight_ids weights.now) }
     {
@@ -301,7 +301,7 @@ impl Table {
         None
     }
 
-    /// The same of one weight.
+    // The same of one weight.
     fn weight_refusal(&self, more: &IdSet, weight: &Weight) -> Option<Refusal>
         ensures { result ≡ ids_refusal (collation self.now) more.now (weight_ids weight.now) }
     {
@@ -311,7 +311,7 @@ impl Table {
         }
     }
 
-    /// The same of identifiers.
+    // The same of identifiers.
     fn ids_refusal(&self, more: &IdSet, ids: &[Id]) -> Option<Refusal>
         ensures { result ≡ ids_refusal (collation self.now) more.now ids.now }
     {
@@ -323,8 +323,8 @@ impl Table {
         None
     }
 
-    /// Why an identifier may not stand in a weight, where more is placed, if it may not: what is placed now was declared, so a
-    /// second look is taken only at what isn't.
+    // Why an identifier may not stand in a weight, where more is placed, if it may not: what is placed now was declared, so a
+    // second look is taken only at what isn't.
     fn id_refusal(&self, more: &IdSet, id: &Id) -> Option<Refusal>
         ensures { result ≡ id_refusal (collation self.now) more.now id.now }
     {
@@ -342,7 +342,7 @@ impl Table {
     }
 }
 
-/// A refusal, if there is one.
+// A refusal, if there is one.
 fn or_refused(refusal: Option<Refusal>) -> Result<(), Refusal>
     ensures ok { OnOk result (refusal ≡ None) }
     ensures err { IfErr result (λ it. refusal ≡ Some it) }

@@ -117,7 +117,7 @@ impl Table {
         Ok(items)
     }
 
-    /// Puts an item for each line at the end of none. Where memory is refused, there are items for the lines before.
+    // Puts an item for each line at the end of none. Where memory is refused, there are items for the lines before.
     fn prepare_lines(
         &mut self,
         target: NodeId,
@@ -138,7 +138,7 @@ impl Table {
         Ok(())
     }
 
-    /// An item for a line, behind a node.
+    // An item for a line, behind a node.
     fn prepare_line(&mut self, before: NodeId, line: &OrderLine) -> Result<Item, AllocError>
         ensures prepared { IfOk result (λ item. IsPreparedLine (collation self.old) self.new.layout before line.now item) }
         ensures added { IfOk result (λ item. AddsLoose self.old self.new (added_by item.old item.new item.node)) }
@@ -166,7 +166,7 @@ impl Table {
         }
     }
 
-    /// A loose node for an identifier that has none.
+    // A loose node for an identifier that has none.
     fn make_entry(&mut self, id: &Id) -> Result<NodeId, AllocError>
         ensures made { IfOk result (λ node. content_of self.new.layout node ≡ Some (content.Placed (made_entry (collation self.old) id.now))) }
         ensures added { IfOk result (λ node. AddsLoose self.old self.new (node ∷ [])) }
@@ -177,7 +177,7 @@ impl Table {
         self.make(Content::Placed(Entry::new(id, weights)))
     }
 
-    /// The weights that a new entry is made with: its own at each level, and none for a collating symbol.
+    // The weights that a new entry is made with: its own at each level, and none for a collating symbol.
     fn default_weights(&self, id: &Id) -> Result<ListBuf<Weight>, AllocError>
         ensures { IfOk result (λ weights. weights ≡ (made_entry (collation self.now) id.now).weights) }
     {
@@ -187,7 +187,7 @@ impl Table {
         kept_weights(self.alloc(), self.rules().len(), id, None)
     }
 
-    /// The weights that go to the entry of a line, if it gives any.
+    // The weights that go to the entry of a line, if it gives any.
     fn weights_to(&self, line: &OrderLine) -> Result<Option<ListBuf<Weight>>, AllocError>
         ensures { IfOk result (λ weights. weights ≡ weights_to (length (collation self.now).rules) line.now.id line.now.weights) }
     {
@@ -199,7 +199,7 @@ impl Table {
         Ok(Some(kept))
     }
 
-    /// Makes a loose node.
+    // Makes a loose node.
     fn make(&mut self, node: Content) -> Result<NodeId, AllocError>
         requires may { MayBeLoose node }
         ensures made { IfOk result (λ made. content_of self.new.layout made ≡ Some node) }
@@ -211,7 +211,7 @@ impl Table {
         Ok(made)
     }
 
-    /// Drops the nodes that items added. It takes no memory.
+    // Drops the nodes that items added. It takes no memory.
     fn drop_prepared(&mut self, items: Vec<Item>)
         requires loose { AreLoose self.old.layout (added_nodes items.items) }
         ensures { self.new ≡ without_nodes self.old (added_nodes items.items) }
