@@ -1,14 +1,14 @@
 //! A number for each character, found by its code point.
 //!
 //! A `CodePoints` is a list that is as long as its greatest code point needs, and little longer; what it has no number for is 0. So
-//! a look-up is one index, and a table of few characters with small code points is small. It has less than 1,115,000 numbers, 4.5 MB.
+//! a look-up is one index, and a table of few characters with small code points is small. It has less than 1,116,000 numbers, 4.5 MB.
 
 ghost use Rattle.std.specs.Prelude.{◌≡◌, ◌<◌, ◌^◌, [], ℕ, if◌then◌else◌, ◌==◌, slice_index_or, vec_len, OnOk};
 
 use std::alloc::{AllocError, Global};
 use std::marker::Model;
 
-/// By how many places the list of numbers grows, so that the characters behind one mostly have theirs.
+/// By how many places the list of numbers grows: so many that the tags and variation selectors, U+E0001 to U+E01EF, take one growth.
 const PLACES_AT_ONCE: usize = 1_024;
 
 /// Numbers by code point, one for each character, which is 0 until it is set.
