@@ -1,9 +1,9 @@
 //! The table that is being read.
 //!
-//! A `TableBuilder` keeps of the lines accepted so far what the next one is judged by (`BuilderState` of `specs/BuilderStates.antt`): whether an
-//! order is open, the rules, and a table that grows, with the number of the line of each entry. Each method judges one kind
-//! of line, as `cause_after` does. After a refusal the builder is given up. What may stand where is changed in
-//! `specs/BuilderStates.antt` first.
+//! A `TableBuilder` keeps of the lines accepted so far what the next one is judged by (`BuilderState` of
+//! `specs/BuilderStates.antt`): whether an order is open, the rules, and a table that grows, with the number of the line of each
+//! entry. Each method judges one kind of line, as `cause_after` does. After a refusal the builder is given up. What may stand
+//! where is changed in `specs/BuilderStates.antt` first.
 
 ghost use Rattle.std.specs.Prelude.{◌≡◌, ◌≢◌, ℕ, List, true, false, is_some, unwrap_or, [], length, Some, None, IfOk, IfErr, IfSome, OnOk, OnErr};
 ghost use Rattle.std.specs.List.{flat_map, list_any};
