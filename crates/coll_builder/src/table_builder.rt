@@ -541,7 +541,7 @@ impl TableBuilder {
         self.judge_visited(&self.numbers, self.builder.walk())
     }
 
-    /// Judges the weights of the entries that a walk meets, each with the number of its line.
+    /// Judges the weights of the entries that a walk visits, each with the number of its line.
     fn judge_visited<'a>(&self, mut numbers: &[u32], walk: Walk<'a>) -> Result<(), LoadFault>
         requires { length numbers.now ≡ length (entries_visited walk) }
         ensures ok { OnOk result (entries_fault self.now numbers.now (entries_visited walk.entry) ≡ None) }
