@@ -20,8 +20,8 @@ abbrev pub LackShowsLast : Type 0
 LackShowsLast = (lines_starved requests_starved : List Bool) (table : Collation) (text : List ℕ)
     → (last_of lines_starved true text ≡ last_of [] true text) ⊎ ShowsLack (starved_output lines_starved requests_starved true table text)
 
--- what is written for lines that each end in a line feed, where the text is cut behind them, is what is stated for them; or, whatever
--- comes behind them in its place, that reply stands in what is written for the whole under the same choices
+-- what is written for lines that each end in a line feed, where the text is cut behind them, is what is stated for them; or,
+-- whatever comes behind them in its place, that reply stands in what is written for the whole under the same choices
 abbrev pub LackShowsCut : Type 0
 LackShowsCut = (lines_starved requests_starved : List Bool) (table : Collation) (read : List ℕ) → read ≡ with_feeds (lines_of read)
     → (starved_output lines_starved requests_starved false table read ≡ starved_output [] [] false table read)

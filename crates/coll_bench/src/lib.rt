@@ -1,9 +1,9 @@
 //! Sessions and batches over a collation table.
 //!
-//! A session: a physical line is taken by the requests of `coll_requests`, and where it completes one, the request is judged by the history
-//! of `coll_history` and answered by `coll_replies`. `serving` does this for one line and `runs` for a text, and `laws` says what
-//! follows from the definitions. A batch: `batches` reads a table and delta files, and writes what is asked of the result. What a
-//! user needs of the crates below is handed on here.
+//! A session: `coll_requests` says which request a physical line completes, if it completes one; the history of `coll_history`
+//! judges it, and `coll_replies` answers it. `serving` does this for one line and `runs` for a text, and `laws` says what follows
+//! from the definitions. A batch: `batches` reads a table and delta files, and writes what is asked of the result. What a user
+//! needs of the crates below is handed on here.
 #![tactic(auto)]
 
 mod batches;

@@ -1,7 +1,7 @@
 //! The run of a session: the lines of a source are served one by one, and their replies go to a sink.
 //!
 //! `run_session` carries the theorem of the session: what is written is the stated function of what is read. It makes the
-//! `RunState`, `serve_text` the reader, and the loop of `serve_lines` hands one physical line after another to the state of the run; its
+//! `RunState`, `serve_text` the reader, and the loop of `serve_lines` hands that one physical line after another; its
 //! lemmas put together what each line does, over all that may come later. The state of the run and the reader are dropped by calls,
 //! since a check pays for each field of a value at each place that drops it.
 
@@ -49,7 +49,7 @@ pub fn run_session<R: Source, W: Sink>(
     }
 }
 
-// Serves the text of a source at a run's state where nothing has happened yet.
+// Serves the text of a source from a state of the run in which nothing has happened yet.
 fn serve_text<R: Source, W: Sink>(
     alloc: Global,
     state: &mut RunState,

@@ -2,7 +2,7 @@
 //!
 //! A `RunState` is where a session stands between two lines: what the lexer was handed, what is kept of the block that is
 //! open, and the history. A line is parsed, taken by the block, and the request that it completes is answered; each of these
-//! is a function with an exact clause over what the state of the run keeps.
+//! is a function with an exact clause over what the state keeps.
 
 ghost use Rattle.std.specs.Prelude.{◌≡◌, ◌+◌, ◌<◌, ◌++◌, Bool, true, IfOk, IfErr, IfSome, OnOk, Option, option_to_list};
 ghost use Rattle.coll_requests.specs.ProperLines.{IsProperRequest};

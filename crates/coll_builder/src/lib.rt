@@ -1,7 +1,7 @@
 //! The table that is being read: the lines of a category, each judged by those before it.
 //!
-//! A `TableBuilder` takes the lines that `coll_syntax` reads, and gives the rules and the body of the table that they say. A way through
-//! the crate, each file with its definitions in `specs/`:
+//! A `TableBuilder` takes the lines that `coll_syntax` reads, and gives the rules and the body of the table that they say. A way
+//! through the crate, each file with its definitions in `specs/`:
 //!
 //! - `load_faults`: why a table text is refused (`LoadFaults`);
 //! - `body_builder`: a body that grows (`Building`);

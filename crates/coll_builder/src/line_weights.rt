@@ -1,8 +1,8 @@
 //! The weights that an entry keeps of those that its order line gives.
 //!
 //! The list of a line is taken over and not copied: a weight that names only the entry becomes its own, and its own is put behind
-//! at each level that the line leaves out (`kept_weights` of coll_nodes, `specs/Entries.antt`). A new rule on what an entry keeps is
-//! a case of `kept_weight` there, and of `keep` here.
+//! at each level that the line leaves out (`kept_weights` of `specs/Entries.antt` of coll_nodes). A new rule on what an entry
+//! keeps is a case of `kept_weight` there, and of `keep` here.
 
 ghost use Rattle.std.specs.Prelude.{◌≡◌, ◌++◌, ◌-◌, true, length, map, replicate, IfOk, OnOk};
 ghost use Rattle.coll_syntax.specs.declared.weights.Weight.TheVariants.{Own};

@@ -1,9 +1,9 @@
 //! The table that is being read.
 //!
-//! A `TableBuilder` keeps of the lines accepted so far what the next one is judged by (`BuilderState` of `specs/BuilderStates.antt`): whether an
-//! order is open, the rules, and a table that grows, with the number of the line of each entry. Each method judges one kind
-//! of line, as `cause_after` does. After a refusal the builder is given up. What may stand where is changed in
-//! `specs/BuilderStates.antt` first.
+//! A `TableBuilder` keeps of the lines accepted so far what the next one is judged by (`BuilderState` of
+//! `specs/BuilderStates.antt`): whether an order is open, the rules, and a table that grows, with the number of the line of each
+//! entry. Each method judges one kind of line, as `cause_after` does. After a refusal the builder is given up. What may stand
+//! where is changed in `specs/BuilderStates.antt` first.
 
 ghost use Rattle.std.specs.Prelude.{◌≡◌, ◌≢◌, ℕ, List, true, false, is_some, unwrap_or, [], length, Some, None, IfOk, IfErr, IfSome, OnOk, OnErr};
 ghost use Rattle.std.specs.List.{flat_map, list_any};
@@ -541,7 +541,7 @@ impl TableBuilder {
         self.judge_visited(&self.numbers, self.builder.walk())
     }
 
-    // Judges the weights of the entries that a walk meets, each with the number of its line.
+    // Judges the weights of the entries that a walk visits, each with the number of its line.
     fn judge_visited<'a>(&self, mut numbers: &[u32], walk: Walk<'a>) -> Result<(), LoadFault>
         requires { length numbers.now ≡ length (entries_visited walk) }
         ensures ok { OnOk result (entries_fault self.now numbers.now (entries_visited walk.entry) ≡ None) }

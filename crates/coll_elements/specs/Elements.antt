@@ -44,7 +44,7 @@ abbrev pub beyond_first : {X : Type 0} → (X → List ℕ) → Option X → ℕ
 beyond_first string_of None = 0
 beyond_first string_of (Some x) = length (string_of x) - 1
 
--- the parts of a text behind this many characters: at each place the longest element, or else one character
+-- the elements of a text behind this many characters: at each place the longest collating element, or else one character
 abbrev pub split : {X P : Type 0} → (X → List ℕ) → List X → (Option X → ℕ → P) → (skipped : ℕ) → List ℕ → List P
 split string_of xs part skipped [] = []
 split string_of xs part (suc skipped) (c ∷ text) = split string_of xs part skipped text
@@ -55,7 +55,7 @@ split string_of xs part zero (c ∷ text) =
 abbrev pub element_text : Element → List ℕ
 element_text element = element.text
 
--- the identifier of a part: that of an element, or else the character
+-- the identifier of an element of a text: that of a collating element, or else the character
 abbrev pub part_id : Option Element → ℕ → Id
 part_id (Some element) c = Named element.name
 part_id None c = Char c

@@ -1,7 +1,8 @@
 //! A number for each character, found by its code point.
 //!
-//! A `CodePoints` is a list that is as long as its greatest code point needs, and little longer; what it has no number for is 0. So
-//! a look-up is one index, and a table of few characters with small code points is small. It has less than 1,116,000 numbers, 4.5 MB.
+//! A `CodePoints` is a list that is as long as its greatest code point needs, and little longer; what it has no number for is 0.
+//! So a look-up is one index, and a table of few characters with small code points is small. It has less than 1,116,000 numbers,
+//! 4.5 MB.
 
 ghost use Rattle.std.specs.Prelude.{◌≡◌, ◌<◌, ◌^◌, [], ℕ, if◌then◌else◌, ◌==◌, slice_index_or, vec_len, OnOk};
 

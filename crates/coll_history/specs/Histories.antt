@@ -1,4 +1,5 @@
--- The history of a session (the project's own): which statements remain, which were taken back, and what a statement, an undo and a redo do.
+-- The history of a session (the project's own): which statements remain, which were taken back, and what a statement, an undo and
+-- a redo do.
 use Rattle.std.specs.Prelude.{◌≡◌, ◌≢◌, ◌-◌, ◌==◌, ℕ, zero, suc, nat_le, if◌then◌else◌, List, [], ◌∷◌, ◌++◌, length, take, drop, slice_get, Option, None, Result, Ok, Err}
 use Rattle.coll_syntax.specs.declared.statements.Statement.{Statement}
 use Rattle.coll_nodes.specs.Table.{Collation}

@@ -3,7 +3,8 @@ use Rattle.std.specs.Prelude.{◌≡◌, Ok}
 use Rattle.coll_syntax.specs.declared.statements.Statement.{Statement}
 use Rattle.coll_history.specs.Histories.{History, judged, taken_back, put_again, table_now}
 
--- the undo of a statement: the table is the one that it was accepted in, what remains is what remained then, and a redo puts it again
+-- the undo of a statement: the table is the one that it was accepted in, what remains is what remained then, and a redo puts it
+-- again
 pub record Restores (before after undone : History) : Type 0 where
   pub is_undone : taken_back after ≡ Ok undone
   pub table : table_now undone ≡ table_now before

@@ -1,4 +1,5 @@
--- Withdrawal of a statement from the middle of a history (the project's own): the table rewritten by all other statements that remain.
+-- Withdrawal of a statement from the middle of a history (the project's own): the table rewritten by all other statements that
+-- remain.
 use Rattle.std.specs.Prelude.{ℕ, ◌-◌, ◌==◌, ◌&&◌, Bool, suc, nat_le, if◌then◌else◌, List, [], ◌∷◌, ◌++◌, length, take, drop, Result, Ok, Err}
 use Rattle.coll_syntax.specs.declared.statements.Statement.{Statement}
 use Rattle.coll_nodes.specs.Table.{Collation}

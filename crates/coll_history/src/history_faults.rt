@@ -1,7 +1,7 @@
 //! Why a history refuses.
 //!
-//! A refusal by the table is kept as it came, so that it has one number and one name everywhere. A new kind of refusal is a new variant
-//! with its number and its name here and in `specs/HistoryFaults.antt`.
+//! A refusal by the table is kept as it came, so that it has one number and one name everywhere. A new kind of refusal is a new
+//! variant with its number and its name here and in `specs/HistoryFaults.antt`.
 
 ghost use Rattle.std.specs.Prelude.{◌≡◌};
 ghost use Rattle.coll_history.specs.HistoryFaults.{bench_fault_number, bench_fault_name};

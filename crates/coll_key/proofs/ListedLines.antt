@@ -228,7 +228,7 @@ own_levels (suc (suc (suc zero))) few = refl
 own_levels (suc (suc (suc (suc zero)))) few = refl
 own_levels (suc (suc (suc (suc (suc levels))))) few = absurd (omega (arith, few))
 
--- What one meets.
+-- What a walk visits.
 
 -- an entry has few weights
 has_few : (levels : ℕ) (declared : List Declaration) (entry : Entry) → IsWeighted levels declared entry → HasFewWeights levels entry
@@ -242,7 +242,7 @@ have_few levels declared [] weighted = All-nil (HasFewWeights levels)
 have_few levels declared (entry ∷ entries) weighted =
     All-cons (HasFewWeights levels) entry entries (has_few levels declared entry (All-head (IsWeighted levels declared) entry entries weighted)) (have_few levels declared entries (All-tail (IsWeighted levels declared) entry entries weighted))
 
--- and so has each that one meets
+-- and so has each that a walk visits
 pub fit_visited : (table : Collation) (levels : ℕ) (items : List Visited) → IsWellFormed table → levels ≡ length table.rules → items ≡ visited table.sections → All (HasFewWeights levels) (entries_visited items)
 fit_visited table levels items well counted walked =
     subst (All (HasFewWeights levels)) (sym (ap entries_visited walked ∙ visited_all table.sections))
@@ -255,7 +255,7 @@ fits_later levels left later item first fit = by item (subst (λ items. All (Has
   by (VisitedSection name) h = h
   by (VisitedEntry entry) h = All-tail (HasFewWeights levels) entry (entries_visited later) h
 
--- the lines of what one visits are the first one's, and those of what is left
+-- the lines of what a walk visits are the first one's, and those of what is left
 pub lines_next : (ranks : RanksValue) (rank next : ℕ) (left later : List Visited) (item : Visited) → left ≡ item ∷ later → next ≡ rank + length (entry_visited item) → ranked_lines ranks rank (entries_visited left) ≡ visited_line ranks rank item ++ ranked_lines ranks next (entries_visited later)
 lines_next ranks rank next left later item first count = ap (λ items. ranked_lines ranks rank (entries_visited items)) first ∙ (by item ∙ ap (λ n. visited_line ranks rank item ++ ranked_lines ranks n (entries_visited later)) (sym count)) where
   by : (item : Visited) → ranked_lines ranks rank (entry_visited item ++ entries_visited later) ≡ visited_line ranks rank item ++ ranked_lines ranks (rank + length (entry_visited item)) (entries_visited later)

@@ -3,7 +3,7 @@ use Rattle.std.specs.Prelude.{ℕ, Bool, true, false, List, [], ◌∷◌, ◌++
 use Rattle.coll_key.specs.LevelList.{items}
 use Rattle.coll_key.specs.declared.forward_numbers.Step.{Step}
 
--- the items that are left: the numbers that are left of a part, and then the items of the parts behind it
+-- the items that are left: the numbers that are left of an element, and then the items of the elements behind it
 abbrev pub items_left : {P : Type 0} → (P → List ℕ) → List ℕ → List P → List (Option ℕ)
 items_left numbers left parts = map Some left ++ items numbers parts
 
@@ -12,7 +12,7 @@ abbrev pub before : (position : Bool) → Step → List ℕ → List ℕ
 before true step list = step.position ∷ step.number ∷ list
 before false step list = step.number ∷ list
 
--- how many gaps a part with these ranks is
+-- how many gaps an element with these ranks is
 abbrev pub gap_count : List ℕ → ℕ
 gap_count [] = 1
 gap_count (rank ∷ ranks) = 0

@@ -9,7 +9,7 @@ abbrev pub items_of : List ℕ → List (Option ℕ)
 items_of [] = None ∷ []
 items_of (n ∷ ns) = map Some (n ∷ ns)
 
--- the items of all parts, in order, where this gives the numbers of a part
+-- the items of all elements, in order, where this gives the numbers of one
 abbrev pub items : {P : Type 0} → (P → List ℕ) → List P → List (Option ℕ)
 items numbers parts = flat_map (λ part. items_of (numbers part)) parts
 
@@ -29,7 +29,7 @@ listed position gaps [] = []
 listed position gaps (None ∷ sequence) = listed position (suc gaps) sequence
 listed position gaps (Some n ∷ sequence) = position_of position gaps ++ n ∷ listed position 0 sequence
 
--- the list of a level with this rule, where this gives the numbers of a part
+-- the list of a level with this rule, where this gives the numbers of an element
 abbrev pub level_list : {P : Type 0} → Rule → (P → List ℕ) → List P → List ℕ
 level_list rule numbers parts = listed rule.position 0 (directed rule.backward (items numbers parts))
 

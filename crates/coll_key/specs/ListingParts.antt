@@ -70,7 +70,7 @@ abbrev pub line_if_weighted : RanksValue → (rank : ℕ) → Id → List Weight
 line_if_weighted ranks rank id [] = []
 line_if_weighted ranks rank id (weight ∷ weights) = ranked_line ranks rank id (weight ∷ weights)
 
--- the line of what one visits, if it is an entry with weights
+-- the line of what a walk visits, if it is an entry with weights
 abbrev pub visited_line : RanksValue → (rank : ℕ) → Visited → List ℕ
 visited_line ranks rank (VisitedSection name) = []
 visited_line ranks rank (VisitedEntry entry) = line_if_weighted ranks rank entry.id entry.weights

@@ -26,9 +26,9 @@ pub(crate) struct Step {
 pub(crate) struct ForwardNumbers<'a> {
     ranks: &'a Ranks,
     level: usize,
-    /// The text behind the part at hand.
+    /// The text behind the element at hand.
     text: &'a str,
-    /// What is left of the part at hand.
+    /// What is left of the element at hand.
     weight: ElementWeight<'a>,
 }
 
@@ -91,7 +91,7 @@ impl<'a> ForwardNumbers<'a> {
     }
 }
 
-// How many gaps a part with these ranks is: one where it has none.
+// How many gaps an element with these ranks is: one where it has none.
 fn gap_count(ranks: &[u32]) -> u64
     ensures { result ≡ gap_count ranks.now }
 {

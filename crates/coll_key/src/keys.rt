@@ -1,7 +1,7 @@
 //! Sort keys.
 //!
-//! A key is made level by level from the rows of the text's parts, for which room is reserved first. That keys are ordered as their
-//! texts is a law over the definitions alone.
+//! A key is made level by level from the rows of the text's elements, for which room is reserved first. That keys are ordered as
+//! their texts is a law over the definitions alone.
 
 ghost use Rattle.std.specs.Prelude.{◌≡◌, ◌≢◌, ◌≤◌, ◌+◌, ◌*◌, chars, length, true, false, IfOk, IfErr};
 ghost use Rattle.std.specs.List.{flat_map};
@@ -40,7 +40,7 @@ pub fn key(alloc: Global, table: &Table, ranks: &Ranks, text: &str) -> Result<Ve
     Ok(key)
 }
 
-/// The sort key of a text whose parts have these rows, by compiled weights at levels with these rules.
+/// The sort key of a text whose elements have these rows, by compiled weights at levels with these rules.
 pub(crate) fn key_of_rows(
     alloc: Global,
     weights: &CompiledWeights,

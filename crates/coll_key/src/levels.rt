@@ -1,10 +1,10 @@
 //! The list of a level, put behind a key.
 //!
-//! One goes along the rows of the parts of a text in the direction of the level, and counts the gaps between numbers. Direction and
-//! `position` are told apart once for a level, and all that each part calls is inlined there, so that the loop stays small. The key
-//! is handed on by value, and given back: so where it stands and how long it is are kept in registers along the loop. There is
-//! room for one number of each part that is left, with its position, and a part with more numbers makes room for them first: so
-//! no number asks for room, and none may be refused.
+//! One goes along the rows of the elements of a text in the direction of the level, and counts the gaps between numbers.
+//! Direction and `position` are told apart once for a level, and all that each element calls is inlined there, so that the loop
+//! stays small. The key is handed on by value, and given back: so where it stands and how long it is are kept in registers along
+//! the loop. There is room for one number of each element that is left, with its position, and an element with more numbers makes
+//! room for them first: so no number asks for room, and none may be refused.
 
 ghost use Rattle.std.specs.Prelude.{◌≡◌, ◌<◌, ◌≤◌, ◌+◌, ◌*◌, ◌^◌, ◌++◌, ◌∷◌, [], ℕ, List, Option, Some, map, length, vec_len, vec_capacity, IfOk, MatchOption};
 ghost use Rattle.coll_key.specs.LevelList.{directed, items_of, listed, level_list, position_of};
@@ -103,8 +103,8 @@ fn with_rows(
     Ok(with)
 }
 
-// Puts the numbers of a part behind a key, with so many gaps before it, and makes room for those of so many later parts; gives the
-// gaps behind it too. Few parts have several.
+// Puts the numbers of an element behind a key, with so many gaps before it, and makes room for those of so many later elements;
+// gives the gaps behind it too. Few elements have several.
 #[inline(always)]
 fn with_long_part(
     key: Vec<u64>,
@@ -129,7 +129,7 @@ fn with_long_part(
     Ok((whole, 0))
 }
 
-// Puts the later numbers of a part behind a key.
+// Puts the later numbers of an element behind a key.
 #[inline(always)]
 fn with_others(key: Vec<u64>, ranks: &[u32], added: u32, backward: bool, position: bool) -> Vec<u64>
     requires room { vec_len key + length ranks.now * 2 ≤ vec_capacity key }

@@ -4,7 +4,7 @@
 //! `key_of_text` and `compare_texts` answer without them, for short texts of a table that changes.
 //! A way through the crate, each file with its definitions in `specs/`:
 //!
-//! - `text_parts` and `levels`: the parts of a text, kept, and the list of a level (`LevelList`);
+//! - `text_parts` and `levels`: the elements of a text, kept, and the list of a level (`LevelList`);
 //! - `forward_numbers`: the numbers of a text at a forward level, one after another (`ForwardNumbers`);
 //! - `keys`, `comparison` and `written_keys`: what they are for (`SortKey`, `TextOrder`, `WrittenKey`), with `decimals`;
 //! - `text_keys`: keys and comparison of short texts, by a table whose entries are numbered;

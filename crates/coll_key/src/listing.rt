@@ -112,7 +112,7 @@ fn write_walk<W: Sink>(out: &mut W, ranks: &Ranks, walk: Walk<'_>) -> Result<(),
     Ok(())
 }
 
-// Writes the line of what one visits, if it is an entry with this rank, and gives the rank of the next one.
+// Writes the line of what a walk visits, if it is an entry with this rank, and gives the rank of the next one.
 fn write_visited<W: Sink>(
     out: &mut W,
     ranks: &Ranks,

@@ -94,7 +94,7 @@ fn short_key(
     key_of_rows(alloc, weights, table.rules(), &rows)
 }
 
-// The rows of parts.
+// The rows of elements.
 fn rows_of(
     alloc: Global,
     weights: &CompiledWeights,

@@ -1,4 +1,4 @@
-//! The rows of the parts of a text, kept in a list.
+//! The rows of the elements of a text, kept in a list.
 
 ghost use Rattle.std.specs.Prelude.{◌≡◌, ◌≢◌, ◌≤◌, ℕ, chars, map, true, false, IfOk, IfErr, IfSome, MatchOption};
 ghost use Rattle.coll_key.specs.KeyLimits.{is_too_long};
@@ -11,7 +11,7 @@ use crate::limits::{MOST_TEXT_CHARACTERS, is_too_long};
 use coll_ranks::{ElementRow, Ranks};
 use std::alloc::{AllocError, Global};
 
-/// The rows of the parts of a text that isn't too long.
+/// The rows of the elements of a text that isn't too long.
 ///
 /// Lack of memory hides no text that is too long: where memory is refused, the text is judged by itself.
 pub(crate) fn kept_rows(
@@ -31,7 +31,7 @@ pub(crate) fn kept_rows(
     }
 }
 
-// Why a text has no parts where memory was refused.
+// Why a text has no elements where memory was refused.
 fn fault_without_memory(text: &str) -> KeyFault
     ensures long { result ≢ OutOfMemory → is_too_long (chars text.now) ≡ true }
     ensures memory { result ≡ OutOfMemory → is_too_long (chars text.now) ≡ false }
@@ -43,7 +43,7 @@ fn fault_without_memory(text: &str) -> KeyFault
     }
 }
 
-// The rows of the parts of a text, or nothing where it is too long.
+// The rows of the elements of a text, or nothing where it is too long.
 //
 // Its characters are counted as it is split, since a long text would take a tenth more time if they were counted before.
 fn split_rows(
@@ -68,7 +68,7 @@ fn split_rows(
     Ok(Some(rows))
 }
 
-// The number of parts of a text of so many bytes, at most, where the text isn't too long.
+// The number of elements of a text of so many bytes, at most, where the text isn't too long.
 fn most_parts(bytes: usize) -> usize
     ensures bytes { result ≤ bytes }
     ensures most { result ≤ 65_536 }

@@ -52,8 +52,9 @@ impl EntryNumbers {
         }
     }
 
-    /// Gives a node a number, any that fits, and leaves those of other nodes. It takes memory, four bytes for each slot of a store of
-    /// nodes, where the node's slot is behind all that there is room for. Where memory is refused, nothing is said of the numbers.
+    /// Gives a node a number, any that fits, and leaves those of other nodes. It takes memory, four bytes for each slot of a
+    /// store of nodes, where the node's slot is behind all that there is room for. Where memory is refused, nothing is said of
+    /// the numbers.
     pub fn set(&mut self, node: NodeId, number: u32) -> Result<(), AllocError>
         ensures { OnOk result ((other : NodeId) → number_at self.new other ≡ (if same_node other node then number else number_at self.old other)) }
     {

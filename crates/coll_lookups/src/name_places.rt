@@ -28,8 +28,8 @@ impl Model for NamePlaces {
 impl NamePlaces {
     ghost use Rattle.coll_lookups.specs.NamePlaces.{place_named};
 
-    /// The places of names, by the numbers of their nodes. It takes no memory. That these are places is for the caller to know: a name
-    /// that leads to a node without a number has place 0.
+    /// The places of names, by the numbers of their nodes. It takes no memory. That these are places is for the caller to know: a
+    /// name that leads to a node without a number has place 0.
     pub fn new(names: NodeNames, numbers: EntryNumbers) -> NamePlaces
         ensures { result ≡ record { names = names; numbers = numbers } }
     {

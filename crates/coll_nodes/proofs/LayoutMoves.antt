@@ -1,4 +1,5 @@
--- Layouts of the same nodes in other rings, or with other entries: what the table is then; and the node that is found by an identifier.
+-- Layouts of the same nodes in other rings, or with other entries: what the table is then; and the node that is found by an
+-- identifier.
 use Rattle.std.proofs.Common.{◌≡◌, ℕ, zero, suc, ◌<◌, Bool, true, false, ◌||◌, List, [], ◌∷◌, Option, Some, None, length, map, flat_map, get_or, sym, ap, ◌∙◌, refl}
 use Rattle.std.specs.List.{list_any}
 use Rattle.coll_order.specs.Layout.{is_in, rings_without}

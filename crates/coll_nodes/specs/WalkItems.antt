@@ -8,7 +8,7 @@ use Rattle.coll_nodes.specs.declared.walks.WalkItem.TheVariants as item
 use Rattle.coll_nodes.specs.declared.walks.DeclaredItem.{DeclaredItem}
 use Rattle.coll_nodes.specs.declared.walks.DeclaredItem.TheVariants as declared
 
--- what an item says that one visits
+-- what an item says that a walk visits
 abbrev pub visited_by : WalkItem → Visited
 visited_by (item.Section name) = VisitedSection (chars name.now)
 visited_by (item.Entry entry) = VisitedEntry entry.now

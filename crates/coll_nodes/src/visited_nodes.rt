@@ -1,4 +1,4 @@
-//! What the nodes are that one meets on a walk.
+//! What the nodes are that a walk visits.
 //!
 //! Each call here reads a node that is known to be of a kind: an entry, a section, a declaration.
 

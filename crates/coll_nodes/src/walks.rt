@@ -17,7 +17,7 @@ use crate::visited_nodes::{declaration_of, entry_of, first_ring, section_of};
 use coll_order::{NodeId, RingId};
 use std::marker::Model;
 
-/// What one meets on a walk through a table.
+/// What a walk through a table visits.
 #[derive(Clone, Copy)]
 pub enum WalkItem<'a> {
     /// A section begins: its name. The first section, which has no name, isn't met.

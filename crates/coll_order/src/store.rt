@@ -1,9 +1,9 @@
 //! The nodes with their neighbours, and the head and the last place of each ring.
 //!
-//! A node knows the place before it, the node after it and its ring; a head is the first node of a ring. A node without a
-//! place before it is loose. The calls here write the links of one place or node, the ring of a node or the end of a ring, and
-//! say what changes and that nothing else does (`specs/Store.antt`); that the links together are lists is the business of `Rings`. Whoever adds a field to `Node`
-//! has to say in each of these contracts that it stays.
+//! A node knows the place before it, the node after it and its ring; a head is the first node of a ring. A node without a place
+//! before it is loose. The calls here write the links of one place or node, the ring of a node or the end of a ring, and say what
+//! changes and that nothing else does (`specs/Store.antt`); that the links together are lists is the business of `Rings`. Whoever
+//! adds a field to `Node` has to say in each of these contracts that it stays.
 
 ghost use Rattle.std.specs.Prelude.{◌≡◌, ◌∷◌, [], ◌++◌, ◌<◌, length, nat_lt, Some, None, IfOk, OnOk, OnErr};
 ghost use Rattle.coll_order.specs.Store.{slot_at, next_at, ring_of, last_at, IsStored, IsStoredIfAny, HasPlace, SetsNext, SetsBefore, Joins, Detaches, SetsRing, MovesEnd, Inserts, Removes};

@@ -107,7 +107,7 @@ weights_behind id weights = if list_all is_own weights then [] else space ∷ sp
 abbrev pub entry_line : Entry → List ℕ
 entry_line entry = spelled_id entry.id (weights_behind entry.id entry.weights)
 
--- the line of what one visits on a walk: that which begins a section, or that of an entry
+-- the line of what a walk visits: that which begins a section, or that of an entry
 abbrev pub visited_line : Visited → List ℕ
 visited_line (VisitedSection name) = codes "section " ++ spelled_symbol name []
 visited_line (VisitedEntry entry) = entry_line entry

@@ -26,7 +26,7 @@ behind_bytes spelled x = encode_utf8_all (semicolon ∷ spelled x [])
 abbrev pub declaration_bytes : Declaration → List ℕ
 declaration_bytes declaration = line_bytes (declaration_line declaration)
 
--- the line of what one visits on a walk
+-- the line of what a walk visits
 abbrev pub visited_bytes : Visited → List ℕ
 visited_bytes item = line_bytes (visited_line item)
 

@@ -32,7 +32,7 @@ pub(crate) fn write_declaration<W: Sink>(
     }
 }
 
-/// Writes the line of what one visits on a walk: that which begins a section, or that of an entry.
+/// Writes the line of what a walk visits: that which begins a section, or that of an entry.
 pub(crate) fn write_visited<W: Sink>(out: &mut W, item: WalkItem<'_>) -> Result<(), WriteStop>
     ensures sent { Sends (W.taken out.old) (W.taken out.new) (visited_bytes (visited_by item.entry)) result }
     ensures errors { CountsErr (W.failed out.old) (W.failed out.new) result }

@@ -22,7 +22,7 @@ use Rattle.coll_ranks.specs.Ranks.{RanksById, rank_of_char, compiled_row_by, com
 use Rattle.coll_elements.proofs.Tests.{by_test}
 use Rattle.coll_elements.proofs.TableElementLemmas.{or_none}
 
--- What one meets.
+-- What a walk visits.
 
 or_all : {X : Type 0} (a b c : Option X) → option_or (option_or a b) c ≡ option_or a (option_or b c)
 or_all None b c = refl
@@ -34,7 +34,7 @@ counted_visited left later item rank next total first count all =
     let whole : length (entries_visited left) ≡ length (entry_visited item) + length (entries_visited later) = ap (λ items. length (entries_visited items)) first ∙ length-append (entry_visited item) (entries_visited later) in
     omega arith
 
--- the last place of an identifier is the same, whether what one visits first has been ranked or not
+-- the last place of an identifier is the same, whether what is visited first has been ranked or not
 last_of_visited : (item : Visited) (rank : ℕ) (entries : List Entry) (id : Id) → last_place rank (entry_visited item ++ entries) id ≡ option_or (last_place (rank + length (entry_visited item)) entries id) (last_place rank (entry_visited item) id)
 last_of_visited (VisitedSection name) rank entries id = ap (λ n. last_place n entries id) (let same : rank ≡ rank + 0 = omega arith in same) ∙ sym (or_none (last_place (rank + 0) entries id))
 last_of_visited (VisitedEntry entry) rank entries id = ap (λ n. option_or (last_place n entries id) (cond (same_id id entry.id) (Some (suc rank)) None)) (let same : suc rank ≡ rank + 1 = omega arith in same)

@@ -44,7 +44,7 @@ place_of_first (first ∷ entries) later (suc rank) entry h e =
     absurd (let f = sym there ∙ none in cc))
     (λ off. ap (option_map (λ place. suc place)) there)
 
--- what one visits next has the next rank
+-- what a walk visits next has the next rank
 pub next_ranked : (table : Collation) (rank : ℕ) (left later : List Visited) (item : Visited) → AreDistinct same_id (ids_of (entries_of table)) → left ≡ item ∷ later → entries_visited left ≡ drop rank (entries_of table) → HasNextRank table rank item
 next_ranked table rank left later (VisitedSection name) distinct first place = tt
 next_ranked table rank left later (VisitedEntry entry) distinct first place =

@@ -1,4 +1,4 @@
--- The weights of one level, and parts by the rows of their weights.
+-- The weights of one level, and elements by the rows of their weights.
 use Rattle.std.specs.Prelude.{ℕ, ◌+◌, ◌*◌, List, [], ◌∷◌, map, slice_index_or}
 use Rattle.coll_ranks.specs.RankLists.{WeightsValue}
 use Rattle.coll_ranks.specs.Ranks.{added_to, added_at}
@@ -16,7 +16,7 @@ ranks_in Ignored = []
 ranks_in (Single rank) = rank ∷ []
 ranks_in (Several ranks) = ranks.now
 
--- the row of a part
+-- the row of an element
 abbrev pub row_of : WeightsValue → TextElement → ElementRow
 row_of weights (Placed rank) = record { first = rank * weights.levels; code = 0 }
 row_of weights (Absent c) = record { first = 0; code = c }

@@ -15,7 +15,7 @@ abbrev pub last_place : (before : ℕ) → List Entry → Id → Option ℕ
 last_place before [] id = None
 last_place before (entry ∷ entries) id = option_or (last_place (suc before) entries id) (if same_id id entry.id then Some (suc before) else None)
 
--- what one visits on a walk, if it is an entry, has the next rank in a table, behind so many others
+-- what a walk visits, if it is an entry, has the next rank in a table, behind so many others
 abbrev pub HasNextRank : Collation → (before : ℕ) → Visited → Type 0
 HasNextRank table before (VisitedSection name) = Unit {0}
 HasNextRank table before (VisitedEntry entry) = known_rank table entry.id ≡ before + 1

@@ -51,7 +51,7 @@ rank_with ids Undefined = Some ids.undefined
 abbrev pub compiled_weight : WeightsValue → (rank : ℕ) → (level : ℕ) → List ℕ
 compiled_weight weights rank level = slice_index_or weights.lists (rank * weights.levels + level) []
 
--- the number that a rank in a weight of a part has, with what is added to it
+-- the number that a rank in a weight of an element has, with what is added to it
 abbrev pub added_to : ℕ → ℕ → ℕ
 added_to added rank = number_of rank + added
 
@@ -59,26 +59,26 @@ added_to added rank = number_of rank + added
 abbrev pub added_at : WeightsValue → (level : ℕ) → ℕ → ℕ
 added_at weights level c = if slice_index_or weights.own level false then c else 0
 
--- the numbers of a part at a level
+-- the numbers of an element of a text at a level
 abbrev pub part_numbers : WeightsValue → (level : ℕ) → TextElement → List ℕ
 part_numbers weights level (Placed rank) = map (added_to 0) (compiled_weight weights rank level)
 part_numbers weights level (Absent c) = map (added_to (added_at weights level c)) (compiled_weight weights 0 level)
 
--- the part of a character with this rank, if it has one
+-- the element that a character with this rank is, if it has one
 abbrev pub character_part : Option ℕ → ℕ → TextElement
 character_part None c = Absent c
 character_part (Some rank) c = Placed rank
 
--- a part: an element, or else the character
+-- an element of a text: a collating element, or else the character
 abbrev pub part_with : RanksById → Option RankedElement → ℕ → TextElement
 part_with ids (Some ranked) c = Placed ranked.rank
 part_with ids None c = character_part (rank_with ids (Char c)) c
 
--- the parts of a text behind this many characters
+-- the elements of a text behind this many characters
 abbrev pub parts_behind : RanksValue → (skipped : ℕ) → List ℕ → List TextElement
 parts_behind ranks skipped text = split ranked_text ranks.elements (part_with ranks.ids) skipped text
 
--- the parts of a text
+-- the elements of a text, by their ranks
 unfoldable pub parts_of : RanksValue → List ℕ → List TextElement
 parts_of ranks text = parts_behind ranks 0 text
 

@@ -1,4 +1,4 @@
--- The parts of one text, and its weights, compiled for it alone.
+-- The elements of one text, and its weights, compiled for it alone.
 use Rattle.std.specs.Prelude.{ℕ, suc, List, [], ◌∷◌}
 use Rattle.coll_syntax.specs.declared.identifiers.Id.{Id}
 use Rattle.coll_ranks.specs.RankLists.{WeightsValue}
@@ -8,7 +8,7 @@ use Rattle.coll_ranks.specs.declared.parts.TextElement.TheVariants as part
 use Rattle.coll_elements.specs.declared.element_entries.ElementEntry.{ElementEntry}
 use Rattle.coll_elements.specs.declared.element_entries.ElementEntry.TheVariants.{Placed, Absent}
 
--- the weights of a text as contracts see them: its parts, where a part that has an entry stands for a row, and the rows
+-- the weights of a text as contracts see them: its elements, where one that has an entry stands for a row, and the rows
 pub record TextWeightsValue : Type 0 where
   pub parts : List TextElement
   pub weights : WeightsValue
@@ -18,7 +18,7 @@ abbrev pub element_row : (Id → ℕ) → (levels : ℕ) → ElementEntry → Li
 element_row rank levels (Placed entry) = compiled_entry rank levels entry.now
 element_row rank levels (Absent c) = []
 
--- the parts of elements, of which the first that has an entry stands for this row, and each later one for the next
+-- elements by their rows: the first that has an entry stands for this row, and each later one for the next
 abbrev pub element_parts : (row : ℕ) → List ElementEntry → List TextElement
 element_parts row [] = []
 element_parts row (Placed entry ∷ elements) = part.Placed row ∷ element_parts (suc row) elements

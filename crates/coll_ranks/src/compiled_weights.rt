@@ -72,7 +72,7 @@ impl CompiledWeights {
         self.lists.list(rank as usize * self.levels + level)
     }
 
-    /// The row of a part.
+    /// The row of an element.
     #[inline(always)]
     pub fn row(&self, part: TextElement) -> ElementRow
         ensures { result ≡ row_of self.now part }
@@ -110,7 +110,7 @@ impl CompiledWeights {
         if self.is_own(level) { 1 } else { 0 }
     }
 
-    /// What a part weighs at a level.
+    /// What an element weighs at a level.
     #[inline(always)]
     pub fn weight(&self, part: TextElement, level: usize) -> ElementWeight<'_>
         requires { level < self.now.levels }

@@ -1,7 +1,7 @@
 //! Ranks by identifier.
 //!
-//! An `IdRanks` finds a name by hash, in a copy of the look-up that the table has itself, with the names that it once had, and a character by its code point. A new
-//! kind of identifier is a field more.
+//! An `IdRanks` finds a name by hash, in a copy of the table's own look-up, the names that it once had included, and a character
+//! by its code point. A new kind of identifier is a field more.
 
 ghost use Rattle.std.specs.Prelude.{◌≡◌, chars};
 ghost use Rattle.coll_syntax.specs.declared.identifiers.Id.TheVariants.{Char, Named};
@@ -77,7 +77,7 @@ impl IdRanks {
         }
     }
 
-    /// The part that a character is which stands alone.
+    /// The element that a character is which stands alone.
     pub(crate) fn part(&self, c: char) -> TextElement
         ensures { result ≡ character_part (rank_with self.now (Char c)) c }
     {

@@ -1,6 +1,6 @@
 //! The weights of one level.
 //!
-//! A key asks for the weight of one part after another at the same level. What is the same for all is found once: behind which
+//! A key asks for the weight of one element after another at the same level. What is the same for all is found once: behind which
 //! cell those of the level stand, and whether code points are added. So a look-up mostly reads one cell, and is inlined.
 
 ghost use Rattle.std.specs.Prelude.{◌≡◌, ◌≤◌, ◌*◌};
@@ -23,7 +23,7 @@ pub struct LevelWeights<'a> {
 impl<'a> LevelWeights<'a> {
     ghost use Rattle.coll_ranks.specs.LevelWeights.{ranks_in, level_ranks};
 
-    /// The ranks of the weight of a part.
+    /// The ranks of the weight of an element.
     #[inline(always)]
     pub fn ranks(&self, row: ElementRow) -> WeightRanks<'a>
         ensures { ranks_in result ≡ level_ranks self.now row }

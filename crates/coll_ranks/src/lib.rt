@@ -1,15 +1,15 @@
-//! The ranks of a collation table, and the parts of a text by them.
+//! The ranks of a collation table, and the elements of a text by them.
 //!
-//! `Ranks` is a table, compiled once and asked often: which rank an identifier has, which part a text begins with, and what a part
-//! weighs at a level. A way through the crate, each file with its definitions in `specs/`:
+//! `Ranks` is a table, compiled once and asked often: which rank an identifier has, which element a text begins with, and what an
+//! element weighs at a level. A way through the crate, each file with its definitions in `specs/`:
 //!
 //! - `id_ranks`: which rank an identifier has (`Rank` of `coll_elements`, `Ranks`);
 //! - `table_ranks`: which rank it has in a table whose entries are numbered (`Rank`), and `recent_ranks`: the same, where some ranks
 //!   are kept from one entry to the next (`RecentRanks`);
-//! - `parts`: what a text is split into (`AlikePrefixes`);
-//! - `rank_lists`, `weight_cells`, `entry_rows` and `compiled_weights`: the weights of all entries as ranks, and what a part weighs
-//!   by them (`RankLists`, `WeightCells`, `Ranks`, `WeightNumbers`);
-//! - `level_weights`: the same at one level, for part after part (`LevelWeights`);
+//! - `parts`: the elements that a text is split into (`AlikePrefixes`);
+//! - `rank_lists`, `weight_cells`, `entry_rows` and `compiled_weights`: the weights of all entries as ranks, and what an element
+//!   weighs by them (`RankLists`, `WeightCells`, `Ranks`, `WeightNumbers`);
+//! - `level_weights`: the same at one level, for element after element (`LevelWeights`);
 //! - `text_weights`: the weights of one text, compiled for it alone (`TextWeights`);
 //! - `ranks`, and `ranking`: the whole, made of a table (`Ranks`, `Ranking`).
 //!

@@ -1,13 +1,13 @@
-//! The parts of a text, and what a part weighs at a level.
+//! The elements of a text, and what an element weighs at a level.
 //!
-//! A part is small and plain, and so is its row, so that a list of them can be kept. What a part is, is found in `Ranks`; what it
-//! weighs, in `CompiledWeights`, or level by level in `LevelWeights`.
+//! An element is small and plain, and so is its row, so that a list of them can be kept. What an element is, is found in `Ranks`;
+//! what it weighs, in `CompiledWeights`, or level by level in `LevelWeights`.
 
 ghost use Rattle.std.specs.Prelude.{◌≡◌, ℕ, map};
 
 use std::marker::Model;
 
-/// A part of a text: a collating element, or a character.
+/// An element of a text: a collating element, or a character.
 #[derive(Clone, Copy)]
 pub enum TextElement {
     /// What has an entry: its rank.
@@ -16,10 +16,10 @@ pub enum TextElement {
     Absent(char),
 }
 
-/// The part that a text begins with.
+/// The element that a text begins with.
 #[derive(Clone, Copy)]
 pub struct FirstElement<'a> {
-    /// The part.
+    /// The element.
     pub part: TextElement,
     /// The number of its characters.
     pub characters: usize,
@@ -27,7 +27,7 @@ pub struct FirstElement<'a> {
     pub rest: &'a str,
 }
 
-/// What a part weighs at a level: ranks, and what is added to the number of each.
+/// What an element weighs at a level: ranks, and what is added to the number of each.
 #[derive(Clone, Copy)]
 pub struct ElementWeight<'a> {
     /// The ranks of its weight.
@@ -36,7 +36,7 @@ pub struct ElementWeight<'a> {
     pub added: u32,
 }
 
-/// A part by where its weights stand among compiled ones. It serves each level.
+/// An element by where its weights stand among compiled ones. It serves each level.
 #[derive(Clone, Copy)]
 pub struct ElementRow {
     /// The place of its weight at the first level.

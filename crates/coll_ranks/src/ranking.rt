@@ -1,7 +1,7 @@
 //! Ranks and weights of a table, found on walks through it.
 //!
-//! Once the entries of the table are numbered, so that it tells each rank itself, one walk gives each character its rank and compiles
-//! the weights; names have their ranks by these numbers.
+//! Once the entries of the table are numbered, so that it tells each rank itself, one walk gives each character its rank and
+//! compiles the weights; names have their ranks by these numbers.
 
 ghost use Rattle.std.specs.Prelude.{◌≡◌, ◌<◌, ◌+◌, ℕ, Some, cond, length, map, replicate, IfOk, OnOk};
 ghost use Rattle.std.specs.List.{flat_map};
@@ -92,8 +92,8 @@ fn put_walk<'a>(
     Ok(characters)
 }
 
-// Gives what one visits the next rank, if it is a character, and puts its compiled weights behind others, if it is an entry; and gives
-// the last rank.
+// Gives what a walk visits next its rank, if it is a character, and puts its compiled weights behind others, if it is an entry;
+// and gives the last rank.
 fn put_visited<'a>(
     characters: &mut CodePoints,
     weights: &mut CompiledWeights,

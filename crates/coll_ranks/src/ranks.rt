@@ -1,7 +1,9 @@
 //! The ranks of a table, with its weights compiled.
 //!
-//! The entries of a table are numbered; then one walk over them gives each character its rank and compiles the weights, which stand
-//! as ranks in one list. Names are found in a copy of the table's own look-up, and by it the placed elements have their ranks. A `Ranks` keeps nothing of the table itself, so it is true of each table with the same rules, declarations and sections (`AreRanksOf` of `specs/Ranks.antt`), and of a changed table it isn't.
+//! The entries of a table are numbered; then one walk over them gives each character its rank and compiles the weights, which
+//! stand as ranks in one list. Names are found in a copy of the table's own look-up, and by it the placed elements have their
+//! ranks. A `Ranks` keeps nothing of the table itself, so it is true of each table with the same rules, declarations and sections
+//! (`AreRanksOf` of `specs/Ranks.antt`), and of a changed table it isn't.
 
 ghost use Rattle.std.specs.Prelude.{◌≡◌, ◌<◌, ◌≤◌, ◌+◌, ◌∷◌, ℕ, [], chars, length, map, option_copied, Option, IfOk, IfSome, MatchOption};
 ghost use Rattle.coll_nodes.specs.TableLayout.{collation};
@@ -65,7 +67,7 @@ impl Ranks {
         self.ids.rank(id)
     }
 
-    /// The part that a text begins with.
+    /// The element that a text begins with.
     #[inline(always)]
     pub fn first_part<'a>(&self, text: &'a str) -> Option<FirstElement<'a>>
         ensures parts { MatchOption result (parts_of self.now (chars text.now) ≡ []) (λ first. parts_of self.now (chars text.now) ≡ first.part ∷ parts_of self.now (chars first.rest.now)) }
@@ -88,7 +90,7 @@ impl Ranks {
         }
     }
 
-    /// Two texts behind characters that both begin with, and that are parts of each.
+    /// Two texts behind characters that both begin with, and that are elements of each.
     #[inline(always)]
     pub fn past_common<'a, 'b>(&self, text: &'a str, other: &'b str) -> (&'a str, &'b str)
         ensures { BeginAlike (parts_of self.now (chars text.now)) (parts_of self.now (chars other.now)) (parts_of self.now (chars result.0.now)) (parts_of self.now (chars result.1.now)) }

@@ -1,7 +1,7 @@
 //! The weights of one text.
 //!
-//! A `TextWeights` is what a key is made of where the ranks of a whole table aren't worth their time: the parts of one text, and
-//! compiled weights that have rows for this text alone. Row 0 is that of what has no entry, as in `Ranks`; each part that has an
+//! A `TextWeights` is what a key is made of where the ranks of a whole table aren't worth their time: the elements of one text, and
+//! compiled weights that have rows for this text alone. Row 0 is that of what has no entry, as in `Ranks`; each element that has an
 //! entry has a row of its own, in the order of the text, also where an entry comes again.
 
 ghost use Rattle.std.specs.Prelude.{◌≡◌, ◌<◌, ◌≤◌, ◌+◌, ◌++◌, ◌∷◌, ℕ, List, chars, length, map, IfOk, OnOk};
@@ -26,7 +26,7 @@ use coll_table::Table;
 use std::alloc::{AllocError, Global};
 use std::marker::Model;
 
-/// The parts of a text, and what they weigh.
+/// The elements of a text, and what they weigh.
 ///
 /// They are those of the table as it stood when they were made.
 #[derive(Drop)]
@@ -64,14 +64,14 @@ impl TextWeights {
         Ok(TextWeights { parts, weights })
     }
 
-    /// The parts of the text.
+    /// The elements of the text.
     pub fn parts(&self) -> &[TextElement]
         ensures { result.now ≡ self.now.parts }
     {
         &self.parts
     }
 
-    /// The weights of these parts.
+    /// The weights of these elements.
     pub fn weights(&self) -> &CompiledWeights
         ensures { result.now ≡ self.now.weights }
     {
@@ -79,7 +79,7 @@ impl TextWeights {
     }
 }
 
-// The parts of elements, whose weights are put behind those of `UNDEFINED`.
+// The elements of a text by their rows, where the weights of each are put behind those of `UNDEFINED`.
 fn compiled_parts(
     alloc: Global,
     weights: &mut CompiledWeights,
@@ -98,7 +98,7 @@ fn compiled_parts(
     Ok(parts)
 }
 
-// Puts the part of an element behind others, and if it has an entry its weights too, which are this row; and gives the next row.
+// Puts an element behind others, and if it has an entry its weights too, which are this row; and gives the next row.
 fn push_element(
     parts: &mut Vec<TextElement>,
     weights: &mut CompiledWeights,

@@ -1,7 +1,7 @@
 //! The weights of entries as ranks, each in a cell.
 //!
-//! Most weights are one rank, and some are ignored. Such a weight is told by its cell alone; a list of several ranks stands apart, among
-//! the long ones. So the weights of an entry lie together, and a look-up mostly reads one cell.
+//! Most weights are one rank, and some are ignored. Such a weight is told by its cell alone; a list of several ranks stands
+//! apart, among the long ones. So the weights of an entry lie together, and a look-up mostly reads one cell.
 
 ghost use Rattle.std.specs.Prelude.{◌≡◌, ◌<◌, ◌++◌, ◌∷◌, [], ℕ, suc, map, drop, IfOk, IfSome, OnOk, slice_index_or};
 ghost use Rattle.coll_elements.specs.Rank.{known_rank};

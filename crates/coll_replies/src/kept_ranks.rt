@@ -1,10 +1,11 @@
 //! What a session keeps beside its table, for keys and comparisons.
 //!
-//! The ranks of a whole table are made in one pass over its entries, and then serve each look at once. After a change they have to
-//! be made anew, which is dear where one word is looked up and the next change comes. So a look for a short text is served by the
-//! places of the entries, which are given anew in a much shorter pass, and it looks up what the text meets and no more. Such a look
-//! costs more by itself: where those since the last change have cost as much as the ranks of a large table, the ranks are made after
-//! all. What is kept is true of one table as it stands (`specs/Ranked.antt`); whoever changes the table gives it up.
+//! The ranks of a whole table are made in one pass over its entries, and then serve each look at once. After a change they have
+//! to be made anew, which is dear where one word is looked up and the next change comes. So a look for a short text is served by
+//! the places of the entries, which are given anew in a much shorter pass, and it looks up what the text asks for and no more.
+//! Such a look costs more by itself: where those since the last change have cost as much as the ranks of a large table, the ranks
+//! are made after all. What is kept is true of one table as it stands (`specs/Ranked.antt`); whoever changes the table gives it
+//! up.
 
 ghost use Rattle.std.specs.Prelude.{◌≡◌, ◌≢◌, ◌||◌, true, false, chars, length, IsSome, IfOk, IfErr, OnOk};
 ghost use Rattle.coll_nodes.specs.TableLayout.{collation};

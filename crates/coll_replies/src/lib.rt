@@ -5,8 +5,8 @@
 //!
 //! - `kept_ranks` and `ranked_sessions`: ranks and places, kept while the table stays, and a history with them (`Ranked`);
 //! - `faults`: all faults of a session and a batch, and the one that ends a run (`Faults`);
-//! - `replies`: the reply to each request (`Replies`, and of a table's listing `Listing`), with `history_reply` for `:history` and `texts` for
-//!   `:key` and `:compare`; a batch writes its counts, keys and orders by the same functions;
+//! - `replies`: the reply to each request (`Replies`, and of a table's listing `Listing`), with `history_reply` for `:history`
+//!   and `texts` for `:key` and `:compare`; a batch writes its counts, keys and orders by the same functions;
 //! - `laws`: what follows from the definition of replies (`Laws`);
 //! - `reports`: the line of a fault, and the exit status of the program (`Reports`).
 #![tactic(auto)]

@@ -1,7 +1,7 @@
 //! The replies of a session, written to its sink.
 //!
 //! Each request has one reply, which is written piece by piece, without taking memory, and flushed. Where a write or the
-//! flush fails, the device has taken a prefix of the reply. A new request is a new case of `respond`, and of the
+//! flush fails, the device has taken a prefix of the reply. A new kind of request is a new case of `respond`, and of the
 //! definition of replies.
 
 ghost use Rattle.std.specs.Prelude.{◌≡◌, ◌≤◌, ◌++◌, ◌∷◌, [], Bool, true, chars, encode_utf8_all, IfOk, OnOk};
@@ -204,7 +204,7 @@ pub(crate) fn write_part<W: Sink>(out: &mut W, word: &[u8], count: usize) -> Res
     write_bytes(out, number.format(count as u64).as_bytes())
 }
 
-// Writes a line for each named section and each entry that one meets.
+// Writes a line for each named section and each entry that a walk visits.
 fn write_walk<W: Sink>(out: &mut W, table: &Table) -> Result<(), WriteStop>
     ensures sent { Sends (W.taken out.old) (W.taken out.new) (listed_sections 1 (collation table.now).sections) result }
     ensures errors { CountsErr (W.failed out.old) (W.failed out.new) result }

@@ -1,4 +1,4 @@
--- The requests of a block, above the recursion: its lines are gathered one after another, and the line that ends it makes
+-- The requests of a block, above the recursion: a block takes its lines one after another, and the line that ends it makes
 -- one request of them.
 use Rattle.std.proofs.Common.{◌≡◌, ℕ, Bool, true, List, [], ◌∷◌, ◌++◌, Some, None, Result, Ok, Err, refl, sym, ap, ◌∙◌, append-nil, append_assoc}
 use Rattle.std.specs.List.{list_all}

@@ -1,4 +1,4 @@
--- What a block that isn't spoiled has gathered.
+-- The parts of a block that isn't spoiled: its target and its order lines so far.
 use Rattle.std.specs.Prelude.{List}
 use Rattle.coll_syntax.specs.declared.identifiers.Id.{Id}
 use Rattle.coll_syntax.specs.declared.statements.OrderLine.{OrderLine}

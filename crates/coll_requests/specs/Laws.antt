@@ -103,8 +103,8 @@ is_taken parsed.BlockEnd = true
 is_taken (parsed.OrderLine order) = true
 is_taken (parsed.Standalone a) = false
 
--- the request of a block with a target, only lines that it takes and no order line too many: the statement of its target and its order
--- lines, at the number of its first line
+-- the request of a block with a target, only lines that it takes and no order line too many: the statement of its target and its
+-- order lines, at the number of its first line
 abbrev pub BlockStates : Type 0
 BlockStates = (n : ℕ) (target : Id) (body : List ParsedLine) → list_all (λ (line : ParsedLine). is_taken line.parsed) body ≡ true → length (orders_in body) ≤ most_block_lines
     → block_request (block_with n (Ok target) body) ≡ asked_at n (kind.Statement (statement.Block target (orders_in body)))

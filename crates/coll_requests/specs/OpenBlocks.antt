@@ -40,7 +40,8 @@ begun_at line target = open_at line (Building (record { target = target; lines =
 abbrev pub spoiled_by : FaultAt → BlockStatus
 spoiled_by at = if is_lack_of_memory at.fault then Starved at.line else Spoiled at
 
--- what is kept after a line that spoils the block: the first line that memory was refused for, or else the first that spoils the block
+-- what is kept after a line that spoils the block: the first line that memory was refused for, or else the first that spoils the
+-- block
 abbrev pub after_fault : BlockStatus → FaultAt → BlockStatus
 after_fault (Building g) at = spoiled_by at
 after_fault (Spoiled first) at = if is_lack_of_memory at.fault then Starved at.line else Spoiled first

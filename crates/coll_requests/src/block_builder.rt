@@ -1,4 +1,4 @@
-//! What a block that isn't spoiled has gathered.
+//! The statement of a block that isn't spoiled, while it is built.
 //!
 //! Its room grows with its lines, and its statement keeps no more of it than they need. What it holds is always a proper
 //! statement, so that the statement is one.
@@ -12,7 +12,7 @@ use coll_syntax::{Id, MOST_BLOCK_LINES, OrderLine, Statement};
 use std::alloc::{AllocError, Global};
 use std::marker::Model;
 
-/// What a block has gathered: its target and its order lines so far.
+/// The statement of a block while it is built: its target and its order lines so far.
 #[derive(Drop)]
 pub struct BlockBuilder {
     target: Id,

@@ -2,7 +2,7 @@
 //!
 //! A `DeltaReader` stores what the next line is judged by (`DeltaState` of `specs/DeltaReading.antt`), and each call is the
 //! definition applied to what is stored and the line handed in. Lines before the category are looked at by the lexer alone;
-//! those of the category are parsed and gathered as the lines of a session are, but none is a command, and the first fault
+//! those of the category are parsed, and taken by blocks, as the lines of a session are, but none is a command, and the first fault
 //! ends the file. What a whole file says is defined in `specs/DeltaFiles.antt`.
 //!
 //! A new kind of line needs its fault here, in `fault_outside` and `fault_inside`, and in the definitions of the same names;

@@ -1,9 +1,10 @@
 //! The requests of a session, and the statements of a delta file: what lines ask for, found apart from any table.
 //!
-//! The way of a line: a physical line is parsed (`parsing`) as what its logical line is (`session_lines`, `commands`, `numerals`), once that
-//! is whole; a block takes it (`open_blocks`, `block_builder`), which may complete a request of the session (`requests`). `taking` does this
-//! for one physical line of a session, and `delta_files` for those of a delta file; `laws` says what follows from the
-//! definitions, `request_faults` and `delta_faults` have the faults, and `limits` says how many lines a block has at most.
+//! The way of a line: a physical line is parsed (`parsing`) as what its logical line is (`session_lines`, `commands`,
+//! `numerals`), once that is whole; a block takes it (`open_blocks`, `block_builder`), which may complete a request of the
+//! session (`requests`). `taking` does this for one physical line of a session, and `delta_files` for those of a delta file;
+//! `laws` says what follows from the definitions, `request_faults` and `delta_faults` have the faults, and `limits` says how many
+//! lines a block has at most.
 #![tactic(auto)]
 
 mod block_builder;

@@ -1,6 +1,6 @@
 //! The block that a session has open.
 //!
-//! A block opens at `reorder-after` and has its one answer where it ends. Until then it gathers its order lines, or,
+//! A block opens at `reorder-after` and has its one answer where it ends. Until then it keeps its order lines, or,
 //! once a line has spoiled it, that line's fault alone. A growth that is refused makes the line that needed it a refused
 //! one. A new kind of line that a block doesn't take needs no change here: it is one of `StandaloneLine`.
 
@@ -20,10 +20,10 @@ use coll_lex::LexFault;
 use coll_syntax::{Id, OrderLine, Statement, SyntaxFault};
 use std::alloc::{AllocError, Global};
 
-/// What the lines of a block amount to so far.
+/// Whether a block is being built, is spoiled, or lacks memory, by its lines so far.
 #[derive(Drop)]
 pub enum BlockStatus {
-    /// Nothing is wrong with it.
+    /// It is being built: nothing is wrong with it.
     Building(BlockBuilder),
     /// A line has spoiled it: the first such line.
     Spoiled(FaultAt),

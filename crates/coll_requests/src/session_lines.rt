@@ -9,7 +9,7 @@ use crate::request_faults::RequestFault;
 use coll_lex::{LexFault, TextBuf};
 use coll_syntax::{Id, OrderLine, Statement};
 
-/// What a command of a session asks for.
+/// A command of a session.
 #[derive(Debug, Drop)]
 pub enum Command {
     /// `:undo`: takes the last remaining statement back.

@@ -1,6 +1,6 @@
 //! The identifiers of a block, with a look-up by hash.
 //!
-//! A `IdSet` is a list of identifiers in no stated order: what a contract says of it is which identifiers it has, and all
+//! An `IdSet` is a list of identifiers in no stated order: what a contract says of it is which identifiers it has, and all
 //! else may change. It takes memory for them, and for no others. A new kind of identifier is a look-up more.
 
 ghost use Rattle.std.specs.Prelude.{◌≡◌, [], OnOk, OnErr};

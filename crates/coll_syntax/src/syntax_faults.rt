@@ -28,7 +28,7 @@ pub enum SyntaxFault {
     WeightTooLong,
     /// The string of a collating element has fewer than 2 or more than 16 characters.
     ElementLength,
-    /// A block has more lines than allowed. Whoever gathers the block answers it.
+    /// A block has more lines than allowed. Whoever builds the block answers it.
     BlockTooLong,
     /// A string that has to spell something is empty.
     EmptyString,

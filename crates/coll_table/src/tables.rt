@@ -105,8 +105,9 @@ impl Table {
 
     /// Gives each entry its place among all, from 1, for `entry_number`.
     ///
-    /// It takes memory for entries that the numbers have no room for yet, which no clause says. The numbers are those of the table as it stands. After an `apply` or a `flip` they are to be given anew; so are they where
-    /// memory was refused, since part of them is then written over.
+    /// It takes memory for entries that the numbers have no room for yet, which no clause says. The numbers are those of the
+    /// table as it stands. After an `apply` or a `flip` they are to be given anew; so are they where memory was refused, since
+    /// part of them is then written over.
     #[tactic(auto, unfolding(coll_nodes::specs::TableLayout::collation))]
     pub fn number_entries(&self, numbers: &mut EntryNumbers) -> Result<(), AllocError>
         ensures { OnOk result (AreNumbersOf numbers.new self.now.layout) }

@@ -1,8 +1,8 @@
 //! Rings of nodes: worked examples.
 //!
-//! There are two rings and two loose nodes at first. A table has calls, and what is to be seen between them. Each call is made
-//! as a caller from outside would: what it asks for is asserted first. A ring is shown as the list of its nodes' tags. The growths of
-//! the calls are counted, and one that is refused memory is made again (`growths`).
+//! There are two rings and two loose nodes at first. A table has calls, and what is to be seen between them. Each call is made as
+//! a caller from outside would: what it asks for is asserted first. A ring is shown as the list of its nodes' tags. The growths
+//! of the calls are counted, and one that is refused memory is made again (`growths`).
 
 ghost use Rattle.std.specs.Prelude.{IsTrue, ◌↔◌};
 ghost use Rattle.coll_order.specs.Layout.{IsPlace};

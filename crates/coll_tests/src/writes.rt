@@ -184,8 +184,8 @@ fn wanted(rt: &impl Abort, alloc: Global, what: Written) -> Vec<u8> {
     }
 }
 
-// Whether there is no n-th write or flush that could fail. Asserts that all is written if so, and else a prefix of it, that the answer
-// is the fault, and that the device is called no more.
+// Whether there is no n-th write or flush that could fail. Asserts that all is written if so, and else a prefix of it, that the
+// answer is the fault, and that the device is called no more.
 fn is_whole(
     rt: &impl Abort,
     alloc: Global,

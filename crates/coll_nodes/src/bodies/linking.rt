@@ -1,8 +1,9 @@
 //! Nodes of a body that are made, put in, taken out, moved, weighed anew and dropped.
 //!
 //! A node is made loose, and its keys are reserved with it, so that it can be put in and taken out any number of times without
-//! memory; one that stands from the first on is made and put in at once, with one look-up for each key (`put_new`). A key that came into a look-up stays for good. Whoever puts a node in or takes it out sets the look-ups with it; a
-//! node that is moved keeps them. A section is moved, and never loose.
+//! memory; one that stands from the first on is made and put in at once, with one look-up for each key (`put_new`). A key that
+//! came into a look-up stays for good. Whoever puts a node in or takes it out sets the look-ups with it; a node that is moved
+//! keeps them. A section is moved, and never loose.
 
 ghost use Rattle.std.specs.Prelude.{◌≡◌, ◌∷◌, [], Some, None, IsSome, false, true, IfOk, OnErr, OnOk};
 ghost use Rattle.coll_order.specs.Changes.{one_step_more};

@@ -21,8 +21,8 @@ impl Body {
 
     /// Gives each entry its place, from 1.
     ///
-    /// It takes memory for nodes that the numbers have no room for yet, which no clause says. Where memory is refused, nothing is known
-    /// of the numbers, and they are to be given anew.
+    /// It takes memory for nodes that the numbers have no room for yet, which no clause says. Where memory is refused, nothing is
+    /// known of the numbers, and they are to be given anew.
     pub fn number_entries(&self, numbers: &mut EntryNumbers) -> Result<(), AllocError>
         requires few { length (joined_entries (sections_at self.now.layout)) < 1_000_000 }
         requires distinct { AreDistinct same_id (ids_of (joined_entries (sections_at self.now.layout))) }

@@ -1,10 +1,10 @@
 //! Physical lines and the answers to them, in the order of POSIX.1-2017, 7.3: continuation, characters made literal,
 //! directives, symbols, strings, and the line that begins the category. A new rule of lines is a new row.
 //!
-//! A table of lines is one constant text, of which each paragraph is a text that is lexed by itself. A row has a physical line, `=>`, and
-//! the answer: a dash where there is no logical line yet, the number of the line and its tokens, or the name of the fault. A word is
-//! shown as it is, a symbol in brackets, a character between apostrophes, and a string in quotation marks. The last row has the
-//! answer to the end. A row that begins with `--` says what the others show.
+//! A table of lines is one constant text, of which each paragraph is a text that is lexed by itself. A row has a physical line,
+//! `=>`, and the answer: a dash where there is no logical line yet, the number of the line and its tokens, or the name of the
+//! fault. A word is shown as it is, a symbol in brackets, a character between apostrophes, and a string in quotation marks. The
+//! last row has the answer to the end. A row that begins with `--` says what the others show.
 
 use crate::assertions::{assert_same, past, past_char, past_name};
 use crate::long_texts::repeated;
@@ -346,8 +346,8 @@ enum To {
 
 use To::{Feed, Outside};
 
-// The prefix of a line, the number of blanks behind it, whether it gives a logical line or begins the category, or its fault, and the
-// number of the first line of the one that is open then.
+// The prefix of a line, the number of blanks behind it, whether it gives a logical line or begins the category, or its fault, and
+// the number of the first line of the one that is open then.
 type Call = (
     To,
     &'static [u8],

@@ -49,8 +49,8 @@ const LONGER_SPELLED: &str = "<\
      aaaaaaaaaaaaaaaaaaaaaaaaaaaaaaaaaaaaaaaaaaaaaaaaaaaaaaaaaaaaaaaa\
      a>";
 
-// What is written to a device that does what its script says, the bytes that it takes, and in how many calls at most. Where the device fails,
-// so does the last thing that is written.
+// What is written to a device that does what its script says, the bytes that it takes, and in how many calls at most. Where the
+// device fails, so does the last thing that is written.
 const ROWS: &[(Script, &[What], &str, usize)] = &[
     // A name is spelled with its escapes, in one write.
     (WHOLE, &[Name("")], "<>", 1),

@@ -64,8 +64,8 @@ fn a_line_read_whole_decides_before_a_later_read(rt: HostRuntime) {
     assert_same(&rt, "the errors", input.errors(), 0);
 }
 
-// The base table, and below each byte of a line, its line feed included, the fault of the text that ends with this byte. A blank line
-// parts the lines.
+// The base table, and below each byte of a line, its line feed included, the fault of the text that ends with this byte. A blank
+// line parts the lines.
 const FRONTS: &str = "\
 comment_char %
 cccccccccccddcc
