@@ -26,7 +26,7 @@ use std::process::ExitCode;
 const WRONG_WORDS: u8 = 2;
 
 /// The version of the program, and the line of the kit that it is proved with, as `rt version` prints it.
-const VERSION: &str = "collbench 0.1.0\nproved with rattle-kit-13f logic dac8208d650f15bf";
+const VERSION: &str = "collbench 0.1.0\nproved with rattle-kit-13b logic dac8208d650f15bf";
 
 /// The name of standard input.
 const STANDARD_INPUT: &str = "-";
