@@ -4,6 +4,7 @@ pub mod LevelRows
 pub mod PartNumbers
 pub mod RankListLemmas
 pub mod RankingLemmas
+mod RecentLemmas
 pub mod RowNumbers
 pub mod TextRows
 pub mod WalkedRanks

@@ -6,13 +6,14 @@ ghost use Rattle.std.specs.Prelude.{◌≡◌, ◌<◌, ◌≤◌, ◌+◌, ◌*
 ghost use Rattle.coll_print.specs.CanonicalText.{is_own};
 ghost use Rattle.coll_syntax.specs.declared.identifiers.Id.TheVariants.{Undefined};
 ghost use Rattle.coll_elements.specs.Rank.{known_rank};
-ghost use Rattle.coll_ranks.specs.Ranks.{compiled_row_by};
+ghost use Rattle.coll_ranks.specs.Ranks.{compiled_row_by, compiled_entry};
 
 use crate::level_weights::LevelWeights;
 use crate::parts::{ElementRow, ElementWeight, TextElement};
 use crate::recent_ranks::RecentRanks;
 use crate::table_ranks::TableRanks;
 use crate::weight_cells::WeightCells;
+use coll_nodes::Entry;
 use coll_syntax::{Id, Weight};
 use std::alloc::{AllocError, Global};
 use std::marker::Model;
@@ -59,7 +60,8 @@ impl CompiledWeights {
     {
         let own = own_levels(alloc, undefined)?;
         let mut lists = WeightCells::with_room(alloc, likely_weights(entries, levels))?;
-        lists.push_row(table, &Id::Undefined, undefined, levels)?;
+        let mut ranks = RecentRanks::new(alloc, table);
+        lists.push_row(&mut ranks, &Id::Undefined, undefined, levels)?;
         Ok(CompiledWeights { levels, lists, own })
     }
 
@@ -145,31 +147,17 @@ impl CompiledWeights {
         }
     }
 
-    /// Puts the weights of an identifier behind all others, as many as there are levels.
-    pub(crate) fn push(
-        &mut self,
-        table: &TableRanks<'_>,
-        owner: &Id,
-        weights: &[Weight],
-    ) -> Result<(), AllocError>
-        ensures { OnOk result (AddsRow self.old self.new (compiled_row_by (known_rank table.now) self.old.levels owner.now weights.now)) }
-    {
-        self.lists.push_row(table, owner, weights, self.levels)?;
-        Ok(())
-    }
-
-    /// The same for an entry of a table, with the ranks that are kept from one entry to the next.
-    pub(crate) fn push_entry<'a>(
+    /// Puts the weights of an entry behind all others, as many as there are levels.
+    pub(crate) fn push<'a>(
         &mut self,
         ranks: &mut RecentRanks<'a>,
-        owner: &'a Id,
-        weights: &'a [Weight],
+        entry: &'a Entry,
     ) -> Result<(), AllocError>
-        ensures row { OnOk result (AddsRow self.old self.new (compiled_row_by (known_rank ranks.old) self.old.levels owner.now weights.now)) }
+        ensures row { OnOk result (AddsRow self.old self.new (compiled_entry (known_rank ranks.old) self.old.levels entry.now)) }
         ensures same { ranks.new ≡ ranks.old }
     {
         self.lists
-            .push_entry_row(ranks, owner, weights, self.levels)?;
+            .push_row(ranks, entry.id(), entry.weights(), self.levels)?;
         Ok(())
     }
 }

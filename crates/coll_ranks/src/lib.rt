@@ -7,7 +7,7 @@
 //! - `table_ranks`: which rank it has in a table whose entries are numbered (`Rank`), and `recent_ranks`: the same, where some ranks
 //!   are kept from one entry to the next (`RecentRanks`);
 //! - `parts`: the elements that a text is split into (`AlikePrefixes`);
-//! - `rank_lists`, `weight_cells`, `entry_rows` and `compiled_weights`: the weights of all entries as ranks, and what an element
+//! - `rank_lists`, `weight_cells` and `compiled_weights`: the weights of all entries as ranks, and what an element
 //!   weighs by them (`RankLists`, `WeightCells`, `Ranks`, `WeightNumbers`);
 //! - `level_weights`: the same at one level, for element after element (`LevelWeights`);
 //! - `text_weights`: the weights of one text, compiled for it alone (`TextWeights`);
@@ -17,7 +17,6 @@
 #![tactic(auto)]
 
 mod compiled_weights;
-mod entry_rows;
 mod id_ranks;
 mod level_weights;
 mod parts;

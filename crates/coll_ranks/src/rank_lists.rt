@@ -7,7 +7,7 @@ ghost use Rattle.coll_elements.specs.Rank.{known_rank};
 ghost use Rattle.coll_ranks.specs.Ranks.{compiled_by};
 ghost use Rattle.coll_ranks.specs.RankLists.{IsLonger};
 
-use crate::table_ranks::TableRanks;
+use crate::recent_ranks::RecentRanks;
 use coll_syntax::{Id, Weight};
 use std::alloc::{AllocError, Global};
 use std::marker::Model;
@@ -60,19 +60,21 @@ impl RankLists {
         }
     }
 
-    /// Puts the ranks of a weight behind all others.
-    pub(crate) fn push(
+    /// Puts the ranks of a weight at a level behind all others.
+    pub(crate) fn push<'a>(
         &mut self,
-        table: &TableRanks<'_>,
-        owner: &Id,
-        weight: &Weight,
+        recent: &mut RecentRanks<'a>,
+        owner: &'a Id,
+        weight: &'a Weight,
+        level: usize,
     ) -> Result<(), AllocError>
-        ensures ok { OnOk result (self.new ≡ self.old ++ compiled_by (known_rank table.now) owner.now weight.now ∷ []) }
+        ensures ok { OnOk result (self.new ≡ self.old ++ compiled_by (known_rank recent.old) owner.now weight.now ∷ []) }
         ensures err { OnErr result (self.new ≡ self.old) }
+        ensures same { recent.new ≡ recent.old }
     {
         self.ends.reserve(1)?;
         let whole = self.ranks.len();
-        match push_weight(&mut self.ranks, table, owner, weight) {
+        match push_weight(&mut self.ranks, recent, owner, weight, level) {
             Ok(()) => {
                 self.ends.push_reserved(self.ranks.len());
                 Ok(())
@@ -104,41 +106,58 @@ fn start(ends: &[usize], place: usize) -> usize
     if place == 0 { 0 } else { ends[place - 1] }
 }
 
-// Puts the ranks of a weight behind others.
-fn push_weight(
+// Puts the ranks of a weight at a level behind others.
+fn push_weight<'a>(
     ranks: &mut Vec<u32>,
-    table: &TableRanks<'_>,
-    owner: &Id,
-    weight: &Weight,
+    recent: &mut RecentRanks<'a>,
+    owner: &'a Id,
+    weight: &'a Weight,
+    level: usize,
 ) -> Result<(), AllocError>
-    ensures ok { OnOk result (ranks.new.items ≡ ranks.old.items ++ compiled_by (known_rank table.now) owner.now weight.now) }
+    ensures ok { OnOk result (ranks.new.items ≡ ranks.old.items ++ compiled_by (known_rank recent.old) owner.now weight.now) }
     ensures err { OnErr result (IsLonger ranks.old.items ranks.new.items) }
+    ensures same { recent.new ≡ recent.old }
 {
     match weight {
         Weight::Ignore => Ok(()),
-        Weight::Own => push_rank(ranks, table, owner),
-        Weight::Names(named) => push_named(ranks, table, named.get()),
+        Weight::Own => push_rank(ranks, recent, owner, level, 0),
+        Weight::Names(named) => push_named(ranks, recent, named.get(), level),
     }
 }
 
-// Puts the ranks of identifiers behind others.
-fn push_named(ranks: &mut Vec<u32>, table: &TableRanks<'_>, named: &[Id]) -> Result<(), AllocError>
-    ensures ok { OnOk result (ranks.new.items ≡ ranks.old.items ++ map (known_rank table.now) named.now) }
+// Puts the ranks of the identifiers of a weight at a level behind others.
+fn push_named<'a>(
+    ranks: &mut Vec<u32>,
+    recent: &mut RecentRanks<'a>,
+    named: &'a [Id],
+    level: usize,
+) -> Result<(), AllocError>
+    ensures ok { OnOk result (ranks.new.items ≡ ranks.old.items ++ map (known_rank recent.old) named.now) }
     ensures err { OnErr result (IsLonger ranks.old.items ranks.new.items) }
+    ensures same { recent.new ≡ recent.old }
 {
+    let mut before = 0usize;
     for id in named {
-        if let Err(error) = push_rank(ranks, table, id) {
+        if let Err(error) = push_rank(ranks, recent, id, level, before) {
             return Err(error);
         }
+        before = before.saturating_add(1);
     }
     Ok(())
 }
 
-// Puts the rank of an identifier behind others.
-fn push_rank(ranks: &mut Vec<u32>, table: &TableRanks<'_>, id: &Id) -> Result<(), AllocError>
-    ensures ok { OnOk result (ranks.new.items ≡ ranks.old.items ++ known_rank table.now id.now ∷ []) }
+// Puts the rank of an identifier in a weight at a level behind others, where so many stand before it in the weight.
+fn push_rank<'a>(
+    ranks: &mut Vec<u32>,
+    recent: &mut RecentRanks<'a>,
+    id: &'a Id,
+    level: usize,
+    before: usize,
+) -> Result<(), AllocError>
+    ensures ok { OnOk result (ranks.new.items ≡ ranks.old.items ++ known_rank recent.old id.now ∷ []) }
     ensures err { OnErr result (IsLonger ranks.old.items ranks.new.items) }
+    ensures same { recent.new ≡ recent.old }
 {
-    ranks.push(table.known_rank(id))?;
+    ranks.push(recent.known_rank(id, level, before))?;
     Ok(())
 }

@@ -65,7 +65,7 @@ fn ranked_and_compiled<'a>(
 {
     table.lemma_well_formed();
     let mut weights = compiled_undefined(alloc, table, ranks, table.len())?;
-    let mut recent = RecentRanks::new(ranks);
+    let mut recent = RecentRanks::on_walk(alloc, ranks, table.len())?;
     let characters = put_walk(alloc, &mut weights, &mut recent, table.walk())?;
     Ok((characters, weights))
 }
@@ -106,14 +106,14 @@ fn put_visited<'a>(
     ensures count { IfOk result (λ last. last ≡ rank + length (entry_visited (visited_by item.entry))) }
     ensures ranks { OnOk result ((c : ℕ) → rank_of_char characters.new c ≡ option_or (last_place rank (entry_visited (visited_by item.entry)) (Char c)) (rank_of_char characters.old c)) }
     ensures rows { OnOk result (AddsRow weights.old weights.new (flat_map (compiled_entry (known_rank ranks.old) weights.old.levels) (entry_visited (visited_by item.entry)))) }
-    ensures same { ranks.new ≡ ranks.old }
+    ensures same { OnOk result (ranks.new ≡ ranks.old) }
 {
     match item {
         WalkItem::Section(_) => Ok(rank),
         WalkItem::Entry(entry) => {
             put_character(characters, entry.id(), rank + 1)?;
-            ranks.begin(entry.id(), rank + 1);
-            weights.push_entry(ranks, entry.id(), entry.weights())?;
+            ranks.begin(entry.id(), rank + 1)?;
+            weights.push(ranks, entry)?;
             Ok(rank + 1)
         }
     }

@@ -1,20 +1,25 @@
 //! Ranks of a table, of which those told last are kept.
 //!
-//! Most weights name their own entry, or what the weight of the entry before names at their level. So a `RecentRanks` keeps the
-//! rank of one entry, and for each level the rank that was looked up last, and tells these by a comparison of identifiers.
+//! Most weights name their own entry, or what the weight of the entry before names at their level, or the entry behind that. So a
+//! `RecentRanks` keeps the rank of one entry, for each level the rank that was told last, and the entries that a walk has met so far,
+//! and tells these by a comparison of identifiers. Without a walk it knows no entries, and looks up what is told in no other way.
 
-ghost use Rattle.std.specs.Prelude.{◌≡◌, Some, IfSome};
+ghost use Rattle.std.specs.Prelude.{◌≡◌, Some, IfSome, IfOk, OnOk};
 ghost use Rattle.std.specs.List.{All};
 ghost use Rattle.coll_nodes.specs.Table.{Collation};
 ghost use Rattle.coll_elements.specs.Rank.{known_rank};
-ghost use Rattle.coll_ranks.specs.RecentRanks.{IsRecent};
+ghost use Rattle.coll_ranks.specs.RecentRanks.{IsRecent, AreFirst};
 
 use crate::table_ranks::TableRanks;
 use coll_syntax::Id;
+use std::alloc::{AllocError, Global};
 use std::marker::Model;
 
-/// How many levels have a rank that is kept: as many as a table has at most.
+/// How many levels have ranks that are kept: as many as a table has at most.
 const LEVELS: usize = 4;
+
+/// Of each level two ranks are kept: that of the first identifier of a weight, and that of a later one.
+const PLACES: usize = 2 * LEVELS;
 
 /// An identifier with its rank.
 #[derive(Clone, Copy)]
@@ -29,92 +34,155 @@ pub(crate) struct RecentRanks<'a> {
     table: &'a TableRanks<'a>,
     /// The rank of the entry whose weights are put in.
     owner: Option<RecentRank<'a>>,
-    /// For each level the rank that was looked up last.
-    last: [Option<RecentRank<'a>>; LEVELS],
+    /// The ranks that were told last: for each level that of the first identifier of a weight, and then for each that of a later one.
+    last: [Option<RecentRank<'a>>; PLACES],
+    /// The identifiers of the first entries of the table, in order, as far as a walk has come.
+    entries: Vec<&'a Id>,
 }
 
 impl<'a> Model for RecentRanks<'a> {
     ghost use Rattle.std.specs.List.{All};
     ghost use Rattle.coll_nodes.specs.Table.{Collation};
-    ghost use Rattle.coll_ranks.specs.RecentRanks.{IsRecent};
+    ghost use Rattle.coll_ranks.specs.RecentRanks.{IsRecent, AreFirst};
 
     ghost Value = { Collation };
 
     ghost view = { λ r. r.table.now };
 
-    ghost invariant = { λ r. IsRecent r.table.now r.owner × All (IsRecent r.table.now) r.last };
+    ghost invariant = { λ r. IsRecent r.table.now r.owner × All (IsRecent r.table.now) r.last × AreFirst r.table.now r.entries.items };
 }
 
 impl<'a> RecentRanks<'a> {
     /// The ranks of a table, of which none is kept yet. It takes no memory.
-    pub(crate) fn new(table: &'a TableRanks<'a>) -> RecentRanks<'a>
+    pub(crate) fn new(alloc: Global, table: &'a TableRanks<'a>) -> RecentRanks<'a>
         ensures { result ≡ table.now }
     {
         RecentRanks {
             table,
             owner: None,
-            last: [None; LEVELS],
+            last: [None; PLACES],
+            entries: Vec::new(alloc),
         }
     }
 
-    /// The ranks of the table, of which none is kept.
-    pub(crate) fn table(&self) -> &TableRanks<'a>
-        ensures { result.now ≡ self.now }
+    /// The same for a walk that meets so many entries, with room for them.
+    pub(crate) fn on_walk(
+        alloc: Global,
+        table: &'a TableRanks<'a>,
+        entries: usize,
+    ) -> Result<RecentRanks<'a>, AllocError>
+        ensures { IfOk result (λ made. made ≡ table.now) }
     {
-        self.table
+        let mut made = RecentRanks::new(alloc, table);
+        made.entries.reserve(entries)?;
+        Ok(made)
     }
 
     /// Keeps the rank of the entry whose weights come next.
-    pub(crate) fn begin(&mut self, id: &'a Id, rank: u32)
+    pub(crate) fn begin(&mut self, id: &'a Id, rank: u32) -> Result<(), AllocError>
         requires { rank ≡ known_rank self.old id.now }
-        ensures { self.new ≡ self.old }
+        ensures { OnOk result (self.new ≡ self.old) }
     {
         self.owner = Some(RecentRank { id, rank });
+        push_next(&mut self.entries, id, rank)
     }
 
-    /// The rank of an identifier in a weight at a level, and 0 for one that has none. It takes no memory.
-    pub(crate) fn known_rank(&mut self, id: &'a Id, level: usize) -> u32
+    /// The rank of an identifier in a weight at a level, and 0 for one that has none, where so many stand before it in its weight. It
+    /// takes no memory.
+    pub(crate) fn known_rank(&mut self, id: &'a Id, level: usize, before: usize) -> u32
         ensures rank { result ≡ known_rank self.old id.now }
         ensures same { self.new ≡ self.old }
     {
-        if let Some(rank) = self.recent(id, level) {
+        let place = place_of(level, before);
+        if let Some(rank) = self.recent(id, place) {
             return rank;
         }
-        let rank = self.table.known_rank(id);
-        self.keep(id, rank, level);
+        let rank = match self.following(id, place) {
+            Some(rank) => rank,
+            None => self.table.known_rank(id),
+        };
+        self.keep(id, rank, place);
         rank
     }
 
-    // The rank of an identifier, if it is kept as that of the entry, or at a level.
-    fn recent(&self, id: &Id, level: usize) -> Option<u32>
+    // The rank of an identifier, if it is kept as that of the entry, or at a place.
+    fn recent(&self, id: &Id, place: usize) -> Option<u32>
         ensures { IfSome result (λ rank. rank ≡ known_rank self.now id.now) }
     {
         if let Some(rank) = recent_rank(self.owner, id) {
             return Some(rank);
         }
-        match self.last.get(level) {
+        match self.last.get(place) {
             Some(kept) => recent_rank(*kept, id),
             None => None,
         }
     }
 
-    // Keeps the rank that was looked up at a level.
-    fn keep(&mut self, id: &'a Id, rank: u32, level: usize)
+    // The rank of an identifier, if its entry was met, and stands behind the one whose rank is kept at a place.
+    fn following(&self, id: &Id, place: usize) -> Option<u32>
+        ensures { IfSome result (λ rank. rank ≡ known_rank self.now id.now) }
+    {
+        let before = rank_kept(&self.last[..], place)?;
+        rank_behind(&self.entries, before, id)
+    }
+
+    // Keeps the rank that was told at a place.
+    fn keep(&mut self, id: &'a Id, rank: u32, place: usize)
         requires { rank ≡ known_rank self.old id.now }
         ensures { self.new ≡ self.old }
     {
-        keep_at(&mut self.last[..], RecentRank { id, rank }, level);
+        keep_at(&mut self.last[..], RecentRank { id, rank }, place);
     }
 }
 
-// Keeps a rank at a level, if it is one of these.
-fn keep_at<'a>(last: &mut [Option<RecentRank<'a>>], kept: RecentRank<'a>, level: usize)
+// The place of an identifier in a weight at a level, where so many stand before it.
+fn place_of(level: usize, before: usize) -> usize {
+    if before == 0 {
+        level
+    } else {
+        level.saturating_add(LEVELS)
+    }
+}
+
+// Puts the identifier of an entry behind those of the entries before it, if all of these are there.
+fn push_next<'a>(entries: &mut Vec<&'a Id>, id: &'a Id, rank: u32) -> Result<(), AllocError>
+    ensures { (table : Collation) → rank ≡ known_rank table id.now → AreFirst table entries.old.items → AreFirst table entries.new.items }
+{
+    if rank as usize != entries.len() + 1 {
+        return Ok(());
+    }
+    entries.push(id)?;
+    Ok(())
+}
+
+// The rank that is kept at a place, if one is.
+fn rank_kept(last: &[Option<RecentRank<'_>>], place: usize) -> Option<u32> {
+    match last.get(place) {
+        Some(Some(kept)) => Some(kept.rank),
+        _ => None,
+    }
+}
+
+// The rank of an identifier, if it is that of the entry behind so many others.
+fn rank_behind(entries: &[&Id], before: u32, id: &Id) -> Option<u32>
+    ensures { IfSome result (λ rank. (table : Collation) → AreFirst table entries.now → rank ≡ known_rank table id.now) }
+{
+    let entry = *entries.get(before as usize)?;
+    if entry.is_same(id) {
+        before.checked_add(1)
+    } else {
+        None
+    }
+}
+
+// Keeps a rank at a place, if it is one of these.
+fn keep_at<'a>(last: &mut [Option<RecentRank<'a>>], kept: RecentRank<'a>, place: usize)
     ensures { (table : Collation) → IsRecent table (Some kept.entry) → All (IsRecent table) last.old → All (IsRecent table) last.new }
 {
-    if level >= last.len() {
+    if place >= last.len() {
         return;
     }
-    last[level] = Some(kept);
+    last[place] = Some(kept);
 }
 
 // The rank that is kept, if it is that of an identifier.

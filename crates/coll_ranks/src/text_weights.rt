@@ -19,6 +19,7 @@ ghost use Rattle.coll_elements.specs.declared.element_entries.ElementEntry.{Elem
 use crate::compiled_weights::CompiledWeights;
 use crate::parts::TextElement;
 use crate::ranking::compiled_undefined;
+use crate::recent_ranks::RecentRanks;
 use crate::table_ranks::TableRanks;
 use coll_elements::{ElementEntry, split_text};
 use coll_lookups::EntryNumbers;
@@ -60,7 +61,8 @@ impl TextWeights {
         let elements = split_text(alloc, table, text)?;
         let ranks = TableRanks::new(table, numbers);
         let mut weights = compiled_undefined(alloc, table, &ranks, elements.len())?;
-        let parts = compiled_parts(alloc, &mut weights, &ranks, &elements)?;
+        let mut recent = RecentRanks::new(alloc, &ranks);
+        let parts = compiled_parts(alloc, &mut weights, &mut recent, &elements)?;
         Ok(TextWeights { parts, weights })
     }
 
@@ -80,15 +82,15 @@ impl TextWeights {
 }
 
 // The elements of a text by their rows, where the weights of each are put behind those of `UNDEFINED`.
-fn compiled_parts(
+fn compiled_parts<'a>(
     alloc: Global,
     weights: &mut CompiledWeights,
-    ranks: &TableRanks<'_>,
-    elements: &[ElementEntry<'_>],
+    ranks: &mut RecentRanks<'a>,
+    elements: &[ElementEntry<'a>],
 ) -> Result<Vec<TextElement>, AllocError>
     requires { length elements.now ≤ 65_536 }
     ensures parts { IfOk result (λ parts. parts.items ≡ element_parts 1 elements.now) }
-    ensures rows { OnOk result (AddsRow weights.old weights.new (flat_map (element_row (known_rank ranks.now) weights.old.levels) elements.now)) }
+    ensures rows { OnOk result (AddsRow weights.old weights.new (flat_map (element_row (known_rank ranks.old) weights.old.levels) elements.now)) }
 {
     let mut parts = Vec::with_capacity(alloc, elements.len())?;
     let mut row = 1;
@@ -99,21 +101,22 @@ fn compiled_parts(
 }
 
 // Puts an element behind others, and if it has an entry its weights too, which are this row; and gives the next row.
-fn push_element(
+fn push_element<'a>(
     parts: &mut Vec<TextElement>,
     weights: &mut CompiledWeights,
-    ranks: &TableRanks<'_>,
-    element: ElementEntry<'_>,
+    ranks: &mut RecentRanks<'a>,
+    element: ElementEntry<'a>,
     row: u32,
 ) -> Result<u32, AllocError>
     requires { row < 1_000_000 }
     ensures few { IfOk result (λ next. next ≤ row + 1) }
     ensures parts { IfOk result (λ next. (later : List ElementEntry) → parts.new.items ++ element_parts next later ≡ parts.old.items ++ element_parts row (element.entry ∷ later)) }
-    ensures rows { OnOk result (AddsRow weights.old weights.new (element_row (known_rank ranks.now) weights.old.levels element.entry)) }
+    ensures rows { OnOk result (AddsRow weights.old weights.new (element_row (known_rank ranks.old) weights.old.levels element.entry)) }
+    ensures same { OnOk result (ranks.new ≡ ranks.old) }
 {
     match element {
         ElementEntry::Placed(entry) => {
-            weights.push(ranks, entry.id(), entry.weights())?;
+            weights.push(ranks, entry)?;
             parts.push(TextElement::Placed(row))?;
             Ok(row + 1)
         }

@@ -11,7 +11,7 @@ ghost use Rattle.coll_ranks.specs.LevelWeights.{ranks_in};
 
 use crate::parts::WeightRanks;
 use crate::rank_lists::RankLists;
-use crate::table_ranks::TableRanks;
+use crate::recent_ranks::RecentRanks;
 use coll_syntax::{Id, Weight};
 use std::alloc::{AllocError, Global};
 use std::marker::Model;
@@ -80,37 +80,20 @@ impl WeightCells {
         }
     }
 
-    /// Puts the ranks of a weight behind all others.
-    pub(crate) fn push(
-        &mut self,
-        table: &TableRanks<'_>,
-        owner: &Id,
-        weight: &Weight,
-    ) -> Result<(), AllocError>
-        ensures { OnOk result (self.new ≡ self.old ++ compiled_by (known_rank table.now) owner.now weight.now ∷ []) }
-    {
-        if let Weight::Ignore = weight {
-            return self.push_empty();
-        }
-        match single_id(owner, weight) {
-            Some(id) => self.push_single(table.known_rank(id)),
-            None => self.push_long(table, owner, weight),
-        }
-    }
-
     /// Puts the weights of an identifier behind all others, as many as there are levels.
-    pub(crate) fn push_row(
+    pub(crate) fn push_row<'a>(
         &mut self,
-        table: &TableRanks<'_>,
-        owner: &Id,
-        weights: &[Weight],
+        ranks: &mut RecentRanks<'a>,
+        owner: &'a Id,
+        weights: &'a [Weight],
         levels: usize,
     ) -> Result<(), AllocError>
-        ensures { OnOk result (self.new ≡ self.old ++ compiled_row_by (known_rank table.now) levels owner.now weights.now) }
+        ensures row { OnOk result (self.new ≡ self.old ++ compiled_row_by (known_rank ranks.old) levels owner.now weights.now) }
+        ensures same { ranks.new ≡ ranks.old }
     {
         let mut left = weights;
         for level in 0..levels {
-            left = self.push_next(table, owner, left)?;
+            left = self.push_next(ranks, owner, left, level)?;
         }
         Ok(())
     }
@@ -118,30 +101,52 @@ impl WeightCells {
     // Puts the first of some weights behind all others, or an empty one where there is none, and gives the later ones.
     fn push_next<'a>(
         &mut self,
-        table: &TableRanks<'_>,
-        owner: &Id,
+        ranks: &mut RecentRanks<'a>,
+        owner: &'a Id,
         weights: &'a [Weight],
+        level: usize,
     ) -> Result<&'a [Weight], AllocError>
-        ensures { IfOk result (λ later. (count : ℕ) → self.new ++ compiled_row_by (known_rank table.now) count owner.now later.now ≡ self.old ++ compiled_row_by (known_rank table.now) (suc count) owner.now weights.now) }
+        ensures row { IfOk result (λ later. (count : ℕ) → self.new ++ compiled_row_by (known_rank ranks.old) count owner.now later.now ≡ self.old ++ compiled_row_by (known_rank ranks.old) (suc count) owner.now weights.now) }
+        ensures same { ranks.new ≡ ranks.old }
     {
         let Some((weight, later)) = weights.split_first() else {
             self.push_empty()?;
             return Ok(weights);
         };
-        self.push(table, owner, weight)?;
+        self.push(ranks, owner, weight, level)?;
         Ok(later)
     }
 
-    /// Puts an empty list behind all others.
-    pub(crate) fn push_empty(&mut self) -> Result<(), AllocError>
+    // Puts the ranks of a weight at a level behind all others.
+    fn push<'a>(
+        &mut self,
+        ranks: &mut RecentRanks<'a>,
+        owner: &'a Id,
+        weight: &'a Weight,
+        level: usize,
+    ) -> Result<(), AllocError>
+        ensures list { OnOk result (self.new ≡ self.old ++ compiled_by (known_rank ranks.old) owner.now weight.now ∷ []) }
+        ensures same { ranks.new ≡ ranks.old }
+    {
+        if let Weight::Ignore = weight {
+            return self.push_empty();
+        }
+        match single_id(owner, weight) {
+            Some(id) => self.push_single(ranks.known_rank(id, level, 0)),
+            None => self.push_long(ranks, owner, weight, level),
+        }
+    }
+
+    // Puts an empty list behind all others.
+    fn push_empty(&mut self) -> Result<(), AllocError>
         ensures { OnOk result (self.new ≡ self.old ++ [] ∷ []) }
     {
         self.cells.push(WeightCell::Empty)?;
         Ok(())
     }
 
-    /// Puts a list of this rank alone behind all others.
-    pub(crate) fn push_single(&mut self, rank: u32) -> Result<(), AllocError>
+    // Puts a list of this rank alone behind all others.
+    fn push_single(&mut self, rank: u32) -> Result<(), AllocError>
         ensures { OnOk result (self.new ≡ self.old ++ (rank ∷ []) ∷ []) }
     {
         self.cells.push(WeightCell::Single(rank))?;
@@ -149,20 +154,22 @@ impl WeightCells {
     }
 
     // Puts the ranks of a weight behind all others, as a long list. There are places for 4,294,967,295 of these.
-    fn push_long(
+    fn push_long<'a>(
         &mut self,
-        table: &TableRanks<'_>,
-        owner: &Id,
-        weight: &Weight,
+        ranks: &mut RecentRanks<'a>,
+        owner: &'a Id,
+        weight: &'a Weight,
+        level: usize,
     ) -> Result<(), AllocError>
-        ensures { OnOk result (self.new ≡ self.old ++ compiled_by (known_rank table.now) owner.now weight.now ∷ []) }
+        ensures list { OnOk result (self.new ≡ self.old ++ compiled_by (known_rank ranks.old) owner.now weight.now ∷ []) }
+        ensures same { ranks.new ≡ ranks.old }
     {
         let place = self.long.len();
         if place >= 4_294_967_295 {
             return Err(AllocError);
         }
         self.cells.reserve(1)?;
-        self.long.push(table, owner, weight)?;
+        self.long.push(ranks, owner, weight, level)?;
         self.cells.push_reserved(WeightCell::Long(place as u32));
         Ok(())
     }
@@ -205,8 +212,8 @@ fn long_list(place: u32, long: &RankLists) -> &[u32]
     long.list(place as usize)
 }
 
-/// What a weight names, if it is one identifier.
-pub(crate) fn single_id<'a>(owner: &'a Id, weight: &'a Weight) -> Option<&'a Id>
+// What a weight names, if it is one identifier.
+fn single_id<'a>(owner: &'a Id, weight: &'a Weight) -> Option<&'a Id>
     ensures { IfSome result (λ id. (rank : Id → ℕ) → compiled_by rank owner.now weight.now ≡ rank id.now ∷ []) }
 {
     match weight {

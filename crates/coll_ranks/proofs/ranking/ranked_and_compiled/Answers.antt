@@ -18,11 +18,11 @@ put_walk-requires-clause-few c = few_visited _ _ c.lemma_well_formed.ensures.wel
 
 pub put_walk-requires-clause-whole : goal.put_walk-requires-clause-whole
 put_walk-requires-clause-whole c =
-    ap entries_visited c.walk.ensures ∙ (visited_all (collation c.args.table.now).sections ∙ ap entries_of (sym (c.new-recent.ensures ∙ c.requires)))
+    ap entries_visited c.walk.ensures ∙ (visited_all (collation c.args.table.now).sections ∙ ap entries_of (sym (c.in_ok-recent.ensures ∙ c.requires)))
 
 pub put_walk-requires-clause-distinct : goal.put_walk-requires-clause-distinct
 put_walk-requires-clause-distinct c =
-    subst (λ (t : Collation). AreDistinct same_id (ids_of (entries_of t))) (sym (c.new-recent.ensures ∙ c.requires)) c.lemma_well_formed.ensures.well_formed.built.distinct_entries
+    subst (λ (t : Collation). AreDistinct same_id (ids_of (entries_of t))) (sym (c.in_ok-recent.ensures ∙ c.requires)) c.lemma_well_formed.ensures.well_formed.built.distinct_entries
 
 pub returns-clause-characters : goal.returns-clause-characters
 returns-clause-characters c =
@@ -30,5 +30,5 @@ returns-clause-characters c =
 
 pub returns-clause-lists : goal.returns-clause-lists
 returns-clause-lists c =
-    let same = ap (λ (t : Collation). compiled_row_by (known_rank t) (length (collation c.args.table.now).rules) Undefined (undefined_weights (collation c.args.table.now))) (sym c.new-recent.ensures) in
-    weights_of_table (collation c.args.table.now) c.new-recent.result c.walk.result _ _ _ (c.new-recent.ensures ∙ c.requires) c.walk.ensures c.in_ok-weights.ensures.levels (c.in_ok-weights.ensures.lists ∙ same) c.in_ok-characters.ensures.rows.lists_are
+    let same = ap (λ (t : Collation). compiled_row_by (known_rank t) (length (collation c.args.table.now).rules) Undefined (undefined_weights (collation c.args.table.now))) (sym c.in_ok-recent.ensures) in
+    weights_of_table (collation c.args.table.now) c.in_ok-recent.recent c.walk.result _ _ _ (c.in_ok-recent.ensures ∙ c.requires) c.walk.ensures c.in_ok-weights.ensures.levels (c.in_ok-weights.ensures.lists ∙ same) c.in_ok-characters.ensures.rows.lists_are

@@ -1,5 +1,6 @@
 -- Each element is put in, and where none is left, all are.
-use Rattle.std.proofs.Common.{◌∙◌, ◌++◌, ℕ, ap, arith}
+use Rattle.std.proofs.Common.{◌∙◌, ◌++◌, ℕ, ap₂, arith}
+use Rattle.coll_nodes.specs.Table.{Collation}
 use Rattle.coll_elements.specs.Rank.{known_rank}
 use Rattle.coll_ranks.specs.TextWeights.{element_row}
 use Rattle.coll_ranks.proofs.TextRows.{parts_go_on, rows_go_on, parts_done, rows_done}
@@ -16,7 +17,8 @@ loop-element-preserved c =
       parts = parts_go_on c.args.elements.now c.element-item.result c.loop-element.element-index c.loop-element.row c.in_ok-row.row c.loop-element.parts.items c.push_element.new.parts.items _ c.loop-element-test.true c.element-item.is c.in_ok-row.ensures.parts c.loop-element.invariant.parts;
       levels = added.levels_are ∙ c.loop-element.invariant.levels;
       own = added.own_are ∙ c.loop-element.invariant.own;
-      lists = rows_go_on (element_row (known_rank c.args.ranks.now) c.args.weights.now.levels) c.args.elements.now c.element-item.result c.loop-element.element-index c.loop-element.weights.lists c.push_element.new.weights.lists _ c.loop-element-test.true c.element-item.is (added.lists_are ∙ ap (λ (n : ℕ). c.loop-element.weights.lists ++ element_row (known_rank c.args.ranks.now) n c.element-item.result) c.loop-element.invariant.levels) c.loop-element.invariant.lists;
+      lists = rows_go_on (element_row (known_rank c.args.ranks.now) c.args.weights.now.levels) c.args.elements.now c.element-item.result c.loop-element.element-index c.loop-element.weights.lists c.push_element.new.weights.lists _ c.loop-element-test.true c.element-item.is (added.lists_are ∙ ap₂ (λ (t : Collation) (n : ℕ). c.loop-element.weights.lists ++ element_row (known_rank t) n c.element-item.result) c.loop-element.invariant.same c.loop-element.invariant.levels) c.loop-element.invariant.lists;
+      same = c.in_ok-row.ensures.same ∙ c.loop-element.invariant.same;
     }
 
 pub returns-clause-parts : goal.returns-clause-parts

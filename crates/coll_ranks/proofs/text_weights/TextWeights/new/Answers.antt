@@ -1,9 +1,14 @@
 -- The parts of the elements, and the rows of their weights, have the numbers of the elements.
-use Rattle.std.proofs.Common.{List, chars, sym, subst, arith}
+use Rattle.std.proofs.Common.{List, length, chars, sym, ap, subst, arith, ◌∙◌}
+use Rattle.coll_syntax.specs.declared.identifiers.Id.TheVariants.{Undefined}
+use Rattle.coll_nodes.specs.Table.{Collation}
 use Rattle.coll_nodes.specs.TableLayout.{collation}
 use Rattle.coll_elements.specs.Elements.{elements_of}
 use Rattle.coll_elements.specs.ElementEntries.{AreElementsOf}
 use Rattle.coll_elements.specs.declared.element_entries.ElementEntry.{ElementEntry}
+use Rattle.coll_elements.specs.Rank.{known_rank}
+use Rattle.coll_ranks.specs.Ranks.{compiled_row_by}
+use Rattle.coll_ranks.specs.WeightNumbers.{undefined_weights}
 use Rattle.coll_ranks.proofs.TextRows.{few_elements, few_parts_of, text_numbers}
 use Rattle.coll_ranks.proofs.text_weights.TextWeights.new.Goals as goal
 
@@ -22,7 +27,8 @@ returns-clause-numbers c =
     let table = collation c.args.table.now in
     let are = subst (λ (elements : List ElementEntry). AreElementsOf table (elements_of table (chars c.args.text.now)) elements) (sym c.deref.ensures.value) c.in_ok-elements.ensures in
     let undefined = c.in_ok-weights.ensures in
-    text_numbers table c.new-ranks.result c.in_ok-weights.weights c.compiled_parts.new.weights (chars c.args.text.now) c.deref.result.now c.in_ok-parts.parts.items are c.new-ranks.ensures undefined.levels undefined.lists undefined.own c.in_ok-parts.ensures.rows c.in_ok-parts.ensures.parts
+    let lists = undefined.lists ∙ ap (λ (t : Collation). compiled_row_by (known_rank t) (length table.rules) Undefined (undefined_weights table)) (sym c.new-recent.ensures) in
+    text_numbers table c.new-recent.result c.in_ok-weights.weights c.compiled_parts.new.weights (chars c.args.text.now) c.deref.result.now c.in_ok-parts.parts.items are (c.new-recent.ensures ∙ c.new-ranks.ensures) undefined.levels lists undefined.own c.in_ok-parts.ensures.rows c.in_ok-parts.ensures.parts
 
 pub returns-clause-count : goal.returns-clause-count
 returns-clause-count c =

@@ -6,5 +6,7 @@ use Rattle.coll_ranks.proofs.weight_cells.WeightCells.push_row.Given as goal
 
 abbrev pub invariant-loop-level : goal.invariant-loop-level
 invariant-loop-level l =
-    l.self ++ compiled_row_by (known_rank l.table) (l.levels - l.level) l.owner l.left
-    ≡ l.initial.self ++ compiled_row_by (known_rank l.table) l.levels l.owner l.initial.left
+    record {
+      row : l.self ++ compiled_row_by (known_rank l.initial.ranks) (l.levels - l.level) l.owner l.left ≡ l.initial.self ++ compiled_row_by (known_rank l.initial.ranks) l.levels l.owner l.initial.left;
+      same : l.ranks ≡ l.initial.ranks;
+    }
