@@ -106,7 +106,7 @@ fn put_visited<'a>(
     ensures count { IfOk result (λ last. last ≡ rank + length (entry_visited (visited_by item.entry))) }
     ensures ranks { OnOk result ((c : ℕ) → rank_of_char characters.new c ≡ option_or (last_place rank (entry_visited (visited_by item.entry)) (Char c)) (rank_of_char characters.old c)) }
     ensures rows { OnOk result (AddsRow weights.old weights.new (flat_map (compiled_entry (known_rank ranks.old) weights.old.levels) (entry_visited (visited_by item.entry)))) }
-    ensures same { OnOk result (ranks.new ≡ ranks.old) }
+    ensures same { ranks.new ≡ ranks.old }
 {
     match item {
         WalkItem::Section(_) => Ok(rank),

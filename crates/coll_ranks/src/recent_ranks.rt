@@ -4,7 +4,7 @@
 //! `RecentRanks` keeps the rank of one entry, for each level the rank that was told last, and the entries that a walk has met so far,
 //! and tells these by a comparison of identifiers. Without a walk it knows no entries, and looks up what is told in no other way.
 
-ghost use Rattle.std.specs.Prelude.{◌≡◌, Some, IfSome, IfOk, OnOk};
+ghost use Rattle.std.specs.Prelude.{◌≡◌, Some, IfSome, IfOk};
 ghost use Rattle.std.specs.List.{All};
 ghost use Rattle.coll_nodes.specs.Table.{Collation};
 ghost use Rattle.coll_elements.specs.Rank.{known_rank};
@@ -78,10 +78,11 @@ impl<'a> RecentRanks<'a> {
         Ok(made)
     }
 
-    /// Keeps the rank of the entry whose weights come next.
+    /// Keeps the rank of the entry whose weights come next, and on a walk the entry as one that was met, for which it takes memory
+    /// where there is no room.
     pub(crate) fn begin(&mut self, id: &'a Id, rank: u32) -> Result<(), AllocError>
         requires { rank ≡ known_rank self.old id.now }
-        ensures { OnOk result (self.new ≡ self.old) }
+        ensures { self.new ≡ self.old }
     {
         self.owner = Some(RecentRank { id, rank });
         push_next(&mut self.entries, id, rank)

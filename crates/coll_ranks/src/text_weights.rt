@@ -112,7 +112,7 @@ fn push_element<'a>(
     ensures few { IfOk result (λ next. next ≤ row + 1) }
     ensures parts { IfOk result (λ next. (later : List ElementEntry) → parts.new.items ++ element_parts next later ≡ parts.old.items ++ element_parts row (element.entry ∷ later)) }
     ensures rows { OnOk result (AddsRow weights.old weights.new (element_row (known_rank ranks.old) weights.old.levels element.entry)) }
-    ensures same { OnOk result (ranks.new ≡ ranks.old) }
+    ensures same { ranks.new ≡ ranks.old }
 {
     match element {
         ElementEntry::Placed(entry) => {

@@ -21,6 +21,6 @@ walk-preserved c = record {
   levels = c.in_ok-rank.ensures.rows.levels_are ∙ c.walk.invariant.levels;
   own = c.in_ok-rank.ensures.rows.own_are ∙ c.walk.invariant.own;
   lists = rows_more c.args.ranks.now c.walk.ranks _ c.walk.left c.next.new.self (visited_by c.in-Some.item) c.walk.weights c.put_visited.new.weights _ c.walk.invariant.same c.walk.invariant.levels c.in-Some.ensures.steps c.in_ok-rank.ensures.rows c.walk.invariant.lists;
-  same = c.in_ok-rank.ensures.same ∙ c.walk.invariant.same;
+  same = c.put_visited.ensures.same ∙ c.walk.invariant.same;
   places = left_behind c.args.ranks.now c.walk.rank _ c.walk.left c.next.new.self (visited_by c.in-Some.item) c.in-Some.ensures.steps c.in_ok-rank.ensures.count c.walk.invariant.places;
 }

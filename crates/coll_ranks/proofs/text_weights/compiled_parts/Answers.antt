@@ -18,7 +18,7 @@ loop-element-preserved c =
       levels = added.levels_are ∙ c.loop-element.invariant.levels;
       own = added.own_are ∙ c.loop-element.invariant.own;
       lists = rows_go_on (element_row (known_rank c.args.ranks.now) c.args.weights.now.levels) c.args.elements.now c.element-item.result c.loop-element.element-index c.loop-element.weights.lists c.push_element.new.weights.lists _ c.loop-element-test.true c.element-item.is (added.lists_are ∙ ap₂ (λ (t : Collation) (n : ℕ). c.loop-element.weights.lists ++ element_row (known_rank t) n c.element-item.result) c.loop-element.invariant.same c.loop-element.invariant.levels) c.loop-element.invariant.lists;
-      same = c.in_ok-row.ensures.same ∙ c.loop-element.invariant.same;
+      same = c.push_element.ensures.same ∙ c.loop-element.invariant.same;
     }
 
 pub returns-clause-parts : goal.returns-clause-parts
