@@ -145,8 +145,8 @@ impl NodeNames {
     }
 }
 
-// Puts a name behind all others, if it isn't there yet. Answers its place. Names that are shared are copied for one that is new, and
-// for no other.
+// Puts a name behind all others, if it isn't there yet. Answers its place. Names that are shared are copied for one that is new,
+// and for no other.
 fn put_name(names: &mut Rc<IndexSet<NameKey, HashKeys>>, key: NameKey) -> Result<usize, AllocError>
     ensures place { IfOk result (λ place. place ≡ position_or_len (same_bytes key) names.old.value.keys) }
     ensures ok { OnOk result (names.new.value.keys ≡ insert_key same_bytes names.old.value.keys key) }
