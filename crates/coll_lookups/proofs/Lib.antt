@@ -1,4 +1,5 @@
 mod CharNodes
 mod NameNodes
 mod NodeLookUps
+mod PairedNodes
 pub mod Sameness

@@ -1,5 +1,5 @@
 -- Nodes by name: a name is found by its bytes.
-use Rattle.std.proofs.Common.{◌≡◌, ℕ, Bool, true, is_some, List, Option, None, Some, unwrap_or, refl, sym, ap, ap₂, ◌∙◌}
+use Rattle.std.proofs.Common.{◌≡◌, ℕ, Bool, true, is_some, List, Option, sym, ap, ap₂, ◌∙◌}
 use Rattle.std.specs.Prelude.{chars, encode_utf8_all}
 use Rattle.std.specs.Str.{bytes_eq}
 use Rattle.std.specs.Map.{lookup, set_value}
@@ -9,7 +9,7 @@ use Rattle.coll_syntax.proofs.Spellings.{same_spelling}
 use Rattle.coll_syntax.specs.Identifier.{same_name}
 use Rattle.coll_lookups.proofs.Sameness.{same_name_decides}
 use Rattle.coll_lookups.proofs.NodeLookUps.{found, found_node, found_key, inserted_leads, inserted_keys, inserted_good, set_leads, set_keys, set_good}
-use Rattle.coll_lookups.specs.NameKeys.{bytes_of, name_of_key, IsReadBack}
+use Rattle.coll_lookups.specs.NameKeys.{bytes_of, name_of_key, same_bytes, IsReadBack}
 use Rattle.coll_lookups.specs.NodeLookUps.{node_named, is_name_key, SetsName, AddsNameKey, KeepNameKeys}
 use Rattle.coll_lookups.specs.NodeMaps.{names_lead, AreKeys}
 use Rattle.coll_lookups.specs.declared.name_keys.NameKey.{NameKey}
@@ -33,7 +33,7 @@ module _ (name bytes : List ℕ) (spelled : encode_utf8_all name ≡ bytes) (rea
   set_name_leads es node h there = set_leads same_name same_name_decides name_of_key IsReadBack (λ key. bytes_eq bytes (bytes_of key)) name tests_name es node h there
 
 abbrev name_inserted : List (NameKey × Option NodeId) → NameKey → Option NodeId → List (NameKey × Option NodeId)
-name_inserted es key node = insert_entry (λ a b. bytes_eq (bytes_of a) (bytes_of b)) es key node
+name_inserted es key node = insert_entry same_bytes es key node
 
 pub inserted_name_leads : (es : List (NameKey × Option NodeId)) (key : NameKey) (node : Option NodeId) → AreKeys IsReadBack es → IsReadBack key → SetsName (names_lead es) (names_lead (name_inserted es key node)) key.name node
 inserted_name_leads es key node h g = inserted_leads same_name same_name_decides name_of_key IsReadBack _ texts_agree es key node h g
@@ -49,12 +49,3 @@ set_name_keys test es node = set_keys same_name same_name_decides name_of_key Is
 
 pub set_name_good : (test : NameKey → Bool) (es : List (NameKey × Option NodeId)) (node : Option NodeId) → AreKeys IsReadBack es → AreKeys IsReadBack (set_value test es node)
 set_name_good test es node h = set_good same_name same_name_decides name_of_key IsReadBack test es node h
-
--- a key of the same name is as well a text
-pub same_is_read_back : (a b : NameKey) → b.name ≡ a.name → IsReadBack a → IsReadBack b
-same_is_read_back a b e g = ap (λ name. chars (encode_utf8_all name)) e ∙ (g ∙ sym e)
-
--- what a map had under a name, as a node
-pub led_to : (led : Option (Option NodeId)) → unwrap_or led None ≡ found led
-led_to None = refl
-led_to (Some led) = refl

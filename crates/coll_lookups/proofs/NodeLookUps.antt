@@ -1,6 +1,5 @@
 -- Nodes in look-ups by hash: what is found, what one more does, and what a write to a key does.
 use Rattle.std.proofs.Common.{◌≡◌, Bool, true, false, ◌||◌, cond, is_some, List, [], ◌∷◌, Option, Some, None, Decides, sym, ap, ◌∙◌, refl}
-use Rattle.std.specs.List.{AllZip}
 use Rattle.std.specs.Map.{lookup, set_value}
 use Rattle.std.proofs.lemmas.Bool.{false≢true}
 use Rattle.indexmap.specs.IndexMap.{insert_entry}
@@ -114,25 +113,3 @@ module _ {K Key : Type 0} (same : Key → Key → Bool) (decides : (a b : Key) �
     by : AreKeys good (set_value test es v) → (b : Bool) → AreKeys good (cond b ((e.0, v) ∷ es) (e ∷ set_value test es v))
     by later true = h
     by later false = (h.0, later)
-
--- nodes are the same by a relation that is equality where there is one
-pub same_if_any : (D : Option NodeId → Option NodeId → Type 0) → ((y : NodeId) → D None (Some y) → ⊥) → ((x : NodeId) → D (Some x) None → ⊥) → ((x y : NodeId) → D (Some x) (Some y) → y ≡ x) → (v w : Option NodeId) → D v w → w ≡ v
-same_if_any D none_left none_right both None None h = refl
-same_if_any D none_left none_right both None (Some y) h = absurd (none_left y h)
-same_if_any D none_left none_right both (Some x) None h = absurd (none_right x h)
-same_if_any D none_left none_right both (Some x) (Some y) h = ap Some (both x y h)
-
-module _ {K : Type 0} (C : K → K → Type 0) (D : Option NodeId → Option NodeId → Type 0) where
-  -- the keys of a clone, and where they lead, are those of the map
-  pub copied_leads : {Key : Type 0} (key : K → Key) → ((v w : Option NodeId) → D v w → w ≡ v) → ((a b : K) → C a b → key b ≡ key a) → (es copies : List (K × Option NodeId)) → AllZip (λ p q. C p.0 q.0 × D p.1 q.1) es copies → leads key copies ≡ leads key es
-  copied_leads key node_same key_same [] [] h = refl
-  copied_leads key node_same key_same [] (q ∷ qs) h = absurd h
-  copied_leads key node_same key_same (p ∷ ps) [] h = absurd h
-  copied_leads key node_same key_same (p ∷ ps) (q ∷ qs) h = λ i. record { key = key_same p.0 q.0 h.0.0 i; node = node_same p.1 q.1 h.0.1 i } ∷ copied_leads key node_same key_same ps qs h.1 i
-
-  -- and as good
-  pub copied_good : (good : K → Type 0) → ((a b : K) → C a b → good a → good b) → (es copies : List (K × Option NodeId)) → AllZip (λ p q. C p.0 q.0 × D p.1 q.1) es copies → AreKeys good es → AreKeys good copies
-  copied_good good good_same [] [] h g = tt
-  copied_good good good_same [] (q ∷ qs) h g = absurd h
-  copied_good good good_same (p ∷ ps) [] h g = absurd h
-  copied_good good good_same (p ∷ ps) (q ∷ qs) h g = (good_same p.0 q.0 h.0.0 g.0, copied_good good good_same ps qs h.1 g.1)

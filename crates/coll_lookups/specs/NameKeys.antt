@@ -1,5 +1,6 @@
 -- A name as a key: its characters, and the bytes by which it is compared and hashed.
-use Rattle.std.specs.Prelude.{◌≡◌, List, ℕ, chars, encode_utf8_all}
+use Rattle.std.specs.Prelude.{◌≡◌, Bool, List, ℕ, chars, encode_utf8_all}
+use Rattle.std.specs.Str.{bytes_eq}
 use Rattle.coll_lookups.specs.declared.name_keys.NameKey.{NameKey}
 
 -- the characters of a key
@@ -9,6 +10,10 @@ name_of_key key = key.name
 -- the bytes of a key
 abbrev pub bytes_of : NameKey → List ℕ
 bytes_of key = encode_utf8_all key.name
+
+-- two keys have the same bytes
+abbrev pub same_bytes : NameKey → NameKey → Bool
+same_bytes a b = bytes_eq (bytes_of a) (bytes_of b)
 
 -- the characters of a key are read back from its bytes
 abbrev pub IsReadBack : NameKey → Type 0

@@ -9,7 +9,7 @@ ghost use Rattle.std.specs.Cmp.{on_equiv, on_per, partial_equiv_from_equiv};
 ghost use Rattle.std.specs.Hash as fed;
 ghost use Rattle.std.specs.Str.{bytes_eq};
 ghost use Rattle.std.proofs.Common.{ap};
-ghost use Rattle.coll_lookups.specs.NameKeys.{bytes_of, IsReadBack};
+ghost use Rattle.coll_lookups.specs.NameKeys.{bytes_of, same_bytes, IsReadBack};
 
 use coll_lex::TextBuf;
 use indexmap::Equivalent;
@@ -44,7 +44,7 @@ impl Clone for NameKey {
 }
 
 impl PartialEq for NameKey {
-    ghost eq = { λ a b. bytes_eq (bytes_of a) (bytes_of b) };
+    ghost eq = { same_bytes };
 
     ghost laws = { on_per bytes_of (partial_equiv_from_equiv nat_list_eq_equiv) };
 

@@ -35,15 +35,16 @@ impl NodeIds {
     ghost use Rattle.coll_syntax.specs.declared.identifiers.Id.TheVariants.{Named};
     ghost use Rattle.coll_lookups.specs.NodeLookUps.{no_nodes, node_with, is_id_key, SetsId, AddsIdKey, LeadAlike, KeepIdKeys};
 
-    /// No identifiers. It takes no memory. Names and characters are looked up under these keys.
-    pub fn new(alloc: Global, keys: HashKeys) -> NodeIds
-        ensures { result ≡ no_nodes }
+    /// No identifiers. It takes memory for what copies share. Names and characters are looked up under these keys.
+    pub fn new(alloc: Global, keys: HashKeys) -> Result<NodeIds, AllocError>
+        ensures { IfOk result (λ made. made ≡ no_nodes) }
     {
-        NodeIds {
-            names: NodeNames::new(alloc, keys),
+        let names = NodeNames::new(alloc, keys)?;
+        Ok(NodeIds {
+            names,
             characters: IndexMap::with_hasher(alloc, keys),
             undefined: None,
-        }
+        })
     }
 
     /// The node that an identifier leads to, if it does. It takes no memory.
@@ -114,14 +115,14 @@ impl NodeIds {
         }
     }
 
-    /// A copy of the look-up of names, in new memory.
+    /// A copy of the look-up of names. It shares the names, and has new memory for where they lead.
     pub fn copied_names(&self, alloc: Global) -> Result<NodeNames, AllocError>
         ensures { IfOk result (λ names. names ≡ self.now.names) }
     {
         self.names.try_copy(alloc)
     }
 
-    /// A copy, in new memory.
+    /// A copy. It shares the names, and has new memory for all else.
     pub fn try_copy(&self, alloc: Global) -> Result<NodeIds, AllocError>
         ensures { IfOk result (λ copy. copy ≡ self.now) }
     {

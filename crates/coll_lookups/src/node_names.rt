@@ -1,49 +1,60 @@
 //! Nodes by name, with a look-up by hash.
 //!
 //! A `NodeNames` says which node a name leads to. A name that leads to none may stay as a key, so that it can lead to a node
-//! later without taking memory. How a name is found, and in which order names are kept, may change.
+//! later without taking memory. Copies share the names until one of them gets a further name. How a name is found, and in which
+//! order names are kept, may change.
 
-ghost use Rattle.std.specs.Prelude.{◌≡◌, [], true, None, Some, chars, IfOk, OnOk, OnErr};
+ghost use Rattle.std.specs.Prelude.{◌≡◌, ◌<◌, [], true, None, Some, chars, slice_index_or, vec_len, vec_capacity, IfOk, OnOk, OnErr};
+ghost use Rattle.std.specs.List.{position_or_len};
+ghost use Rattle.indexmap.specs.IndexSet.{insert_key};
+ghost use Rattle.coll_lookups.specs.NameKeys.{same_bytes};
+ghost use Rattle.coll_lookups.specs.NodeMaps.{node_put};
 
 use crate::HashKeys;
 use crate::name_keys::NameKey;
 use coll_lex::TextBuf;
 use coll_order::NodeId;
-use indexmap::IndexMap;
+use indexmap::IndexSet;
 use std::alloc::{AllocError, Global};
 use std::marker::Model;
+use std::rc::Rc;
 
 /// Nodes by name. It has as many names as memory has room for, and a name that came in stays as a key.
 #[derive(Drop)]
 pub struct NodeNames {
-    names: IndexMap<NameKey, Option<NodeId>, HashKeys>,
+    /// The names, in the order in which they came in. Copies share them until one of them gets a further name.
+    names: Rc<IndexSet<NameKey, HashKeys>>,
+    /// The node that each of them leads to, if it does.
+    nodes: Vec<Option<NodeId>>,
     alloc: Global,
 }
 
 impl Model for NodeNames {
-    ghost use Rattle.std.specs.Prelude.{List, ℕ};
+    ghost use Rattle.std.specs.Prelude.{◌≡◌, List, ℕ, length, zip};
     ghost use Rattle.coll_lookups.specs.NameKeys.{IsReadBack};
     ghost use Rattle.coll_lookups.specs.NodeLookUps.{Leading};
     ghost use Rattle.coll_lookups.specs.NodeMaps.{names_lead, AreKeys};
 
     ghost Value = { List (Leading (List ℕ)) };
 
-    ghost view = { λ n. names_lead n.names.entries };
+    ghost view = { λ n. names_lead (zip n.names.value.keys n.nodes.items) };
 
-    ghost invariant = { λ n. AreKeys IsReadBack n.names.entries };
+    ghost invariant = { λ n. (length n.names.value.keys ≡ length n.nodes.items) × AreKeys IsReadBack (zip n.names.value.keys n.nodes.items) };
 }
 
 impl NodeNames {
     ghost use Rattle.coll_lookups.specs.NodeLookUps.{node_named, is_name_key, SetsName, AddsNameKey, LeadNamesAlike, KeepNameKeys};
 
-    /// No names. It takes no memory. Names are looked up under these keys.
-    pub fn new(alloc: Global, keys: HashKeys) -> NodeNames
-        ensures { result ≡ [] }
+    /// No names. It takes memory for what copies share. Names are looked up under these keys.
+    pub fn new(alloc: Global, keys: HashKeys) -> Result<NodeNames, AllocError>
+        ensures { IfOk result (λ made. made ≡ []) }
     {
-        NodeNames {
-            names: IndexMap::with_hasher(alloc, keys),
+        let names = Rc::new(alloc, IndexSet::with_hasher(alloc, keys))?;
+        Ok(NodeNames {
+            names,
+            nodes: Vec::new(alloc),
             alloc,
-        }
+        })
     }
 
     /// The keys that names are looked up under.
@@ -67,8 +78,8 @@ impl NodeNames {
     pub fn find_text(&self, name: &str) -> Option<NodeId>
         ensures { result ≡ node_named self.now (chars name.now) }
     {
-        match self.names.get(name) {
-            Some(node) => *node,
+        match self.names.get_index_of(name) {
+            Some(place) => self.nodes[place],
             None => None,
         }
     }
@@ -91,19 +102,28 @@ impl NodeNames {
         ensures set { SetsName self.old self.new name.now node }
         ensures keys { KeepNameKeys self.old self.new }
     {
-        let Some(place) = self.names.get_mut(name.get()) else {
+        let Some(place) = self.names.get_index_of(name.get()) else {
             unreachable!();
         };
-        *place = node;
+        self.nodes[place] = node;
     }
 
-    /// A copy, in new memory, under the same keys.
+    /// A copy, under the same keys. It shares the names, and has new memory for where they lead.
     pub fn try_copy(&self, alloc: Global) -> Result<NodeNames, AllocError>
         ensures { IfOk result (λ copy. copy ≡ self.now) }
     {
-        let NodeNames { names, alloc: _ } = self;
+        let NodeNames {
+            names,
+            nodes,
+            alloc: _,
+        } = self;
         let names = names.clone()?;
-        Ok(NodeNames { names, alloc })
+        let nodes = nodes.as_slice().to_vec(alloc)?;
+        Ok(NodeNames {
+            names,
+            nodes,
+            alloc,
+        })
     }
 
     /// Makes a name a key, and lead to a node, or to none. Answers the node that it led to. Where memory is refused, nothing has
@@ -119,7 +139,52 @@ impl NodeNames {
         ensures err { OnErr result (self.new ≡ self.old) }
     {
         let key = NameKey::copied(name)?;
-        let led = self.names.insert(key, node)?;
-        Ok(led.unwrap_or(None))
+        self.nodes.reserve(1)?;
+        let place = put_name(&mut self.names, key)?;
+        Ok(put_node(&mut self.nodes, place, node))
+    }
+}
+
+// Puts a name behind all others, if it isn't there yet. Answers its place. Names that are shared are copied for one that is new,
+// and for no other.
+fn put_name(names: &mut Rc<IndexSet<NameKey, HashKeys>>, key: NameKey) -> Result<usize, AllocError>
+    ensures place { IfOk result (λ place. place ≡ position_or_len (same_bytes key) names.old.value.keys) }
+    ensures ok { OnOk result (names.new.value.keys ≡ insert_key same_bytes names.old.value.keys key) }
+    ensures err { OnErr result (names.new.value.keys ≡ names.old.value.keys) }
+{
+    if let Some(own) = Rc::get_mut(names) {
+        let (place, _) = own.insert_full(key)?;
+        return Ok(place);
+    }
+    match names.get_index_of(&key) {
+        Some(place) => Ok(place),
+        None => put_apart(names, key),
+    }
+}
+
+// The same, with names of one's own from now on.
+fn put_apart(names: &mut Rc<IndexSet<NameKey, HashKeys>>, key: NameKey) -> Result<usize, AllocError>
+    ensures place { IfOk result (λ place. place ≡ position_or_len (same_bytes key) names.old.value.keys) }
+    ensures ok { OnOk result (names.new.value.keys ≡ insert_key same_bytes names.old.value.keys key) }
+    ensures err { OnErr result (names.new.value.keys ≡ names.old.value.keys) }
+{
+    let own = Rc::make_mut(names)?;
+    let (place, _) = own.insert_full(key)?;
+    Ok(place)
+}
+
+// Puts a node at its place, or behind all others. Answers the node that was there, if one was. It takes no memory.
+fn put_node(nodes: &mut Vec<Option<NodeId>>, place: usize, node: Option<NodeId>) -> Option<NodeId>
+    requires room { vec_len nodes.old < vec_capacity nodes.old }
+    ensures led { result ≡ slice_index_or nodes.old.items place None }
+    ensures put { nodes.new.items ≡ node_put nodes.old.items place node }
+{
+    if place < nodes.len() {
+        let led = nodes[place];
+        nodes[place] = node;
+        led
+    } else {
+        nodes.push_reserved(node);
+        None
     }
 }

@@ -81,16 +81,17 @@ impl Body {
         let mut nodes = Nodes::new(alloc);
         let declarations = nodes.new_ring()?;
         let sections = nodes.new_ring()?;
+        let keys = NodeKeys::new(alloc, keys)?;
         Ok(Body {
             nodes,
             declarations,
             sections,
-            keys: NodeKeys::new(alloc, keys),
+            keys,
             counts: Counts::new(),
         })
     }
 
-    /// A copy, in new memory, in which each node has its name.
+    /// A copy, in which each node has its name. It shares the keys of look-ups by name, and has new memory for all else.
     pub fn try_copy(&self, alloc: Global) -> Result<Body, AllocError>
         ensures { IfOk result (λ copy. copy ≡ self.now) }
     {

@@ -29,19 +29,19 @@ pub(crate) struct NodeKeys {
 }
 
 impl NodeKeys {
-    /// No keys. It takes no memory.
-    pub(crate) fn new(alloc: Global, keys: HashKeys) -> NodeKeys
-        ensures { result ≡ no_keys }
+    /// No keys. It takes memory for what copies share.
+    pub(crate) fn new(alloc: Global, keys: HashKeys) -> Result<NodeKeys, AllocError>
+        ensures { IfOk result (λ made. made ≡ no_keys) }
     {
-        NodeKeys {
-            names: NodeNames::new(alloc, keys),
-            texts: NodeNames::new(alloc, keys),
-            sections: NodeNames::new(alloc, keys),
-            placed: NodeIds::new(alloc, keys),
-        }
+        Ok(NodeKeys {
+            names: NodeNames::new(alloc, keys)?,
+            texts: NodeNames::new(alloc, keys)?,
+            sections: NodeNames::new(alloc, keys)?,
+            placed: NodeIds::new(alloc, keys)?,
+        })
     }
 
-    /// A copy, in new memory.
+    /// A copy. It shares the keys of look-ups by name, and has new memory for all else.
     pub(crate) fn try_copy(&self, alloc: Global) -> Result<NodeKeys, AllocError>
         ensures { IfOk result (λ copy. copy ≡ self.now) }
     {

@@ -172,7 +172,7 @@ impl Table {
         self.body.steps()
     }
 
-    /// A copy, in new memory, which has taken as many ring steps.
+    /// A copy, which has taken as many ring steps. It shares the names of look-ups, and has new memory for all else.
     pub fn try_copy(&self, alloc: Global) -> Result<Table, AllocError>
         ensures { IfOk result (λ copy. copy ≡ self.now) }
     {

@@ -44,8 +44,8 @@ impl Body {
         }
     }
 
-    /// The places of the names that have entries, kept apart from it: its look-up is copied, and the numbers are taken over, also
-    /// where memory is refused.
+    /// The places of the names that have entries, kept apart from it: its look-up is copied, and shares the names, and the numbers are
+    /// taken over, also where memory is refused.
     pub fn name_places(
         &self,
         alloc: Global,

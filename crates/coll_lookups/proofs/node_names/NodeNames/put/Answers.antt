@@ -1,23 +1,54 @@
--- A key is put in where its name is.
-use Rattle.std.proofs.Common.{refl, sym, ap, ◌∙◌}
-use Rattle.coll_lookups.proofs.NodeLookUps.{found}
-use Rattle.coll_lookups.proofs.NameNodes.{found_name_node, inserted_name_leads, inserted_name_keys, inserted_name_good, led_to}
+-- A key is put in where its name is, and its node beside it.
+use Rattle.std.proofs.Common.{refl, sym, ap₂, slice_index_or, None, ◌∙◌}
+use Rattle.coll_lookups.specs.NameKeys.{same_bytes}
+use Rattle.coll_lookups.proofs.PairedNodes.{paired_found, paired_put, paired_length}
+use Rattle.coll_lookups.proofs.NameNodes.{found_name_node, inserted_name_leads, inserted_name_keys, inserted_name_good}
 use Rattle.coll_lookups.proofs.node_names.NodeNames.put.Goals as goal
 
 pub invariant_of-self-2 : goal.invariant_of-self-2
 invariant_of-self-2 c =
-    rw c.in_ok-led.ensures.entries (inserted_name_good c.self.inside.names.entries c.in_ok-key.key c.args.node c.self.invariant c.in_ok-key.ensures.text)
+    let p = c.self.inside in
+    let key = c.in_ok-key.key in
+    rw (c.put_node.ensures.put, c.in_ok-reserve.ensures.items, c.in_ok-place.ensures.ok, c.in_ok-place.ensures.place) (
+      paired_length same_bytes key c.args.node p.names.value.keys p.nodes.items c.self.invariant.0,
+      rw (paired_put same_bytes key c.args.node p.names.value.keys p.nodes.items c.self.invariant.0)
+          (inserted_name_good _ key c.args.node c.self.invariant.1 c.in_ok-key.ensures.text),
+    )
 
 pub returns-clause-ok : goal.returns-clause-ok
 returns-clause-ok c =
-    rw (← c.self.view_is, ← c.in_ok-key.ensures.name, c.in_ok-led.ensures.entries) (inserted_name_leads c.self.inside.names.entries c.in_ok-key.key c.args.node c.self.invariant c.in_ok-key.ensures.text)
+    let p = c.self.inside in
+    let key = c.in_ok-key.key in
+    rw (
+      ← c.self.view_is,
+      ← c.in_ok-key.ensures.name,
+      c.put_node.ensures.put,
+      c.in_ok-reserve.ensures.items,
+      c.in_ok-place.ensures.ok,
+      c.in_ok-place.ensures.place,
+      paired_put same_bytes key c.args.node p.names.value.keys p.nodes.items c.self.invariant.0,
+    )
+    (inserted_name_leads _ key c.args.node c.self.invariant.1 c.in_ok-key.ensures.text)
 
 pub returns-clause-keys : goal.returns-clause-keys
 returns-clause-keys c =
-    rw (← c.self.view_is, ← c.in_ok-key.ensures.name, c.in_ok-led.ensures.entries) (inserted_name_keys c.self.inside.names.entries c.in_ok-key.key c.args.node c.self.invariant c.in_ok-key.ensures.text)
+    let p = c.self.inside in
+    let key = c.in_ok-key.key in
+    rw (
+      ← c.self.view_is,
+      ← c.in_ok-key.ensures.name,
+      c.put_node.ensures.put,
+      c.in_ok-reserve.ensures.items,
+      c.in_ok-place.ensures.ok,
+      c.in_ok-place.ensures.place,
+      paired_put same_bytes key c.args.node p.names.value.keys p.nodes.items c.self.invariant.0,
+    )
+    (inserted_name_keys _ key c.args.node c.self.invariant.1 c.in_ok-key.ensures.text)
 
 pub returns-clause-led : goal.returns-clause-led
 returns-clause-led c =
+    let p = c.self.inside in
     rw (← c.self.view_is, ← c.in_ok-key.ensures.name)
-    (c.unwrap_or.ensures ∙ led_to c.in_ok-led.led ∙ ap found c.in_ok-led.ensures.old
-    ∙ sym (found_name_node _ _ refl c.in_ok-key.ensures.text c.self.inside.names.entries c.self.invariant))
+    (c.put_node.ensures.led ∙ (ap₂ (λ vs place. slice_index_or vs place None) c.in_ok-reserve.ensures.items c.in_ok-place.ensures.place
+    ∙ (sym (paired_found _ p.names.value.keys p.nodes.items c.self.invariant.0)
+    ∙ sym (found_name_node _ _ refl c.in_ok-key.ensures.text _ c.self.invariant.1))))

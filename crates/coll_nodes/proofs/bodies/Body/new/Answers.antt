@@ -10,4 +10,4 @@ pub invariant_of-result : goal.invariant_of-result
 invariant_of-result c =
     let first : c.in_ok-declarations.declarations.index ≡ 0 = c.in_ok-declarations.ensures.ring ∙ rw (c.new-nodes.ensures) in
     let second : c.in_ok-sections.sections.index ≡ 1 = c.in_ok-sections.ensures.ring ∙ rw (c.in_ok-declarations.ensures.ok, c.new-nodes.ensures) in
-    rw (laid c, c.new.ensures, c.new-2.ensures) (nothing_sound c.in_ok-declarations.declarations c.in_ok-sections.sections first second)
+    rw (laid c, c.in_ok-keys.ensures, c.new-2.ensures) (nothing_sound c.in_ok-declarations.declarations c.in_ok-sections.sections first second)
