@@ -7,8 +7,9 @@ PROGRAM is crates/collbench/out/collbench where none is given. Each history is a
 all kinds, `:undo`, `:redo` and `:withdraw`, each followed by `:print`, `:history` and `:key`. Behind each `:withdraw K` a fresh session
 makes the statements that remained, but the K-th. Where it accepts all of them, the statement has to be withdrawn, and table, history and
 key are those of the fresh session; else `:withdraw` is refused with the number, in the old list, of the first statement that the fresh
-session refuses, and its refusal, and all is as it was. Behind each command and each second statement the key and the order are those
-that a fresh session answers which makes the statements that then remain and is asked once. The lines are the same in each run.
+session refuses, and its refusal, and all is as it was. Behind each line the key and the order are those that a fresh session answers which makes
+the statements that then remain, and then all ranks, for a text that is too long to be looked up by itself. The lines are the same in
+each run.
 
 The last line is 'N passed, M failed', where a run is one history.
 """
@@ -50,6 +51,8 @@ END LC_COLLATE
 """
 ASKED = [':key "chab-de"\n', ':compare "chad" "cd"\n']
 LOOK = "".join([":print\n", ":history\n", *ASKED])
+# A text that is too long for a short look, so all ranks are made for it, and serve what is asked behind it.
+RANKED = f':key "{"a" * 65}"\n'
 SYMBOLS = ["<BASE>", "<MIN>", "<CAP>", "<LOOSE>", "<S1>", "<S2>", "<N1>", "<N2>"]
 CHARACTERS = ["<ch>", "<E1>", "<E2>", *(f"<U{code:04X}>" for code in (0x61, 0x62, 0x63, 0x64, 0x65, 0x66, 0x2D))]
 SECTIONS = ["<FIRST>", "<SECOND>", "<THIRD>"]
@@ -108,10 +111,10 @@ def seen(answers):
 
 
 def asked(program, table, remaining, known):
-    """What is answered where these statements were made and nothing else, in a session that is asked once."""
+    """What is answered by ranks that are made anew, where these statements were made and nothing else."""
     made = tuple(remaining)
     if made not in known:
-        known[made] = replies(program, table, [*made, *ASKED])[-len(ASKED) :]
+        known[made] = replies(program, table, [*made, RANKED, *ASKED])[-len(ASKED) :]
     return known[made]
 
 
@@ -142,7 +145,7 @@ def compared(program, table, seed):
     lines = [line(chance) for _ in range(LINES)]
     answers = replies(program, table, [LOOK, *(it + LOOK for it in lines)])
     before, remaining, undone, counts, known = seen(answers), [], [], [0, 0], {}
-    for count, it in enumerate(lines):
+    for it in lines:
         answer = answers.pop(0)
         after = seen(answers)
         if it.startswith(":withdraw"):
@@ -155,7 +158,6 @@ def compared(program, table, seed):
         if answer.startswith("withdrawn "):
             del remaining[number - 1]
             undone = []
-            known[tuple(remaining)] = right[1][-len(ASKED) :]
         elif answer.startswith("undone "):
             undone.append(remaining.pop())
         elif answer.startswith("redone "):
@@ -163,10 +165,9 @@ def compared(program, table, seed):
         elif answer.startswith("ok "):
             remaining.append(it)
             undone = []
-        if count % 2 or it.startswith(":"):
-            right = asked(program, table, remaining, known)
-            if after[-len(ASKED) :] != right:
-                return f"history {seed}, {it.strip()}, behind which {remaining} remain: {after}, wanted {right}", counts
+        right = asked(program, table, remaining, known)
+        if after[-len(ASKED) :] != right:
+            return f"history {seed}, {it.strip()}, behind which {remaining} remain: {after}, wanted {right}", counts
         before = after
     return None, counts
 

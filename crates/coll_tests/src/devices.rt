@@ -1,6 +1,6 @@
 //! Devices that give and take little at a time and fail where they are told to.
 //!
-//! `ShortReader` and `ShortWriter` do at each call what their script says, and count their own calls and errors;
+//! `ShortReader` and `ShortWriter` do at each call what their script says, and count their own calls;
 //! `NarrowWriter` has no more room, and `Endless` never comes to an end.
 
 use std::alloc::Global;
@@ -12,8 +12,6 @@ use std::io::{ErrorKind, Read, Write};
 pub enum Step {
     /// Gives or takes no byte.
     Nothing,
-    /// Gives or takes one byte.
-    OneByte,
     /// Gives or takes at most three bytes.
     SomeBytes,
     /// Gives or takes all bytes.
@@ -27,21 +25,10 @@ pub enum Step {
 }
 
 impl Step {
-    // The step of a digit; only the first four are digits.
-    fn of(digit: u8) -> Step {
-        match digit {
-            0 => Step::Nothing,
-            1 => Step::OneByte,
-            2 => Step::SomeBytes,
-            _ => Step::Error,
-        }
-    }
-
-    /// How many bytes are given or taken at most; none at an error.
-    pub fn most(self) -> Option<usize> {
+    // How many bytes are given or taken at most; none at an error.
+    fn most(self) -> Option<usize> {
         match self {
             Step::Nothing | Step::Refusal => Some(0),
-            Step::OneByte => Some(1),
             Step::SomeBytes => Some(3),
             Step::AllBytes => Some(usize::MAX),
             Step::Error | Step::Interruption => None,
@@ -56,12 +43,9 @@ impl Step {
         })
     }
 
-    /// Nothing where a flush succeeds; none where it answers an error.
-    pub fn flushed(self) -> Option<()> {
-        match self {
-            Step::Error | Step::Interruption | Step::Refusal => None,
-            _ => Some(()),
-        }
+    // Whether a flush succeeds, and doesn't answer an error.
+    fn flushes(self) -> bool {
+        !matches!(self, Step::Error | Step::Interruption | Step::Refusal)
     }
 }
 
@@ -80,20 +64,16 @@ pub enum Script {
     ButFor(usize, Step),
     /// Some bytes each time, and from this call on another step.
     From(usize, Step),
-    /// Four steps, the digits of the number to the base 4, from the last; then nothing. Each sequence of four steps has a number,
-    /// and shorter ones are those that end in `Nothing`.
-    Of(u8),
 }
 
 impl Script {
-    /// The step of a call; the first is 1.
-    pub fn step(self, call: usize) -> Step {
+    // The step of a call; the first is 1.
+    fn step(self, call: usize) -> Step {
         match self {
             Script::Each(step) => step,
             Script::ButFor(at, step) if call == at => step,
             Script::From(at, step) if call >= at => step,
             Script::ButFor(..) | Script::From(..) => Step::SomeBytes,
-            Script::Of(number) => Step::of(digit(number, call)),
         }
     }
 }
@@ -104,17 +84,6 @@ pub const WHOLE: Script = Script::Each(Step::AllBytes);
 /// A device that gives or takes at most three bytes at a time.
 pub const SMALL: Script = Script::Each(Step::SomeBytes);
 
-// A digit of a number to the base 4, counted from 1 and from the last.
-fn digit(number: u8, at: usize) -> u8 {
-    match at {
-        1 => number % 4,
-        2 => number / 4 % 4,
-        3 => number / 16 % 4,
-        4 => number / 64,
-        _ => 0,
-    }
-}
-
 /// Gives the bytes of a text as its script says.
 #[derive(Drop)]
 pub struct ShortReader<'a> {
@@ -123,8 +92,6 @@ pub struct ShortReader<'a> {
     pub text: &'a [u8],
     /// The reads so far.
     pub reads: usize,
-    /// The errors so far.
-    pub errors: u64,
 }
 
 impl<'a> ShortReader<'a> {
@@ -139,7 +106,6 @@ impl<'a> ShortReader<'a> {
             script,
             text,
             reads: 0,
-            errors: 0,
         }
     }
 }
@@ -149,7 +115,6 @@ impl Read for ShortReader<'_> {
         self.reads = self.reads.saturating_add(1);
         let step = self.script.step(self.reads);
         let Some(most) = step.most() else {
-            self.errors = self.errors.saturating_add(1);
             return Err(step.error());
         };
         let count = self.text.len().min(buf.len()).min(most);
@@ -167,8 +132,6 @@ pub struct ShortWriter {
     pub taken: Vec<u8>,
     /// The writes and flushes so far.
     pub calls: usize,
-    /// The errors so far, and the writes that took nothing.
-    pub errors: u64,
 }
 
 impl ShortWriter {
@@ -178,7 +141,6 @@ impl ShortWriter {
             script,
             taken,
             calls: 0,
-            errors: 0,
         }
     }
 
@@ -187,23 +149,14 @@ impl ShortWriter {
         self.calls = self.calls.saturating_add(1);
         self.script.step(self.calls)
     }
-
-    // Counts an error.
-    fn count_error(&mut self) {
-        self.errors = self.errors.saturating_add(1);
-    }
 }
 
 impl Write for ShortWriter {
     fn write(&mut self, buf: &[u8]) -> io::Result<usize> {
         let step = self.step();
         let Some(most) = step.most() else {
-            self.count_error();
             return Err(step.error());
         };
-        if most == 0 {
-            self.count_error();
-        }
         let count = buf.len().min(most);
         match self.taken.extend_from_slice(&buf[..count]) {
             Ok(()) => Ok(count),
@@ -213,11 +166,11 @@ impl Write for ShortWriter {
 
     fn flush(&mut self) -> io::Result<()> {
         let step = self.step();
-        if step.flushed().is_none() {
-            self.count_error();
-            return Err(step.error());
+        if step.flushes() {
+            Ok(())
+        } else {
+            Err(step.error())
         }
-        Ok(())
     }
 }
 

@@ -6,7 +6,6 @@
 
 ghost use Rattle.coll_lex.specs.Names.{AreTokens};
 
-mod copies;
 mod delta_lines;
 mod table_lines;
 

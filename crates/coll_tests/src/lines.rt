@@ -1,6 +1,5 @@
 //! Tests of `coll_devices` and `coll_lex`: devices, physical and logical lines, tokens and spellings.
 
-mod counting;
 mod lexing;
 mod line_reading;
 mod spelling;

@@ -1,9 +1,7 @@
 //! Sessions: their replies, their ends, and the devices that they are read from and written to.
 
 mod device_faults;
-mod flushes;
 mod histories;
-mod limits;
 mod statements;
 pub mod transcripts;
 mod worked;

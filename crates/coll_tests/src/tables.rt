@@ -3,7 +3,6 @@
 mod deltas;
 pub mod examples;
 mod faults;
-mod line_by_line;
 mod loading;
 mod reading;
 mod shown;
