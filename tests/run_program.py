@@ -11,6 +11,8 @@ tests/runs/NAME.json is one run, in a folder of its own, which has the examples 
     files         further files in the folder, each name with a value
     input         standard input, a value; empty if left out
     input_from    the path that standard input is opened from, in place of `input`
+    turns         pairs of an input and an output, in place of `input` and `output`: each input is handed in once the output of the
+                  pair before was read, and then standard input is closed
     output        what the program writes to standard output, a value; empty if left out, and not looked at if null
     output_to     the path that standard output is opened at; `output` is then not looked at
     errors        what it writes to standard error, a value; empty if left out, and not looked at if null
@@ -31,6 +33,7 @@ failed.
 import contextlib
 import json
 import os
+import select
 import shutil
 import subprocess
 import sys
@@ -40,7 +43,7 @@ ROOT = os.path.dirname(os.path.dirname(os.path.abspath(__file__)))
 PROGRAM = f"{ROOT}/crates/collbench/out/collbench"
 RUNS = f"{ROOT}/tests/runs"
 SECONDS = 120
-MEMBERS = {"shows", "words", "files", "input", "input_from", "output", "output_to", "errors", "errors_to", "status"}
+MEMBERS = {"shows", "words", "files", "input", "input_from", "turns", "output", "output_to", "errors", "errors_to", "status"}
 
 
 def bytes_of(value):
@@ -77,6 +80,34 @@ def opened(stack, path, flags):
     return descriptor
 
 
+def read_from(pipe, count):
+    """Returns so many bytes from a pipe, or those that came before it ended or nothing came for ten seconds."""
+    read = b""
+    while len(read) < count and select.select([pipe], [], [], 10)[0]:
+        part = os.read(pipe.fileno(), count - len(read))
+        if not part:
+            break
+        read += part
+    return read
+
+
+def in_turns(words, turns, how):
+    """Runs a program, and hands each input in once the output to the one before was read. Returns what was wanted to be read, and how the
+    program ended, with all that was read."""
+    wanted, read = b"", b""
+    with subprocess.Popen(words, stdin=subprocess.PIPE, bufsize=0, **how) as ran:
+        for given, output in turns:
+            ran.stdin.write(bytes_of(given))
+            wanted += bytes_of(output)
+            read += read_from(ran.stdout, len(wanted) - len(read))
+            if len(read) < len(wanted):
+                break
+        ran.stdin.close()
+        rest, errors = ran.stdout.read(), ran.stderr.read()
+    late = b" (and no more before the next input)" if len(read) < len(wanted) else b""
+    return wanted, subprocess.CompletedProcess(words, ran.returncode, read + late + rest, errors)
+
+
 def differences(program, run):
     """Runs the program, and returns what differs from what is wanted, a line for each."""
     unknown = set(run) - MEMBERS
@@ -86,7 +117,7 @@ def differences(program, run):
         how = {"stdout": subprocess.PIPE, "stderr": subprocess.PIPE}
         if "input_from" in run:
             how["stdin"] = opened(stack, run["input_from"], os.O_RDONLY)
-        else:
+        elif "turns" not in run:
             how["input"] = bytes_of(run.get("input", ""))
         for stream, to in (("stdout", "output_to"), ("stderr", "errors_to")):
             if to in run:
@@ -98,7 +129,10 @@ def differences(program, run):
                 file.write(bytes_of(value))
         words = [bytes_of(word) for word in run.get("words", [])]
         try:
-            ended = subprocess.run([program, *words], cwd=folder, timeout=SECONDS, check=False, **how)
+            if "turns" in run:
+                run["output"], ended = in_turns([program, *words], run["turns"], {"cwd": folder, **how})
+            else:
+                ended = subprocess.run([program, *words], cwd=folder, timeout=SECONDS, check=False, **how)
         except subprocess.TimeoutExpired:
             return [f"the program had not ended after {SECONDS} seconds"]
         except OSError as error:
@@ -108,7 +142,7 @@ def differences(program, run):
     lines = []
     for member, wrote in found:
         value = run.get(member, "")
-        wanted = wrote if value is None else bytes_of(value)
+        wanted = value if isinstance(value, bytes) else wrote if value is None else bytes_of(value)
         if wrote != wanted:
             lines += [f"{member} wanted: {shown(wanted)}", f"{member} found:  {shown(wrote)}"]
     if ended.returncode != run.get("status", 0):

@@ -1,8 +1,8 @@
 //! The command line: what the words after the program's name ask for.
 //!
 //! `clap` reads the words, and its texts tell a user what may stand there. A new subcommand is a variant of `Subcommand` with its
-//! name, a case of `task_of` and of `task_for` in `specs/Tasks.antt`, and a line of `command` with an example in `EXAMPLES`;
-//! `version` alone takes no table, and is no variant. There is one level of subcommands, and no option but help.
+//! name, a case of `about`, `taking`, `task_of` and of `task_for` in `specs/Tasks.antt`, a place in `SUBCOMMANDS` and an example in
+//! `EXAMPLES`; `version` alone takes no table, and is no variant. There is one level of subcommands, and no option but help.
 
 ghost use Rattle.std.specs.Prelude.{◌≡◌, ◌≢◌, ◌<◌, None, map, chars, vec_len, IfOk, IfSome};
 ghost use Rattle.collbench.specs.Tasks.{subcommand_name, task_for};
@@ -35,6 +35,16 @@ const EXAMPLES: &str = "Examples:
   collbench key base.txt ab                    4 6 | 1 1 | 2 2 | |
   collbench compare base.txt a A               less
   collbench session base.txt < lines.txt       a reply to each line";
+
+// The subcommands that work on a table, in the order in which help tells them.
+const SUBCOMMANDS: [Subcommand; 6] = [
+    Subcommand::Check,
+    Subcommand::Print,
+    Subcommand::Compile,
+    Subcommand::Key,
+    Subcommand::Compare,
+    Subcommand::Session,
+];
 
 /// A subcommand that works on a table.
 #[derive(Clone, Copy)]
@@ -149,41 +159,23 @@ fn no_request<'a>(
     }
 }
 
-// What may stand on a command line. Each call hands the command on, so that nothing else is held where memory is refused.
+// What may stand on a command line.
 fn command<'a>(alloc: Global) -> Result<Command<'a>, AllocError> {
-    let check = "Counts the entries, declarations, sections and levels of a table";
-    let print = "Prints a table, in a form that can be read again";
-    let compile = "Prints the rank of each entry of a table, and its weights as ranks";
     let command = Command::new(alloc, "collbench")
         .about("A workbench for collation tables in LC_COLLATE source form")
         .after_help(EXAMPLES)
         .subcommand_required(true)
         .arg_required_else_help(true);
-    let command = with_deltas(alloc, command, Subcommand::Check, check)?;
-    let command = with_deltas(alloc, command, Subcommand::Print, print)?;
-    let command = with_deltas(alloc, command, Subcommand::Compile, compile)?;
-    with_texts(alloc, command)
+    with_all(alloc, command)?.subcommand(version(alloc))
 }
 
-// The command with the subcommands that take texts, and with that of a session.
-fn with_texts<'a>(alloc: Global, command: Command<'a>) -> Result<Command<'a>, AllocError> {
-    let key = "Prints the sort key of each text, one a line";
-    let compare = "Compares two texts: less, equal or greater";
-    let session = "Reads the lines of a session from standard input, and replies to each";
-    let command = with(command, over_texts(alloc, key))?;
-    let command = with(command, over_two_texts(alloc, compare))?;
-    let command = with(command, over_table(alloc, Subcommand::Session, session))?;
-    command.subcommand(version(alloc))
-}
-
-// The command with a subcommand that takes a table and delta files, perhaps none, and what help says of it.
-fn with_deltas<'a>(
-    alloc: Global,
-    command: Command<'a>,
-    subcommand: Subcommand,
-    about: &'a str,
-) -> Result<Command<'a>, AllocError> {
-    with(command, over_deltas(alloc, subcommand, about))
+// The command with the subcommands that work on a table. Each call hands it on, so that nothing else is held where memory is refused.
+fn with_all<'a>(alloc: Global, command: Command<'a>) -> Result<Command<'a>, AllocError> {
+    let mut command = command;
+    for subcommand in SUBCOMMANDS {
+        command = with(command, taking(alloc, subcommand))?;
+    }
+    Ok(command)
 }
 
 // The command with a subcommand, if that was made.
@@ -202,33 +194,28 @@ fn version<'a>(alloc: Global) -> Command<'a> {
     Command::new(alloc, VERSION).about("Prints the version, and the prover that it was proved with")
 }
 
-// A subcommand that takes a table, and what help says of it.
-fn over_table<'a>(
-    alloc: Global,
-    subcommand: Subcommand,
-    about: &'a str,
-) -> Result<Command<'a>, AllocError> {
+// A subcommand with the words that it takes.
+fn taking<'a>(alloc: Global, subcommand: Subcommand) -> Result<Command<'a>, AllocError> {
+    match subcommand {
+        Subcommand::Check | Subcommand::Print | Subcommand::Compile => {
+            over_table(alloc, subcommand)?.arg(deltas(alloc))
+        }
+        Subcommand::Key => over_table(alloc, subcommand)?.arg(texts(alloc)),
+        Subcommand::Compare => over_two_texts(alloc, subcommand),
+        Subcommand::Session => over_table(alloc, subcommand),
+    }
+}
+
+// A subcommand that takes a table.
+fn over_table<'a>(alloc: Global, subcommand: Subcommand) -> Result<Command<'a>, AllocError> {
     let name: &'a str = subcommand.name();
+    let about: &'a str = subcommand.about();
     Command::new(alloc, name).about(about).arg(table(alloc))
 }
 
-// A subcommand that takes a table and delta files.
-fn over_deltas<'a>(
-    alloc: Global,
-    subcommand: Subcommand,
-    about: &'a str,
-) -> Result<Command<'a>, AllocError> {
-    over_table(alloc, subcommand, about)?.arg(deltas(alloc))
-}
-
-// The subcommand that takes a table and texts.
-fn over_texts<'a>(alloc: Global, about: &'a str) -> Result<Command<'a>, AllocError> {
-    over_table(alloc, Subcommand::Key, about)?.arg(texts(alloc))
-}
-
-// The subcommand that takes a table and two texts.
-fn over_two_texts<'a>(alloc: Global, about: &'a str) -> Result<Command<'a>, AllocError> {
-    over_table(alloc, Subcommand::Compare, about)?
+// A subcommand that takes a table and two texts.
+fn over_two_texts<'a>(alloc: Global, subcommand: Subcommand) -> Result<Command<'a>, AllocError> {
+    over_table(alloc, subcommand)?
         .arg(text(alloc, FIRST))?
         .arg(text(alloc, SECOND))
 }
@@ -371,6 +358,22 @@ impl Subcommand {
             Subcommand::Key => "key",
             Subcommand::Compare => "compare",
             Subcommand::Session => "session",
+        }
+    }
+
+    // What help says of it.
+    fn about(self) -> &'static str {
+        match self {
+            Subcommand::Check => "Counts the entries, declarations, sections and levels of a table",
+            Subcommand::Print => "Prints a table, in a form that can be read again",
+            Subcommand::Compile => {
+                "Prints the rank of each entry of a table, and its weights as ranks"
+            }
+            Subcommand::Key => "Prints the sort key of each text, one a line",
+            Subcommand::Compare => "Compares two texts: less, equal or greater",
+            Subcommand::Session => {
+                "Reads the lines of a session from standard input, and replies to each"
+            }
         }
     }
 
