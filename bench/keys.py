@@ -25,7 +25,8 @@ An older commit is measured beside this one with its working tree as a second ar
     git worktree add /tmp/older 5aada37 && bench/keys.py /tmp/key_times /tmp/older
 
 The same program is then built over the crates of both, and the two are run in turn, ten times each. What is printed is the least of
-each row, of this tree and then of the other one.
+each row, of this tree and then of the other one. A third argument is a table, in which the letters of the second table's words have
+entries: its ranks are made as well, and the keys of these words by it.
 
 Targets, for the first table: 160 ns for a key of a word of nine letters, 35 ns for a comparison of adjacent words, 15 ms and 16 MB
 for the ranks, for a key of 65,536 characters at most 500 times that of 128, and 0.1 s for a listing. For the second: a key of a word
@@ -34,27 +35,12 @@ of ten letters in at most 0.6 of what it took at commit 5aada37.
 
 import os
 import random
-import shutil
 import subprocess
 import sys
 import tempfile
 
-ROOT = os.path.dirname(os.path.dirname(os.path.abspath(__file__)))
-CRATES = (
-    "coll_devices",
-    "coll_lex",
-    "coll_order",
-    "coll_syntax",
-    "coll_lookups",
-    "coll_nodes",
-    "coll_builder",
-    "coll_print",
-    "coll_statements",
-    "coll_table",
-    "coll_elements",
-    "coll_ranks",
-    "coll_key",
-)
+from small_programs import ROOT, built
+
 ENTRIES = 105_000
 ELEMENTS = 800
 SECTIONS = 23
@@ -321,29 +307,6 @@ def text_files(work, name, words, some):
     ]
 
 
-def build(work, tree):
-    """The program, built in this folder over copies of the crates of a working tree, of which an older one may lack some."""
-    for name in CRATES:
-        if not os.path.isdir(os.path.join(tree, "crates", name)):
-            continue
-        crate = os.path.join(work, "crates", name)
-        os.makedirs(crate, exist_ok=True)
-        for part in ("src", "specs", "proofs"):
-            shutil.rmtree(os.path.join(crate, part), ignore_errors=True)
-            shutil.copytree(os.path.join(tree, "crates", name, part), os.path.join(crate, part))
-    with open(os.path.join(tree, "crates.txt")) as lines:
-        own = [line for line in lines if line.split(":")[0] in CRATES]
-    with open(os.path.join(work, "crates.txt"), "w") as out:
-        out.writelines(own + ["key_times: coll_lex coll_nodes coll_table coll_ranks coll_key anyhow\n"])
-    program = os.path.join(work, "crates", "key_times")
-    os.makedirs(os.path.join(program, "src"), exist_ok=True)
-    with open(os.path.join(program, "src", "main.rt"), "w") as out:
-        out.write(PROGRAM)
-    empty = written(work, "empty", ["LC_COLLATE\norder_start\norder_end\nEND LC_COLLATE\n"])
-    subprocess.run(["rt", "run", "--", empty], cwd=program, check=True, stdout=subprocess.DEVNULL)
-    return os.path.join(program, "out", "key_times")
-
-
 def run(program, *files):
     """The least time of each thing that the program did, in nanoseconds, and its peak memory in kilobytes."""
     done = subprocess.run(["/usr/bin/time", "-f", "%M", program, *files], capture_output=True, text=True)
@@ -378,8 +341,20 @@ def each(measured, name, less, count):
     return [f"{(least[name] - least[less]) / count:.0f} ns" for least, _ in measured]
 
 
-def main(work, trees):
-    programs = [build(os.path.join(work, str(place)) if place else work, tree) for place, tree in enumerate(trees)]
+def built_over(work, tree):
+    """The program, built in this folder over copies of the crates of a working tree."""
+    os.makedirs(work, exist_ok=True)
+    empty = written(work, "empty", ["LC_COLLATE\norder_start\norder_end\nEND LC_COLLATE\n"])
+    return built(work, "key_times", ["coll_lex", "coll_nodes", "coll_table", "coll_ranks", "coll_key", "anyhow"], PROGRAM, [empty], tree)
+
+
+def ranks_told(what, measured, kilobytes):
+    """Prints what the ranks of a table take."""
+    told(what, [f"{least['ranks'] / 1e6:.2f} ms" for least, _ in measured] + [f"{size} kB" for size in kilobytes], "")
+
+
+def main(work, trees, given):
+    programs = [built_over(os.path.join(work, str(place)) if place else work, tree) for place, tree in enumerate(trees)]
     table, real_table = written(work, "table", table_lines()), written(work, "real_table", real_lines())
     without = run_in_turn(programs, table)
     files = texts(work)
@@ -387,7 +362,7 @@ def main(work, trees):
     real = run_in_turn(programs, real_table, *real_texts(work))
     held = sum(os.path.getsize(file) for file in files) // 1024
     kilobytes = [with_ranks - before - held for (_, with_ranks), (_, before) in zip(spread, without)]
-    told("ranks", [f"{least['ranks'] / 1e6:.1f} ms" for least, _ in spread] + [f"{size} kB" for size in kilobytes], "15 ms, 16000 kB")
+    ranks_told("ranks (aim 15 ms, 16000 kB)", spread, kilobytes)
     told("a key", each(spread, "keys", "words", WINDOW * WINDOWS), "160 ns")
     told("a comparison", each(spread, "comparisons", "pairs", WINDOW * WINDOWS), "35 ns")
     for least, _ in spread:
@@ -396,12 +371,18 @@ def main(work, trees):
     told("a listing", [f"{least['listing'] / 1e9:.4f} s" for least, _ in spread], "0.1 s")
     told("a key of a real word", each(real, "keys", "words", REAL_WORDS), "")
     told("a comparison of real words", each(real, "comparisons", "pairs", REAL_WORDS), "")
+    if given:
+        on_given = run_in_turn(programs, given, *real_texts(work))
+        ranks_told(f"ranks of {os.path.basename(given)}", on_given, [])
+        told("a key of a real word in it", each(on_given, "keys", "words", REAL_WORDS), "")
+        told("a comparison of real words", each(on_given, "comparisons", "pairs", REAL_WORDS), "")
+        told("a listing of it", [f"{least['listing'] / 1e9:.4f} s" for least, _ in on_given], "")
 
 
 if __name__ == "__main__":
     if len(sys.argv) > 1:
         os.makedirs(sys.argv[1], exist_ok=True)
-        main(sys.argv[1], [ROOT] + sys.argv[2:3])
+        main(os.path.abspath(sys.argv[1]), [ROOT] + sys.argv[2:3], sys.argv[3] if len(sys.argv) > 3 else None)
     else:
         with tempfile.TemporaryDirectory() as folder:
-            main(folder, [ROOT])
+            main(folder, [ROOT], None)

@@ -15,13 +15,11 @@ Target: 1.5 s of processor time for the ten million pairs, the rings' making lef
 """
 
 import os
-import resource
-import shutil
-import subprocess
 import sys
 import tempfile
 
-ROOT = os.path.dirname(os.path.dirname(os.path.abspath(__file__)))
+from small_programs import built, measured
+
 PAIRS = 10_000_000
 RUNS = 5
 
@@ -113,40 +111,12 @@ fn main(rt: HostRuntime) -> Result<()> {
 """
 
 
-def build(work):
-    """The program, built in this folder over a copy of coll_order."""
-    crate = os.path.join(work, "crates", "coll_order")
-    program = os.path.join(work, "crates", "link_and_unlink")
-    os.makedirs(os.path.join(program, "src"), exist_ok=True)
-    for part in ("src", "specs", "proofs"):
-        shutil.rmtree(os.path.join(crate, part), ignore_errors=True)
-        shutil.copytree(os.path.join(ROOT, "crates", "coll_order", part), os.path.join(crate, part))
-    with open(os.path.join(ROOT, "crates.txt")) as lines:
-        own = [line for line in lines if line.startswith("coll_order:")]
-    with open(os.path.join(work, "crates.txt"), "w") as out:
-        out.writelines(own + ["link_and_unlink: coll_order anyhow\n"])
-    with open(os.path.join(program, "src", "main.rt"), "w") as out:
-        out.write(PROGRAM)
-    subprocess.run(["rt", "run", "--", "0"], cwd=program, check=True, stdout=subprocess.DEVNULL)
-    return os.path.join(program, "out", "link_and_unlink")
-
-
-def measured(program, pairs):
-    """What the program printed, and its processor time in seconds."""
-    before = resource.getrusage(resource.RUSAGE_CHILDREN)
-    run = subprocess.run([program, str(pairs)], capture_output=True, text=True)
-    after = resource.getrusage(resource.RUSAGE_CHILDREN)
-    if run.returncode != 0:
-        sys.exit(f"the program ended with status {run.returncode}: {run.stderr}")
-    return run.stdout.strip(), after.ru_utime + after.ru_stime - before.ru_utime - before.ru_stime
-
-
 def main(work):
-    program = build(work)
-    making = min(measured(program, 0)[1] for _ in range(RUNS))
-    runs = [measured(program, PAIRS) for _ in range(RUNS)]
-    times = sorted(time - making for _, time in runs)
-    print(runs[0][0])
+    program = built(work, "link_and_unlink", ["coll_order", "anyhow"], PROGRAM, ["0"])
+    making = min(measured(program, "0")[1] for _ in range(RUNS))
+    runs = [measured(program, str(PAIRS)) for _ in range(RUNS)]
+    times = sorted(time - making for _, time, _ in runs)
+    print(runs[0][0].strip())
     print(f"processor time: least {times[0]:.2f} s, middle {times[RUNS // 2]:.2f} s of {RUNS} runs (target 1.50 s)")
     print(f"making the rings took {making:.3f} s before that")
 

@@ -16,25 +16,11 @@ printing.
 """
 
 import os
-import resource
-import shutil
-import subprocess
 import sys
 import tempfile
 
-ROOT = os.path.dirname(os.path.dirname(os.path.abspath(__file__)))
-CRATES = (
-    "coll_devices",
-    "coll_lex",
-    "coll_order",
-    "coll_syntax",
-    "coll_lookups",
-    "coll_nodes",
-    "coll_builder",
-    "coll_print",
-    "coll_statements",
-    "coll_table",
-)
+from small_programs import ROOT, built, measured
+
 DECLARATIONS = 82_000
 ENTRIES = 105_000
 SECTIONS = 23
@@ -94,27 +80,6 @@ def table_lines(entries, declarations):
     yield "order_end\nEND LC_COLLATE\n"
 
 
-def build(work):
-    """The program, built in this folder over copies of the crates."""
-    for name in CRATES:
-        crate = os.path.join(work, "crates", name)
-        os.makedirs(crate, exist_ok=True)
-        for part in ("src", "specs", "proofs"):
-            shutil.rmtree(os.path.join(crate, part), ignore_errors=True)
-            shutil.copytree(os.path.join(ROOT, "crates", name, part), os.path.join(crate, part))
-    with open(os.path.join(ROOT, "crates.txt")) as lines:
-        own = [line for line in lines if line.split(":")[0] in CRATES]
-    with open(os.path.join(work, "crates.txt"), "w") as out:
-        out.writelines(own + ["load_table: coll_lex coll_table anyhow\n"])
-    program = os.path.join(work, "crates", "load_table")
-    os.makedirs(os.path.join(program, "src"), exist_ok=True)
-    with open(os.path.join(program, "src", "main.rt"), "w") as out:
-        out.write(PROGRAM)
-    empty = written(work, "empty", 0, 0)
-    subprocess.run(["rt", "run", "--", empty], cwd=program, check=True, stdout=subprocess.DEVNULL)
-    return os.path.join(program, "out", "load_table")
-
-
 def written(work, name, entries, declarations):
     """The file with a table of so many entries and declarations."""
     path = os.path.join(work, name + ".txt")
@@ -123,36 +88,25 @@ def written(work, name, entries, declarations):
     return path
 
 
-def measured(program, *words):
-    """What the program printed, its least processor time in seconds, and its peak memory in kilobytes.
-
-    GNU time starts the program, since a child of this script would count the script's own memory.
-    """
-    times, memory = [], 0
-    for _ in range(RUNS):
-        before = resource.getrusage(resource.RUSAGE_CHILDREN)
-        run = subprocess.run(["/usr/bin/time", "-f", "%M", program, *words], capture_output=True, text=True)
-        after = resource.getrusage(resource.RUSAGE_CHILDREN)
-        if run.returncode != 0:
-            sys.exit(f"the program ended with status {run.returncode}: {run.stderr}")
-        times.append(after.ru_utime + after.ru_stime - before.ru_utime - before.ru_stime)
-        memory = max(memory, int(run.stderr.split()[-1]))
-    return run.stdout.strip(), sorted(times), memory
+def times_of(program, *words):
+    """What the program printed, its processor times in so many runs, the least first, and its peak memory in kilobytes."""
+    runs = [measured(program, *words) for _ in range(RUNS)]
+    return runs[0][0].strip(), sorted(time for _, time, _ in runs), max(memory for _, _, memory in runs)
 
 
 def main(work):
-    program = build(work)
+    program = built(work, "load_table", ["coll_lex", "coll_table", "anyhow"], PROGRAM, [written(work, "empty", 0, 0)])
     tables = [
         ("none", written(work, "empty", 0, 0)),
         ("one", written(work, "table", ENTRIES, DECLARATIONS)),
         ("twice", written(work, "twice", 2 * ENTRIES, 2 * DECLARATIONS)),
     ]
     for name, path in tables:
-        said, times, memory = measured(program, path)
+        said, times, memory = times_of(program, path)
         size = os.path.getsize(path)
         print(f"{name}: {size} bytes, {said}: least {times[0]:.3f} s, middle {times[RUNS // 2]:.3f} s of {RUNS} runs, {memory} kB")
-    loading = measured(program, tables[1][1])[1]
-    printing = measured(program, tables[1][1], os.path.join(work, "printed.txt"))[1]
+    loading = times_of(program, tables[1][1])[1]
+    printing = times_of(program, tables[1][1], os.path.join(work, "printed.txt"))[1]
     print(f"printing: least {printing[0] - loading[0]:.3f} s, middle {printing[RUNS // 2] - loading[RUNS // 2]:.3f} s of {RUNS} runs")
     print("targets: one in 0.25 s and 90000 kB, twice in 2.2 times that time, printing in 0.15 s")
 

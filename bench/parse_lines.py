@@ -15,14 +15,11 @@ Target: 0.06 s of processor time for a pass.
 """
 
 import os
-import resource
-import shutil
-import subprocess
 import sys
 import tempfile
 
-ROOT = os.path.dirname(os.path.dirname(os.path.abspath(__file__)))
-CRATES = ("coll_devices", "coll_lex", "coll_syntax")
+from small_programs import built, measured
+
 LINES = 100_000
 PASSES = 10
 RUNS = 5
@@ -69,49 +66,18 @@ def order_lines():
         yield f'<U{code:04X}> <U{code:04X}>;<BASE>;<MIN>;"<U{code:04X}><CAP>"\n'
 
 
-def build(work):
-    """The program, built in this folder over copies of the crates."""
-    for name in CRATES:
-        crate = os.path.join(work, "crates", name)
-        for part in ("src", "specs", "proofs"):
-            shutil.rmtree(os.path.join(crate, part), ignore_errors=True)
-            shutil.copytree(os.path.join(ROOT, "crates", name, part), os.path.join(crate, part))
-    program = os.path.join(work, "crates", "parse_lines")
-    os.makedirs(os.path.join(program, "src"), exist_ok=True)
-    with open(os.path.join(ROOT, "crates.txt")) as lines:
-        own = [line for line in lines if line.split(":")[0] in CRATES]
-    with open(os.path.join(work, "crates.txt"), "w") as out:
-        out.writelines(own + ["parse_lines: coll_lex coll_syntax anyhow\n"])
-    with open(os.path.join(program, "src", "main.rt"), "w") as out:
-        out.write(PROGRAM)
-    empty = os.path.join(work, "empty.txt")
-    open(empty, "w").close()
-    subprocess.run(["rt", "run", "--", empty, "0"], cwd=program, check=True, stdout=subprocess.DEVNULL)
-    return os.path.join(program, "out", "parse_lines")
-
-
-def measured(program, text, passes):
-    """What the program printed, and its processor time in seconds."""
-    before = resource.getrusage(resource.RUSAGE_CHILDREN)
-    run = subprocess.run([program, text, str(passes)], capture_output=True, text=True)
-    after = resource.getrusage(resource.RUSAGE_CHILDREN)
-    if run.returncode != 0:
-        sys.exit(f"the program ended with status {run.returncode}: {run.stderr}")
-    return run.stdout.strip(), after.ru_utime + after.ru_stime - before.ru_utime - before.ru_stime
-
-
 def main(work):
-    program = build(work)
-    text = os.path.join(work, "text.txt")
-    with open(text, "w") as out:
+    text, nothing = os.path.join(work, "text.txt"), os.path.join(work, "empty.txt")
+    with open(text, "w") as out, open(nothing, "w"):
         out.writelines(order_lines())
+    program = built(work, "parse_lines", ["coll_lex", "coll_syntax", "anyhow"], PROGRAM, [nothing, "0"])
     times = []
     for _ in range(RUNS):
-        _, lexed = measured(program, text, 0)
-        said, parsed = measured(program, text, PASSES)
+        _, lexed, _ = measured(program, text, "0")
+        said, parsed, _ = measured(program, text, str(PASSES))
         times.append((parsed - lexed) / PASSES)
     times.sort()
-    print(f"{LINES} lines of {os.path.getsize(text)} bytes, {PASSES} passes: {said}")
+    print(f"{LINES} lines of {os.path.getsize(text)} bytes, {PASSES} passes: {said.strip()}")
     print(f"processor time of a pass: least {times[0]:.3f} s, middle {times[len(times) // 2]:.3f} s of {RUNS} runs (target 0.06 s)")
 
 

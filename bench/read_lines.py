@@ -14,14 +14,11 @@ Targets: 0.10 s of processor time, and under 4 MB more memory than on an empty t
 """
 
 import os
-import resource
-import shutil
-import subprocess
 import sys
 import tempfile
 
-ROOT = os.path.dirname(os.path.dirname(os.path.abspath(__file__)))
-CRATES = ("coll_devices", "coll_lex")
+from small_programs import built, measured
+
 LINES = 200_000
 RUNS = 7
 
@@ -62,52 +59,17 @@ def order_lines():
         yield f"<U{code:04X}> <BASE1>;<MIN>;<U{code:04X}>\n"
 
 
-def build(work):
-    """The program, built in this folder over copies of the crates."""
-    for name in CRATES:
-        crate = os.path.join(work, "crates", name)
-        for part in ("src", "specs", "proofs"):
-            shutil.rmtree(os.path.join(crate, part), ignore_errors=True)
-            shutil.copytree(os.path.join(ROOT, "crates", name, part), os.path.join(crate, part))
-    program = os.path.join(work, "crates", "read_lines")
-    os.makedirs(os.path.join(program, "src"), exist_ok=True)
-    with open(os.path.join(ROOT, "crates.txt")) as lines:
-        own = [line for line in lines if line.split(":")[0] in CRATES]
-    with open(os.path.join(work, "crates.txt"), "w") as out:
-        out.writelines(own + ["read_lines: coll_lex anyhow\n"])
-    with open(os.path.join(program, "src", "main.rt"), "w") as out:
-        out.write(PROGRAM)
-    empty = os.path.join(work, "empty.txt")
-    open(empty, "w").close()
-    subprocess.run(["rt", "run", "--", empty], cwd=program, check=True, stdout=subprocess.DEVNULL)
-    return os.path.join(program, "out", "read_lines")
-
-
-def measured(program, text):
-    """What the program printed, its processor time in seconds, and its peak memory in kilobytes.
-
-    GNU time starts the program, since a child of this script would count the script's own memory.
-    """
-    before = resource.getrusage(resource.RUSAGE_CHILDREN)
-    run = subprocess.run(["/usr/bin/time", "-f", "%M", program, text], capture_output=True, text=True)
-    after = resource.getrusage(resource.RUSAGE_CHILDREN)
-    if run.returncode != 0:
-        sys.exit(f"the program ended with status {run.returncode}: {run.stderr}")
-    time = after.ru_utime + after.ru_stime - before.ru_utime - before.ru_stime
-    return run.stdout.strip(), time, int(run.stderr.split()[-1])
-
-
 def main(work):
-    program = build(work)
-    text = os.path.join(work, "text.txt")
-    with open(text, "w") as out:
+    text, nothing = os.path.join(work, "text.txt"), os.path.join(work, "empty.txt")
+    with open(text, "w") as out, open(nothing, "w"):
         out.writelines(order_lines())
-    empty = measured(program, os.path.join(work, "empty.txt"))
+    program = built(work, "read_lines", ["coll_lex", "anyhow"], PROGRAM, [nothing])
+    empty = measured(program, nothing)
     runs = [measured(program, text) for _ in range(RUNS)]
     size = os.path.getsize(text)
     times = sorted(time for _, time, _ in runs)
     memory = max(memory for _, _, memory in runs)
-    print(f"{LINES} lines of {size} bytes: {runs[0][0]}")
+    print(f"{LINES} lines of {size} bytes: {runs[0][0].strip()}")
     print(f"processor time: least {times[0]:.3f} s, middle {times[len(times) // 2]:.3f} s of {RUNS} runs (target 0.10 s)")
     print(f"peak memory: {memory} kB, {memory - empty[2]} kB more than on an empty text (target under 4096 kB)")
 
