@@ -28,16 +28,12 @@ pub fn tell_refused<R: Abort + Print>(rt: &R) {
     println!(rt; "a growth was refused").expect(rt, "a line");
 }
 
-fn counted_load<R: Abort + Print>(rt: &R, alloc: Global, text: &[u8]) -> Result<Table, LoadFault> {
+// The table that a text is. A refused load gives none.
+fn table_of<R: Abort + Print>(rt: &R, alloc: Global, text: &[u8]) -> Table {
     count_growths(rt);
     let table = loaded(alloc, text);
     count_no_growths(rt);
-    table
-}
-
-// The table that a text is. A refused load gives none.
-fn table_of<R: Abort + Print>(rt: &R, alloc: Global, text: &[u8]) -> Table {
-    let table = match counted_load(rt, alloc, text) {
+    match table {
         Err(
             LoadFault {
                 cause: LoadCause::OutOfMemory,
@@ -45,11 +41,10 @@ fn table_of<R: Abort + Print>(rt: &R, alloc: Global, text: &[u8]) -> Table {
             },
         ) => {
             tell_refused(rt);
-            counted_load(rt, alloc, text)
+            loaded(alloc, text).expect(rt, "a table")
         }
-        answer => answer,
-    };
-    table.expect(rt, "a table")
+        answer => answer.expect(rt, "a table"),
+    }
 }
 
 fn assert_loads<R: Abort + Print>(rt: &R, alloc: Global, lines: &[&str], printed: &[&str]) {

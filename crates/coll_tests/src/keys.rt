@@ -1,7 +1,6 @@
 //! Tests of `coll_key`: what no run of the program shows. Those of `tests/runs/` have the keys of texts, their order, and the
 //! compiled listings.
 
-ghost use Rattle.std.specs.Prelude.{IfOk};
 ghost use Rattle.coll_ranks.specs.Ranks.{AreRanksOf};
 ghost use Rattle.coll_nodes.specs.TableLayout.{collation};
 
@@ -13,53 +12,28 @@ use crate::tables::examples::{
 use coll_key::{KeyFault, Ranks, compare, key};
 use coll_syntax::Id;
 use coll_table::Table;
-use std::alloc::{AllocError, Global};
+use std::alloc::Global;
 use std::cmp::Ordering;
 use std::process::Abort;
-
-fn counted_ranks<R: Abort + Print>(
-    rt: &R,
-    alloc: Global,
-    table: &Table,
-) -> Result<Ranks, AllocError>
-    ensures { IfOk result (λ ranks. AreRanksOf ranks (collation table.now)) }
-{
-    count_growths(rt);
-    let ranks = Ranks::new(alloc, table);
-    count_no_growths(rt);
-    ranks
-}
 
 // The ranks of a table, which are made again where memory is refused.
 fn ranks_of<R: Abort + Print>(rt: &R, alloc: Global, table: &Table) -> Ranks
     ensures { AreRanksOf result (collation table.now) }
 {
-    match counted_ranks(rt, alloc, table) {
+    count_growths(rt);
+    let ranks = Ranks::new(alloc, table);
+    count_no_growths(rt);
+    match ranks {
         Ok(ranks) => ranks,
         Err(_) => {
             tell_refused(rt);
-            counted_ranks(rt, alloc, table).expect(rt, "the ranks")
+            Ranks::new(alloc, table).expect(rt, "the ranks")
         }
     }
 }
 
 // Two texts, and their order.
 pub(crate) type Compared = (&'static str, &'static str, Ordering);
-
-fn counted_order<R: Abort + Print>(
-    rt: &R,
-    alloc: Global,
-    table: &Table,
-    ranks: &Ranks,
-    texts: &Compared,
-) -> Result<Ordering, KeyFault>
-    requires { AreRanksOf ranks.now (collation table.now) }
-{
-    count_growths(rt);
-    let order = compare(alloc, table, ranks, texts.0, texts.1);
-    count_no_growths(rt);
-    order
-}
 
 fn assert_order<R: Abort + Print>(
     rt: &R,
@@ -70,10 +44,12 @@ fn assert_order<R: Abort + Print>(
 )
     requires { AreRanksOf ranks.now (collation table.now) }
 {
-    let mut order = counted_order(rt, alloc, table, ranks, texts);
+    count_growths(rt);
+    let mut order = compare(alloc, table, ranks, texts.0, texts.1);
+    count_no_growths(rt);
     if order == Err(KeyFault::OutOfMemory) {
         tell_refused(rt);
-        order = counted_order(rt, alloc, table, ranks, texts);
+        order = compare(alloc, table, ranks, texts.0, texts.1);
     }
     assert_same(rt, "the order", order, Ok(texts.2));
 }
@@ -161,21 +137,6 @@ fn assert_ranks(rt: &impl Abort, alloc: Global, ranks: &Ranks, wanted: &[(&str, 
     }
 }
 
-fn counted_key<R: Abort + Print>(
-    rt: &R,
-    alloc: Global,
-    table: &Table,
-    ranks: &Ranks,
-    text: &str,
-) -> Result<Vec<u64>, KeyFault>
-    requires { AreRanksOf ranks.now (collation table.now) }
-{
-    count_growths(rt);
-    let key = key(alloc, table, ranks, text);
-    count_no_growths(rt);
-    key
-}
-
 fn assert_key<R: Abort + Print>(
     rt: &R,
     alloc: Global,
@@ -186,14 +147,14 @@ fn assert_key<R: Abort + Print>(
 )
     requires { AreRanksOf ranks.now (collation table.now) }
 {
-    let key = match counted_key(rt, alloc, table, ranks, text) {
-        Err(KeyFault::OutOfMemory) => {
-            tell_refused(rt);
-            counted_key(rt, alloc, table, ranks, text)
-        }
-        answer => answer,
-    };
-    let key = key.expect(rt, "a key");
+    count_growths(rt);
+    let mut made = key(alloc, table, ranks, text);
+    count_no_growths(rt);
+    if let Err(KeyFault::OutOfMemory) = made {
+        tell_refused(rt);
+        made = key(alloc, table, ranks, text);
+    }
+    let key = made.expect(rt, "a key");
     assert_same(rt, text, key.as_slice(), numbers);
     drop(key);
 }

@@ -10,7 +10,7 @@ ghost use Rattle.coll_order.specs.Layout.{IsPlace};
 use crate::assertions::{assert_same, assert_that};
 use crate::growths::{count_growths, count_no_growths, tell_refused};
 use coll_order::{NodeId, Place, RingId, Rings};
-use std::alloc::{AllocError, Global};
+use std::alloc::Global;
 use std::process::Abort;
 
 // One of two rings or nodes.
@@ -73,40 +73,28 @@ impl Names {
     }
 }
 
-fn counted_ring<R: Abort + Print>(rt: &R, rings: &mut Rings) -> Result<RingId, AllocError> {
+fn new_ring<R: Abort + Print>(rt: &R, rings: &mut Rings) -> RingId {
     count_growths(rt);
     let ring = rings.new_ring();
     count_no_growths(rt);
-    ring
-}
-
-fn new_ring<R: Abort + Print>(rt: &R, rings: &mut Rings) -> RingId {
-    match counted_ring(rt, rings) {
+    match ring {
         Ok(ring) => ring,
         Err(_) => {
             tell_refused(rt);
-            counted_ring(rt, rings).expect(rt, "a ring")
+            rings.new_ring().expect(rt, "a ring")
         }
     }
 }
 
-fn counted_node<R: Abort + Print>(
-    rt: &R,
-    rings: &mut Rings,
-    tag: usize,
-) -> Result<NodeId, AllocError> {
+fn new_node<R: Abort + Print>(rt: &R, rings: &mut Rings, tag: usize) -> NodeId {
     count_growths(rt);
     let node = rings.new_node(tag);
     count_no_growths(rt);
-    node
-}
-
-fn new_node<R: Abort + Print>(rt: &R, rings: &mut Rings, tag: usize) -> NodeId {
-    match counted_node(rt, rings, tag) {
+    match node {
         Ok(node) => node,
         Err(_) => {
             tell_refused(rt);
-            counted_node(rt, rings, tag).expect(rt, "a node")
+            rings.new_node(tag).expect(rt, "a node")
         }
     }
 }
@@ -240,23 +228,15 @@ const LAST_DROPPED: &[Call] = &[
 
 const STILL_LINKED: &[Call] = &[Shows(First, &[7, 8], After(Second))];
 
-fn counted_copy<R: Abort + Print>(
-    rt: &R,
-    alloc: Global,
-    source: &Rings,
-) -> Result<Rings, AllocError> {
+fn copy_of<R: Abort + Print>(rt: &R, alloc: Global, source: &Rings) -> Rings {
     count_growths(rt);
     let copy = source.try_copy(alloc);
     count_no_growths(rt);
-    copy
-}
-
-fn copy_of<R: Abort + Print>(rt: &R, alloc: Global, source: &Rings) -> Rings {
-    match counted_copy(rt, alloc, source) {
+    match copy {
         Ok(copy) => copy,
         Err(_) => {
             tell_refused(rt);
-            counted_copy(rt, alloc, source).expect(rt, "a copy")
+            source.try_copy(alloc).expect(rt, "a copy")
         }
     }
 }

@@ -54,21 +54,6 @@ fn assert_places(rt: &impl Abort, alloc: Global, table: &Table, numbers: &EntryN
     }
 }
 
-fn counted_key<R: Abort + Print>(
-    rt: &R,
-    alloc: Global,
-    table: &Table,
-    numbers: &EntryNumbers,
-    text: &str,
-) -> Result<Vec<u64>, KeyFault>
-    requires { AreNumbersOf numbers.now table.now.layout }
-{
-    count_growths(rt);
-    let key = key_of_text(alloc, table, numbers, text);
-    count_no_growths(rt);
-    key
-}
-
 fn assert_key<R: Abort + Print>(
     rt: &R,
     alloc: Global,
@@ -79,31 +64,16 @@ fn assert_key<R: Abort + Print>(
 )
     requires { AreNumbersOf numbers.now table.now.layout }
 {
-    let key = match counted_key(rt, alloc, table, numbers, text) {
-        Err(KeyFault::OutOfMemory) => {
-            tell_refused(rt);
-            counted_key(rt, alloc, table, numbers, text)
-        }
-        answer => answer,
-    };
-    let key = key.expect(rt, "a key");
+    count_growths(rt);
+    let mut made = key_of_text(alloc, table, numbers, text);
+    count_no_growths(rt);
+    if let Err(KeyFault::OutOfMemory) = made {
+        tell_refused(rt);
+        made = key_of_text(alloc, table, numbers, text);
+    }
+    let key = made.expect(rt, "a key");
     assert_same(rt, text, key.as_slice(), wanted);
     drop(key);
-}
-
-fn counted_order<R: Abort + Print>(
-    rt: &R,
-    alloc: Global,
-    table: &Table,
-    numbers: &EntryNumbers,
-    texts: &Compared,
-) -> Result<Ordering, KeyFault>
-    requires { AreNumbersOf numbers.now table.now.layout }
-{
-    count_growths(rt);
-    let order = compare_texts(alloc, table, numbers, texts.0, texts.1);
-    count_no_growths(rt);
-    order
 }
 
 fn assert_order<R: Abort + Print>(
@@ -115,10 +85,12 @@ fn assert_order<R: Abort + Print>(
 )
     requires { AreNumbersOf numbers.now table.now.layout }
 {
-    let mut order = counted_order(rt, alloc, table, numbers, texts);
+    count_growths(rt);
+    let mut order = compare_texts(alloc, table, numbers, texts.0, texts.1);
+    count_no_growths(rt);
     if order == Err(KeyFault::OutOfMemory) {
         tell_refused(rt);
-        order = counted_order(rt, alloc, table, numbers, texts);
+        order = compare_texts(alloc, table, numbers, texts.0, texts.1);
     }
     assert_same(rt, "the order", order, Ok(texts.2));
 }

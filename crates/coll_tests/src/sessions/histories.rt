@@ -12,7 +12,7 @@ use crate::tables::examples::{BASE_TABLE, SECTIONS_TABLE, assert_printed, loaded
 use coll_bench::{BenchFault, Session};
 use coll_syntax::Statement;
 use coll_table::{Refusal, Table};
-use std::alloc::{AllocError, Global};
+use std::alloc::Global;
 use std::process::Abort;
 
 // A call of a session, and its answer.
@@ -194,44 +194,6 @@ fn refusal_of(answer: Result<u32, BenchFault>) -> Result<(), Refusal> {
     }
 }
 
-fn counted_check<R: Abort + Print>(
-    rt: &R,
-    table: &Table,
-    statement: &Statement,
-) -> Result<(), Refusal>
-    requires { IsProper statement.now }
-{
-    count_growths(rt);
-    let judged = table.check(statement);
-    count_no_growths(rt);
-    judged
-}
-
-fn counted_copy<R: Abort + Print>(
-    rt: &R,
-    alloc: Global,
-    table: &Table,
-) -> Result<Table, AllocError> {
-    count_growths(rt);
-    let copy = table.try_copy(alloc);
-    count_no_growths(rt);
-    copy
-}
-
-// Why a table refuses a statement, if it does.
-fn counted_apply<R: Abort + Print>(
-    rt: &R,
-    table: &mut Table,
-    statement: &Statement,
-) -> Option<Refusal>
-    requires { IsProper statement.now }
-{
-    count_growths(rt);
-    let applied = table.apply(statement);
-    count_no_growths(rt);
-    applied.err()
-}
-
 // Asserts what a table answers to a statement that it only judges, and which text it has then.
 fn assert_checked<R: Abort + Print>(
     rt: &R,
@@ -243,11 +205,13 @@ fn assert_checked<R: Abort + Print>(
 )
     requires { IsProper statement.now }
 {
-    let mut judged = counted_check(rt, table, statement);
+    count_growths(rt);
+    let mut judged = table.check(statement);
+    count_no_growths(rt);
     if judged == Err(Refusal::OutOfMemory) {
         tell_refused(rt);
         assert_printed(rt, alloc, table, text);
-        judged = counted_check(rt, table, statement);
+        judged = table.check(statement);
     }
     assert_same(rt, "the judgement", judged, answer);
     assert_printed(rt, alloc, table, text);
@@ -255,12 +219,15 @@ fn assert_checked<R: Abort + Print>(
 
 // A copy of a table with this text.
 fn copy_of<R: Abort + Print>(rt: &R, alloc: Global, table: &Table, text: &[u8]) -> Table {
-    let copy = match counted_copy(rt, alloc, table) {
+    count_growths(rt);
+    let copied = table.try_copy(alloc);
+    count_no_growths(rt);
+    let copy = match copied {
         Ok(copy) => copy,
         Err(_) => {
             tell_refused(rt);
             assert_printed(rt, alloc, table, text);
-            counted_copy(rt, alloc, table).expect(rt, "a copy")
+            table.try_copy(alloc).expect(rt, "a copy")
         }
     };
     assert_printed(rt, alloc, &copy, text);
@@ -278,11 +245,13 @@ fn assert_applied<R: Abort + Print>(
 )
     requires { IsProper statement.now }
 {
-    let mut refusal = counted_apply(rt, table, statement);
+    count_growths(rt);
+    let mut refusal = table.apply(statement).err();
+    count_no_growths(rt);
     if refusal == Some(Refusal::OutOfMemory) {
         tell_refused(rt);
         assert_printed(rt, alloc, table, text);
-        refusal = counted_apply(rt, table, statement);
+        refusal = table.apply(statement).err();
     }
     assert_same(rt, "what is applied", refusal, answer);
 }
@@ -367,13 +336,6 @@ fn undo_by_growing(alloc: Global, session: &mut Session) -> Result<u32, BenchFau
     }
 }
 
-fn counted_redo<R: Abort + Print>(rt: &R, session: &mut Session) -> Result<u32, BenchFault> {
-    count_growths(rt);
-    let answer = session.redo();
-    count_no_growths(rt);
-    answer
-}
-
 // How a session stands: the text of its table, how many statements remain and were taken back, and the nearest of each.
 fn standing(rt: &impl Abort, alloc: Global, session: &Session) -> Vec<u8> {
     let remaining = session.remaining_len();
@@ -407,18 +369,6 @@ fn assert_stated<R: Abort + Print>(
     assert_same(rt, "a statement", given, answer);
 }
 
-// What a session answers to a withdrawal.
-fn counted_withdraw<R: Abort + Print>(
-    rt: &R,
-    session: &mut Session,
-    number: u32,
-) -> Result<u32, BenchFault> {
-    count_growths(rt);
-    let answer = session.withdraw(number);
-    count_no_growths(rt);
-    answer
-}
-
 // Asserts what a session answers to a withdrawal. One that is refused leaves it as it stood.
 fn assert_withdrawn<R: Abort + Print>(
     rt: &R,
@@ -428,11 +378,13 @@ fn assert_withdrawn<R: Abort + Print>(
     answer: Result<u32, BenchFault>,
 ) {
     let before = standing(rt, alloc, session);
-    let mut given = counted_withdraw(rt, session, number);
+    count_growths(rt);
+    let mut given = session.withdraw(number);
+    count_no_growths(rt);
     if given == NO_MEMORY {
         tell_refused(rt);
         assert_text(rt, alloc, &standing(rt, alloc, session), &before);
-        given = counted_withdraw(rt, session, number);
+        given = session.withdraw(number);
     }
     assert_same(rt, "a withdrawal", given, answer);
     if answer.is_err() {
@@ -454,7 +406,12 @@ fn assert_call<R: Abort + Print>(
             let given = counted_undo(rt, alloc, session, wrong);
             assert_same(rt, "an undo", given, *answer);
         }
-        Redo(answer) => assert_same(rt, "a redo", counted_redo(rt, session), *answer),
+        Redo(answer) => {
+            count_growths(rt);
+            let given = session.redo();
+            count_no_growths(rt);
+            assert_same(rt, "a redo", given, *answer);
+        }
         Withdraw(number, answer) => assert_withdrawn(rt, alloc, session, *number, *answer),
     }
 }
