@@ -8,7 +8,6 @@ usage: tests/gate.py
 The last line is 'N passed, M failed' over all of them, and the status is 1 where one failed.
 """
 
-import os
 import re
 import subprocess
 import sys
@@ -20,14 +19,9 @@ import run_program
 
 
 def proofs_and_tests():
-    """Runs `rt ci`, with its lines as they come. Returns how many of its parts passed, and how many failed.
-
-    As many crates are proved side by side as there are processors, each by one process: several for one crate would each load what is
-    proved below it, which takes a quarter more processor time in all.
-    """
+    """Runs `rt ci`, with its lines as they come. Returns how many of its parts passed, and how many failed."""
     counts = None
-    jobs = str(len(os.sched_getaffinity(0)))
-    how = {"stdout": subprocess.PIPE, "encoding": "utf-8", "errors": "replace", "env": {"RT_JOBS": jobs, **os.environ}}
+    how = {"stdout": subprocess.PIPE, "encoding": "utf-8", "errors": "replace"}
     try:
         gate = subprocess.Popen(["rt", "ci"], cwd=run_program.ROOT, **how)
     except OSError as error:
