@@ -3,13 +3,13 @@
 
 usage: tests/random_withdrawals.py [PROGRAM [HISTORIES]]
 
-PROGRAM is crates/collbench/out/collbench where none is given. Each history is a session of random lines on a small table: statements of
-all kinds, `:undo`, `:redo` and `:withdraw`, each followed by `:print`, `:history` and `:key`. Behind each `:withdraw K` a fresh session
-makes the statements that remained, but the K-th. Where it accepts all of them, the statement has to be withdrawn, and table, history and
-key are those of the fresh session; else `:withdraw` is refused with the number, in the old list, of the first statement that the fresh
-session refuses, and its refusal, and all is as it was. Behind each line the key and the order are those that a fresh session answers which makes
-the statements that then remain, and then all ranks, for a text that is too long to be looked up by itself. The lines are the same in
-each run.
+PROGRAM is crates/collbench/out/collbench where none is given. Each history is a session of random lines on a small table:
+statements of all kinds, `:undo`, `:redo` and `:withdraw`, each followed by `:print`, `:history` and `:key`. Behind each `:withdraw
+K` a fresh session makes the statements that remained, but the K-th. Where it accepts all of them, the statement has to be
+withdrawn, and table, history and key are those of the fresh session; else `:withdraw` is refused with the number, in the old list,
+of the first statement that the fresh session refuses, and its refusal, and all is as it was. Behind each line the key and the order
+are those that a fresh session answers which makes the statements that then remain, and then all ranks, for a text that is too long
+to be looked up by itself. The lines are the same in each run.
 
 The last line is 'N passed, M failed', where a run is one history.
 """

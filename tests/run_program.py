@@ -93,17 +93,23 @@ def read_from(pipe, count):
 
 def in_turns(words, turns, how):
     """Runs a program, and hands each input in once the output to the one before was read. Returns what was wanted to be read, and how the
-    program ended, with all that was read."""
+    program ended, with what it wrote."""
     wanted, read = b"", b""
-    with subprocess.Popen(words, stdin=subprocess.PIPE, bufsize=0, **how) as ran:
-        for given, output in turns:
-            ran.stdin.write(bytes_of(given))
-            wanted += bytes_of(output)
-            read += read_from(ran.stdout, len(wanted) - len(read))
-            if len(read) < len(wanted):
-                break
-        ran.stdin.close()
-        rest, errors = ran.stdout.read(), ran.stderr.read()
+    with subprocess.Popen(words, stdin=subprocess.PIPE, **how) as ran:
+        try:
+            for given, output in turns:
+                ran.stdin.write(bytes_of(given))
+                ran.stdin.flush()
+                wanted += bytes_of(output)
+                read += read_from(ran.stdout, len(wanted) - len(read))
+                if len(read) < len(wanted):
+                    break
+            rest, errors = ran.communicate(timeout=SECONDS)
+        except BrokenPipeError:
+            rest, errors = ran.communicate(timeout=SECONDS)
+        except subprocess.TimeoutExpired:
+            ran.kill()
+            raise
     late = b" (and no more before the next input)" if len(read) < len(wanted) else b""
     return wanted, subprocess.CompletedProcess(words, ran.returncode, read + late + rest, errors)
 
@@ -111,8 +117,11 @@ def in_turns(words, turns, how):
 def differences(program, run):
     """Runs the program, and returns what differs from what is wanted, a line for each."""
     unknown = set(run) - MEMBERS
+    if "turns" in run:
+        unknown |= set(run) & {"input", "input_from", "output", "output_to", "errors_to"}
     if unknown or "shows" not in run:
         return [f"no run: {', '.join(sorted(unknown)) or 'it does not say what it shows'}"]
+    told = dict(run)
     with contextlib.ExitStack() as stack:
         how = {"stdout": subprocess.PIPE, "stderr": subprocess.PIPE}
         if "input_from" in run:
@@ -130,7 +139,7 @@ def differences(program, run):
         words = [bytes_of(word) for word in run.get("words", [])]
         try:
             if "turns" in run:
-                run["output"], ended = in_turns([program, *words], run["turns"], {"cwd": folder, **how})
+                told["output"], ended = in_turns([program, *words], run["turns"], {"cwd": folder, **how})
             else:
                 ended = subprocess.run([program, *words], cwd=folder, timeout=SECONDS, check=False, **how)
         except subprocess.TimeoutExpired:
@@ -141,7 +150,7 @@ def differences(program, run):
     found += [] if "errors_to" in run else [("errors", ended.stderr)]
     lines = []
     for member, wrote in found:
-        value = run.get(member, "")
+        value = told.get(member, "")
         wanted = value if isinstance(value, bytes) else wrote if value is None else bytes_of(value)
         if wrote != wanted:
             lines += [f"{member} wanted: {shown(wanted)}", f"{member} found:  {shown(wrote)}"]
