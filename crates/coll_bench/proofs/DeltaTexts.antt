@@ -6,10 +6,9 @@ use Rattle.std.proofs.lemmas.Grind.{flat_map-append}
 use Rattle.std.specs.Io.KnownBytes.{prepend_known}
 use Rattle.coll_devices.specs.LineReading.{ReaderState, no_line, Advances, GivesLine, GivesEnd, EndsAgain, StopsNow, StopsAgain}
 use Rattle.coll_lex.specs.LogicalLines.{OpenLine, number_of}
-use Rattle.coll_devices.specs.PhysicalLines.{line_feed, lines_of}
+use Rattle.coll_devices.specs.PhysicalLines.{line_feed, lines_of, with_feeds}
 use Rattle.coll_devices.specs.declared.stops.ReadStop.{ReadStop}
 use Rattle.coll_devices.specs.declared.stops.ReadStop.TheVariants as stop
-use Rattle.coll_table.specs.Loads.{with_feeds}
 use Rattle.coll_nodes.specs.Table.{Collation}
 use Rattle.coll_table.proofs.TextSteps.{IsUnread, gives_first, was_last, stops_long, stops_short}
 use Rattle.coll_requests.specs.DeltaFiles.{DeltaOutcome, at_line, after_statements, delta_outcome}

@@ -2,11 +2,10 @@
 -- the text is cut, and has its reply in what is written wherever it ends.
 use Rattle.std.proofs.Common.{◌≡◌, ℕ, Bool, true, false, List, [], ◌∷◌, ◌++◌, map, Option, Some, None, refl, sym, ap, ◌∙◌, subst, append-nil, append_assoc, inl, inr, ⊎_elim}
 use Rattle.std.specs.Prelude.{◌⊎◌, ◌==◌, if◌then◌else◌}
-use Rattle.coll_devices.specs.PhysicalLines.{line_feed, with_first, lines_of}
+use Rattle.coll_devices.specs.PhysicalLines.{line_feed, with_first, lines_of, with_feeds}
 use Rattle.coll_lex.specs.LogicalLines.{LexerState, LogicalLine, first_state, first_choice, later_choices, takes_memory, served, state_by, logical_lines}
 use Rattle.coll_lex.specs.declared.faults.LexFault.{LexFault}
 use Rattle.coll_nodes.specs.Table.{Collation}
-use Rattle.coll_table.specs.Loads.{with_feeds}
 use Rattle.coll_history.specs.Histories.{History, begun}
 use Rattle.coll_requests.specs.SessionLines.{parsed}
 use Rattle.coll_requests.specs.Parsing.{parsed_at}

@@ -5,13 +5,12 @@ use Rattle.std.specs.Io.KnownBytes.{Appends}
 use Rattle.std.specs.Result.{IfErr}
 use Rattle.std.proofs.lemmas.Bool.{false≢true}
 use Rattle.std.proofs.lemmas.Grind.{flat_map-append}
-use Rattle.coll_devices.specs.PhysicalLines.{line_feed, IsInLine, lines_of}
+use Rattle.coll_devices.specs.PhysicalLines.{line_feed, IsInLine, lines_of, with_feeds}
 use Rattle.coll_devices.specs.LineReading.{ReaderState, no_line, CutsLine, Cuts, GivesLine, GivesEnd, EndsAgain, StopsNow, StopsAgain, Advances, unread}
 use Rattle.coll_lex.specs.LogicalLines.{LexerState, first_state, served, state_by, logical_lines}
 use Rattle.coll_devices.specs.declared.stops.ReadStop.{ReadStop}
 use Rattle.coll_devices.proofs.PhysicalLinesLemmas.{lines_of-nil, lines_of-ended, lines_of-part, lines_of-cut}
 use Rattle.coll_nodes.specs.Table.{Collation}
-use Rattle.coll_table.specs.Loads.{with_feeds}
 use Rattle.coll_history.specs.Histories.{History, begun}
 use Rattle.coll_requests.specs.Parsing.{parsed_at}
 use Rattle.coll_requests.specs.Taking.{stop_at, line_requests, line_block}

@@ -2,9 +2,9 @@
 use Rattle.std.specs.Prelude.{◌≡◌, ◌≤◌, ◌+◌, ◌==◌, ◌⊎◌, ℕ, zero, suc, false, if◌then◌else◌, List, [], ◌∷◌, ◌++◌, length, map, take, slice_get, Option, Some, Result, Ok, Err}
 use Rattle.coll_devices.specs.Devices.{raised}
 use Rattle.coll_devices.specs.Limits.{most_line_bytes}
-use Rattle.coll_devices.specs.PhysicalLines.{lines_of, IsInLine}
+use Rattle.coll_devices.specs.PhysicalLines.{lines_of, IsInLine, with_feeds}
 use Rattle.coll_nodes.specs.Table.{Collation}
-use Rattle.coll_table.specs.Loads.{with_feeds, IsLineWithin, StopsWithin, FaultSays}
+use Rattle.coll_table.specs.Loads.{IsLineWithin, StopsWithin, FaultSays}
 use Rattle.coll_builder.specs.declared.load_faults.LoadCause.TheVariants as load
 use Rattle.coll_builder.specs.Reading.{reads}
 use Rattle.coll_requests.specs.DeltaFiles.{delta_outcome}

@@ -1,8 +1,7 @@
 -- What follows from the definitions of a session: that lack of memory shows.
 use Rattle.std.specs.Prelude.{◌≡◌, ◌⊎◌, ℕ, Bool, true, false, List, [], ◌++◌}
-use Rattle.coll_devices.specs.PhysicalLines.{lines_of}
+use Rattle.coll_devices.specs.PhysicalLines.{lines_of, with_feeds}
 use Rattle.coll_nodes.specs.Table.{Collation}
-use Rattle.coll_table.specs.Loads.{with_feeds}
 use Rattle.coll_replies.specs.Replies.{starved_line}
 use Rattle.coll_bench.specs.Runs.{starved_output, output, last_of}
 

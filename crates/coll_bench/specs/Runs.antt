@@ -2,14 +2,13 @@
 use Rattle.std.specs.Prelude.{◌≡◌, ◌==◌, ◌≤◌, ℕ, Bool, true, false, if◌then◌else◌, List, [], ◌∷◌, ◌++◌, map, length, Option, Some, None, Result, Ok, Err}
 use Rattle.coll_devices.specs.Devices.{raised}
 use Rattle.coll_devices.specs.Limits.{most_line_bytes}
-use Rattle.coll_devices.specs.PhysicalLines.{lines_of, IsInLine}
+use Rattle.coll_devices.specs.PhysicalLines.{lines_of, IsInLine, with_feeds}
 use Rattle.coll_lex.specs.LogicalLines.{LogicalLine, first_state, logical_lines}
 use Rattle.coll_lex.specs.declared.tokens.Token.{Token}
 use Rattle.coll_lex.specs.declared.faults.LexFault.{LexFault}
 use Rattle.coll_lex.specs.declared.faults.LexFault.TheVariants as lex
 use Rattle.coll_devices.specs.declared.stops.ReadStop.TheVariants as read
 use Rattle.coll_nodes.specs.Table.{Collation}
-use Rattle.coll_table.specs.Loads.{with_feeds}
 use Rattle.coll_history.specs.Histories.{begun}
 use Rattle.coll_lex.specs.Faults.{ends_text}
 use Rattle.coll_requests.specs.SessionLines.{parsed}

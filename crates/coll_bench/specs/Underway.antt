@@ -1,9 +1,8 @@
 -- A run that is under way: what was read and written so far, and that all that may come later goes on from there.
 use Rattle.std.specs.Prelude.{◌≡◌, ℕ, Bool, true, false, List, [], ◌++◌, map, Option, Some, None}
-use Rattle.coll_devices.specs.PhysicalLines.{lines_of}
+use Rattle.coll_devices.specs.PhysicalLines.{lines_of, with_feeds}
 use Rattle.coll_lex.specs.LogicalLines.{LexerState, first_state, logical_lines}
 use Rattle.coll_nodes.specs.Table.{Collation}
-use Rattle.coll_table.specs.Loads.{with_feeds}
 use Rattle.coll_history.specs.Histories.{History, begun}
 use Rattle.coll_requests.specs.SessionLines.{parsed}
 use Rattle.coll_requests.specs.OpenBlocks.{kept_requests}

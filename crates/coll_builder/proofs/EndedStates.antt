@@ -9,7 +9,8 @@ use Rattle.coll_syntax.specs.declared.lines.TableLine.{TableLine}
 use Rattle.coll_syntax.specs.declared.lines.TableLine.TheVariants as line
 use Rattle.coll_syntax.specs.declared.rules.Rule.{Rule}
 use Rattle.coll_builder.proofs.SoundLines.{passed, not_false, neither_found, sound_own}
-use Rattle.coll_builder.specs.BuilderStates.{BuilderState, Numbered, table_of, with_own_weights, refused_if, cause_after, weight_cause, ids_cause, at_line, entries_fault, weights_fault, fault_at_end, line_fault, is_end, given_rules}
+use Rattle.coll_nodes.specs.Causes.{refused_if}
+use Rattle.coll_builder.specs.BuilderStates.{BuilderState, Numbered, table_of, with_own_weights, cause_after, weight_cause, ids_cause, at_line, entries_fault, weights_fault, fault_at_end, line_fault, is_end, given_rules}
 use Rattle.coll_nodes.specs.Entries.{ids_named}
 use Rattle.coll_builder.specs.Loading.{state_with}
 use Rattle.coll_builder.specs.SoundStates.{IsSoundBuilderState}

@@ -16,7 +16,8 @@ use Rattle.coll_nodes.proofs.OwnNames.{own_id_proper, means_something}
 use Rattle.coll_nodes.proofs.OwnTables.{own_built, own_joined}
 use Rattle.coll_builder.proofs.BuiltTables.{built_declared, built_section, built_entry, entries_with_section, entries_with_last}
 use Rattle.coll_nodes.specs.Table.{has_text}
-use Rattle.coll_builder.specs.BuilderStates.{BuilderState, table_of, refused_if, meaning_cause, second_name, declaration_cause, own_order, with_own_weights, section_cause, order_cause, levels_of}
+use Rattle.coll_nodes.specs.Causes.{refused_if}
+use Rattle.coll_builder.specs.BuilderStates.{BuilderState, table_of, meaning_cause, second_name, declaration_cause, own_order, with_own_weights, section_cause, order_cause, levels_of}
 use Rattle.coll_nodes.specs.Entries.{names_only, kept_weight, kept_weights, given_weights, weights_of, entry_of}
 use Rattle.coll_nodes.specs.OwnNames.{own_entry, named_own, means_nothing, means_no_symbol}
 use Rattle.coll_nodes.specs.Limits.{most_entries, most_declarations, most_sections}

@@ -3,7 +3,8 @@ use Rattle.std.proofs.Common.{◌≡◌, true, not, None, ap, ◌∙◌}
 use Rattle.coll_syntax.specs.Identifier.{same_id}
 use Rattle.coll_syntax.specs.declared.identifiers.Id.{Id}
 use Rattle.coll_lookups.proofs.Sameness.{found_holds, same_id_decides}
-use Rattle.coll_builder.specs.BuilderStates.{BuilderState, refused_if, weight_cause}
+use Rattle.coll_nodes.specs.Causes.{refused_if}
+use Rattle.coll_builder.specs.BuilderStates.{BuilderState, weight_cause}
 use Rattle.coll_builder.specs.SoundStates.{IsSoundBuilderState}
 use Rattle.coll_nodes.specs.Table.{is_known, is_placed_in, ids_of, joined_entries}
 use Rattle.coll_nodes.specs.WellFormed.{IsKnown}

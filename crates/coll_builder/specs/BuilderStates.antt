@@ -14,6 +14,7 @@ use Rattle.coll_nodes.specs.declared.entries.Entry.{Entry}
 use Rattle.coll_nodes.specs.Table.{Collation, Section, name_of, text_of, has_text, joined_entries, section_names, is_placed_in, is_declared, is_known, is_symbol}
 use Rattle.coll_nodes.specs.Entries.{entry_of, given_weights, ids_named}
 use Rattle.coll_nodes.specs.OwnNames.{named_own, own_id, own_sections, means_nothing, means_no_symbol}
+use Rattle.coll_nodes.specs.Causes.{refused_if}
 use Rattle.coll_nodes.specs.Limits.{most_entries, most_declarations, most_sections}
 use Rattle.coll_builder.specs.declared.load_faults.LoadFault.{LoadFault}
 use Rattle.coll_builder.specs.declared.load_faults.LoadCause.{LoadCause}
@@ -146,10 +147,6 @@ abbrev pub table_of : BuilderState → Collation
 table_of d = record { rules = given_rules d.rules; declared = d.declared; sections = d.sections }
 
 -- Which line may follow.
-
--- a cause, where a test holds, and else what follows
-abbrev pub refused_if : {C : Type 0} → Bool → C → Option C → Option C
-refused_if test cause later = if test then Some cause else later
 
 -- why what a second name stands for is refused: it isn't declared, or it is no collating symbol
 abbrev pub meaning_cause : List Declaration → Declaration → Option LoadCause

@@ -1,6 +1,7 @@
 -- The physical lines of a text, as POSIX.1-2017, 3.206, has a line; a text may end without a line feed.
-use Rattle.std.specs.Prelude.{◌≢◌, ◌==◌, ℕ, if◌then◌else◌, List, [], ◌∷◌, All}
+use Rattle.std.specs.Prelude.{◌≢◌, ◌==◌, ℕ, if◌then◌else◌, List, [], ◌∷◌, ◌++◌, All}
 use Rattle.std.specs.Io.BufRead.{strip_last}
+use Rattle.std.specs.List.{flat_map}
 
 -- the byte that ends a line
 abbrev pub line_feed : ℕ
@@ -23,6 +24,10 @@ with_first c (line ∷ lines) = (c ∷ line) ∷ lines
 unfoldable pub lines_of : List ℕ → List (List ℕ)
 lines_of [] = []
 lines_of (c ∷ cs) = if c == line_feed then [] ∷ lines_of cs else with_first c (lines_of cs)
+
+-- lines with their line feeds, one after another
+abbrev pub with_feeds : List (List ℕ) → List ℕ
+with_feeds lines = flat_map (λ line. line ++ line_feed ∷ []) lines
 
 -- the line without one carriage return at its end
 unfoldable pub without_return : List ℕ → List ℕ

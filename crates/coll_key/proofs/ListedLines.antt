@@ -14,6 +14,7 @@ use Rattle.coll_syntax.specs.declared.identifiers.Id.{Id}
 use Rattle.coll_syntax.specs.declared.identifiers.Id.TheVariants.{Char, Named, Undefined}
 use Rattle.coll_syntax.specs.declared.weights.Weight.{Weight}
 use Rattle.coll_syntax.specs.declared.weights.Weight.TheVariants.{Ignore, Own, Names}
+use Rattle.coll_print.specs.Pieces.{words_line}
 use Rattle.coll_print.specs.PrintedParts.{char_bytes}
 use Rattle.coll_nodes.specs.Placement.{entry_at}
 use Rattle.coll_nodes.specs.Walks.{Visited, VisitedSection, VisitedEntry, visited, entry_visited, entries_visited}
@@ -134,13 +135,19 @@ spelled_as_listed ranks table Undefined are well placed = refl
 
 -- Lines.
 
+-- words with one space between them are a word, and words with a space before each
+words_spaced : (word : List ℕ) (words : List (List ℕ)) → words_line (word ∷ words) ≡ word ++ (flat_map spaced words ++ line_feed ∷ [])
+words_spaced word [] = refl
+words_spaced word (next ∷ words) =
+    ap (λ l. word ++ 32 ∷ l) (words_spaced next words)
+    ∙ ap (λ l. word ++ 32 ∷ l) (sym (append_assoc next (flat_map spaced words) (line_feed ∷ [])))
+
 -- the words of a line
 line_words : (table : Collation) (ranks : RanksValue) (rank : ℕ) (id : Id) (weights : List Weight) → spelled_with ranks id ≡ listed_id table.declared id → levels_bytes ranks rank id 0 weights ≡ flat_map spaced (flat_map (listed_level table id) weights) → ranked_line ranks rank id weights ≡ listed_line table rank id weights
 line_words table ranks rank id weights spelled levels =
     append_assoc (decimal rank) (32 ∷ spelled_with ranks id) (levels_bytes ranks rank id 0 weights ++ line_feed ∷ [])
     ∙ (ap₂ (λ (spelling words : List ℕ). decimal rank ++ (32 ∷ (spelling ++ (words ++ line_feed ∷ [])))) spelled levels
-    ∙ sym (append_assoc (decimal rank) (32 ∷ (listed_id table.declared id ++ flat_map spaced (flat_map (listed_level table id) weights))) (line_feed ∷ [])
-    ∙ ap (λ l. decimal rank ++ (32 ∷ l)) (append_assoc (listed_id table.declared id) (flat_map spaced (flat_map (listed_level table id) weights)) (line_feed ∷ []))))
+    ∙ ap (λ l. decimal rank ++ (32 ∷ l)) (sym (words_spaced (listed_id table.declared id) (flat_map (listed_level table id) weights))))
 
 -- a placed identifier stands among the entries
 placed_among : (before : List Entry) (entry : Entry) (later : List Entry) → has_id (ids_of (before ++ entry ∷ later)) entry.id ≡ true

@@ -1,6 +1,5 @@
 -- Parts of the compiled listing that are written one behind another make up its lines.
-use Rattle.std.proofs.Common.{◌≡◌, ◌<◌, ℕ, suc, ◌+◌, List, [], ◌∷◌, ◌++◌, length, get_or, drop, codes, Option, sym, ap, subst, ◌∙◌, refl, arith, append_assoc, append-nil}
-use Rattle.std.specs.Prelude.{decimal}
+use Rattle.std.proofs.Common.{◌≡◌, ◌<◌, ℕ, suc, ◌+◌, List, [], ◌++◌, length, get_or, drop, Option, sym, ap, subst, ◌∙◌, refl, arith, append_assoc, append-nil}
 use Rattle.std.specs.Io.KnownBytes.{Appends}
 use Rattle.std.specs.List.{flat_map}
 use Rattle.std.proofs.KnownBytes.{Appends-trans}
@@ -8,17 +7,11 @@ use Rattle.coll_devices.specs.Devices.{AppendsPrefix}
 use Rattle.coll_devices.proofs.WritingLemmas.{AppendsPrefix-before, AppendsPrefix-after}
 use Rattle.coll_syntax.specs.declared.identifiers.Id.{Id}
 use Rattle.coll_syntax.specs.declared.weights.Weight.{Weight}
-use Rattle.coll_nodes.specs.Table.{Collation, entries_of}
+use Rattle.coll_nodes.specs.Table.{Collation}
 use Rattle.coll_print.proofs.PrintedParts.{left_begins}
 use Rattle.coll_key.specs.CompiledListing.{compiled_listing, listing_head, listed_rule}
-use Rattle.coll_key.specs.ListingParts.{counts_bytes, entries_part, is_star, level_bytes, levels_bytes}
+use Rattle.coll_key.specs.ListingParts.{entries_part, is_star, level_bytes, levels_bytes}
 use Rattle.coll_ranks.specs.Ranks.{RanksValue, compiled_weight}
-
--- the parts of the first line
-pub head_parts : (table : Collation) → listing_head table ≡ codes "compiled 1" ++ counts_bytes table
-head_parts table = ap (λ l. codes "compiled 1 " ++ l) (parts (decimal (length table.rules)) (decimal (length (entries_of table)))) where
-  parts : (levels entries : List ℕ) → (levels ++ 32 ∷ (entries ++ [])) ++ 10 ∷ [] ≡ levels ++ 32 ∷ (entries ++ 10 ∷ [])
-  parts levels entries = append_assoc levels (32 ∷ (entries ++ [])) (10 ∷ []) ∙ ap (λ e. levels ++ 32 ∷ (e ++ 10 ∷ [])) (append-nil entries)
 
 -- the parts of the whole listing
 pub listing_parts : (table : Collation) → compiled_listing table ≡ listing_head table ++ (flat_map listed_rule table.rules ++ entries_part table)

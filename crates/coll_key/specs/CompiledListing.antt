@@ -9,6 +9,7 @@ use Rattle.coll_syntax.specs.declared.rules.Rule.{Rule}
 use Rattle.coll_syntax.specs.declared.weights.Weight.{Weight}
 use Rattle.coll_syntax.specs.declared.weights.Weight.TheVariants.{Ignore, Own, Names}
 use Rattle.coll_print.specs.CanonicalText.{spelled_rule}
+use Rattle.coll_print.specs.Pieces.{words_line}
 use Rattle.coll_print.specs.PrintedParts.{char_bytes}
 use Rattle.coll_nodes.specs.Table.{Collation, entries_of, is_symbol, is_placed}
 use Rattle.coll_nodes.specs.declared.declarations.Declaration.{Declaration}
@@ -16,7 +17,7 @@ use Rattle.coll_nodes.specs.declared.declarations.Declaration.TheVariants as dec
 use Rattle.coll_nodes.specs.declared.entries.Entry.{Entry}
 use Rattle.coll_ranks.specs.WeightNumbers.{undefined_weights}
 use Rattle.coll_elements.specs.Rank.{known_rank}
-use Rattle.coll_key.specs.WrittenKey.{joined_by_spaces, level_end}
+use Rattle.coll_key.specs.WrittenKey.{level_end}
 
 -- the string of the collating element of a name
 abbrev pub string_named : List Declaration → List ℕ → List ℕ
@@ -46,10 +47,6 @@ weight_words table id (Names ids) = map (λ named. decimal (known_rank table nam
 -- the words of a level: those of its weight, and its end
 abbrev pub listed_level : Collation → Id → Weight → List (List ℕ)
 listed_level table id weight = weight_words table id weight ++ level_end ∷ []
-
--- a line of words
-abbrev pub words_line : List (List ℕ) → List ℕ
-words_line words = joined_by_spaces words ++ line_feed ∷ []
 
 -- the line of an identifier with this rank and these weights
 abbrev pub listed_line : Collation → (rank : ℕ) → Id → List Weight → List ℕ

@@ -87,11 +87,3 @@ HasFewWeights levels entry = length entry.weights ≤ levels
 -- the lines behind the rules
 abbrev pub entries_part : Collation → List ℕ
 entries_part table = listed_entries table 1 (entries_of table) ++ (listed_undefined table ++ codes "end\n")
-
--- the number of entries, and the line's end
-abbrev pub count_bytes : Collation → List ℕ
-count_bytes table = spaced_number (length (entries_of table)) ++ line_feed ∷ []
-
--- the number of levels and that of entries, and the line's end
-abbrev pub counts_bytes : Collation → List ℕ
-counts_bytes table = spaced_number (length table.rules) ++ count_bytes table

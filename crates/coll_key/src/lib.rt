@@ -6,14 +6,13 @@
 //!
 //! - `text_parts` and `levels`: the elements of a text, kept, and the list of a level (`LevelList`);
 //! - `forward_numbers`: the numbers of a text at a forward level, one after another (`ForwardNumbers`);
-//! - `keys`, `comparison` and `written_keys`: what they are for (`SortKey`, `TextOrder`, `WrittenKey`), with `decimals`;
+//! - `keys`, `comparison` and `written_keys`: what they are for (`SortKey`, `TextOrder`, `WrittenKey`);
 //! - `text_keys`: keys and comparison of short texts, by a table whose entries are numbered;
 //! - `listing`: the compiled listing (`CompiledListing`, `ListingParts`);
 //! - `key_faults` and `limits`: why a text has no key (`KeyFaults`, `KeyLimits`).
 #![tactic(auto)]
 
 mod comparison;
-mod decimals;
 mod forward_numbers;
 mod key_faults;
 mod keys;

@@ -3,7 +3,7 @@
 //! The text is `compiled_listing` of `specs/CompiledListing.antt`. Each function writes one part of it, and a line is one part
 //! behind another (`specs/ListingParts.antt`). The ranks of weights are read from the compiled ones. None of this takes memory.
 
-ghost use Rattle.std.specs.Prelude.{◌≡◌, ◌<◌, ◌≤◌, ◌+◌, ◌++◌, All, chars, codes, decimal, length, IfOk};
+ghost use Rattle.std.specs.Prelude.{◌≡◌, ◌<◌, ◌≤◌, ◌+◌, ◌++◌, All, chars, codes, length, IfOk};
 ghost use Rattle.std.specs.List.{flat_map};
 ghost use Rattle.coll_devices.specs.Devices.{CountsErr, Sends};
 ghost use Rattle.coll_nodes.specs.Table.{is_placed};
@@ -18,11 +18,10 @@ ghost use Rattle.coll_ranks.specs.Ranks.{AreRanksOf};
 use coll_devices::{Sink, WriteStop, write_bytes};
 use coll_lex::write_char;
 use coll_nodes::{Entry, Walk, WalkItem};
-use coll_print::{write_rule, write_text};
+use coll_print::{Piece, write_number, write_pieces, write_text};
 use coll_ranks::Ranks;
 use coll_syntax::{Id, Rule, Weight};
 use coll_table::Table;
-use itoa::Buffer;
 
 /// Writes the compiled listing of a table: its levels, its rules, and for each entry its rank and the ranks of its weights.
 ///
@@ -217,10 +216,16 @@ fn write_head<W: Sink>(out: &mut W, table: &Table) -> Result<(), WriteStop>
     ensures sent { Sends (W.taken out.old) (W.taken out.new) (listing_head (collation table.now)) result }
     ensures errors { CountsErr (W.failed out.old) (W.failed out.new) result }
 {
-    write_bytes(out, b"compiled 1")?;
-    write_spaced_number(out, table.rules().len() as u64)?;
-    write_spaced_number(out, table.len() as u64)?;
-    write_bytes(out, b"\n")
+    write_pieces(
+        out,
+        &[
+            Piece::Bytes(b"compiled 1 "),
+            Piece::Number(table.rules().len() as u64),
+            Piece::Bytes(b" "),
+            Piece::Number(table.len() as u64),
+            Piece::Bytes(b"\n"),
+        ],
+    )
 }
 
 // Writes a line for each rule.
@@ -241,9 +246,14 @@ fn write_rule_line<W: Sink>(out: &mut W, rule: Rule) -> Result<(), WriteStop>
     ensures sent { Sends (W.taken out.old) (W.taken out.new) (listed_rule rule) result }
     ensures errors { CountsErr (W.failed out.old) (W.failed out.new) result }
 {
-    write_bytes(out, b"rule ")?;
-    write_rule(out, rule)?;
-    write_bytes(out, b"\n")
+    write_pieces(
+        out,
+        &[
+            Piece::Bytes(b"rule "),
+            Piece::Rule(rule),
+            Piece::Bytes(b"\n"),
+        ],
+    )
 }
 
 // Writes the words of a weight and the end of its level.
@@ -296,13 +306,4 @@ fn write_spaced_number<W: Sink>(out: &mut W, number: u64) -> Result<(), WriteSto
 {
     write_bytes(out, b" ")?;
     write_number(out, number)
-}
-
-// Writes a number.
-fn write_number<W: Sink>(out: &mut W, number: u64) -> Result<(), WriteStop>
-    ensures sent { Sends (W.taken out.old) (W.taken out.new) (decimal number) result }
-    ensures errors { CountsErr (W.failed out.old) (W.failed out.new) result }
-{
-    let mut digits = Buffer::new();
-    write_bytes(out, digits.format(number).as_bytes())
 }

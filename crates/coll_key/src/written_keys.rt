@@ -6,11 +6,11 @@ ghost use Rattle.std.specs.Prelude.{◌≡◌, ◌++◌, ◌∷◌, [], ◌&&◌
 ghost use Rattle.std.specs.List.{flat_map};
 ghost use Rattle.coll_lex.specs.Characters.{space};
 ghost use Rattle.coll_devices.specs.Devices.{CountsErr, Sends};
-ghost use Rattle.coll_key.specs.WrittenKey.{behind_space, joined_by_spaces, before_space, level_words, position_word, number_word, added_word, word_of, words_of, key_words, first_level, later_levels, written_key, has_key_form};
+ghost use Rattle.coll_key.specs.WrittenKey.{behind_space, joined_by_spaces, before_space, level_words, position_word, number_word, word_of, words_of, key_words, first_level, later_levels, written_key, has_key_form};
 
-use crate::decimals::write_decimal;
 use crate::limits::RANK_STEP;
 use coll_devices::{Sink, WriteStop, write_bytes};
+use coll_print::{Piece, write_pieces};
 use coll_syntax::Rule;
 
 /// Writes a sort key, without a line feed behind it.
@@ -92,59 +92,54 @@ fn write_word<W: Sink>(out: &mut W, at_position: bool, number: u64) -> Result<()
     ensures sent { Sends (W.taken out.old) (W.taken out.new) (before_space (word_of at_position number)) result }
     ensures errors { CountsErr (W.failed out.old) (W.failed out.new) result }
 {
-    write_item(out, at_position, number)?;
-    write_bytes(out, b" ")
-}
-
-// Writes a position or a number.
-fn write_item<W: Sink>(out: &mut W, at_position: bool, number: u64) -> Result<(), WriteStop>
-    ensures sent { Sends (W.taken out.old) (W.taken out.new) (word_of at_position number) result }
-    ensures errors { CountsErr (W.failed out.old) (W.failed out.new) result }
-{
     if at_position {
         write_position(out, number)
     } else {
-        write_number(out, number)
+        write_ranked(out, number)
     }
 }
 
-// Writes a position.
+// Writes a position, and a space behind it.
 fn write_position<W: Sink>(out: &mut W, position: u64) -> Result<(), WriteStop>
-    ensures sent { Sends (W.taken out.old) (W.taken out.new) (position_word position) result }
+    ensures sent { Sends (W.taken out.old) (W.taken out.new) (before_space (position_word position)) result }
     ensures errors { CountsErr (W.failed out.old) (W.failed out.new) result }
 {
-    write_bytes(out, b"@")?;
-    write_decimal(out, position)
+    write_pieces(
+        out,
+        &[
+            Piece::Bytes(b"@"),
+            Piece::Number(position),
+            Piece::Bytes(b" "),
+        ],
+    )
 }
 
-// Writes a number as its rank, and what was added.
-fn write_number<W: Sink>(out: &mut W, number: u64) -> Result<(), WriteStop>
-    ensures sent { Sends (W.taken out.old) (W.taken out.new) (number_word number) result }
+// Writes a number as its rank and what was added, if something was, and a space behind it.
+fn write_ranked<W: Sink>(out: &mut W, number: u64) -> Result<(), WriteStop>
+    ensures sent { Sends (W.taken out.old) (W.taken out.new) (before_space (number_word number)) result }
     ensures errors { CountsErr (W.failed out.old) (W.failed out.new) result }
 {
-    write_decimal(out, number / RANK_STEP)?;
-    write_added(out, number % RANK_STEP)
-}
-
-// Writes what was added to the number of a rank, if something was.
-fn write_added<W: Sink>(out: &mut W, added: u64) -> Result<(), WriteStop>
-    ensures sent { Sends (W.taken out.old) (W.taken out.new) (added_word added) result }
-    ensures errors { CountsErr (W.failed out.old) (W.failed out.new) result }
-{
-    if added == 0 {
-        Ok(())
-    } else {
-        write_plus(out, added)
+    let rank = number / RANK_STEP;
+    match number % RANK_STEP {
+        0 => write_pieces(out, &[Piece::Number(rank), Piece::Bytes(b" ")]),
+        added => write_added(out, rank, added),
     }
 }
 
-// Writes a plus sign and a number.
-fn write_plus<W: Sink>(out: &mut W, added: u64) -> Result<(), WriteStop>
-    ensures sent { Sends (W.taken out.old) (W.taken out.new) (codes "+" ++ decimal added) result }
+// Writes a rank and what was added to its number, and a space behind them.
+fn write_added<W: Sink>(out: &mut W, rank: u64, added: u64) -> Result<(), WriteStop>
+    ensures sent { Sends (W.taken out.old) (W.taken out.new) (before_space (decimal rank ++ (codes "+" ++ decimal added))) result }
     ensures errors { CountsErr (W.failed out.old) (W.failed out.new) result }
 {
-    write_bytes(out, b"+")?;
-    write_decimal(out, added)
+    write_pieces(
+        out,
+        &[
+            Piece::Number(rank),
+            Piece::Bytes(b"+"),
+            Piece::Number(added),
+            Piece::Bytes(b" "),
+        ],
+    )
 }
 
 // The numbers before the first 0, and what stands behind it.

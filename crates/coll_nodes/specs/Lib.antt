@@ -1,5 +1,6 @@
 pub mod Bodies
 pub mod BodyInvariant
+pub mod Causes
 pub mod Counting
 pub mod ElementTexts
 pub mod Entries

@@ -31,7 +31,8 @@ use Rattle.coll_nodes.specs.declared.entries.Entry.{Entry}
 use Rattle.coll_nodes.specs.OwnNames.{stands_for}
 use Rattle.coll_nodes.specs.Table.{name_of, text_of}
 use Rattle.coll_nodes.specs.Walks.{VisitedSection}
-use Rattle.coll_print.specs.CanonicalText.{spelled_behind, spelled_joined, spelled_id, spelled_string, spelled_own, spelled_names, spelled_weight, direction_word, spelled_position, spelled_rule, declaration_line, rules_line, is_own, entry_line, visited_line}
+use Rattle.coll_syntax.specs.Weights.{is_own}
+use Rattle.coll_print.specs.CanonicalText.{spelled_behind, spelled_joined, spelled_id, spelled_string, spelled_own, spelled_names, spelled_weight, direction_word, spelled_position, spelled_rule, declaration_line, rules_line, entry_line, visited_line}
 use Rattle.coll_print.proofs.PrintedTokens.{tokens_behind, tokens_joined, id_token, id_piece, own_tokens, names_tokens, weight_tokens, order_tokens, position_tokens, rule_tokens, rules_tokens, declaration_tokens, section_tokens, order_read, declaration_read, declaration_is_read, rules_line_is_read, order_is_read, section_is_read, order_end_is_read, category_end_is_read}
 use Rattle.coll_print.proofs.PrintedSpellings.{with_tokens, EndsWord, is_clean, is_letter, Spells, spells_both, spells_wider, spells_nothing, spells_word, spells_apart, separates_space, separates_semicolon, separates_comma, end_ends, space_ends, semicolon_ends, comma_ends, spells_id, spells_name, spells_string}
 

@@ -22,7 +22,8 @@ use Rattle.coll_syntax.specs.declared.rules.Rule.{Rule}
 use Rattle.coll_nodes.specs.declared.declarations.Declaration.TheVariants as declaration
 use Rattle.coll_nodes.specs.Table.{Collation}
 use Rattle.coll_nodes.specs.Walks.{VisitedSection, visited}
-use Rattle.coll_print.specs.CanonicalText.{spelled_all, spelled_behind, spelled_joined, spelled_id, spelled_string, spelled_own, spelled_names, spelled_weight, is_own, weights_behind, direction_word, spelled_position, spelled_rule, declaration_line, rules_line, visited_line, closing_lines, canonical_lines, line_bytes, text}
+use Rattle.coll_syntax.specs.Weights.{is_own}
+use Rattle.coll_print.specs.CanonicalText.{spelled_all, spelled_behind, spelled_joined, spelled_id, spelled_string, spelled_own, spelled_names, spelled_weight, weights_behind, direction_word, spelled_position, spelled_rule, declaration_line, rules_line, visited_line, closing_lines, canonical_lines, line_bytes, text}
 use Rattle.coll_print.specs.PrintedParts.{id_bytes, behind_bytes, char_bytes, symbol_bytes, text_bytes, element_bytes, equivalence_bytes, declaration_bytes, visited_bytes, sections_bytes, category_bytes}
 
 -- What is written.

@@ -26,11 +26,12 @@ use Rattle.coll_nodes.specs.Entries.{names_only, kept_weight, kept_weights, give
 use Rattle.coll_nodes.specs.WellFormed.{AreDistinct, IsNamed, FirstIsUnnamed, IsKeptWeight, HasWeights, IsWeighted, IsKnown, HasPlacedWeights, IsWellFormed}
 use Rattle.coll_nodes.specs.Limits.{most_entries, most_declarations, most_sections}
 use Rattle.coll_nodes.specs.Table.{has_text}
-use Rattle.coll_builder.specs.BuilderStates.{BuilderState, state_of, table_of, own_order, with_own_weights, refused_if, meaning_cause, declaration_cause, order_cause, cause_after, weight_cause, ids_cause, entries_fault, weights_fault, line_fault, is_end}
+use Rattle.coll_nodes.specs.Causes.{refused_if}
+use Rattle.coll_builder.specs.BuilderStates.{BuilderState, state_of, table_of, own_order, with_own_weights, meaning_cause, declaration_cause, order_cause, cause_after, weight_cause, ids_cause, entries_fault, weights_fault, line_fault, is_end}
 use Rattle.coll_builder.specs.declared.load_faults.LoadCause.{LoadCause}
 use Rattle.coll_builder.specs.Loading.{with_last, with_section, state_with}
 use Rattle.coll_nodes.specs.Walks.{Visited, VisitedSection, VisitedEntry, visited_name, visited_in, visited, entry_visited}
-use Rattle.coll_print.specs.CanonicalText.{is_own}
+use Rattle.coll_syntax.specs.Weights.{is_own}
 use Rattle.coll_lookups.proofs.Sameness.{neither, same_id_decides, same_name_symmetric, same_id_symmetric, same_id_itself, found_holds}
 use Rattle.coll_nodes.proofs.DistinctLists.{distinct_before}
 use Rattle.coll_nodes.proofs.OwnNames.{symbol_own, named_own_same, own_id_known, own_table, meant_before, means_something}

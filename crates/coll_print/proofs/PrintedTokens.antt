@@ -15,7 +15,7 @@ use Rattle.coll_syntax.specs.Operands.{and_then, read_as, ended, is_semicolon, o
 use Rattle.coll_syntax.specs.Elements.{characters_of, element_text}
 use Rattle.coll_syntax.specs.Proper.{IsElementText, IsWeightId, IsProperWeight}
 use Rattle.coll_syntax.specs.OrderLines.{weighted}
-use Rattle.coll_syntax.specs.Weights.{string_weight, operand_weight, weights, piece_id}
+use Rattle.coll_syntax.specs.Weights.{string_weight, operand_weight, weights, piece_id, is_own}
 use Rattle.coll_syntax.specs.Rules.{rule, judged_levels, rules}
 use Rattle.coll_syntax.specs.TableLines.{table_line, order_start, begun_row}
 use Rattle.coll_syntax.specs.declared.identifiers.Id.{Id}
@@ -31,7 +31,7 @@ use Rattle.coll_syntax.specs.declared.syntax_faults.SyntaxFault.TheVariants.{Wei
 use Rattle.coll_nodes.specs.declared.declarations.Declaration.{Declaration}
 use Rattle.coll_nodes.specs.declared.declarations.Declaration.TheVariants as declaration
 use Rattle.coll_nodes.specs.Table.{text_of}
-use Rattle.coll_print.specs.CanonicalText.{direction_word, is_own}
+use Rattle.coll_print.specs.CanonicalText.{direction_word}
 
 -- Operands with semicolons between them.
 

@@ -9,6 +9,7 @@ use Rattle.coll_devices.specs.PhysicalLines.{line_feed}
 use Rattle.coll_lex.specs.Spelling.{spelled_symbol, spelled_code}
 use Rattle.coll_syntax.specs.declared.identifiers.Id.{Id}
 use Rattle.coll_syntax.specs.declared.identifiers.Id.TheVariants.{Char, Named, Undefined}
+use Rattle.coll_syntax.specs.Weights.{is_own}
 use Rattle.coll_syntax.specs.declared.weights.Weight.{Weight}
 use Rattle.coll_syntax.specs.declared.weights.Weight.TheVariants.{Ignore, Own, Names}
 use Rattle.coll_syntax.specs.declared.rules.Rule.{Rule}
@@ -92,12 +93,6 @@ declaration_line (Equivalence name symbol) = codes "symbol-equivalence " ++ spel
 -- the line of the rules
 abbrev pub rules_line : List Rule → List ℕ
 rules_line rules = codes "order_start " ++ spelled_joined spelled_rule rules []
-
--- a weight is the entry's own
-abbrev pub is_own : Weight → Bool
-is_own Ignore = false
-is_own Own = true
-is_own (Names ids) = false
 
 -- the weights behind an identifier, unless there are none but its own
 abbrev pub weights_behind : Id → List Weight → List ℕ

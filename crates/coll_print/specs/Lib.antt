@@ -1,2 +1,3 @@
 pub mod CanonicalText
+pub mod Pieces
 pub mod PrintedParts

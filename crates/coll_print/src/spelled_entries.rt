@@ -6,7 +6,8 @@
 ghost use Rattle.std.specs.Prelude.{◌≡◌, [], encode_utf8_all};
 ghost use Rattle.std.specs.List.{flat_map, list_all};
 ghost use Rattle.coll_devices.specs.Devices.{CountsErr, Sends};
-ghost use Rattle.coll_print.specs.CanonicalText.{spelled_string, spelled_own, spelled_names, spelled_weight, spelled_joined, is_own, weights_behind, entry_line, line_bytes};
+ghost use Rattle.coll_syntax.specs.Weights.{is_own};
+ghost use Rattle.coll_print.specs.CanonicalText.{spelled_string, spelled_own, spelled_names, spelled_weight, spelled_joined, weights_behind, entry_line, line_bytes};
 ghost use Rattle.coll_print.specs.PrintedParts.{id_bytes, behind_bytes};
 
 use coll_devices::{Sink, WriteStop, write_bytes};
@@ -45,17 +46,7 @@ fn write_weights_behind_id<W: Sink>(
 fn are_own(weights: &[Weight]) -> bool
     ensures { result ≡ list_all is_own weights.now }
 {
-    weights.iter().all(is_own)
-}
-
-// Whether a weight is the entry's own.
-fn is_own(weight: &Weight) -> bool
-    ensures { result ≡ is_own weight.now }
-{
-    match weight {
-        Weight::Own => true,
-        Weight::Ignore | Weight::Names(_) => false,
-    }
+    weights.iter().all(|weight| weight.is_own())
 }
 
 // Writes weights with a semicolon between them.

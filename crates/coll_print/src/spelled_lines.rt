@@ -1,7 +1,7 @@
 //! The lines of declarations, of sections and of the rules, written to a device.
 //!
-//! Each function writes one part of a line, and a line is one part behind another (`specs/PrintedParts.antt`). What is spelled how
-//! is `specs/CanonicalText.antt`. None of this takes memory.
+//! The line of a declaration or of a section is written piece by piece (`pieces`); of that of the rules each function writes one
+//! part (`specs/PrintedParts.antt`). What is spelled how is `specs/CanonicalText.antt`. None of this takes memory.
 
 ghost use Rattle.std.specs.Prelude.{[], ◌∷◌, ◌++◌, chars, encode_utf8_all, codes};
 ghost use Rattle.std.specs.List.{flat_map};
@@ -11,9 +11,10 @@ ghost use Rattle.coll_print.specs.CanonicalText.{spelled_rule, spelled_joined, r
 ghost use Rattle.coll_print.specs.PrintedParts.{char_bytes, behind_bytes, declaration_bytes, visited_bytes, symbol_bytes, element_bytes, equivalence_bytes};
 ghost use Rattle.coll_nodes.specs.WalkItems.{visited_by, declared_by};
 
+use crate::pieces::{Piece, write_pieces};
 use crate::spelled_entries::write_entry;
 use coll_devices::{Sink, WriteStop, write_bytes};
-use coll_lex::{write_char, write_symbol};
+use coll_lex::write_char;
 use coll_nodes::{DeclaredItem, WalkItem};
 use coll_syntax::Rule;
 
@@ -44,44 +45,52 @@ pub(crate) fn write_visited<W: Sink>(out: &mut W, item: WalkItem<'_>) -> Result<
 }
 
 // Writes a line of a word and a name.
-fn write_named<W: Sink>(out: &mut W, word: &[u8], name: &str) -> Result<(), WriteStop>
+fn write_named<'a, W: Sink>(out: &mut W, word: &'a [u8], name: &'a str) -> Result<(), WriteStop>
     ensures sent { Sends (W.taken out.old) (W.taken out.new) (word.now ++ (symbol_bytes (chars name.now) ++ line_feed ∷ [])) result }
     ensures errors { CountsErr (W.failed out.old) (W.failed out.new) result }
 {
-    write_bytes(out, word)?;
-    write_name_ended(out, name)
-}
-
-// Writes a name, and the line's end.
-fn write_name_ended<W: Sink>(out: &mut W, name: &str) -> Result<(), WriteStop>
-    ensures sent { Sends (W.taken out.old) (W.taken out.new) (symbol_bytes (chars name.now) ++ line_feed ∷ []) result }
-    ensures errors { CountsErr (W.failed out.old) (W.failed out.new) result }
-{
-    write_symbol(out, name)?;
-    write_bytes(out, b"\n")
+    write_pieces(
+        out,
+        &[Piece::Bytes(word), Piece::Symbol(name), Piece::Bytes(b"\n")],
+    )
 }
 
 // Writes the line of a collating element.
-fn write_element<W: Sink>(out: &mut W, name: &str, text: &str) -> Result<(), WriteStop>
+fn write_element<'a, W: Sink>(out: &mut W, name: &'a str, text: &'a str) -> Result<(), WriteStop>
     ensures sent { Sends (W.taken out.old) (W.taken out.new) (codes "collating-element " ++ element_bytes (chars name.now) (chars text.now)) result }
     ensures errors { CountsErr (W.failed out.old) (W.failed out.new) result }
 {
-    write_bytes(out, b"collating-element ")?;
-    write_symbol(out, name)?;
-    write_bytes(out, b" from \"")?;
-    write_text(out, text)?;
-    write_bytes(out, b"\"\n")
+    write_pieces(
+        out,
+        &[
+            Piece::Bytes(b"collating-element "),
+            Piece::Symbol(name),
+            Piece::Bytes(b" from \""),
+            Piece::Text(text),
+            Piece::Bytes(b"\"\n"),
+        ],
+    )
 }
 
 // Writes the line of a second name.
-fn write_equivalence<W: Sink>(out: &mut W, name: &str, symbol: &str) -> Result<(), WriteStop>
+fn write_equivalence<'a, W: Sink>(
+    out: &mut W,
+    name: &'a str,
+    symbol: &'a str,
+) -> Result<(), WriteStop>
     ensures sent { Sends (W.taken out.old) (W.taken out.new) (codes "symbol-equivalence " ++ equivalence_bytes (chars name.now) (chars symbol.now)) result }
     ensures errors { CountsErr (W.failed out.old) (W.failed out.new) result }
 {
-    write_bytes(out, b"symbol-equivalence ")?;
-    write_symbol(out, name)?;
-    write_bytes(out, b" ")?;
-    write_name_ended(out, symbol)
+    write_pieces(
+        out,
+        &[
+            Piece::Bytes(b"symbol-equivalence "),
+            Piece::Symbol(name),
+            Piece::Bytes(b" "),
+            Piece::Symbol(symbol),
+            Piece::Bytes(b"\n"),
+        ],
+    )
 }
 
 /// Writes each character of a text by its code point.
@@ -142,7 +151,7 @@ fn write_rule_behind<W: Sink>(out: &mut W, rule: Rule) -> Result<(), WriteStop>
 }
 
 /// Writes a rule: its direction, and `position` where it has that.
-pub fn write_rule<W: Sink>(out: &mut W, rule: Rule) -> Result<(), WriteStop>
+pub(crate) fn write_rule<W: Sink>(out: &mut W, rule: Rule) -> Result<(), WriteStop>
     ensures sent { Sends (W.taken out.old) (W.taken out.new) (encode_utf8_all (spelled_rule rule [])) result }
     ensures errors { CountsErr (W.failed out.old) (W.failed out.new) result }
 {

@@ -9,7 +9,7 @@ use Rattle.coll_syntax.specs.Identifier.{same_id}
 use Rattle.coll_syntax.specs.declared.identifiers.Id.{Id}
 use Rattle.coll_syntax.specs.declared.identifiers.Id.TheVariants.{Char, Named, Undefined}
 use Rattle.coll_syntax.specs.declared.weights.Weight.TheVariants.{Ignore}
-use Rattle.coll_print.specs.CanonicalText.{is_own}
+use Rattle.coll_syntax.specs.Weights.{is_own}
 use Rattle.coll_nodes.specs.Placement.{entry_at, place_among}
 use Rattle.coll_nodes.specs.Table.{Collation, entries_of}
 use Rattle.coll_nodes.specs.WellFormed.{IsWellFormed}

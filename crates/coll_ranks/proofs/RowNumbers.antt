@@ -7,7 +7,7 @@ use Rattle.coll_syntax.specs.declared.identifiers.Id.{Id}
 use Rattle.coll_syntax.specs.declared.identifiers.Id.TheVariants.{Char, Undefined}
 use Rattle.coll_syntax.specs.declared.weights.Weight.{Weight}
 use Rattle.coll_syntax.specs.declared.weights.Weight.TheVariants.{Ignore, Own, Names}
-use Rattle.coll_print.specs.CanonicalText.{is_own}
+use Rattle.coll_syntax.specs.Weights.{is_own}
 use Rattle.coll_nodes.specs.Placement.{entry_at}
 use Rattle.coll_nodes.specs.Table.{Collation, entries_of, is_placed}
 use Rattle.coll_nodes.specs.declared.entries.Entry.{Entry}

@@ -5,7 +5,7 @@ use Rattle.std.proofs.lemmas.List.{at_drop_more, at_drop_all}
 use Rattle.coll_syntax.specs.declared.identifiers.Id.{Id}
 use Rattle.coll_syntax.specs.declared.identifiers.Id.TheVariants.{Char, Undefined}
 use Rattle.coll_syntax.specs.declared.weights.Weight.TheVariants.{Ignore}
-use Rattle.coll_print.specs.CanonicalText.{is_own}
+use Rattle.coll_syntax.specs.Weights.{is_own}
 use Rattle.coll_nodes.specs.Placement.{entry_at}
 use Rattle.coll_nodes.specs.Table.{Collation, entries_of}
 use Rattle.coll_elements.specs.Elements.{elements_of, elements_placed, element_text, part_id}

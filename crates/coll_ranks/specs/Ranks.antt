@@ -5,7 +5,7 @@ use Rattle.coll_syntax.specs.declared.identifiers.Id.{Id}
 use Rattle.coll_syntax.specs.declared.identifiers.Id.TheVariants.{Char, Named, Undefined}
 use Rattle.coll_syntax.specs.declared.weights.Weight.{Weight}
 use Rattle.coll_syntax.specs.declared.weights.Weight.TheVariants.{Ignore, Own, Names}
-use Rattle.coll_print.specs.CanonicalText.{is_own}
+use Rattle.coll_syntax.specs.Weights.{is_own}
 use Rattle.coll_lookups.specs.NamePlaces.{NamePlacesValue, place_named}
 use Rattle.coll_nodes.specs.Table.{Collation, entries_of}
 use Rattle.coll_nodes.specs.declared.entries.Entry.{Entry}

@@ -11,6 +11,6 @@ abbrev pub IsRecent : Collation → Option RecentRank → Type 0
 IsRecent table None = Unit {0}
 IsRecent table (Some kept) = kept.rank ≡ known_rank table kept.id.now
 
--- these are the identifiers of the first entries, each of which has its place as its rank
+-- these are the identifiers of the first entries: each has its place among them, counted from 1, as its rank
 abbrev pub AreFirst : Collation → List (Bor Id) → Type 0
 AreFirst table ids = (place : ℕ) (id : Bor Id) → slice_get ids place ≡ Some id → known_rank table id.now ≡ place + 1

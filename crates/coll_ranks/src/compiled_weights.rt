@@ -3,7 +3,7 @@
 //! They stand in the order in which weights are put in, level by level, so those of an entry are found by its rank.
 
 ghost use Rattle.std.specs.Prelude.{◌≡◌, ◌<◌, ◌≤◌, ◌+◌, ◌*◌, map, IfOk, OnOk, false, if◌then◌else◌, slice_index_or};
-ghost use Rattle.coll_print.specs.CanonicalText.{is_own};
+ghost use Rattle.coll_syntax.specs.Weights.{is_own};
 ghost use Rattle.coll_syntax.specs.declared.identifiers.Id.TheVariants.{Undefined};
 ghost use Rattle.coll_elements.specs.Rank.{known_rank};
 ghost use Rattle.coll_ranks.specs.Ranks.{compiled_row_by, compiled_entry};
@@ -175,15 +175,5 @@ fn likely_weights(entries: usize, levels: usize) -> usize
 fn own_levels(alloc: Global, weights: &[Weight]) -> Result<Vec<bool>, AllocError>
     ensures { IfOk result (λ own. own.items ≡ map is_own weights.now) }
 {
-    weights.iter().map(|weight| is_own(weight)).collect(alloc)
-}
-
-// Whether a weight is its entry's own.
-fn is_own(weight: &Weight) -> bool
-    ensures { result ≡ is_own weight.now }
-{
-    match weight {
-        Weight::Own => true,
-        Weight::Ignore | Weight::Names(_) => false,
-    }
+    weights.iter().map(|weight| weight.is_own()).collect(alloc)
 }

@@ -9,7 +9,7 @@ ghost use Rattle.std.specs.Option.{option_or};
 ghost use Rattle.coll_syntax.specs.Identifier.{same_id};
 ghost use Rattle.coll_syntax.specs.declared.identifiers.Id.TheVariants.{Char, Undefined};
 ghost use Rattle.coll_syntax.specs.declared.weights.Weight.TheVariants.{Own};
-ghost use Rattle.coll_print.specs.CanonicalText.{is_own};
+ghost use Rattle.coll_syntax.specs.Weights.{is_own};
 ghost use Rattle.coll_nodes.specs.Table.{entries_of, ids_of};
 ghost use Rattle.coll_nodes.specs.TableLayout.{collation};
 ghost use Rattle.coll_nodes.specs.WalkItems.{visited_by};

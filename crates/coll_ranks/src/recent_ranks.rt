@@ -1,8 +1,10 @@
 //! Ranks of a table, of which those told last are kept.
 //!
-//! Most weights name their own entry, or what the weight of the entry before names at their level, or the entry behind that. So a
-//! `RecentRanks` keeps the rank of one entry, for each level the rank that was told last, and the entries that a walk has met so far,
-//! and tells these by a comparison of identifiers. Without a walk it knows no entries, and looks up what is told in no other way.
+//! Most weights name their own entry, or what the weight of the entry before names at their level, or the entry that stands directly
+//! behind that one in the table. So a `RecentRanks` keeps the rank of the entry that was begun last, in two slots for each level the ranks
+//! that were told there last and were not that entry's own, and the entries that were begun one after another from the table's first on
+//! (a walk), and tells these by a comparison of identifiers. What is told in no other way is looked up. Which slot is asked, and
+//! whether anything is kept at all, is for speed alone; that each rank that is kept is right is the invariant.
 
 ghost use Rattle.std.specs.Prelude.{◌≡◌, Some, IfSome, IfOk};
 ghost use Rattle.std.specs.List.{All};
@@ -19,7 +21,7 @@ use std::marker::Model;
 const LEVELS: usize = 4;
 
 /// Of each level two ranks are kept: that of the first identifier of a weight, and that of a later one.
-const PLACES: usize = 2 * LEVELS;
+const SLOTS: usize = 2 * LEVELS;
 
 /// An identifier with its rank.
 #[derive(Clone, Copy)]
@@ -34,9 +36,10 @@ pub(crate) struct RecentRanks<'a> {
     table: &'a TableRanks<'a>,
     /// The rank of the entry whose weights are put in.
     owner: Option<RecentRank<'a>>,
-    /// The ranks that were told last: for each level that of the first identifier of a weight, and then for each that of a later one.
-    last: [Option<RecentRank<'a>>; PLACES],
-    /// The identifiers of the first entries of the table, in order, as far as a walk has come.
+    /// The ranks that were told last and were not the entry's own: for each level that of the first identifier of a weight, and then
+    /// for each that of a later one.
+    last: [Option<RecentRank<'a>>; SLOTS],
+    /// The identifiers of the first entries of the table, in order, as far as they were begun one after another.
     entries: Vec<&'a Id>,
 }
 
@@ -60,7 +63,7 @@ impl<'a> RecentRanks<'a> {
         RecentRanks {
             table,
             owner: None,
-            last: [None; PLACES],
+            last: [None; SLOTS],
             entries: Vec::new(alloc),
         }
     }
@@ -78,8 +81,8 @@ impl<'a> RecentRanks<'a> {
         Ok(made)
     }
 
-    /// Keeps the rank of the entry whose weights come next, and on a walk the entry as one that was met, for which it takes memory
-    /// where there is no room.
+    /// Keeps the rank of the entry whose weights come next, and the entry itself where all before it were begun in order, for which
+    /// it takes memory where there is no room.
     pub(crate) fn begin(&mut self, id: &'a Id, rank: u32) -> Result<(), AllocError>
         requires { rank ≡ known_rank self.old id.now }
         ensures { self.new ≡ self.old }
@@ -94,50 +97,50 @@ impl<'a> RecentRanks<'a> {
         ensures rank { result ≡ known_rank self.old id.now }
         ensures same { self.new ≡ self.old }
     {
-        let place = place_of(level, before);
-        if let Some(rank) = self.recent(id, place) {
+        let slot = slot_of(level, before);
+        if let Some(rank) = self.recent(id, slot) {
             return rank;
         }
-        let rank = match self.following(id, place) {
+        let rank = match self.following(id, slot) {
             Some(rank) => rank,
             None => self.table.known_rank(id),
         };
-        self.keep(id, rank, place);
+        self.keep(id, rank, slot);
         rank
     }
 
-    // The rank of an identifier, if it is kept as that of the entry, or at a place.
-    fn recent(&self, id: &Id, place: usize) -> Option<u32>
+    // The rank of an identifier, if it is kept as that of the entry, or in a slot.
+    fn recent(&self, id: &Id, slot: usize) -> Option<u32>
         ensures { IfSome result (λ rank. rank ≡ known_rank self.now id.now) }
     {
         if let Some(rank) = recent_rank(self.owner, id) {
             return Some(rank);
         }
-        match self.last.get(place) {
+        match self.last.get(slot) {
             Some(kept) => recent_rank(*kept, id),
             None => None,
         }
     }
 
-    // The rank of an identifier, if its entry was met, and stands behind the one whose rank is kept at a place.
-    fn following(&self, id: &Id, place: usize) -> Option<u32>
+    // The rank of an identifier, if its entry was begun, and stands directly behind the one whose rank is kept in a slot.
+    fn following(&self, id: &Id, slot: usize) -> Option<u32>
         ensures { IfSome result (λ rank. rank ≡ known_rank self.now id.now) }
     {
-        let before = rank_kept(&self.last[..], place)?;
+        let before = rank_kept(&self.last[..], slot)?;
         rank_behind(&self.entries, before, id)
     }
 
-    // Keeps the rank that was told at a place.
-    fn keep(&mut self, id: &'a Id, rank: u32, place: usize)
+    // Keeps a rank in a slot.
+    fn keep(&mut self, id: &'a Id, rank: u32, slot: usize)
         requires { rank ≡ known_rank self.old id.now }
         ensures { self.new ≡ self.old }
     {
-        keep_at(&mut self.last[..], RecentRank { id, rank }, place);
+        keep_at(&mut self.last[..], RecentRank { id, rank }, slot);
     }
 }
 
-// The place of an identifier in a weight at a level, where so many stand before it.
-fn place_of(level: usize, before: usize) -> usize {
+// The slot of an identifier in a weight at a level, where so many stand before it. Any answer is right.
+fn slot_of(level: usize, before: usize) -> usize {
     if before == 0 {
         level
     } else {
@@ -156,9 +159,9 @@ fn push_next<'a>(entries: &mut Vec<&'a Id>, id: &'a Id, rank: u32) -> Result<(),
     Ok(())
 }
 
-// The rank that is kept at a place, if one is.
-fn rank_kept(last: &[Option<RecentRank<'_>>], place: usize) -> Option<u32> {
-    match last.get(place) {
+// The rank that is kept in a slot, if one is. It is a guess at where to look, so any answer is right.
+fn rank_kept(last: &[Option<RecentRank<'_>>], slot: usize) -> Option<u32> {
+    match last.get(slot) {
         Some(Some(kept)) => Some(kept.rank),
         _ => None,
     }
@@ -176,14 +179,14 @@ fn rank_behind(entries: &[&Id], before: u32, id: &Id) -> Option<u32>
     }
 }
 
-// Keeps a rank at a place, if it is one of these.
-fn keep_at<'a>(last: &mut [Option<RecentRank<'a>>], kept: RecentRank<'a>, place: usize)
+// Keeps a rank in a slot, if it is one of these.
+fn keep_at<'a>(last: &mut [Option<RecentRank<'a>>], kept: RecentRank<'a>, slot: usize)
     ensures { (table : Collation) → IsRecent table (Some kept.entry) → All (IsRecent table) last.old → All (IsRecent table) last.new }
 {
-    if place >= last.len() {
+    if slot >= last.len() {
         return;
     }
-    last[place] = Some(kept);
+    last[slot] = Some(kept);
 }
 
 // The rank that is kept, if it is that of an identifier.

@@ -46,7 +46,7 @@ abbrev pub most_short_look : ℕ
 most_short_look = 64
 
 abbrev pub most_short_work : ℕ
-most_short_work = 262_144
+most_short_work = 131_072
 
 -- costs together, at most the largest number of 64 bits
 abbrev pub costs_together : (work further : ℕ) → ℕ

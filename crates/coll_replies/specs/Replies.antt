@@ -1,11 +1,11 @@
 -- The replies of a session (the project's own): what is written for each request, from the history before it.
-use Rattle.std.specs.Prelude.{ℕ, suc, ◌+◌, Bool, true, false, ◌&&◌, ◌||◌, if◌then◌else◌, List, [], ◌∷◌, ◌++◌, length, Option, Some, None, Result, Ok, Err, codes, decimal, encode_utf8_all}
+use Rattle.std.specs.Prelude.{ℕ, suc, ◌+◌, Bool, true, false, ◌&&◌, ◌||◌, if◌then◌else◌, List, [], ◌∷◌, ◌++◌, length, Option, Some, None, Result, Ok, Err, codes, decimal}
 use Rattle.coll_lex.specs.LogicalLines.{first_choice, later_choices}
-use Rattle.coll_lex.specs.Spelling.{spelled_symbol}
 use Rattle.coll_lex.specs.declared.faults.LexFault.TheVariants as lex
 use Rattle.coll_nodes.specs.Table.{Collation, Section, entries_of}
 use Rattle.coll_print.specs.CanonicalText.{text}
-use Rattle.coll_print.specs.PrintedParts.{id_bytes}
+use Rattle.coll_print.specs.Pieces.{words_line}
+use Rattle.coll_print.specs.PrintedParts.{id_bytes, symbol_bytes}
 use Rattle.coll_syntax.specs.declared.statements.Statement.{Statement}
 use Rattle.coll_syntax.specs.declared.statements.Statement.TheVariants as statement
 use Rattle.coll_key.specs.KeyLimits.{is_too_long}
@@ -32,42 +32,30 @@ use Rattle.coll_requests.specs.declared.requests.Request.TheVariants as kind
 use Rattle.coll_requests.specs.declared.requests.RequestAt.{RequestAt}
 use Rattle.coll_requests.specs.declared.requests.FaultAt.{FaultAt}
 
--- two words with a space between them, and the line's end
-abbrev pub worded : List ℕ → List ℕ → List ℕ
-worded first second = (first ++ 32 ∷ []) ++ (second ++ 10 ∷ [])
-
 -- a word and a number
 unfoldable pub counted_line : List ℕ → ℕ → List ℕ
-counted_line word n = worded word (decimal n)
+counted_line word n = words_line (word ∷ decimal n ∷ [])
 
 -- a word, and then the number and the name of a fault
 abbrev pub told_line : List ℕ → Fault → List ℕ
-told_line word f = word ++ worded (decimal (fault_number f)) (fault_name f)
+told_line word f = word ++ words_line (decimal (fault_number f) ∷ fault_name f ∷ [])
 
--- the number of a statement and its refusal, and the line's end
-abbrev pub refused_statement : ℕ → Refusal → List ℕ
-refused_statement number refusal = (decimal number ++ 32 ∷ []) ++ worded (decimal (refusal_number refusal)) (refusal_name refusal)
+-- the number of a statement, and the number and the name of its refusal
+abbrev pub refused_statement : ℕ → Refusal → List (List ℕ)
+refused_statement number refusal = decimal number ∷ decimal (refusal_number refusal) ∷ refusal_name refusal ∷ []
 
--- what ends the reply to a refusal: that of a withdrawal, for which another statement is refused, tells that one and its refusal
-abbrev pub refusal_end : Fault → List ℕ
-refusal_end (fault.Bench (bench.StillNeeded statement refusal)) = 32 ∷ refused_statement statement refusal
-refusal_end f = 10 ∷ []
-
--- the name of a fault, and what ends the reply to it
-abbrev pub refusal_name_ended : Fault → List ℕ
-refusal_name_ended f = fault_name f ++ refusal_end f
-
--- the number of a fault, and what follows it in the reply
-abbrev pub refusal_told : Fault → List ℕ
-refusal_told f = (decimal (fault_number f) ++ 32 ∷ []) ++ refusal_name_ended f
+-- the last words of the reply to a refusal: that of a withdrawal, for which another statement is refused, tells that one and its refusal
+abbrev pub refusal_words : Fault → List (List ℕ)
+refusal_words (fault.Bench (bench.StillNeeded statement refusal)) = refused_statement statement refusal
+refusal_words f = []
 
 -- the reply to what is refused
 unfoldable pub refused_line : Fault → List ℕ
-refused_line f = codes "refused " ++ refusal_told f
+refused_line f = words_line (codes "refused" ∷ decimal (fault_number f) ∷ fault_name f ∷ refusal_words f)
 
 -- the reply to a withdrawal for which another statement is refused
 abbrev pub still_needed_line : ℕ → Refusal → List ℕ
-still_needed_line statement refusal = codes "refused 71 StillNeeded " ++ refused_statement statement refusal
+still_needed_line statement refusal = words_line (codes "refused" ∷ codes "71" ∷ codes "StillNeeded" ∷ refused_statement statement refusal)
 
 -- the replies to faults, one after another
 unfoldable pub refused_lines : List FaultAt → List ℕ
@@ -76,20 +64,16 @@ refused_lines (at ∷ later) = refused_line (fault_of at.fault) ++ refused_lines
 
 -- one line of a listing: the rank, and the identifier
 unfoldable pub listed_line : ℕ → Entry → List ℕ
-listed_line rank entry = worded (decimal rank) (id_bytes entry.id)
+listed_line rank entry = words_line (decimal rank ∷ id_bytes entry.id ∷ [])
 
 -- the lines of a listing, from a rank on
 unfoldable pub listed_lines : ℕ → List Entry → List ℕ
 listed_lines rank [] = []
 listed_lines rank (entry ∷ entries) = listed_line rank entry ++ listed_lines (suc rank) entries
 
--- a name as it is written
-abbrev pub name_bytes : List ℕ → List ℕ
-name_bytes name = encode_utf8_all (spelled_symbol name [])
-
 -- the line before the entries of a section that has a name
 unfoldable pub section_line : List ℕ → List ℕ
-section_line name = worded (codes "section") (name_bytes name)
+section_line name = words_line (codes "section" ∷ symbol_bytes name ∷ [])
 
 -- the line of a section's name, if it has one
 abbrev pub header : Option (List ℕ) → List ℕ
@@ -106,47 +90,34 @@ listed_sections rank (section ∷ later) =
 unfoldable pub listing : Collation → List ℕ
 listing table = listed_sections 1 table.sections ++ counted_line (codes "listed") (length (entries_of table))
 
--- a word and a number behind it
-abbrev pub count_part : List ℕ → ℕ → List ℕ
-count_part word n = word ++ decimal n
-
--- the levels of a table, behind which the line ends
-abbrev pub levels_part : Collation → List ℕ
-levels_part table = count_part (codes " levels ") (length table.rules) ++ 10 ∷ []
-
--- the sections of a table, the first counted, and its levels
-abbrev pub sections_part : Collation → List ℕ
-sections_part table = count_part (codes " sections ") (length table.sections) ++ levels_part table
-
--- the declarations of a table, and what follows them
-abbrev pub declared_part : Collation → List ℕ
-declared_part table = count_part (codes " declared ") (length table.declared) ++ sections_part table
-
 -- the reply to `:check`
 unfoldable pub checked_line : Collation → List ℕ
-checked_line table = count_part (codes "table entries ") (length (entries_of table)) ++ declared_part table
+checked_line table = words_line (
+    codes "table"
+    ∷ codes "entries" ∷ decimal (length (entries_of table))
+    ∷ codes "declared" ∷ decimal (length table.declared)
+    ∷ codes "sections" ∷ decimal (length table.sections)
+    ∷ codes "levels" ∷ decimal (length table.rules)
+    ∷ []
+    )
 
 -- a reply that counts what remains, or a refusal
 abbrev pub count_reply : List ℕ → Result History BenchFault → List ℕ
 count_reply word (Ok h) = counted_line word (length h.remaining)
 count_reply word (Err f) = refused_line (fault.Bench f)
 
--- two words with a space between them
-abbrev pub spaced : List ℕ → List ℕ → List ℕ
-spaced first second = (first ++ 32 ∷ []) ++ second
-
 -- what a statement is, for a history, by the names that it was given with: a block by its target and the number of its lines
-abbrev pub statement_words : Statement → List ℕ
-statement_words (statement.Symbol name) = spaced (codes "symbol") (name_bytes name)
-statement_words (statement.Element name text) = spaced (codes "element") (name_bytes name)
-statement_words (statement.Equivalence name symbol) = spaced (codes "equivalence") (spaced (name_bytes name) (name_bytes symbol))
-statement_words (statement.Block target lines) = spaced (codes "block") (spaced (id_bytes target) (decimal (length lines)))
-statement_words (statement.SectionAfter name after) = spaced (codes "section") (spaced (name_bytes name) (name_bytes after))
-statement_words (statement.Reweight line) = spaced (codes "reweight") (id_bytes line.id)
+abbrev pub statement_words : Statement → List (List ℕ)
+statement_words (statement.Symbol name) = codes "symbol" ∷ symbol_bytes name ∷ []
+statement_words (statement.Element name text) = codes "element" ∷ symbol_bytes name ∷ []
+statement_words (statement.Equivalence name symbol) = codes "equivalence" ∷ symbol_bytes name ∷ symbol_bytes symbol ∷ []
+statement_words (statement.Block target lines) = codes "block" ∷ id_bytes target ∷ decimal (length lines) ∷ []
+statement_words (statement.SectionAfter name after) = codes "section" ∷ symbol_bytes name ∷ symbol_bytes after ∷ []
+statement_words (statement.Reweight line) = codes "reweight" ∷ id_bytes line.id ∷ []
 
 -- the line of a statement with its number
 unfoldable pub history_line : ℕ → Statement → List ℕ
-history_line number s = worded (decimal number) (statement_words s)
+history_line number s = words_line (decimal number ∷ statement_words s)
 
 -- the lines of statements, from a number on
 unfoldable pub history_lines : ℕ → List Statement → List ℕ
@@ -155,7 +126,7 @@ history_lines number (s ∷ later) = history_line number s ++ history_lines (suc
 
 -- the line that counts what remains and what was taken back
 unfoldable pub history_count : History → List ℕ
-history_count h = codes "history " ++ worded (decimal (length h.remaining)) (decimal (length h.undone))
+history_count h = words_line (codes "history" ∷ decimal (length h.remaining) ∷ decimal (length h.undone) ∷ [])
 
 -- the reply to `:history`
 unfoldable pub history_listing : History → List ℕ

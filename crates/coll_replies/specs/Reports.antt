@@ -1,8 +1,8 @@
 -- How the fault that ended a run is told (the project's own).
-use Rattle.std.specs.Prelude.{ℕ, ◌==◌, ◌||◌, if◌then◌else◌, List, [], ◌++◌, slice_get, Option, Some, None, codes}
+use Rattle.std.specs.Prelude.{ℕ, ◌==◌, ◌||◌, if◌then◌else◌, List, [], ◌++◌, slice_get, Option, Some, None, codes, decimal}
 use Rattle.coll_devices.specs.declared.stops.WriteStop.TheVariants as write
 use Rattle.coll_replies.specs.Faults.{fault_number}
-use Rattle.coll_replies.specs.Replies.{count_part, told_line}
+use Rattle.coll_replies.specs.Replies.{told_line}
 use Rattle.coll_replies.specs.declared.faults.Fault.{Fault}
 use Rattle.coll_replies.specs.declared.faults.Fault.TheVariants as fault
 use Rattle.coll_replies.specs.declared.faults.RunFault.{RunFault}
@@ -18,7 +18,7 @@ named names input = name_written (slice_get names input)
 
 -- the line of a fault and what follows it, behind the name of its input
 abbrev pub placed : RunFault → List ℕ
-placed ended = count_part (codes ":") ended.line ++ told_line (codes ": ") ended.fault
+placed ended = codes ":" ++ (decimal ended.line ++ told_line (codes ": ") ended.fault)
 
 -- the line of a fault: the name of its input, a colon, its line, a colon, and its number and name
 unfoldable pub fault_line : (names : List (List ℕ)) → RunFault → List ℕ

@@ -28,8 +28,8 @@ use std::marker::Model;
 /// the length takes four times as many. Words have fewer.
 const MOST_SHORT_LOOK: usize = 64;
 
-/// As many look-ups as take the time of making the ranks of a large table, some 25 ms at 0.1 microseconds each.
-const MOST_SHORT_WORK: u64 = 262_144;
+/// As many look-ups as take the time of making the ranks of a large table, some 13 ms at 0.1 microseconds each.
+const MOST_SHORT_WORK: u64 = 131_072;
 
 /// The ranks of a table, if they were made, and the places of its entries.
 #[derive(Drop)]

@@ -4,33 +4,28 @@
 //! flush fails, the device has taken a prefix of the reply. A new kind of request is a new case of `respond`, and of the
 //! definition of replies.
 
-ghost use Rattle.std.specs.Prelude.{◌≡◌, ◌≤◌, ◌++◌, ◌∷◌, [], Bool, true, chars, encode_utf8_all, IfOk, OnOk};
+ghost use Rattle.std.specs.Prelude.{◌≡◌, ◌≤◌, Bool, true, chars, codes, IfOk, OnOk};
 ghost use Rattle.std.specs.Io.KnownBytes.{Keeps};
 ghost use Rattle.coll_devices.specs.Devices.{CountsErr, Sends};
-ghost use Rattle.coll_lex.specs.Spelling.{spelled_symbol};
 ghost use Rattle.coll_nodes.specs.TableLayout.{collation};
 ghost use Rattle.coll_requests.specs.ProperLines.{IsProperRequest};
-ghost use Rattle.coll_print.specs.PrintedParts.{id_bytes};
 ghost use Rattle.coll_nodes.specs.WalkItems.{visited_by};
 ghost use Rattle.coll_replies.specs.Listing.{visited_line, rank_after};
 ghost use Rattle.coll_replies.specs.declared.faults.Fault.TheVariants.{Bench};
-ghost use Rattle.coll_replies.specs.Replies.{worded, count_part, levels_part, sections_part, declared_part, checked_line, counted_line, told_line, refused_line, refused_statement, still_needed_line, section_line, listed_line, listed_sections, listing, outcome_line, reply_if, history_after_if};
+ghost use Rattle.coll_replies.specs.Replies.{checked_line, counted_line, told_line, refused_line, still_needed_line, section_line, listed_line, listed_sections, listing, outcome_line, reply_if, history_after_if};
 
 mod history_reply;
 mod texts;
 
 use crate::faults::Fault;
 use crate::ranked_sessions::RankedSession;
-use coll_devices::{Sink, WriteStop, write_bytes};
+use coll_devices::{Sink, WriteStop};
 use coll_history::BenchFault;
-use coll_lex::write_symbol;
 use coll_nodes::{Entry, WalkItem};
-use coll_print::write_id;
+use coll_print::{Piece, write_pieces};
 use coll_requests::{Command, Request};
-use coll_syntax::Id;
 use coll_table::{Refusal, Table};
 use history_reply::write_history;
-use itoa::Buffer;
 use std::alloc::Global;
 use texts::{answer_compare, answer_key};
 pub use texts::{write_key_ended, write_order};
@@ -163,45 +158,20 @@ pub fn write_checked<W: Sink>(out: &mut W, table: &Table) -> Result<(), WriteSto
     ensures sent { Sends (W.taken out.old) (W.taken out.new) (checked_line (collation table.now)) result }
     ensures errors { CountsErr (W.failed out.old) (W.failed out.new) result }
 {
-    write_part(out, b"table entries ", table.len())?;
-    write_declared(out, table)
-}
-
-// Writes the counts from the declarations on.
-fn write_declared<W: Sink>(out: &mut W, table: &Table) -> Result<(), WriteStop>
-    ensures sent { Sends (W.taken out.old) (W.taken out.new) (declared_part (collation table.now)) result }
-    ensures errors { CountsErr (W.failed out.old) (W.failed out.new) result }
-{
-    write_part(out, b" declared ", table.declared_len())?;
-    write_sections(out, table)
-}
-
-// Writes the counts from the sections on.
-fn write_sections<W: Sink>(out: &mut W, table: &Table) -> Result<(), WriteStop>
-    ensures sent { Sends (W.taken out.old) (W.taken out.new) (sections_part (collation table.now)) result }
-    ensures errors { CountsErr (W.failed out.old) (W.failed out.new) result }
-{
-    write_part(out, b" sections ", table.section_len())?;
-    write_levels(out, table)
-}
-
-// Writes the count of levels, and the line's end.
-fn write_levels<W: Sink>(out: &mut W, table: &Table) -> Result<(), WriteStop>
-    ensures sent { Sends (W.taken out.old) (W.taken out.new) (levels_part (collation table.now)) result }
-    ensures errors { CountsErr (W.failed out.old) (W.failed out.new) result }
-{
-    write_part(out, b" levels ", table.rules().len())?;
-    write_bytes(out, b"\n")
-}
-
-/// Writes a word and a number behind it.
-pub(crate) fn write_part<W: Sink>(out: &mut W, word: &[u8], count: usize) -> Result<(), WriteStop>
-    ensures sent { Sends (W.taken out.old) (W.taken out.new) (count_part word.now count) result }
-    ensures errors { CountsErr (W.failed out.old) (W.failed out.new) result }
-{
-    let mut number = Buffer::new();
-    write_bytes(out, word)?;
-    write_bytes(out, number.format(count as u64).as_bytes())
+    write_pieces(
+        out,
+        &[
+            Piece::Bytes(b"table entries "),
+            Piece::Number(table.len() as u64),
+            Piece::Bytes(b" declared "),
+            Piece::Number(table.declared_len() as u64),
+            Piece::Bytes(b" sections "),
+            Piece::Number(table.section_len() as u64),
+            Piece::Bytes(b" levels "),
+            Piece::Number(table.rules().len() as u64),
+            Piece::Bytes(b"\n"),
+        ],
+    )
 }
 
 // Writes a line for each named section and each entry that a walk visits.
@@ -245,17 +215,14 @@ fn write_section<W: Sink>(out: &mut W, name: &str) -> Result<(), WriteStop>
     ensures sent { Sends (W.taken out.old) (W.taken out.new) (section_line (chars name.now)) result }
     ensures errors { CountsErr (W.failed out.old) (W.failed out.new) result }
 {
-    write_spaced(out, b"section")?;
-    write_name_ended(out, name)
-}
-
-// Writes a name and the line's end.
-fn write_name_ended<W: Sink>(out: &mut W, name: &str) -> Result<(), WriteStop>
-    ensures sent { Sends (W.taken out.old) (W.taken out.new) (encode_utf8_all (spelled_symbol (chars name.now) []) ++ 10 ∷ []) result }
-    ensures errors { CountsErr (W.failed out.old) (W.failed out.new) result }
-{
-    write_symbol(out, name)?;
-    write_bytes(out, b"\n")
+    write_pieces(
+        out,
+        &[
+            Piece::Bytes(b"section "),
+            Piece::Symbol(name),
+            Piece::Bytes(b"\n"),
+        ],
+    )
 }
 
 // Writes the line of one entry.
@@ -264,18 +231,15 @@ fn write_listed<W: Sink>(out: &mut W, rank: u64, entry: &Entry) -> Result<(), Wr
     ensures sent { Sends (W.taken out.old) (W.taken out.new) (listed_line rank entry.now) result }
     ensures errors { CountsErr (W.failed out.old) (W.failed out.new) result }
 {
-    let mut number = Buffer::new();
-    write_spaced(out, number.format(rank).as_bytes())?;
-    write_id_ended(out, entry.id())
-}
-
-// Writes an identifier and the line's end.
-fn write_id_ended<W: Sink>(out: &mut W, id: &Id) -> Result<(), WriteStop>
-    ensures sent { Sends (W.taken out.old) (W.taken out.new) (id_bytes id.now ++ 10 ∷ []) result }
-    ensures errors { CountsErr (W.failed out.old) (W.failed out.new) result }
-{
-    write_id(out, id)?;
-    write_bytes(out, b"\n")
+    write_pieces(
+        out,
+        &[
+            Piece::Number(rank),
+            Piece::Bytes(b" "),
+            Piece::Id(entry.id()),
+            Piece::Bytes(b"\n"),
+        ],
+    )
 }
 
 // Writes the reply to what is refused.
@@ -286,7 +250,7 @@ fn write_refused<W: Sink>(out: &mut W, fault: Fault) -> Result<(), WriteStop>
 {
     match fault {
         Fault::Bench(refused) => write_bench_refused(out, refused),
-        _ => write_told(out, b"refused ", fault),
+        _ => write_told(out, fault),
     }
 }
 
@@ -300,7 +264,7 @@ fn write_bench_refused<W: Sink>(out: &mut W, refused: BenchFault) -> Result<(), 
         BenchFault::StillNeeded { statement, refusal } => {
             write_still_needed(out, statement, refusal)
         }
-        _ => write_told(out, b"refused ", Fault::Bench(refused)),
+        _ => write_told(out, Fault::Bench(refused)),
     }
 }
 
@@ -313,76 +277,50 @@ fn write_still_needed<W: Sink>(
     ensures sent { Sends (W.taken out.old) (W.taken out.new) (still_needed_line statement refusal) result }
     ensures errors { CountsErr (W.failed out.old) (W.failed out.new) result }
 {
-    write_bytes(out, b"refused 71 StillNeeded ")?;
-    write_refused_statement(out, statement, refusal)
-}
-
-// Writes the number of a statement and its refusal, and the line's end.
-fn write_refused_statement<W: Sink>(
-    out: &mut W,
-    statement: u32,
-    refusal: Refusal,
-) -> Result<(), WriteStop>
-    ensures sent { Sends (W.taken out.old) (W.taken out.new) (refused_statement statement refusal) result }
-    ensures errors { CountsErr (W.failed out.old) (W.failed out.new) result }
-{
-    let mut digits = Buffer::new();
-    write_spaced(out, digits.format(u64::from(statement)).as_bytes())?;
-    let mut number = Buffer::new();
-    write_words(
+    write_pieces(
         out,
-        number.format(refusal.number()).as_bytes(),
-        refusal.name().as_bytes(),
+        &[
+            Piece::Bytes(b"refused 71 StillNeeded "),
+            Piece::Number(u64::from(statement)),
+            Piece::Bytes(b" "),
+            Piece::Number(u64::from(refusal.number())),
+            Piece::Bytes(b" "),
+            Piece::Bytes(refusal.name().as_bytes()),
+            Piece::Bytes(b"\n"),
+        ],
     )
 }
 
-/// Writes a word, and then the number and the name of a fault, and the line's end.
-pub(crate) fn write_told<W: Sink>(out: &mut W, word: &[u8], fault: Fault) -> Result<(), WriteStop>
-    ensures sent { Sends (W.taken out.old) (W.taken out.new) (told_line word.now fault) result }
+// Writes the reply to what is refused and told by its number and its name.
+fn write_told<W: Sink>(out: &mut W, fault: Fault) -> Result<(), WriteStop>
+    ensures sent { Sends (W.taken out.old) (W.taken out.new) (told_line (codes "refused ") fault) result }
     ensures errors { CountsErr (W.failed out.old) (W.failed out.new) result }
 {
-    write_bytes(out, word)?;
-    let mut number = Buffer::new();
-    write_words(
+    write_pieces(
         out,
-        number.format(fault.number()).as_bytes(),
-        fault.name().as_bytes(),
+        &[
+            Piece::Bytes(b"refused "),
+            Piece::Number(u64::from(fault.number())),
+            Piece::Bytes(b" "),
+            Piece::Bytes(fault.name().as_bytes()),
+            Piece::Bytes(b"\n"),
+        ],
     )
 }
 
-// Writes a word and a number.
+// Writes a word and a number, and the line's end.
 #[tactic(auto, unfolding(crate::specs::Replies::counted_line))]
 fn write_counted<W: Sink>(out: &mut W, word: &[u8], count: u64) -> Result<(), WriteStop>
     ensures sent { Sends (W.taken out.old) (W.taken out.new) (counted_line word.now count) result }
     ensures errors { CountsErr (W.failed out.old) (W.failed out.new) result }
 {
-    let mut number = Buffer::new();
-    write_words(out, word, number.format(count).as_bytes())
-}
-
-// Writes two words with a space between them, and the line's end.
-fn write_words<W: Sink>(out: &mut W, first: &[u8], second: &[u8]) -> Result<(), WriteStop>
-    ensures sent { Sends (W.taken out.old) (W.taken out.new) (worded first.now second.now) result }
-    ensures errors { CountsErr (W.failed out.old) (W.failed out.new) result }
-{
-    write_spaced(out, first)?;
-    write_ended(out, second)
-}
-
-// Writes a word and a space.
-fn write_spaced<W: Sink>(out: &mut W, word: &[u8]) -> Result<(), WriteStop>
-    ensures sent { Sends (W.taken out.old) (W.taken out.new) (word.now ++ 32 ∷ []) result }
-    ensures errors { CountsErr (W.failed out.old) (W.failed out.new) result }
-{
-    write_bytes(out, word)?;
-    write_bytes(out, b" ")
-}
-
-// Writes a word and the line's end.
-fn write_ended<W: Sink>(out: &mut W, word: &[u8]) -> Result<(), WriteStop>
-    ensures sent { Sends (W.taken out.old) (W.taken out.new) (word.now ++ 10 ∷ []) result }
-    ensures errors { CountsErr (W.failed out.old) (W.failed out.new) result }
-{
-    write_bytes(out, word)?;
-    write_bytes(out, b"\n")
+    write_pieces(
+        out,
+        &[
+            Piece::Bytes(word),
+            Piece::Bytes(b" "),
+            Piece::Number(count),
+            Piece::Bytes(b"\n"),
+        ],
+    )
 }

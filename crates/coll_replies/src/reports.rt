@@ -7,8 +7,8 @@ ghost use Rattle.coll_devices.specs.Devices.{CountsErr, Sends};
 ghost use Rattle.coll_replies.specs.Reports.{fault_line, placed, exit_status as stated_status, write_refused};
 
 use crate::faults::{Fault, RunFault};
-use crate::replies::{write_part, write_told};
-use coll_devices::{Sink, WriteStop, write_bytes};
+use coll_devices::{Sink, WriteStop};
+use coll_print::{Piece, write_pieces};
 
 /// Writes the line of a fault, `FILE:LINE: NUMBER NAME`, where FILE is the name of its input, and LINE is 0 where it comes from no
 /// line.
@@ -31,17 +31,19 @@ fn write_named<W: Sink>(fault: &RunFault, name: &str, out: &mut W) -> Result<(),
     ensures sent { Sends (W.taken out.old) (W.taken out.new) (name.now ++ placed fault.now) result }
     ensures errors { CountsErr (W.failed out.old) (W.failed out.new) result }
 {
-    write_bytes(out, name.as_bytes())?;
-    write_placed(fault, out)
-}
-
-// Writes the line of a fault, from the number of the line on.
-fn write_placed<W: Sink>(fault: &RunFault, out: &mut W) -> Result<(), WriteStop>
-    ensures sent { Sends (W.taken out.old) (W.taken out.new) (placed fault.now) result }
-    ensures errors { CountsErr (W.failed out.old) (W.failed out.new) result }
-{
-    write_part(out, b":", fault.line as usize)?;
-    write_told(out, b": ", fault.fault)
+    write_pieces(
+        out,
+        &[
+            Piece::Bytes(name.as_bytes()),
+            Piece::Bytes(b":"),
+            Piece::Number(u64::from(fault.line)),
+            Piece::Bytes(b": "),
+            Piece::Number(u64::from(fault.fault.number())),
+            Piece::Bytes(b" "),
+            Piece::Bytes(fault.fault.name().as_bytes()),
+            Piece::Bytes(b"\n"),
+        ],
+    )
 }
 
 /// The exit status of the program for the fault that ended its run: 2 where a device failed, 1 for every other fault.

@@ -1,5 +1,5 @@
 -- The weights of an order line (POSIX.1-2017, 7.3.2.4): operands separated by semicolons.
-use Rattle.std.specs.Prelude.{◌||◌, Bool, true, if◌then◌else◌, nat_le, List, [], ◌∷◌, length, map, is_some, Result, Ok, Err, codes}
+use Rattle.std.specs.Prelude.{◌||◌, Bool, true, false, if◌then◌else◌, nat_le, List, [], ◌∷◌, length, map, is_some, Result, Ok, Err, codes}
 use Rattle.coll_lex.specs.declared.tokens.Token.{Token}
 use Rattle.coll_lex.specs.declared.tokens.Token.TheVariants as token
 use Rattle.coll_lex.specs.declared.tokens.Piece.{Piece}
@@ -12,6 +12,12 @@ use Rattle.coll_syntax.specs.declared.weights.Weight.{Weight}
 use Rattle.coll_syntax.specs.declared.weights.Weight.TheVariants.{Ignore, Own, Names}
 use Rattle.coll_syntax.specs.declared.syntax_faults.SyntaxFault.{SyntaxFault}
 use Rattle.coll_syntax.specs.declared.syntax_faults.SyntaxFault.TheVariants.{ExtraOperand, WeightTooLong, EmptyString, BadOperand}
+
+-- a weight is its entry's own
+abbrev pub is_own : Weight → Bool
+is_own Ignore = false
+is_own Own = true
+is_own (Names ids) = false
 
 -- the character or the name of a piece of a string
 abbrev pub piece_id : Piece → Id

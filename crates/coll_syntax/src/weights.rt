@@ -43,6 +43,17 @@ impl Clone for Weight {
 
 impl Weight {
     ghost use Rattle.coll_syntax.specs.Proper.{is_proper_weight};
+    ghost use Rattle.coll_syntax.specs.Weights.{is_own};
+
+    /// Whether it is its entry's own.
+    pub fn is_own(&self) -> bool
+        ensures { result ≡ is_own self.now }
+    {
+        match self {
+            Weight::Own => true,
+            Weight::Ignore | Weight::Names(_) => false,
+        }
+    }
 
     /// Whether a list of identifiers has 1 to 32 of them, without `UNDEFINED`, and its names are names.
     pub(crate) fn is_proper(&self) -> bool

@@ -7,7 +7,7 @@ use Rattle.coll_syntax.specs.declared.statements.OrderLine.{OrderLine}
 use Rattle.coll_nodes.proofs.LayoutReads.{both_true}
 use Rattle.coll_builder.proofs.SoundLines.{not_false, passed}
 use Rattle.coll_table.specs.Delta.{all_moved, block_delta, block_result, ids_given, lines_refusal, looked_up, or_refused, reweight_delta, reweight_refusal, reweighted, section_delta, section_refusal, unless_refused, weight_ids_refusal}
-use Rattle.coll_builder.specs.BuilderStates.{refused_if}
+use Rattle.coll_nodes.specs.Causes.{refused_if}
 use Rattle.coll_nodes.specs.Limits.{most_entries}
 use Rattle.coll_nodes.specs.Placement.{section_moved}
 use Rattle.coll_nodes.specs.Table.{Collation, entries_of, is_known, is_placed, section_names}

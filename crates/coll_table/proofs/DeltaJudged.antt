@@ -12,7 +12,7 @@ use Rattle.coll_table.proofs.DeltaPlacing.{has_all_moved, length_all_moved, all_
 use Rattle.coll_table.proofs.DeltaTables.{may_follow, reweighted_ids}
 use Rattle.coll_lookups.proofs.Sameness.{found_holds, same_id_decides}
 use Rattle.coll_table.specs.Delta.{unless_refused, or_refused, weight_ids_refusal, ids_given, looked_up, lines_refusal, all_moved, block_result, block_delta, reweighted, reweight_refusal, reweight_delta}
-use Rattle.coll_builder.specs.BuilderStates.{refused_if}
+use Rattle.coll_nodes.specs.Causes.{refused_if}
 use Rattle.coll_nodes.specs.Entries.{given_weights, weight_ids}
 use Rattle.coll_table.specs.Judging.{HaveSame, entries_added, line_ids, id_refusal, ids_refusal}
 use Rattle.coll_nodes.specs.Limits.{most_entries}

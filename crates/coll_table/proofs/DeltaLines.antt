@@ -10,7 +10,7 @@ use Rattle.coll_syntax.specs.declared.identifiers.Id.{Id}
 use Rattle.coll_syntax.specs.declared.statements.OrderLine.{OrderLine}
 use Rattle.coll_table.proofs.DeltaRefusals.{has_push}
 use Rattle.coll_table.specs.Delta.{line_refusal, lines_refusal, weights_refusal}
-use Rattle.coll_builder.specs.BuilderStates.{refused_if}
+use Rattle.coll_nodes.specs.Causes.{refused_if}
 use Rattle.coll_table.specs.Judging.{HaveSame, entries_added, line_ids}
 use Rattle.coll_nodes.specs.LookUps.{AddsId}
 use Rattle.coll_nodes.specs.Table.{Collation, is_known, is_placed}

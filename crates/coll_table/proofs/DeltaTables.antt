@@ -24,7 +24,7 @@ use Rattle.coll_nodes.proofs.SectionLemmas.{names_stay, as_many, first_stays}
 use Rattle.coll_builder.proofs.SoundLines.{passed, not_false, weights_are}
 use Rattle.coll_table.specs.Delta.{own_delta, or_refused, declaration_delta, declaration_refusal, section_delta, section_refusal, block_delta, block_result, looked_up, all_moved, lines_refusal, ids_given, weight_ids_refusal, reweight_delta, reweight_refusal, reweighted, weights_refusal}
 use Rattle.coll_nodes.specs.Table.{has_text}
-use Rattle.coll_builder.specs.BuilderStates.{refused_if}
+use Rattle.coll_nodes.specs.Causes.{refused_if}
 use Rattle.coll_nodes.specs.Entries.{ids_named, weight_ids, given_weights, entry_of}
 use Rattle.coll_table.specs.Judging.{line_ids}
 use Rattle.coll_nodes.specs.Limits.{most_entries, most_declarations, most_sections}

@@ -10,7 +10,8 @@ use Rattle.coll_nodes.specs.declared.declarations.Declaration.TheVariants as dec
 use Rattle.coll_nodes.specs.declared.entries.Entry.{Entry}
 use Rattle.coll_nodes.specs.Table.{Section, joined_entries}
 use Rattle.coll_nodes.specs.Entries.{ids_named}
-use Rattle.coll_builder.specs.BuilderStates.{Numbered, BuilderState, refused_if, second_name, own_order, with_own_weights, meaning_cause, declaration_cause, section_cause, section_cause_if, order_cause, cause_after, weight_cause, ids_cause, at_line, entries_fault, fault_at_end, line_fault}
+use Rattle.coll_nodes.specs.Causes.{refused_if}
+use Rattle.coll_builder.specs.BuilderStates.{Numbered, BuilderState, second_name, own_order, with_own_weights, meaning_cause, declaration_cause, section_cause, section_cause_if, order_cause, cause_after, weight_cause, ids_cause, at_line, entries_fault, fault_at_end, line_fault}
 use Rattle.coll_table.specs.SoundLoaders.{IsLineCause}
 use Rattle.coll_builder.specs.declared.load_faults.LoadFault.{LoadFault}
 use Rattle.coll_builder.specs.declared.load_faults.LoadCause.{LoadCause}

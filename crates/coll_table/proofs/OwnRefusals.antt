@@ -3,7 +3,7 @@ use Rattle.std.proofs.Common.{◌≡◌, Bool, true, false, List, [], ◌∷◌,
 use Rattle.std.specs.Option.{option_or}
 use Rattle.coll_syntax.specs.declared.identifiers.Id.{Id}
 use Rattle.coll_syntax.specs.declared.statements.OrderLine.{OrderLine}
-use Rattle.coll_builder.specs.BuilderStates.{refused_if}
+use Rattle.coll_nodes.specs.Causes.{refused_if}
 use Rattle.coll_table.specs.Delta.{ids_given, looked_up, or_refused, reweight_delta, reweight_refusal, reweighted, unless_refused, weight_id_refusal, weight_ids_refusal, weights_refusal}
 use Rattle.coll_nodes.specs.Table.{Collation}
 use Rattle.coll_table.specs.declared.refusals.Refusal.{Refusal}

@@ -5,7 +5,7 @@ use Rattle.std.proofs.lemmas.Grind.{flat_map-append}
 use Rattle.std.specs.Io.KnownBytes.{prepend_known}
 use Rattle.std.specs.Prelude.{IfOk, IfErr}
 use Rattle.coll_devices.specs.LineReading.{ReaderState, no_line, Advances, GivesLine, GivesEnd, EndsAgain, StopsNow, StopsAgain}
-use Rattle.coll_devices.specs.PhysicalLines.{line_feed, lines_of}
+use Rattle.coll_devices.specs.PhysicalLines.{line_feed, lines_of, with_feeds}
 use Rattle.coll_lex.specs.LogicalLines.{number_of}
 use Rattle.coll_lex.specs.declared.faults.LexFault.TheVariants as lex
 use Rattle.coll_devices.specs.declared.stops.ReadStop.{ReadStop}
@@ -15,7 +15,7 @@ use Rattle.coll_nodes.specs.Table.{Collation}
 use Rattle.coll_nodes.specs.TableLayout.{TableValue, collation}
 use Rattle.coll_builder.specs.BuilderStates.{Numbered, table_of, at_line}
 use Rattle.coll_builder.specs.Loading.{LoaderState, first_loader, loaded_line, loaded}
-use Rattle.coll_table.specs.Loads.{with_feeds, stop_fault, IsUndecided, Starves, FaultSays, Loads, counted_by, CountsFault}
+use Rattle.coll_table.specs.Loads.{stop_fault, IsUndecided, Starves, FaultSays, Loads, counted_by, CountsFault}
 use Rattle.coll_builder.specs.Reading.{Outcome, Decided, outcome_of, answer_at_end, reads}
 use Rattle.coll_table.specs.SoundLoaders.{IsLineCause}
 use Rattle.coll_builder.specs.declared.load_faults.LoadFault.{LoadFault}

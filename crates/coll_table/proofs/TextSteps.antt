@@ -3,12 +3,11 @@ use Rattle.std.proofs.Common.{◌≡◌, ℕ, ◌<◌, ◌≤◌, Bool, true, fa
 use Rattle.std.proofs.lemmas.Bool.{false≢true}
 use Rattle.std.specs.Io.KnownBytes.{prepend_known, Keeps, IsAtEnd}
 use Rattle.coll_devices.specs.LineReading.{ReaderState, unread, Cuts, CutsLine, GivesLine, GivesEnd, EndsAgain, StopsNow, StopsAgain}
-use Rattle.coll_devices.specs.PhysicalLines.{line_feed, lines_of, IsInLine}
+use Rattle.coll_devices.specs.PhysicalLines.{line_feed, lines_of, IsInLine, with_feeds}
 use Rattle.coll_devices.specs.Limits.{most_line_bytes}
 use Rattle.coll_devices.specs.declared.stops.ReadStop.{ReadStop}
 use Rattle.coll_devices.specs.declared.stops.ReadStop.TheVariants as stop
 use Rattle.coll_devices.proofs.PhysicalLinesLemmas.{lines_of-nil, lines_of-cut, lines_of-long}
-use Rattle.coll_table.specs.Loads.{with_feeds}
 
 -- this text is still to be given; where the end of the input was met there is none
 abbrev pub IsUnread : ReaderState → Option (List ℕ) → List ℕ → Type 0

@@ -9,7 +9,7 @@ use Rattle.coll_syntax.specs.declared.statements.OrderLine.{OrderLine}
 use Rattle.coll_syntax.specs.declared.statements.Statement.{Statement}
 use Rattle.coll_syntax.specs.declared.statements.Statement.TheVariants as statement
 use Rattle.coll_nodes.specs.Table.{has_text}
-use Rattle.coll_builder.specs.BuilderStates.{refused_if}
+use Rattle.coll_nodes.specs.Causes.{refused_if}
 use Rattle.coll_nodes.specs.Entries.{entry_of, given_weights, weight_ids}
 use Rattle.coll_nodes.specs.Limits.{most_declarations, most_entries}
 use Rattle.coll_nodes.specs.OwnNames.{means_nothing, means_no_symbol}

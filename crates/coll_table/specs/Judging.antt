@@ -7,7 +7,7 @@ use Rattle.coll_syntax.specs.declared.identifiers.Id.{Id}
 use Rattle.coll_syntax.specs.declared.statements.OrderLine.{OrderLine}
 use Rattle.coll_syntax.specs.declared.statements.Statement.{Statement}
 use Rattle.coll_syntax.specs.declared.statements.Statement.TheVariants as statement
-use Rattle.coll_builder.specs.BuilderStates.{refused_if}
+use Rattle.coll_nodes.specs.Causes.{refused_if}
 use Rattle.coll_nodes.specs.Table.{Collation, is_known, is_placed}
 use Rattle.coll_statements.specs.OwnStatements.{uses_second}
 use Rattle.coll_table.specs.OwnStatements.{own_statement}

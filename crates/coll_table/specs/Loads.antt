@@ -1,9 +1,8 @@
 -- What a load answers, and what it leaves of the text and of the device's count of errors.
-use Rattle.std.specs.Prelude.{◌≡◌, ◌≤◌, ◌+◌, ◌⊎◌, ℕ, false, List, [], ◌∷◌, ◌++◌, length, Option, Some, Result, Ok, Err, MatchResult}
-use Rattle.std.specs.List.{flat_map}
+use Rattle.std.specs.Prelude.{◌≡◌, ◌≤◌, ◌+◌, ◌⊎◌, ℕ, false, List, ◌∷◌, ◌++◌, length, Option, Some, Result, Ok, Err, MatchResult}
 use Rattle.coll_devices.specs.Devices.{raised}
 use Rattle.coll_devices.specs.Limits.{most_line_bytes}
-use Rattle.coll_devices.specs.PhysicalLines.{line_feed, lines_of, IsInLine}
+use Rattle.coll_devices.specs.PhysicalLines.{lines_of, with_feeds, IsInLine}
 use Rattle.coll_lex.specs.declared.faults.LexFault.TheVariants as lex
 use Rattle.coll_devices.specs.declared.stops.ReadStop.{ReadStop}
 use Rattle.coll_devices.specs.declared.stops.ReadStop.TheVariants as stop
@@ -15,10 +14,6 @@ use Rattle.coll_syntax.specs.declared.syntax_faults.SyntaxFault.TheVariants as s
 use Rattle.coll_builder.specs.declared.load_faults.LoadFault.{LoadFault}
 use Rattle.coll_builder.specs.declared.load_faults.LoadCause.{LoadCause}
 use Rattle.coll_builder.specs.declared.load_faults.LoadCause.TheVariants.{Lex, Syntax, ReadFault, OutOfMemory}
-
--- lines with their line feeds, one after another
-abbrev pub with_feeds : List (List ℕ) → List ℕ
-with_feeds lines = flat_map (λ line. line ++ line_feed ∷ []) lines
 
 -- lines that decide nothing
 abbrev pub IsUndecided : Outcome → Type 0

@@ -1,19 +1,18 @@
 //! The reply to `:history`: a line for each statement that remains, and how many remain and were taken back.
 //!
-//! A new statement is a case of `write_statement`, and of `statement_words` of `specs/Replies.antt`.
+//! A new statement is a case of `write_remaining_line`, and of `statement_words` of `specs/Replies.antt`.
 
 ghost use Rattle.std.specs.Prelude.{◌++◌, ◌∷◌, [], codes, decimal};
 ghost use Rattle.coll_devices.specs.Devices.{CountsErr, Sends};
-ghost use Rattle.coll_print.specs.PrintedParts.{id_bytes};
-ghost use Rattle.coll_replies.specs.Replies.{history_count, history_line, history_lines, history_listing, name_bytes, spaced, statement_words};
+ghost use Rattle.coll_print.specs.Pieces.{words_line};
+ghost use Rattle.coll_print.specs.PrintedParts.{id_bytes, symbol_bytes};
+ghost use Rattle.coll_replies.specs.Replies.{history_count, history_line, history_lines, history_listing};
 
-use super::{write_spaced, write_words};
-use coll_devices::{Sink, WriteStop, write_bytes};
+use coll_devices::{Sink, WriteStop};
 use coll_history::Session;
-use coll_lex::{TextBuf, write_symbol};
-use coll_print::write_id;
+use coll_lex::TextBuf;
+use coll_print::{Piece, write_pieces};
 use coll_syntax::{Id, Statement};
-use itoa::Buffer;
 
 /// Writes the statements that remain, from the first, and how many there are, and were taken back.
 #[tactic(auto, unfolding(crate::specs::Replies::history_listing))]
@@ -54,111 +53,104 @@ fn write_remaining_line<W: Sink>(
     ensures sent { Sends (W.taken out.old) (W.taken out.new) (history_line number statement.now) result }
     ensures errors { CountsErr (W.failed out.old) (W.failed out.new) result }
 {
-    let mut digits = Buffer::new();
-    write_spaced(out, digits.format(u64::from(number)).as_bytes())?;
-    write_statement_ended(out, statement)
-}
-
-// Writes what a statement is, and the line's end.
-fn write_statement_ended<W: Sink>(out: &mut W, statement: &Statement) -> Result<(), WriteStop>
-    ensures sent { Sends (W.taken out.old) (W.taken out.new) (statement_words statement.now ++ 10 ∷ []) result }
-    ensures errors { CountsErr (W.failed out.old) (W.failed out.new) result }
-{
-    write_statement(out, statement)?;
-    write_bytes(out, b"\n")
-}
-
-// Writes what a statement is.
-fn write_statement<W: Sink>(out: &mut W, statement: &Statement) -> Result<(), WriteStop>
-    ensures sent { Sends (W.taken out.old) (W.taken out.new) (statement_words statement.now) result }
-    ensures errors { CountsErr (W.failed out.old) (W.failed out.new) result }
-{
     match statement {
-        Statement::Symbol(name) => write_name(out, b"symbol", name),
-        Statement::Element { name, .. } => write_name(out, b"element", name),
-        Statement::Equivalence { name, symbol } => write_two(out, b"equivalence", name, symbol),
-        Statement::Block { target, lines } => write_block(out, target, lines.get().len()),
-        Statement::SectionAfter { moved, after } => write_two(out, b"section", moved, after),
-        Statement::Reweight(line) => write_reweight(out, &line.id),
+        Statement::Symbol(name) => write_name(out, number, b" symbol ", name),
+        Statement::Element { name, .. } => write_name(out, number, b" element ", name),
+        Statement::Equivalence { name, symbol } => {
+            write_names(out, number, b" equivalence ", name, symbol)
+        }
+        Statement::Block { target, lines } => {
+            write_block(out, number, target, lines.get().len())
+        }
+        Statement::SectionAfter { moved, after } => {
+            write_names(out, number, b" section ", moved, after)
+        }
+        Statement::Reweight(line) => write_reweight(out, number, &line.id),
     }
 }
 
-// Writes a word and a name behind it.
-fn write_name<W: Sink>(out: &mut W, word: &[u8], name: &TextBuf) -> Result<(), WriteStop>
-    ensures sent { Sends (W.taken out.old) (W.taken out.new) (spaced word.now (name_bytes name.now)) result }
-    ensures errors { CountsErr (W.failed out.old) (W.failed out.new) result }
-{
-    write_spaced(out, word)?;
-    write_symbol(out, name.get())
-}
-
-// Writes what a block is: its target and how many lines it has.
-fn write_block<W: Sink>(out: &mut W, target: &Id, lines: usize) -> Result<(), WriteStop>
-    ensures sent { Sends (W.taken out.old) (W.taken out.new) (spaced (codes "block") (spaced (id_bytes target.now) (decimal lines))) result }
-    ensures errors { CountsErr (W.failed out.old) (W.failed out.new) result }
-{
-    write_spaced(out, b"block")?;
-    write_target(out, target, lines)
-}
-
-// Writes the target of a block, and how many lines it has.
-fn write_target<W: Sink>(out: &mut W, target: &Id, lines: usize) -> Result<(), WriteStop>
-    ensures sent { Sends (W.taken out.old) (W.taken out.new) (spaced (id_bytes target.now) (decimal lines)) result }
-    ensures errors { CountsErr (W.failed out.old) (W.failed out.new) result }
-{
-    let mut digits = Buffer::new();
-    write_id_spaced(out, target)?;
-    write_bytes(out, digits.format(lines as u64).as_bytes())
-}
-
-// Writes an identifier and a space.
-fn write_id_spaced<W: Sink>(out: &mut W, id: &Id) -> Result<(), WriteStop>
-    ensures sent { Sends (W.taken out.old) (W.taken out.new) (id_bytes id.now ++ 32 ∷ []) result }
-    ensures errors { CountsErr (W.failed out.old) (W.failed out.new) result }
-{
-    write_id(out, id)?;
-    write_bytes(out, b" ")
-}
-
-// Writes a word and two names behind it.
-fn write_two<W: Sink>(
+// Writes the line of a number, a word with a space on both sides, and a name.
+fn write_name<'a, W: Sink>(
     out: &mut W,
-    word: &[u8],
-    first: &TextBuf,
-    second: &TextBuf,
+    number: u32,
+    word: &'a [u8],
+    name: &'a TextBuf,
 ) -> Result<(), WriteStop>
-    ensures sent { Sends (W.taken out.old) (W.taken out.new) (spaced word.now (spaced (name_bytes first.now) (name_bytes second.now))) result }
+    ensures sent { Sends (W.taken out.old) (W.taken out.new) (decimal number ++ (word.now ++ words_line (symbol_bytes name.now ∷ []))) result }
     ensures errors { CountsErr (W.failed out.old) (W.failed out.new) result }
 {
-    write_spaced(out, word)?;
-    write_names(out, first, second)
+    write_pieces(
+        out,
+        &[
+            Piece::Number(u64::from(number)),
+            Piece::Bytes(word),
+            Piece::Symbol(name.get()),
+            Piece::Bytes(b"\n"),
+        ],
+    )
 }
 
-// Writes two names with a space between them.
-fn write_names<W: Sink>(out: &mut W, first: &TextBuf, second: &TextBuf) -> Result<(), WriteStop>
-    ensures sent { Sends (W.taken out.old) (W.taken out.new) (spaced (name_bytes first.now) (name_bytes second.now)) result }
+// Writes the line of a number, a word with a space on both sides, and two names.
+fn write_names<'a, W: Sink>(
+    out: &mut W,
+    number: u32,
+    word: &'a [u8],
+    first: &'a TextBuf,
+    second: &'a TextBuf,
+) -> Result<(), WriteStop>
+    ensures sent { Sends (W.taken out.old) (W.taken out.new) (decimal number ++ (word.now ++ words_line (symbol_bytes first.now ∷ symbol_bytes second.now ∷ []))) result }
     ensures errors { CountsErr (W.failed out.old) (W.failed out.new) result }
 {
-    write_name_spaced(out, first)?;
-    write_symbol(out, second.get())
+    write_pieces(
+        out,
+        &[
+            Piece::Number(u64::from(number)),
+            Piece::Bytes(word),
+            Piece::Symbol(first.get()),
+            Piece::Bytes(b" "),
+            Piece::Symbol(second.get()),
+            Piece::Bytes(b"\n"),
+        ],
+    )
 }
 
-// Writes a name and a space.
-fn write_name_spaced<W: Sink>(out: &mut W, name: &TextBuf) -> Result<(), WriteStop>
-    ensures sent { Sends (W.taken out.old) (W.taken out.new) (name_bytes name.now ++ 32 ∷ []) result }
+// Writes the line of a block: a number, its target, and how many lines it has.
+fn write_block<W: Sink>(
+    out: &mut W,
+    number: u32,
+    target: &Id,
+    lines: usize,
+) -> Result<(), WriteStop>
+    ensures sent { Sends (W.taken out.old) (W.taken out.new) (words_line (decimal number ∷ codes "block" ∷ id_bytes target.now ∷ decimal lines ∷ [])) result }
     ensures errors { CountsErr (W.failed out.old) (W.failed out.new) result }
 {
-    write_symbol(out, name.get())?;
-    write_bytes(out, b" ")
+    write_pieces(
+        out,
+        &[
+            Piece::Number(u64::from(number)),
+            Piece::Bytes(b" block "),
+            Piece::Id(target),
+            Piece::Bytes(b" "),
+            Piece::Number(lines as u64),
+            Piece::Bytes(b"\n"),
+        ],
+    )
 }
 
-// Writes whose weights are replaced.
-fn write_reweight<W: Sink>(out: &mut W, id: &Id) -> Result<(), WriteStop>
-    ensures sent { Sends (W.taken out.old) (W.taken out.new) (spaced (codes "reweight") (id_bytes id.now)) result }
+// Writes the line of a statement that replaces weights: a number, and whose weights they are.
+fn write_reweight<W: Sink>(out: &mut W, number: u32, id: &Id) -> Result<(), WriteStop>
+    ensures sent { Sends (W.taken out.old) (W.taken out.new) (words_line (decimal number ∷ codes "reweight" ∷ id_bytes id.now ∷ [])) result }
     ensures errors { CountsErr (W.failed out.old) (W.failed out.new) result }
 {
-    write_spaced(out, b"reweight")?;
-    write_id(out, id)
+    write_pieces(
+        out,
+        &[
+            Piece::Number(u64::from(number)),
+            Piece::Bytes(b" reweight "),
+            Piece::Id(id),
+            Piece::Bytes(b"\n"),
+        ],
+    )
 }
 
 // Writes how many statements remain, and how many were taken back.
@@ -167,14 +159,14 @@ fn write_count<W: Sink>(out: &mut W, session: &Session) -> Result<(), WriteStop>
     ensures sent { Sends (W.taken out.old) (W.taken out.new) (history_count session.now.history) result }
     ensures errors { CountsErr (W.failed out.old) (W.failed out.new) result }
 {
-    write_bytes(out, b"history ")?;
-    let mut remaining = Buffer::new();
-    let mut undone = Buffer::new();
-    write_words(
+    write_pieces(
         out,
-        remaining
-            .format(u64::from(session.remaining_len()))
-            .as_bytes(),
-        undone.format(u64::from(session.undone_len())).as_bytes(),
+        &[
+            Piece::Bytes(b"history "),
+            Piece::Number(u64::from(session.remaining_len())),
+            Piece::Bytes(b" "),
+            Piece::Number(u64::from(session.undone_len())),
+            Piece::Bytes(b"\n"),
+        ],
     )
 }

@@ -7,7 +7,7 @@ ghost use Rattle.coll_replies.specs.Replies.{order_word, reply_if};
 ghost use Rattle.coll_requests.specs.declared.session_lines.Command.TheVariants.{Key, Compare};
 ghost use Rattle.coll_requests.specs.declared.requests.Request.TheVariants.{Command};
 
-use super::{write_ended, write_refused};
+use super::write_refused;
 use crate::faults::Fault;
 use crate::ranked_sessions::RankedSession;
 use coll_devices::{Sink, WriteStop, write_bytes};
@@ -72,8 +72,8 @@ pub fn write_order<W: Sink>(out: &mut W, order: Ordering) -> Result<(), WriteSto
     ensures errors { CountsErr (W.failed out.old) (W.failed out.new) result }
 {
     match order {
-        Ordering::Less => write_ended(out, b"less"),
-        Ordering::Equal => write_ended(out, b"equal"),
-        Ordering::Greater => write_ended(out, b"greater"),
+        Ordering::Less => write_bytes(out, b"less\n"),
+        Ordering::Equal => write_bytes(out, b"equal\n"),
+        Ordering::Greater => write_bytes(out, b"greater\n"),
     }
 }

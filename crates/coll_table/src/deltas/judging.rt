@@ -11,7 +11,7 @@ ghost use Rattle.std.specs.Prelude.{◌≡◌, ◌≢◌, ◌∷◌, [], true, I
 ghost use Rattle.std.specs.List.{flat_map};
 ghost use Rattle.coll_syntax.specs.Proper.{IsProper};
 ghost use Rattle.coll_table.specs.Delta.{all_moved, block_delta, declaration_refusal, delta, ids_given, line_refusal, lines_refusal, own_delta, reweight_delta, reweight_refusal, reweighted, section_refusal, unless_refused, weights_refusal};
-ghost use Rattle.coll_builder.specs.BuilderStates.{refused_if};
+ghost use Rattle.coll_nodes.specs.Causes.{refused_if};
 ghost use Rattle.coll_nodes.specs.Entries.{given_weights, weight_ids};
 ghost use Rattle.coll_table.specs.Judging.{entries_added, HaveSame, id_refusal, ids_refusal, judging_takes_memory, line_ids, own_judging_takes_memory};
 ghost use Rattle.coll_nodes.specs.Limits.{most_declarations};

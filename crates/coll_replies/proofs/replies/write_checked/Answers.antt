@@ -1,25 +1,7 @@
-use Rattle.std.proofs.Common.{◌++◌, length, codes}
-use Rattle.coll_devices.proofs.WritingLemmas.{AppendsPrefix-before, Sends-after, Sends-stopped}
-use Rattle.coll_nodes.specs.Table.{entries_of}
-use Rattle.coll_nodes.specs.TableLayout.{collation}
-use Rattle.coll_replies.specs.Replies.{count_part, declared_part, checked_line}
+-- The counts are those of the table.
+use Rattle.coll_replies.specs.Replies.{checked_line}
 use Rattle.coll_replies.proofs.replies.write_checked.Goals as goal
-
-pub returns-in_err-write_part-clause-sent : goal.returns-in_err-write_part-clause-sent
-unfolding checked_line
-returns-in_err-write_part-clause-sent g c =
-    let taken = g.W.Sink.taken in
-    let part = count_part (codes "table entries ") (length (entries_of (collation c.args.table.now))) in
-    let rest = declared_part (collation c.args.table.now) in
-    let sent = rw c.len.ensures at c.in_err-write_part.ensures.sent in
-    Sends-stopped (taken c.args.out.now) (taken c.write_part.new.out) (part ++ rest) c.from_residual.result c.from_residual.ensures.0
-    (AppendsPrefix-before (taken c.args.out.now) (taken c.write_part.new.out) part rest sent)
 
 pub returns-clause-sent : goal.returns-clause-sent
 unfolding checked_line
-returns-clause-sent g c =
-    let taken = g.W.Sink.taken in
-    let part = count_part (codes "table entries ") (length (entries_of (collation c.args.table.now))) in
-    let rest = declared_part (collation c.args.table.now) in
-    let sent = rw c.len.ensures at c.in_ok-write_part.ensures.sent in
-    Sends-after (taken c.args.out.now) (taken c.write_part.new.out) (taken c.write_declared.new.out) part rest c.write_declared.result sent c.write_declared.ensures.sent
+returns-clause-sent g c = rw (c.len.ensures, c.declared_len.ensures, c.section_len.ensures, c.rules.ensures) at c.write_pieces.ensures.sent
