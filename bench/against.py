@@ -12,7 +12,7 @@ table are printed, for PROGRAM and for OTHER, the least of ten runs, and how man
 - `check`;
 - a `:key` and a `:compare` line, of 4,000 words of ten letters twenty-five times over, beyond a session of a first look alone;
 - a look behind a change, as looks.py measures it, on its two tables, or on TABLE, two hundred of them;
-- a first look: fifty such looks at a text that is too long for a short look (`kept_ranks.rt` of coll_replies), each of which makes all
+- a first look: fifty such looks at a text that is too long for a short look (`kept_ranks.rt` of coll_bench), each of which makes all
   ranks.
 
 Whatever else the machine does slows both alike. What is told apart so is a hundredth or two of a load, and more of the others.

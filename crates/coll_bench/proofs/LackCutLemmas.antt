@@ -14,7 +14,7 @@ use Rattle.coll_requests.specs.Taking.{stop_at, line_requests, line_block}
 use Rattle.coll_requests.specs.declared.open_blocks.OpenBlock.{OpenBlock}
 use Rattle.coll_requests.specs.declared.session_lines.ParsedLine.{ParsedLine}
 use Rattle.coll_requests.specs.declared.requests.RequestAt.{RequestAt}
-use Rattle.coll_replies.specs.Replies.{reply_if, history_after_if, starved_line, answers}
+use Rattle.coll_bench.specs.Replies.{reply_if, history_after_if, starved_line, answers}
 use Rattle.coll_bench.specs.Runs.{starved_output, output}
 use Rattle.coll_bench.specs.Laws.{ShowsLack, LackShowsCut, LackShowsPrefix}
 use Rattle.coll_bench.specs.Underway.{written_from, IsCut}

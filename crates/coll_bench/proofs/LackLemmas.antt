@@ -13,12 +13,12 @@ use Rattle.coll_requests.specs.SessionLines.{opening_of, parsed}
 use Rattle.coll_requests.specs.Parsing.{parsed_by, parsed_in, parsed_at}
 use Rattle.coll_requests.specs.Requests.{starved_at, fault_at, refused_at}
 use Rattle.coll_requests.specs.OpenBlocks.{open_at, kept_ended, kept_after, kept_requests_at, kept_last_faults, kept_requests}
-use Rattle.coll_replies.specs.Replies.{refused_line, reply, history_after, starved_line, reply_if, history_after_if, answers}
+use Rattle.coll_bench.specs.Replies.{refused_line, reply, history_after, starved_line, reply_if, history_after_if, answers}
 use Rattle.coll_requests.specs.Taking.{stop_at, line_requests, line_block}
 use Rattle.coll_bench.specs.Runs.{starved_output, output, last_line, last_of}
 use Rattle.coll_bench.specs.Laws.{ShowsLack, LackShows, LackShowsLast}
 use Rattle.coll_bench.specs.Underway.{written_from}
-use Rattle.coll_replies.specs.Faults.{fault_of}
+use Rattle.coll_bench.specs.Faults.{fault_of}
 use Rattle.coll_requests.specs.declared.request_faults.RequestFault.{RequestFault}
 use Rattle.coll_requests.specs.declared.request_faults.RequestFault.TheVariants as fault
 use Rattle.coll_requests.specs.declared.session_lines.Command.{Command}

@@ -17,11 +17,11 @@ use Rattle.coll_bench.specs.BatchOutcome.{table_fault, table_or_fault, unless_fa
 use Rattle.coll_bench.specs.BatchReading.{ReadsDeltas, DeltasFail, InputsFail, ReadsInputs}
 use Rattle.coll_bench.specs.BatchRuns.{Ending, ReadFailed, WriteFailed, Starved, Refused, ending_of, DeltasStopWithin, InputsStopWithin, DeltasStarve, InputsStarve, WritesPrefix, BatchRanTo, BatchRuns, CountsInputs, raised_at}
 use Rattle.coll_bench.specs.BatchWriting.{Outputs, IsOfOutput, starved_key}
-use Rattle.coll_replies.specs.Reports.{write_refused}
+use Rattle.coll_bench.specs.Reports.{write_refused}
 use Rattle.coll_bench.specs.Serving.{ReadsNone}
 use Rattle.coll_bench.specs.declared.batches.Batch.{Batch}
-use Rattle.coll_replies.specs.declared.faults.Fault.{Fault}
-use Rattle.coll_replies.specs.declared.faults.RunFault.{RunFault}
+use Rattle.coll_bench.specs.declared.faults.Fault.{Fault}
+use Rattle.coll_bench.specs.declared.faults.RunFault.{RunFault}
 
 -- The table.
 

@@ -9,13 +9,13 @@ use Rattle.coll_lex.specs.declared.faults.LexFault.{LexFault}
 use Rattle.coll_lex.specs.declared.faults.LexFault.TheVariants as lex
 use Rattle.coll_lex.proofs.LineFaults.{fed-not_dangling}
 use Rattle.coll_history.specs.Histories.{History}
-use Rattle.coll_replies.specs.Faults.{fault_of}
+use Rattle.coll_bench.specs.Faults.{fault_of}
 use Rattle.coll_lex.specs.Faults.{ends_text}
 use Rattle.coll_requests.specs.SessionLines.{opening_of, fault_parsed, parsed}
 use Rattle.coll_requests.specs.Parsing.{parsed_by, parsed_in, parsed_at}
 use Rattle.coll_requests.specs.Requests.{stop_of, refusals}
 use Rattle.coll_requests.specs.OpenBlocks.{kept_end_faults, kept_requests}
-use Rattle.coll_replies.specs.Replies.{refused_line, refused_lines, reply, history_after, answers}
+use Rattle.coll_bench.specs.Replies.{refused_line, refused_lines, reply, history_after, answers}
 use Rattle.coll_requests.specs.Taking.{stop_at}
 use Rattle.coll_bench.specs.Runs.{last_line}
 use Rattle.coll_bench.specs.Underway.{written_from}

@@ -12,11 +12,11 @@ use Rattle.coll_lex.specs.declared.tokens.Line.{Line}
 use Rattle.coll_lex.specs.declared.faults.LexFault.TheVariants as lex
 use Rattle.coll_devices.specs.declared.stops.ReadStop.{ReadStop}
 use Rattle.coll_devices.specs.declared.stops.ReadStop.TheVariants as stop
-use Rattle.coll_replies.specs.declared.faults.RunFault.{RunFault}
+use Rattle.coll_bench.specs.declared.faults.RunFault.{RunFault}
 use Rattle.coll_nodes.specs.Table.{Collation}
 use Rattle.coll_history.specs.Histories.{begun}
 use Rattle.coll_requests.specs.OpenBlocks.{kept_end_faults, kept_last_faults}
-use Rattle.coll_replies.specs.Replies.{refused_lines}
+use Rattle.coll_bench.specs.Replies.{refused_lines}
 use Rattle.coll_requests.specs.Taking.{stop_at, line_requests, line_block}
 use Rattle.coll_bench.specs.Serving.{history_after_all, line_replies, write_failed, stopped_at, never_ran, read_failed, EndsWith, EndsAtLine, FinishesWith, IsCutOff}
 use Rattle.coll_bench.specs.Runs.{starved_output, last_line, RanToLastLine, RanToReadFault, RanToLexFault, Ran}

@@ -11,7 +11,7 @@ use Rattle.coll_history.specs.Histories.{History, begun}
 use Rattle.coll_requests.specs.SessionLines.{opening_of, parsed}
 use Rattle.coll_requests.specs.Parsing.{parsed_by, parsed_in, parsed_at}
 use Rattle.coll_requests.specs.OpenBlocks.{kept_requests_at, kept_after, kept_last_or, kept_requests}
-use Rattle.coll_replies.specs.Replies.{answers, reply_if, history_after_if}
+use Rattle.coll_bench.specs.Replies.{answers, reply_if, history_after_if}
 use Rattle.coll_requests.specs.Taking.{stop_at, requests_or_last, line_requests, line_block}
 use Rattle.coll_bench.specs.Serving.{replies_to, history_after_all}
 use Rattle.coll_bench.specs.Runs.{starved_output}

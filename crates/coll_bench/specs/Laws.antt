@@ -1,9 +1,16 @@
--- What follows from the definitions of a session: that lack of memory shows.
+-- What follows from the definitions of replies and of a session: that what is refused changes nothing, and that lack of memory shows.
 use Rattle.std.specs.Prelude.{◌≡◌, ◌⊎◌, ℕ, Bool, true, false, List, [], ◌++◌}
 use Rattle.coll_devices.specs.PhysicalLines.{lines_of, with_feeds}
 use Rattle.coll_nodes.specs.Table.{Collation}
-use Rattle.coll_replies.specs.Replies.{starved_line}
+use Rattle.coll_history.specs.Histories.{History}
+use Rattle.coll_requests.specs.declared.requests.Request.{Request}
+use Rattle.coll_bench.specs.Replies.{refused_line, starved_line, reply_if, history_after_if}
+use Rattle.coll_bench.specs.declared.faults.Fault.{Fault}
 use Rattle.coll_bench.specs.Runs.{starved_output, output, last_of}
+
+-- a request whose reply is a refusal, lack of memory included, leaves the history
+abbrev pub RefusedChangesNothing : Type 0
+RefusedChangesNothing = (starved : Bool) (h : History) (request : Request) (f : Fault) → reply_if starved h request ≡ refused_line f → history_after_if starved h request ≡ h
 
 -- the reply to lack of memory stands in these bytes
 abbrev pub ShowsLack : List ℕ → Type 0

@@ -2,7 +2,12 @@ pub mod BatchOutcome
 pub mod BatchReading
 pub mod BatchRuns
 pub mod BatchWriting
+pub mod Faults
 pub mod Laws
+pub mod Listing
+pub mod Ranked
+pub mod Replies
+pub mod Reports
 pub mod Runs
 pub mod Serving
 pub mod Underway

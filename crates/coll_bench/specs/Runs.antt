@@ -12,12 +12,12 @@ use Rattle.coll_nodes.specs.Table.{Collation}
 use Rattle.coll_history.specs.Histories.{begun}
 use Rattle.coll_lex.specs.Faults.{ends_text}
 use Rattle.coll_requests.specs.SessionLines.{parsed}
-use Rattle.coll_replies.specs.Faults.{fault_number}
+use Rattle.coll_bench.specs.Faults.{fault_number}
 use Rattle.coll_requests.specs.Requests.{requests}
-use Rattle.coll_replies.specs.Replies.{answers}
-use Rattle.coll_replies.specs.declared.faults.Fault.{Fault}
-use Rattle.coll_replies.specs.declared.faults.Fault.TheVariants as fault
-use Rattle.coll_replies.specs.declared.faults.RunFault.{RunFault}
+use Rattle.coll_bench.specs.Replies.{answers}
+use Rattle.coll_bench.specs.declared.faults.Fault.{Fault}
+use Rattle.coll_bench.specs.declared.faults.Fault.TheVariants as fault
+use Rattle.coll_bench.specs.declared.faults.RunFault.{RunFault}
 
 -- what is written for a session text over a table, where memory was refused to these lines and these requests; the test
 -- says whether the text's end is seen

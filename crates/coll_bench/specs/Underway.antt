@@ -6,7 +6,7 @@ use Rattle.coll_nodes.specs.Table.{Collation}
 use Rattle.coll_history.specs.Histories.{History, begun}
 use Rattle.coll_requests.specs.SessionLines.{parsed}
 use Rattle.coll_requests.specs.OpenBlocks.{kept_requests}
-use Rattle.coll_replies.specs.Replies.{answers}
+use Rattle.coll_bench.specs.Replies.{answers}
 use Rattle.coll_bench.specs.Runs.{last_line}
 use Rattle.coll_requests.specs.declared.open_blocks.OpenBlock.{OpenBlock}
 use Rattle.coll_bench.specs.declared.serving.RunState.{RunState}

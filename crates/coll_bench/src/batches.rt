@@ -16,11 +16,11 @@ mod delta_files;
 mod inputs;
 mod output;
 
+use crate::faults::{Fault, RunFault};
 use coll_devices::{Sink, Source};
 use coll_key::{KeyFault, MOST_TEXT_CHARACTERS};
 use coll_lex::{ListBuf, TextBuf};
 use coll_lookups::HashKeys;
-use coll_replies::{Fault, RunFault};
 use coll_table::Table;
 use inputs::read_inputs;
 use output::write_output;

@@ -1,6 +1,14 @@
-//! What follows from the definitions of a session, as contracts of functions that do nothing.
+//! What follows from the definitions of replies and of a session, as contracts of functions that do nothing.
 
-ghost use Rattle.coll_bench.specs.Laws.{LackShows, LackShowsCut, LackShowsPrefix, LackShowsLast};
+ghost use Rattle.coll_bench.specs.Laws.{LackShows, LackShowsCut, LackShowsPrefix, LackShowsLast, RefusedChangesNothing};
+
+/// The law of refusals: a request whose reply is `refused NUMBER NAME`, for lack of memory or for another fault, leaves the
+/// history, and so the table, what remains, and what was taken back.
+///
+/// It does nothing; its contract is the law.
+pub fn refused_lines_change_nothing()
+    ensures { RefusedChangesNothing }
+{}
 
 /// The law of a lack of memory: what is written for a text that was served to its end, or to a line too long or one too
 /// many, is exactly the stated output, and that line is exactly the stated one, or `refused 70 OutOfMemory` stands in it.

@@ -1,18 +1,35 @@
-//! Sessions and batches over a collation table.
+//! Sessions and batches over a collation table, and what they write.
 //!
 //! A session: `coll_requests` says which request a physical line completes, if it completes one; the history of `coll_history`
-//! judges it, and `coll_replies` answers it. `serving` does this for one line and `runs` for a text, and `laws` says what follows
-//! from the definitions. A batch: `batches` reads a table and delta files, and writes what is asked of the result. What a user
-//! needs of the crates below is handed on here.
+//! judges it, and `replies` answers it. A way through the crate, each file with its definitions in `specs/`:
+//!
+//! - `kept_ranks` and `ranked_sessions`: ranks and places, kept while the table stays, and a history with them (`Ranked`);
+//! - `faults`: all faults of a session and a batch, and the one that ends a run (`Faults`);
+//! - `replies`: the reply to each request (`Replies`, and of a table's listing `Listing`), with `history_reply` for `:history`
+//!   and `texts` for `:key` and `:compare`; a batch writes its counts, keys and orders by the same functions;
+//! - `serving` for one line and `runs` for a text: a session (`Serving`, `Underway`, `Runs`);
+//! - `batches`: a table and delta files are read, and what is asked of the result is written (`BatchRuns` and those beside it);
+//! - `laws`: what follows from these definitions (`Laws`);
+//! - `reports`: the line of a fault, and the exit status of the program (`Reports`).
+//!
+//! What a user needs of the crates below is handed on here.
 #![tactic(auto)]
 
 mod batches;
+mod faults;
+mod kept_ranks;
 mod laws;
+mod ranked_sessions;
+mod replies;
+mod reports;
 mod runs;
 mod serving;
 
 pub use batches::{Batch, run_batch, run_batch_keyed};
 pub use coll_history::{BenchFault, MOST_REMAINING, Session, limits_are_stated};
-pub use coll_replies::{Fault, RunFault, exit_status, write_fault};
-pub use laws::lack_of_memory_shows;
+pub use faults::{Fault, RunFault};
+pub use laws::{lack_of_memory_shows, refused_lines_change_nothing};
+pub use ranked_sessions::RankedSession;
+pub use replies::{answer, refuse, write_checked, write_key_ended, write_order};
+pub use reports::{exit_status, write_fault};
 pub use runs::run_session;

@@ -12,10 +12,10 @@ ghost use Rattle.coll_nodes.specs.TableLayout.{collation};
 ghost use Rattle.coll_bench.specs.Serving.{IsBegun, EndsSession, CountsWrites, IsFlushedAfter, never_ran};
 ghost use Rattle.coll_bench.specs.Runs.{Runs, CountsReads};
 
+use crate::faults::{Fault, RunFault};
 use crate::serving::RunState;
 use coll_devices::{LineReader, Sink, Source};
 use coll_lex::LexFault;
-use coll_replies::{Fault, RunFault};
 use coll_table::Table;
 use std::alloc::Global;
 

@@ -12,13 +12,15 @@ ghost use Rattle.coll_lex.specs.LogicalLines.{pending, number_of};
 ghost use Rattle.coll_lex.specs.Limits.{most_lines};
 ghost use Rattle.coll_nodes.specs.TableLayout.{collation};
 ghost use Rattle.coll_requests.specs.OpenBlocks.{kept_end_faults, kept_dropped_faults, kept_last_faults};
-ghost use Rattle.coll_replies.specs.Replies.{refused_line, refused_lines};
+ghost use Rattle.coll_bench.specs.Replies.{refused_line, refused_lines};
 ghost use Rattle.coll_requests.specs.Requests.{dangling as dangling_faults};
 ghost use Rattle.coll_bench.specs.Serving.{EndsSession, EndsWith, FinishesWith, IsCutOff, CountsEnd, CountsWrites, CountsStop, IsFlushedAt, IsFlushedAfter, ReadsNone, write_failed as failed_write, too_long};
 
+use crate::faults::{Fault, RunFault};
+use crate::ranked_sessions::RankedSession;
+use crate::replies::{answer, refuse};
 use coll_devices::{ReadStop, Sink, WriteStop};
 use coll_lex::LexFault;
-use coll_replies::{Fault, RankedSession, RunFault, answer, refuse};
 use coll_requests::{FaultAt, LineParser, OpenBlock, RequestAt, RequestFault};
 use coll_table::Table;
 use std::alloc::{AllocError, Global};

@@ -13,9 +13,9 @@ ghost use Rattle.coll_bench.specs.BatchOutcome.{delta_fault_in, judged_at, rewri
 ghost use Rattle.coll_bench.specs.BatchReading.{ReadsDelta, CountsDelta, WritesNone, FailsAs, IsNumberOf, IsFaultNumber, line_taken, starved_in, stopped_in};
 ghost use Rattle.coll_bench.specs.BatchRuns.{ending_of};
 
+use crate::faults::{Fault, RunFault};
 use coll_devices::{LineReader, ReadStop, Source};
 use coll_lex::LexFault;
-use coll_replies::{Fault, RunFault};
 use coll_requests::{DeltaFault, DeltaReader, StatementAt};
 use coll_table::Table;
 use std::alloc::Global;

@@ -7,10 +7,10 @@ ghost use Rattle.coll_bench.specs.BatchReading.{ReadsInputs, ReadsDeltas, Counts
 ghost use Rattle.coll_bench.specs.BatchRuns.{CountsInputs};
 
 use super::delta_files::read_delta;
+use crate::faults::{Fault, RunFault};
 use coll_builder::LoadFault;
 use coll_devices::Source;
 use coll_lookups::HashKeys;
-use coll_replies::{Fault, RunFault};
 use coll_table::{Table, load_keyed};
 use std::alloc::Global;
 

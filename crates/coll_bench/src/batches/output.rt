@@ -12,14 +12,15 @@ ghost use Rattle.coll_nodes.specs.TableLayout.{collation};
 ghost use Rattle.coll_bench.specs.BatchOutcome.{batch_output, texts_of, is_any_too_long, key_line};
 ghost use Rattle.coll_bench.specs.BatchWriting.{Outputs, CountsOutput, as_written, starved_key};
 ghost use Rattle.coll_print.specs.CanonicalText.{text};
-ghost use Rattle.coll_replies.specs.Replies.{checked_line, order_word};
+ghost use Rattle.coll_bench.specs.Replies.{checked_line, order_word};
 
 use super::Batch;
+use crate::faults::Fault;
+use crate::replies::{write_checked, write_key_ended, write_order};
 use coll_devices::{Sink, WriteStop};
 use coll_key::{KeyFault, compare, key, write_compiled};
 use coll_lex::TextBuf;
 use coll_ranks::Ranks;
-use coll_replies::{Fault, write_checked, write_key_ended, write_order};
 use coll_table::Table;
 use std::alloc::Global;
 

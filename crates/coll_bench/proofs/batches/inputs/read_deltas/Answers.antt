@@ -5,7 +5,7 @@ use Rattle.coll_nodes.specs.TableLayout.{collation}
 use Rattle.coll_bench.specs.BatchReading.{CountsDelta}
 use Rattle.coll_bench.specs.BatchRuns.{ending_of}
 use Rattle.coll_bench.proofs.BatchInputs.{none_after, one_more, fails_all, counts_all}
-use Rattle.coll_replies.proofs.Members.{got, got-drop, got-map, got-set, set-same, drop-set, drop-one, text_got}
+use Rattle.coll_bench.proofs.Members.{got, got-drop, got-map, got-set, set-same, drop-set, drop-one, text_got}
 use Rattle.coll_bench.proofs.batches.inputs.read_deltas.Goals as goal
 
 pub loop-before-init : goal.loop-before-init

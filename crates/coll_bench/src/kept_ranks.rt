@@ -1,0 +1,225 @@
+//! What a session keeps beside its table, for keys and comparisons.
+//!
+//! The ranks of a whole table are made in one pass over its entries, and then serve each look at once. After a change they have
+//! to be made anew, which is dear where one word is looked up and the next change comes. So a look for a short text is served by
+//! the places of the entries, which are given anew in a much shorter pass, and it looks up what the text asks for and no more.
+//! Such a look costs more by itself: where those since the last change have cost as much as the ranks of a large table, the ranks
+//! are made after all. What is kept is true of one table as it stands (`specs/Ranked.antt`); whoever changes the table gives it
+//! up.
+
+ghost use Rattle.std.specs.Prelude.{◌≡◌, ◌≢◌, ◌||◌, true, false, chars, length, IsSome, IfOk, IfErr, OnOk};
+ghost use Rattle.coll_nodes.specs.TableLayout.{collation};
+ghost use Rattle.coll_key.specs.KeyLimits.{is_too_long};
+ghost use Rattle.coll_key.specs.SortKey.{key_of};
+ghost use Rattle.coll_key.specs.TextOrder.{order_of};
+ghost use Rattle.coll_key.specs.WrittenKey.{has_key_form};
+ghost use Rattle.coll_key.specs.declared.key_faults.KeyFault.TheVariants.{OutOfMemory};
+ghost use Rattle.coll_bench.specs.Ranked.{AreNumbersIf, AreRanksIfAny, CanServe, IsKeptFor, given_up, kept_nothing, short_work, short_works, spent_with, work_after};
+
+use coll_key::{KeyFault, compare, compare_texts, key, key_of_text};
+use coll_lookups::EntryNumbers;
+use coll_ranks::Ranks;
+use coll_table::Table;
+use std::alloc::{AllocError, Global};
+use std::cmp::Ordering;
+use std::marker::Model;
+
+/// Most bytes of a text that is looked up by itself: of each prefix of what is left of it a look-up is made, so that a text of twice
+/// the length takes four times as many. Words have fewer.
+const MOST_SHORT_LOOK: usize = 64;
+
+/// As many look-ups as take the time of making the ranks of a large table, some 13 ms at 0.1 microseconds each.
+const MOST_SHORT_WORK: u64 = 131_072;
+
+/// The ranks of a table, if they were made, and the places of its entries.
+#[derive(Drop)]
+pub(crate) struct KeptRanks {
+    /// All ranks, if they were made since the last change.
+    ranks: Option<Ranks>,
+    /// The places of the entries as they were when these were given last. Their memory is kept over changes.
+    numbers: EntryNumbers,
+    /// Whether these are the places in the table as it stands.
+    numbered: bool,
+    /// What the short looks since the last change have cost, in look-ups.
+    work: u64,
+}
+
+impl Model for KeptRanks {
+    ghost use Rattle.coll_bench.specs.Ranked.{KeptValue};
+
+    ghost Value = { KeptValue };
+
+    ghost view = { λ k. record { ranks = k.ranks; numbers = k.numbers; numbered = k.numbered; work = k.work } };
+}
+
+impl KeptRanks {
+    /// Nothing is kept yet. It takes no memory.
+    pub(crate) fn new(alloc: Global) -> KeptRanks
+        ensures { result ≡ kept_nothing }
+    {
+        KeptRanks {
+            ranks: None,
+            numbers: EntryNumbers::new(alloc),
+            numbered: false,
+            work: 0,
+        }
+    }
+
+    /// Gives up what a change of the table has made untrue. What is then kept is true of every table.
+    pub(crate) fn give_up(&mut self)
+        ensures { self.new ≡ given_up self.old }
+    {
+        keep(&mut self.ranks, None);
+        self.numbered = false;
+        self.work = 0;
+    }
+
+    /// The sort key of a text in the table that this is kept for.
+    ///
+    /// It is refused with `TextTooLong` only where the text has more than 65,536 characters, and with `OutOfMemory` where memory is
+    /// refused to the ranks, to the places or to the key. What is then kept is true of the table as well.
+    pub(crate) fn key(
+        &mut self,
+        alloc: Global,
+        table: &Table,
+        text: &str,
+    ) -> Result<Vec<u64>, KeyFault>
+        requires { IsKeptFor self.old (collation table.now) table.now.layout }
+        ensures kept { IsKeptFor self.new (collation table.now) table.now.layout }
+        ensures spares { IsSome (spent_with self.old.work (short_work (length text.now))) → self.new.ranks ≡ self.old.ranks }
+        ensures work { self.new.work ≡ work_after self.old (short_work (length text.now)) }
+        ensures ok { IfOk result (λ key. key.items ≡ key_of (collation table.now) (chars text.now)) }
+        ensures form { IfOk result (λ key. has_key_form (collation table.now).rules key.items ≡ true) }
+        ensures short { IfOk result (λ _. is_too_long (chars text.now) ≡ false) }
+        ensures err { IfErr result (λ fault. fault ≢ OutOfMemory → is_too_long (chars text.now) ≡ true) }
+    {
+        self.prepare(alloc, table, short_work(text))?;
+        match &self.ranks {
+            Some(ranks) => key(alloc, table, ranks, text),
+            None => key_of_text(alloc, table, &self.numbers, text),
+        }
+    }
+
+    /// The order of two texts in the table that this is kept for.
+    ///
+    /// It is refused with `TextTooLong` only where one of them has more than 65,536 characters, and with `OutOfMemory` where memory
+    /// is refused to the ranks, to the places or to the comparison. What is then kept is true of the table as well.
+    pub(crate) fn compare(
+        &mut self,
+        alloc: Global,
+        table: &Table,
+        text: &str,
+        other: &str,
+    ) -> Result<Ordering, KeyFault>
+        requires { IsKeptFor self.old (collation table.now) table.now.layout }
+        ensures kept { IsKeptFor self.new (collation table.now) table.now.layout }
+        ensures spares { IsSome (spent_with self.old.work (short_works (length text.now) (length other.now))) → self.new.ranks ≡ self.old.ranks }
+        ensures work { self.new.work ≡ work_after self.old (short_works (length text.now) (length other.now)) }
+        ensures ok { IfOk result (λ order. order ≡ order_of (collation table.now) (chars text.now) (chars other.now)) }
+        ensures short { IfOk result (λ _. (is_too_long (chars text.now) || is_too_long (chars other.now)) ≡ false) }
+        ensures err { IfErr result (λ fault. fault ≢ OutOfMemory → (is_too_long (chars text.now) || is_too_long (chars other.now)) ≡ true) }
+    {
+        self.prepare(alloc, table, short_works(text, other))?;
+        match &self.ranks {
+            Some(ranks) => compare(alloc, table, ranks, text, other),
+            None => compare_texts(alloc, table, &self.numbers, text, other),
+        }
+    }
+
+    // Makes ready what serves a look: the ranks where they are there, else the places for a short look, else the ranks.
+    fn prepare(&mut self, alloc: Global, table: &Table, work: Option<u64>) -> Result<(), AllocError>
+        requires { IsKeptFor self.old (collation table.now) table.now.layout }
+        ensures kept { IsKeptFor self.new (collation table.now) table.now.layout }
+        ensures spares { IsSome (spent_with self.old.work work) → self.new.ranks ≡ self.old.ranks }
+        ensures work { self.new.work ≡ work_after self.old work }
+        ensures serves { OnOk result (CanServe self.new.ranks self.new.numbered) }
+    {
+        if self.ranks.is_some() {
+            return Ok(());
+        }
+        match self.short_look(work) {
+            Some(spent) => {
+                self.work = spent;
+                give_numbers(table, &mut self.numbers, &mut self.numbered)?;
+                Ok(())
+            }
+            None => {
+                make_ranks(alloc, table, &mut self.ranks)?;
+                Ok(())
+            }
+        }
+    }
+
+    // What the short looks have cost with a further one, if it is to be one: its texts are short, and those before it cost little.
+    fn short_look(&self, work: Option<u64>) -> Option<u64>
+        ensures { result ≡ spent_with self.now.work work }
+    {
+        match work {
+            Some(further) => {
+                if self.work < MOST_SHORT_WORK {
+                    Some(self.work.saturating_add(further))
+                } else {
+                    None
+                }
+            }
+            None => None,
+        }
+    }
+}
+
+// What a short look for a text costs, the square of its length, or none where the text is too long for one.
+fn short_work(text: &str) -> Option<u64>
+    ensures { result ≡ short_work (length text.now) }
+{
+    if text.len() > MOST_SHORT_LOOK {
+        return None;
+    }
+    let length = text.len() as u64;
+    Some(length * length)
+}
+
+// What a short look for two texts costs, or none where one of them is too long for one.
+fn short_works(text: &str, other: &str) -> Option<u64>
+    ensures { result ≡ short_works (length text.now) (length other.now) }
+{
+    match (short_work(text), short_work(other)) {
+        (Some(work), Some(further)) => Some(work.saturating_add(further)),
+        _ => None,
+    }
+}
+
+// Keeps ranks, or none, in place of what was kept. It alone drops what was.
+fn keep(kept: &mut Option<Ranks>, ranks: Option<Ranks>)
+    ensures { kept.new ≡ ranks }
+{
+    *kept = ranks;
+}
+
+// Makes the ranks of a table.
+fn make_ranks(alloc: Global, table: &Table, ranks: &mut Option<Ranks>) -> Result<(), AllocError>
+    requires { AreRanksIfAny ranks.old (collation table.now) }
+    ensures kept { AreRanksIfAny ranks.new (collation table.now) }
+    ensures ok { OnOk result (IsSome ranks.new) }
+{
+    let made = Ranks::new(alloc, table)?;
+    keep(ranks, Some(made));
+    Ok(())
+}
+
+// Gives the entries of a table their places, unless these are fresh.
+fn give_numbers(
+    table: &Table,
+    numbers: &mut EntryNumbers,
+    numbered: &mut bool,
+) -> Result<(), AllocError>
+    requires { AreNumbersIf numbered.old numbers.old table.now.layout }
+    ensures kept { AreNumbersIf numbered.new numbers.new table.now.layout }
+    ensures ok { OnOk result (numbered.new ≡ true) }
+{
+    if *numbered {
+        return Ok(());
+    }
+    table.number_entries(numbers)?;
+    *numbered = true;
+    Ok(())
+}

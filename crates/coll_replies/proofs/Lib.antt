@@ -1,4 +1,0 @@
-pub mod LawLemmas
-pub mod ListingLemmas
-pub mod Members
-pub mod ReplyLemmas

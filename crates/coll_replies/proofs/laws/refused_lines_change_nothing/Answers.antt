@@ -1,6 +1,0 @@
--- The law, by the kind of request.
-use Rattle.coll_replies.proofs.LawLemmas.{refused_changes_nothing}
-use Rattle.coll_replies.proofs.laws.refused_lines_change_nothing.Goals as goal
-
-pub returns : goal.returns
-returns g = refused_changes_nothing

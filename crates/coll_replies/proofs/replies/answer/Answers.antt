@@ -1,8 +1,0 @@
-use Rattle.coll_replies.proofs.ReplyLemmas.{flushed}
-use Rattle.coll_replies.proofs.replies.answer.Goals as goal
-
-pub returns-clause-answered : goal.returns-clause-answered
-returns-clause-answered g c =
-    let taken = g.W.Sink.taken in
-    let a = c.in_ok-respond.ensures.answered in
-    (a.0, flushed (taken c.args.out.now) (taken c.respond.new.out) (taken c.flush.new.out) _ c.flush.result a.1 c.flush.ensures.sent, a.2)

@@ -1,6 +1,0 @@
-pub mod Faults
-pub mod Laws
-pub mod Listing
-pub mod Ranked
-pub mod Replies
-pub mod Reports
