@@ -1,7 +1,13 @@
 -- The lists of levels depend on the numbers of the parts alone, so those of a text are those of its parts.
 use Rattle.std.proofs.Common.{◌≡◌, ℕ, suc, ◌+◌, ◌<◌, ◌≤◌, false, List, [], ◌∷◌, ◌++◌, length, map, nat_lt, refl, sym, ap, ◌∙◌, arith}
 use Rattle.std.specs.List.{flat_map}
-use Rattle.std.proofs.lemmas.Bool.{ltb-false}
+use Rattle.std.specs.Prelude.{chars, Bool, Result, Ok, Err, IfErr}
+use Rattle.coll_key.specs.declared.key_faults.KeyFault.{KeyFault}
+use Rattle.coll_key.specs.declared.key_faults.KeyFault.TheVariants.{OutOfMemory}
+use denote.Shadow.{shadow}
+use denote.Text.{Utf8}
+use Rattle.std.proofs.lemmas.Bool.{ltb-false, le-ltb}
+use Rattle.std.proofs.lemmas.Str.{length-le-encodes, encodes-chars}
 use Rattle.coll_syntax.specs.declared.rules.Rule.{Rule}
 use Rattle.coll_nodes.specs.Table.{Collation}
 use Rattle.coll_nodes.specs.WellFormed.{IsWellFormed}
@@ -46,3 +52,12 @@ level_lists_by_parts ranks table are well text =
 pub few_parts : (ranks : RanksValue) (text : List ℕ) → nat_lt 65_536 (length text) ≡ false → length (parts_of ranks text) ≤ 65_536
 unfolding parts_of
 few_parts ranks text short = omega (arith, few_split ranked_text ranks.elements (part_with ranks.ids) 0 text, ltb-false 65_536 (length text) short)
+
+-- a text of few bytes isn't too long
+pub few_bytes : (bytes : List ℕ) → shadow (Utf8 bytes) → length bytes ≤ 16 → nat_lt 65_536 (length (chars bytes)) ≡ false
+few_bytes bytes utf8 few = le-ltb 65_536 (length (chars bytes)) (omega (arith, few, length-le-encodes (chars bytes), ap length (encodes-chars bytes utf8)))
+
+-- an answer of which a fact holds anyway
+pub known_anyway : {T : Type 0} (r : Result T KeyFault) (b : Bool) → b ≡ false → IfErr r (λ fault. fault ≡ OutOfMemory → b ≡ false)
+known_anyway (Ok x) b is = tt
+known_anyway (Err fault) b is = λ lack. is

@@ -9,18 +9,21 @@ ghost use Rattle.coll_nodes.specs.TableLayout.{collation};
 ghost use Rattle.coll_key.specs.KeyLimits.{is_too_long};
 ghost use Rattle.coll_key.specs.LevelList.{level_lists_from};
 ghost use Rattle.coll_ranks.specs.LevelWeights.{row_numbers};
-ghost use Rattle.coll_ranks.specs.Ranks.{AreRanksOf};
+ghost use Rattle.coll_ranks.specs.Ranks.{AreRanksOf, part_numbers, parts_of};
 ghost use Rattle.coll_key.specs.SortKey.{ended, key_of, KeysAreOrderedAsTexts};
 ghost use Rattle.coll_key.specs.WrittenKey.{has_key_form};
 ghost use Rattle.coll_key.specs.declared.key_faults.KeyFault.TheVariants.{OutOfMemory};
 
 use crate::key_faults::KeyFault;
 use crate::levels::with_level;
-use crate::text_parts::kept_rows;
+use crate::text_parts::{kept_rows, put_rows};
 use coll_ranks::{CompiledWeights, ElementRow, Ranks};
 use coll_syntax::Rule;
 use coll_table::Table;
 use std::alloc::{AllocError, Global};
+
+/// Most bytes of a text whose rows stand on the stack, which spares a block of memory. Words have fewer.
+const MOST_WORD_BYTES: usize = 16;
 
 /// The sort key of a text: for each level its list of numbers, followed by 0.
 ///
@@ -35,9 +38,28 @@ pub fn key(alloc: Global, table: &Table, ranks: &Ranks, text: &str) -> Result<Ve
     ensures memory { IfErr result (λ fault. fault ≡ OutOfMemory → is_too_long (chars text.now) ≡ false) }
 {
     table.lemma_well_formed();
+    if text.len() <= MOST_WORD_BYTES {
+        let key = key_of_word(alloc, ranks, table.rules(), text)?;
+        return Ok(key);
+    }
     let rows = kept_rows(alloc, ranks, text)?;
     let key = key_of_rows(alloc, ranks.weights(), table.rules(), &rows)?;
     Ok(key)
+}
+
+// The sort key of a text of few bytes, at levels with these rules. Its rows stand on the stack.
+fn key_of_word(
+    alloc: Global,
+    ranks: &Ranks,
+    rules: &[Rule],
+    text: &str,
+) -> Result<Vec<u64>, AllocError>
+    requires { length text.now ≤ MOST_WORD_BYTES }
+    ensures { IfOk result (λ key. key.items ≡ flat_map ended (level_lists_from rules.now 0 (part_numbers ranks.now.compiled) (parts_of ranks.now (chars text.now)))) }
+{
+    let mut rows = [ElementRow { first: 0, code: 0 }; MOST_WORD_BYTES];
+    let count = put_rows(&mut rows[..], ranks, text);
+    key_of_rows(alloc, ranks.weights(), rules, &rows[..count])
 }
 
 /// The sort key of a text whose elements have these rows, by compiled weights at levels with these rules.

@@ -1,6 +1,6 @@
-//! The rows of the elements of a text, kept in a list.
+//! The rows of the elements of a text: those of a word are put into an array, those of a longer text kept in a list.
 
-ghost use Rattle.std.specs.Prelude.{◌≡◌, ◌≢◌, ◌≤◌, ℕ, chars, map, true, false, IfOk, IfErr, IfSome, MatchOption};
+ghost use Rattle.std.specs.Prelude.{◌≡◌, ◌≢◌, ◌≤◌, ℕ, chars, length, map, take, true, false, IfOk, IfErr, IfSome, MatchOption};
 ghost use Rattle.coll_key.specs.KeyLimits.{is_too_long};
 ghost use Rattle.coll_ranks.specs.LevelWeights.{row_of};
 ghost use Rattle.coll_ranks.specs.Ranks.{parts_of};
@@ -10,6 +10,25 @@ use crate::key_faults::KeyFault;
 use crate::limits::{MOST_TEXT_CHARACTERS, is_too_long};
 use coll_ranks::{ElementRow, Ranks};
 use std::alloc::{AllocError, Global};
+
+/// Puts the rows of the elements of a short text into an array that has as many places as the text has bytes, and tells how many
+/// they are. It takes no memory.
+pub(crate) fn put_rows(rows: &mut [ElementRow], ranks: &Ranks, text: &str) -> usize
+    requires places { length text.now ≤ length rows.old }
+    requires few { length rows.old ≤ 16 }
+    ensures rows { take result rows.new ≡ map (row_of ranks.now.compiled) (parts_of ranks.now (chars text.now)) }
+    ensures within { result ≤ length rows.new }
+    ensures places { length rows.new ≡ length rows.old }
+{
+    let mut left = text;
+    let mut count = 0;
+    'parts: while let Some(first) = ranks.first_part(left) {
+        rows[count] = ranks.weights().row(first.part);
+        count += 1;
+        left = first.rest;
+    }
+    count
+}
 
 /// The rows of the elements of a text that isn't too long.
 ///
