@@ -9,7 +9,7 @@ SESSION := examples/first_session.txt
 .PHONY: program demo test edits
 
 program:
-	@tests/build_program.py
+	@checkers/build_program.py
 
 demo:
 	@echo "Compiling the program without a proof, which takes half a minute. 'make' proves and builds it."
@@ -23,7 +23,7 @@ demo:
 	@printf '\nThis build was not proved.\n'
 
 test:
-	@tests/gate.py
+	@checkers/gate.py
 
 edits:
-	@tests/try_edits.py $(CRATES)
+	@checkers/try_edits.py $(CRATES)

@@ -87,7 +87,8 @@ refusal_kind refusal.NotASymbol ample = refl
 refusal_kind refusal.OutOfMemory ample = absurd (ample refl)
 
 -- a fault of a delta file is what is answered, unless memory was refused
-pub delta_fails : {A : Type 0} (input : ℕ) (f : DeltaFault) (stated : Result A RunFault) → (lacks_memory f.cause ≡ false → stated ≡ Err (delta_fault_in input f)) → FailsAs (ending_of (delta_fault_in input f)) stated (delta_fault_in input f)
+pub delta_fails : {A : Type 0} (input : ℕ) (f : DeltaFault) (stated : Result A RunFault) → (lacks_memory f.cause ≡ false → stated ≡ Err (delta_fault_in input f))
+    → FailsAs (ending_of (delta_fault_in input f)) stated (delta_fault_in input f)
 delta_fails input f stated h = subst (λ (e : Ending). FailsAs e stated (delta_fault_in input f)) (sym (delta_kind f.line f.cause)) (by_lack (lacks_memory f.cause) refl)
   where
     by_lack : (lack : Bool) → lacks_memory f.cause ≡ lack → FailsAs (kind_of lack) stated (delta_fault_in input f)

@@ -1,5 +1,6 @@
 -- The inputs of a batch, one after another: what the delta files so far give, and what one at fault says.
-use Rattle.std.proofs.Common.{◌≡◌, ℕ, zero, suc, pred, ◌+◌, Bool, true, false, if◌then◌else◌, List, [], ◌∷◌, ◌++◌, map, take, drop, set, length, Option, Some, Result, Ok, Err, refl, sym, ap, ◌∙◌, subst, arith}
+use Rattle.std.proofs.Common.{◌≡◌, ℕ, zero, suc, pred, ◌+◌, Bool, true, false, if◌then◌else◌, List, [], ◌∷◌, ◌++◌, map, take}
+use Rattle.std.proofs.Common.{drop, set, length, Option, Some, Result, Ok, Err, refl, sym, ap, ◌∙◌, subst, arith}
 use Rattle.std.specs.Prelude.{slice_get, ◌==◌}
 use Rattle.coll_devices.specs.Devices.{raised}
 use Rattle.coll_nodes.specs.Table.{Collation}
@@ -10,7 +11,8 @@ use Rattle.coll_bench.specs.BatchRuns.{Ending, ReadFailed, WriteFailed, Starved,
 use Rattle.coll_bench.specs.declared.faults.RunFault.{RunFault}
 use Rattle.coll_bench.proofs.Members.{got-map, set-same, split_got, take_got, length-take_got}
 
-after_by : (r : Result Collation RunFault) (n k : ℕ) (xs ys : List (List ℕ)) → ((t : Collation) → after_deltas (suc n) t (xs ++ ys) ≡ unless_faulty (after_deltas (suc n) t xs) (λ c. after_deltas k c ys))
+after_by : (r : Result Collation RunFault) (n k : ℕ) (xs ys : List (List ℕ))
+    → ((t : Collation) → after_deltas (suc n) t (xs ++ ys) ≡ unless_faulty (after_deltas (suc n) t xs) (λ c. after_deltas k c ys))
     → unless_faulty r (λ t. after_deltas (suc n) t (xs ++ ys)) ≡ unless_faulty (unless_faulty r (λ t. after_deltas (suc n) t xs)) (λ c. after_deltas k c ys)
 after_by (Ok t) n k xs ys h = h t
 after_by (Err f) n k xs ys h = refl
@@ -53,7 +55,8 @@ module _ (first table : Collation) (texts : List (List ℕ)) (i : ℕ) (text : L
       ∙ (ap (λ r. unless_faulty r (λ c. after_deltas (i + 1) c (text ∷ drop (i + 1) texts))) taken ∙ fault_first (i + 1) table text (drop (i + 1) texts) ended e))
 
   -- what it says of itself it says of all
-  pub fails_all : (kind : Ending) (left : Option (List ℕ)) (lefts : List (Option (List ℕ))) (ended : RunFault) → slice_get lefts i ≡ Some left → ended.input ≡ i + 1 → DeltaFails kind (i + 1) table text left ended → DeltasFail kind first texts lefts ended
+  pub fails_all : (kind : Ending) (left : Option (List ℕ)) (lefts : List (Option (List ℕ))) (ended : RunFault) → slice_get lefts i ≡ Some left → ended.input ≡ i + 1
+      → DeltaFails kind (i + 1) table text left ended → DeltasFail kind first texts lefts ended
   fails_all ReadFailed left lefts ended here input h =
       let before : i ≡ pred ended.input = omega (arith, input) in
       let next : i + 1 ≡ suc i = omega arith in
@@ -72,7 +75,8 @@ raised_by [] i c e = refl
 raised_by (x ∷ xs) zero c e = let same : x ≡ c = cc in ap (λ n. raised n ∷ xs) same
 raised_by (x ∷ xs) (suc i) c e = ap (λ l. x ∷ l) (raised_by xs i c e)
 
-pub counts_all : {X : Type 0} (failed : X → ℕ) (start now : List X) (i : ℕ) (d new : X) (ended : RunFault) → map failed now ≡ map failed start → slice_get now i ≡ Some d → ended.input ≡ i + 1 → CountsDelta (failed d) (failed new) (Err ended)
+pub counts_all : {X : Type 0} (failed : X → ℕ) (start now : List X) (i : ℕ) (d new : X) (ended : RunFault) → map failed now ≡ map failed start → slice_get now i ≡ Some d → ended.input ≡ i + 1
+    → CountsDelta (failed d) (failed new) (Err ended)
     → CountsDeltas (map failed start) (map failed (set now i new)) (Err ended)
 counts_all {X = X} failed start now i d new ended same at input h =
     let before : i ≡ pred ended.input = omega (arith, input) in
@@ -83,7 +87,9 @@ counts_all {X = X} failed start now i d new ended same at input h =
     set_map (x ∷ xs) zero = refl
     set_map (x ∷ xs) (suc i) = ap (λ l. failed x ∷ l) (set_map xs i)
 
-    by_kind : (b : Bool) → i ≡ pred ended.input → failed new ≡ (if b then raised (failed d) else failed d) → map failed (set now i new) ≡ (if b then raised_at (pred ended.input) (map failed start) else map failed start)
+    by_kind : (b : Bool) → i ≡ pred ended.input → failed new ≡ (if b then raised (failed d) else failed d)
+        → map failed (set now i new) ≡ (if b then raised_at (pred ended.input) (map failed start) else map failed start)
     by_kind true before h =
-        set_map now i ∙ (ap (set (map failed now) i) h ∙ (sym (raised_by (map failed now) i (failed d) (got-map failed now i d at)) ∙ (ap (λ l. raised_at i l) same ∙ ap (λ n. raised_at n (map failed start)) before)))
+        set_map now i ∙ (ap (set (map failed now) i) h
+        ∙ (sym (raised_by (map failed now) i (failed d) (got-map failed now i d at)) ∙ (ap (λ l. raised_at i l) same ∙ ap (λ n. raised_at n (map failed start)) before)))
     by_kind false before h = set-same failed now i d new at h ∙ same

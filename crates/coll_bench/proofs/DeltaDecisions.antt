@@ -22,7 +22,8 @@ use Rattle.coll_requests.specs.declared.delta_files.StatementAt.{StatementAt}
 use Rattle.coll_requests.specs.declared.open_blocks.OpenBlock.{OpenBlock}
 use Rattle.coll_requests.specs.declared.session_lines.Parsed.TheVariants as parsed
 use Rattle.coll_requests.specs.declared.request_faults.RequestFault.TheVariants as request
-use Rattle.coll_requests.proofs.DeltaSteps.{outcome_before-nil, outcome_within-nil, outcome_within-cons, outcome_from, StandsAfter, CountsOne, LeadsOn, IsFaultBehind, Judged, from_within, from_before, from_ended, judged_line}
+use Rattle.coll_requests.proofs.DeltaSteps.{outcome_before-nil, outcome_within-nil, outcome_within-cons, outcome_from, StandsAfter, CountsOne}
+use Rattle.coll_requests.proofs.DeltaSteps.{LeadsOn, IsFaultBehind, Judged, from_within, from_before, from_ended, judged_line}
 use Rattle.coll_bench.specs.BatchOutcome.{Decided, delta_fault_in, unless_faulty, judged_at, rewritten, by_ending, by_statements, decision, answer_at_end}
 use Rattle.coll_bench.specs.BatchReading.{Taken, unless_stored, by_step, line_taken}
 use Rattle.coll_bench.specs.BatchRuns.{DecidesNothing}
@@ -37,17 +38,20 @@ module _ (input : ℕ) where
   rewritten_by (Ok t) given later h = h t
   rewritten_by (Err f) given later h = refl
 
-  rewritten-append : (table : Collation) (given later : List StatementAt) → rewritten input table (given ++ later) ≡ unless_faulty (rewritten input table given) (λ changed. rewritten input changed later)
+  rewritten-append : (table : Collation) (given later : List StatementAt) → rewritten input table (given ++ later)
+      ≡ unless_faulty (rewritten input table given) (λ changed. rewritten input changed later)
   unfolding rewritten
   rewritten-append table [] later = refl
   rewritten-append table (at ∷ given) later = rewritten_by (judged_at input at.line (delta table at.statement)) given later (λ t. rewritten-append t given later)
 
-  decision_by : (r : Result Collation RunFault) (said : DeltaOutcome) → by_statements (unless_faulty r (λ changed. rewritten input changed said.statements)) (by_ending input said.ending) ≡ by_statements r (λ changed. by_statements (rewritten input changed said.statements) (by_ending input said.ending))
+  decision_by : (r : Result Collation RunFault) (said : DeltaOutcome) → by_statements (unless_faulty r (λ changed. rewritten input changed said.statements)) (by_ending input said.ending)
+      ≡ by_statements r (λ changed. by_statements (rewritten input changed said.statements) (by_ending input said.ending))
   decision_by (Ok t) said = refl
   decision_by (Err f) said = refl
 
   -- statements, and then what later lines say
-  pub decided_after : (table : Collation) (given : List StatementAt) (said : DeltaOutcome) → decision input table (after_statements given said) ≡ by_statements (rewritten input table given) (λ changed. decision input changed said)
+  pub decided_after : (table : Collation) (given : List StatementAt) (said : DeltaOutcome) → decision input table (after_statements given said)
+      ≡ by_statements (rewritten input table given) (λ changed. decision input changed said)
   unfolding decision
   decided_after table given said =
       ap (λ (r : Result Collation RunFault). by_statements r (by_ending input said.ending)) (rewritten-append table given said.statements)
@@ -76,10 +80,12 @@ module _ (input : ℕ) where
 
   module _ (block : Option BlockLines) (table : Collation) (s : DeltaState) (line : List ℕ) where
     -- what is decided behind the statements of a line
-    said : (given : List StatementAt) (r : Result Collation RunFault) (o later : DeltaOutcome) → rewritten input table given ≡ r → o ≡ after_statements given later → decision input table o ≡ by_statements r (λ changed. decision input changed later)
+    said : (given : List StatementAt) (r : Result Collation RunFault) (o later : DeltaOutcome) → rewritten input table given ≡ r → o ≡ after_statements given later
+        → decision input table o ≡ by_statements r (λ changed. decision input changed later)
     said given r o later e f = ap (decision input table) f ∙ (decided_after table given later ∙ ap (λ (r : Result Collation RunFault). by_statements r (λ changed. decision input changed later)) e)
 
-    by_table : (given : List StatementAt) (after : DeltaState) (r : Result Collation RunFault) (stored : Option DeltaFault) → rewritten input table given ≡ r → after.fault ≡ stored → Judged block s line (Ok (given, after))
+    by_table : (given : List StatementAt) (after : DeltaState) (r : Result Collation RunFault) (stored : Option DeltaFault) → rewritten input table given ≡ r → after.fault ≡ stored
+        → Judged block s line (Ok (given, after))
         → LineDecides block table s line (unless_faulty r (λ changed. unless_stored input stored (changed, after)))
     by_table given after (Err f) stored e g h =
         ⊎_elim (λ (on : LeadsOn block s line given after). λ ends lines. said given (Err f) (outcome_from ends block s (line ∷ lines)) (outcome_from ends on.next after lines) e (on.says ends lines))
@@ -117,17 +123,20 @@ module _ (input : ℕ) where
     abbrev long_fault : DeltaFault
     long_fault = at_line (number_of s.lexer) (RequestCause (request.Lex lex.LineTooLong))
 
-    long_judged : (b : Option OpenBlock) (n : ℕ) (t : DeltaState) → t.block ≡ b → judged t (record { number = n; parsed = parsed.Stops lex.LineTooLong }) (kept_fault_under b (record { number = n; parsed = parsed.Stops lex.LineTooLong })) ≡ Err (at_line n (RequestCause (request.Lex lex.LineTooLong)))
+    long_judged : (b : Option OpenBlock) (n : ℕ) (t : DeltaState) → t.block ≡ b → judged t (record { number = n; parsed = parsed.Stops lex.LineTooLong })
+        (kept_fault_under b (record { number = n; parsed = parsed.Stops lex.LineTooLong })) ≡ Err (at_line n (RequestCause (request.Lex lex.LineTooLong)))
     long_judged None n t e = refl
     long_judged (Some b) n t e = refl
 
     long_physical : (line : List ℕ) → most_line_bytes < length line → by_physical s line ≡ Err long_fault
     unfolding parsed_in served
     long_physical line long =
-        ap (λ (r : Result (Option Line × LexerState) LexFault). by_parsed (record s { lexer = state_by s.lexer (fed s.lexer line) }) (parsed_by false (number_of s.lexer) (opening_of (first_line s.lexer line)) r)) (fed-too_long s.lexer line long)
+        ap (λ (r : Result (Option Line × LexerState) LexFault).
+        by_parsed (record s { lexer = state_by s.lexer (fed s.lexer line) }) (parsed_by false (number_of s.lexer) (opening_of (first_line s.lexer line)) r)) (fed-too_long s.lexer line long)
         ∙ long_judged s.block (number_of s.lexer) (record s { lexer = state_by s.lexer (fed s.lexer line) }) refl
 
-    long_by : (line : List ℕ) → most_line_bytes < length line → (ended begun : Bool) → ended ≡ false → (if ended then Ok ([], s) else (if begun then by_physical s line else by_outside s (outside s.lexer line))) ≡ Err long_fault
+    long_by : (line : List ℕ) → most_line_bytes < length line → (ended begun : Bool) → ended ≡ false
+        → (if ended then Ok ([], s) else (if begun then by_physical s line else by_outside s (outside s.lexer line))) ≡ Err long_fault
     long_by line long true begun e = absurd (false≢true (sym e))
     long_by line long false true e = long_physical line long
     long_by line long false false e = ap (by_outside s) (outside-too_long s.lexer line long)
@@ -143,19 +152,23 @@ module _ (input : ℕ) where
     early left = Err (delta_fault_in input (early_end s left))
 
     left_within : (left : Option OpenLine) → s.begun ≡ true → answer_at_end input s.lexer.count (decision input table (outcome_within block (map delta_file_parsed (line_left_open left)))) ≡ early left
-    left_within (Some o) e = ap (λ (said : DeltaOutcome). answer_at_end input s.lexer.count (decision input table said)) (left_open block) ∙ ap (answer_at_end input s.lexer.count) (decided_end table (AtFault (early_end s (Some o))))
+    left_within (Some o) e = ap (λ (said : DeltaOutcome). answer_at_end input s.lexer.count (decision input table said)) (left_open block)
+        ∙ ap (answer_at_end input s.lexer.count) (decided_end table (AtFault (early_end s (Some o))))
       where
-        left_open : (block : Option BlockLines) → outcome_within block (map delta_file_parsed (line_left_open (Some o))) ≡ ends_so (AtFault (at_line o.number (RequestCause (request.Lex lex.DanglingEscape))))
+        left_open : (block : Option BlockLines) → outcome_within block (map delta_file_parsed (line_left_open (Some o)))
+            ≡ ends_so (AtFault (at_line o.number (RequestCause (request.Lex lex.DanglingEscape))))
         left_open None = outcome_within-cons None _ []
         left_open (Some b) = outcome_within-cons (Some b) _ []
-    left_within None e = ap (λ (said : DeltaOutcome). answer_at_end input s.lexer.count (decision input table said)) (outcome_within-nil block) ∙ (ap (answer_at_end input s.lexer.count) (decided_end table _) ∙ rw e refl)
+    left_within None e = ap (λ (said : DeltaOutcome). answer_at_end input s.lexer.count (decision input table said)) (outcome_within-nil block)
+        ∙ (ap (answer_at_end input s.lexer.count) (decided_end table _) ∙ rw e refl)
 
     left_before : s.begun ≡ false → answer_at_end input s.lexer.count (by_ending input (EndUndecided NoCategory) table) ≡ early None
     left_before f = rw f refl
 
     ends_by : (begun : Bool) → s.ended ≡ false → s.begun ≡ begun → answer_at_end input s.lexer.count (decision input table (outcome_from true block s [])) ≡ early s.lexer.line
     ends_by true e f =
-        ap (λ (said : DeltaOutcome). answer_at_end input s.lexer.count (decision input table said)) (from_within true block s [] e f ∙ ap (λ ls. outcome_within block (map delta_file_parsed ls)) (logical_lines-nil [] true s.lexer))
+        ap (λ (said : DeltaOutcome). answer_at_end input s.lexer.count (decision input table said))
+        (from_within true block s [] e f ∙ ap (λ ls. outcome_within block (map delta_file_parsed ls)) (logical_lines-nil [] true s.lexer))
         ∙ left_within s.lexer.line f
     ends_by false e f =
         ap (λ (said : DeltaOutcome). answer_at_end input s.lexer.count (decision input table said)) (from_before true block s [] e f ∙ outcome_before-nil true s.lexer)
@@ -172,7 +185,8 @@ module _ (input : ℕ) where
 
     undecided_by : (begun : Bool) → s.ended ≡ false → s.begun ≡ begun → DecidesNothing (decision input table (outcome_from false block s []))
     undecided_by true e f =
-        subst DecidesNothing (sym (ap (decision input table) (from_within false block s [] e f ∙ (ap (λ ls. outcome_within block (map delta_file_parsed ls)) (logical_lines-nil [] false s.lexer) ∙ outcome_within-nil block)) ∙ decided_end table _)) tt
+        subst DecidesNothing (sym (ap (decision input table) (from_within false block s [] e f
+        ∙ (ap (λ ls. outcome_within block (map delta_file_parsed ls)) (logical_lines-nil [] false s.lexer) ∙ outcome_within-nil block)) ∙ decided_end table _)) tt
     undecided_by false e f =
         subst DecidesNothing (sym (ap (decision input table) (from_before false block s [] e f ∙ outcome_before-nil false s.lexer) ∙ decided_end table _)) tt
 

@@ -12,7 +12,8 @@ use Rattle.coll_table.proofs.LineNumbers.{IsOpenWithin, none_open, fed_within}
 use Rattle.coll_requests.specs.Parsing.{parsed_by, parsed_in}
 use Rattle.coll_requests.specs.SessionLines.{opening_of}
 use Rattle.coll_requests.specs.DeltaFiles.{file_fault, statements_in, fault_outside, standalone_fault}
-use Rattle.coll_requests.specs.DeltaReading.{DeltaState, Step, kept_fault_inside, kept_fault_under, kept_ended_before, faulty, judged, by_parsed, by_physical, by_outside, by_where, unless_faulty as unless_stands, delta_line}
+use Rattle.coll_requests.specs.DeltaReading.{DeltaState, Step, kept_fault_inside, kept_fault_under, kept_ended_before, faulty, judged}
+use Rattle.coll_requests.specs.DeltaReading.{by_parsed, by_physical, by_outside, by_where, unless_faulty as unless_stands, delta_line}
 use Rattle.coll_requests.specs.OpenBlocks.{is_full}
 use Rattle.coll_requests.specs.declared.delta_faults.DeltaFault.{DeltaFault}
 use Rattle.coll_requests.specs.declared.delta_files.StatementAt.{StatementAt}
@@ -131,7 +132,8 @@ module _ (s : DeltaState) (line : List ℕ) (faultless : s.fault ≡ None) where
   placed = ap (λ (f : Option DeltaFault). unless_stands f (by_where s line)) faultless
 
   -- a line that was taken leaves no other line open
-  pub opens_after : (given : List StatementAt) (after : DeltaState) → s.ended ≡ false → s.lexer.count ≤ most_lines → delta_line s line ≡ Ok (given, after) → IsOpenWithin s.lexer → IsOpenWithin after.lexer
+  pub opens_after : (given : List StatementAt) (after : DeltaState) → s.ended ≡ false → s.lexer.count ≤ most_lines → delta_line s line ≡ Ok (given, after) → IsOpenWithin s.lexer
+      → IsOpenWithin after.lexer
   opens_after given after going few e opens = by_begun s.ended s.begun going (sym placed ∙ e)
     where
       by_said : (r : Result (Bool × LexerState) LexFault) → outside s.lexer line ≡ r → by_outside s r ≡ Ok (given, after) → IsOpenWithin after.lexer

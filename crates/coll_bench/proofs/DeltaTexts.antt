@@ -1,16 +1,14 @@
 -- A delta file that is read line by line: what is known of it after some lines, and what each end of the reading says of it.
-use Rattle.std.proofs.Common.{◌≡◌, ℕ, Bool, true, false, List, [], ◌∷◌, ◌++◌, length, Option, Some, None, Result, Ok, Err, ◌⊎◌, ⊎_elim, inl, inr, sym, ap, subst, ◌∙◌, refl, arith, append_assoc, append-nil, length-append}
+use Rattle.std.proofs.Common.{◌≡◌, ℕ, Bool, true, false, List, [], ◌∷◌, ◌++◌, length, Option, Some, None, Result, Ok, Err, ◌⊎◌}
+use Rattle.std.proofs.Common.{⊎_elim, inl, inr, sym, ap, subst, ◌∙◌, refl, arith, append_assoc, append-nil, length-append}
 use Rattle.std.specs.Prelude.{◌+◌, if◌then◌else◌, option_map, IfErr, OnOk}
-use Rattle.std.proofs.lemmas.Bool.{false≢true}
-use Rattle.std.proofs.lemmas.Grind.{flat_map-append}
-use Rattle.std.specs.Io.KnownBytes.{prepend_known}
 use Rattle.coll_devices.specs.LineReading.{ReaderState, no_line, Advances, GivesLine, GivesEnd, EndsAgain, StopsNow, StopsAgain}
 use Rattle.coll_lex.specs.LogicalLines.{OpenLine, number_of}
-use Rattle.coll_devices.specs.PhysicalLines.{line_feed, lines_of, with_feeds}
+use Rattle.coll_devices.specs.PhysicalLines.{lines_of, with_feeds}
 use Rattle.coll_devices.specs.declared.stops.ReadStop.{ReadStop}
 use Rattle.coll_devices.specs.declared.stops.ReadStop.TheVariants as stop
 use Rattle.coll_nodes.specs.Table.{Collation}
-use Rattle.coll_table.proofs.TextSteps.{IsUnread, gives_first, was_last, stops_long, stops_short}
+use Rattle.coll_table.proofs.TextSteps.{LinesGiven, gives_first, was_last, stops_long, stops_short, none_given, one_given, all_given}
 use Rattle.coll_requests.specs.DeltaFiles.{DeltaOutcome, at_line, after_statements, delta_outcome}
 use Rattle.coll_requests.specs.DeltaReading.{DeltaState, Step, first_delta, delta_line, early_end, delta_end}
 use Rattle.coll_requests.specs.Requests.{BlockLines}
@@ -37,7 +35,8 @@ statements_append : (given more : List StatementAt) (later : DeltaOutcome) → a
 statements_append given more later = ap (λ (all : List StatementAt). record { statements = all; ending = later.ending }) (sym (append_assoc given more later.statements))
 
 -- a line that was taken is one that the file's reader took
-line_step : (input : ℕ) (table : Collation) (s : DeltaState) (line : List ℕ) (changed : Collation) (after : DeltaState) → line_taken input table s line ≡ Ok (changed, after) → (given : List StatementAt) × (delta_line s line ≡ Ok (given, after))
+line_step : (input : ℕ) (table : Collation) (s : DeltaState) (line : List ℕ) (changed : Collation) (after : DeltaState) → line_taken input table s line ≡ Ok (changed, after)
+    → (given : List StatementAt) × (delta_line s line ≡ Ok (given, after))
 unfolding line_taken
 line_step input table s line changed after e = by_answer (delta_line s line) refl e
   where
@@ -45,7 +44,8 @@ line_step input table s line changed after e = by_answer (delta_line s line) ref
     by_stored given reached t None e = ap (state_of reached) e
     by_stored given reached t (Some f) e = absurd cc
 
-    by_table : (given : List StatementAt) (reached : DeltaState) (r : Result Collation RunFault) → unless_faulty r (λ t. unless_stored input reached.fault (t, reached)) ≡ Ok (changed, after) → reached ≡ after
+    by_table : (given : List StatementAt) (reached : DeltaState) (r : Result Collation RunFault) → unless_faulty r (λ t. unless_stored input reached.fault (t, reached)) ≡ Ok (changed, after)
+        → reached ≡ after
     by_table given reached (Ok t) e = by_stored given reached t reached.fault e
     by_table given reached (Err f) e = absurd cc
 
@@ -53,26 +53,15 @@ line_step input table s line changed after e = by_answer (delta_line s line) ref
     by_answer (Ok (given, reached)) is e = (given, is ∙ ap (λ (t : DeltaState). Ok (given, t)) (by_table given reached (rewritten input table given) e))
     by_answer (Err f) is e = absurd cc
 
--- lines and one more, and those behind it, with their line feeds
-fed_more : (text : List ℕ) (whole : List (List ℕ)) (rest line later : List ℕ) → text ≡ with_feeds whole ++ rest → rest ≡ with_feeds (line ∷ []) ++ later → text ≡ with_feeds (whole ++ line ∷ []) ++ later
-fed_more text whole rest line later h k =
-    h ∙ (ap (λ l. with_feeds whole ++ l) k
-    ∙ (sym (append_assoc (with_feeds whole) (with_feeds (line ∷ [])) later)
-    ∙ ap (λ l. l ++ later) (sym (flat_map-append (λ line. line ++ line_feed ∷ []) whole (line ∷ [])))))
-
 module _ (input : ℕ) (first : Collation) where
   -- of the text these lines were taken, and the rest is unread; what they decide is what is decided from the table and the state of
   -- the file's reader
   pub record ReadSoFar (text : List ℕ) (reader : ReaderState) (left : Option (List ℕ)) (block : Option BlockLines) (table : Collation) (s : DeltaState) : Type 0 where
-    pub whole : List (List ℕ)
-    pub rest : List ℕ
-    pub unread : IsUnread reader left rest
-    pub lines : lines_of text ≡ whole ++ lines_of rest
-    pub fed : reader.ended ≡ false → text ≡ with_feeds whole ++ rest
-    pub count : s.ended ≡ false → s.lexer.count ≡ length whole
-    pub decides : (ends : Bool) (more : List (List ℕ)) → decision input first (delta_outcome ends (whole ++ more)) ≡ decision input table (outcome_from ends block s more)
+    pub lines : LinesGiven text reader left
+    pub count : s.ended ≡ false → s.lexer.count ≡ length lines.whole
+    pub decides : (ends : Bool) (more : List (List ℕ)) → decision input first (delta_outcome ends (lines.whole ++ more)) ≡ decision input table (outcome_from ends block s more)
     pub given : List StatementAt
-    pub says : (ends : Bool) (more : List (List ℕ)) → delta_outcome ends (whole ++ more) ≡ after_statements given (outcome_from ends block s more)
+    pub says : (ends : Bool) (more : List (List ℕ)) → delta_outcome ends (lines.whole ++ more) ≡ after_statements given (outcome_from ends block s more)
 
   -- whatever text the device had, it was read so far
   pub record OnWay (start : Option (List ℕ)) (reader : ReaderState) (left : Option (List ℕ)) (table : Collation) (s : DeltaState) : Type 0 where
@@ -88,11 +77,7 @@ module _ (input : ℕ) (first : Collation) where
     stands = stands_first;
     opens = none_open first_delta.lexer refl;
     read = λ text e. record {
-      whole = [];
-      rest = text;
-      unread = (ap (prepend_known []) e, λ n. absurd (false≢true n));
-      lines = refl;
-      fed = λ n. refl;
+      lines = none_given text start e;
       count = λ n. refl;
       decides = λ ends more. refl;
       given = [];
@@ -101,19 +86,21 @@ module _ (input : ℕ) (first : Collation) where
   }
 
   -- what the lines of a text decide is the answer to it
-  answered_by : (text : List ℕ) (d : Decision) (count : ℕ) → decision input first (delta_outcome true (lines_of text)) ≡ d → length (lines_of text) ≡ count → after_delta input first text ≡ answer_at_end input count d
+  answered_by : (text : List ℕ) (d : Decision) (count : ℕ) → decision input first (delta_outcome true (lines_of text)) ≡ d → length (lines_of text) ≡ count
+      → after_delta input first text ≡ answer_at_end input count d
   unfolding after_delta
   answered_by text d count e n = ap (answer_at_end input (length (lines_of text))) e ∙ ap (λ c. answer_at_end input c d) n
 
   module _ (start : Option (List ℕ)) (reader : ReaderState) (left : Option (List ℕ)) (table : Collation) (s : DeltaState) (way : OnWay start reader left table s) where
     -- what is decided of the text by the lines unread
-    from_here : (text : List ℕ) (e : start ≡ Some text) (lines : List (List ℕ)) → let at = way.read text e in lines_of at.rest ≡ lines → decision input first (delta_outcome true (lines_of text)) ≡ decision input table (outcome_from true way.block s lines)
+    from_here : (text : List ℕ) (e : start ≡ Some text) (lines : List (List ℕ)) → let at = way.read text e in lines_of at.lines.rest ≡ lines → decision input first (delta_outcome true (lines_of text))
+        ≡ decision input table (outcome_from true way.block s lines)
     from_here text e lines ahead =
         let at = way.read text e in
-        ap (λ ls. decision input first (delta_outcome true ls)) (at.lines ∙ ap (λ l. at.whole ++ l) ahead) ∙ at.decides true lines
+        ap (λ ls. decision input first (delta_outcome true ls)) (at.lines.lines ∙ ap (λ l. at.lines.whole ++ l) ahead) ∙ at.decides true lines
 
     -- a text of which a line decides is answered so
-    decided_so : (text : List ℕ) (e : start ≡ Some text) (line : List ℕ) (later : List (List ℕ)) (ended : RunFault) → let at = way.read text e in lines_of at.rest ≡ line ∷ later
+    decided_so : (text : List ℕ) (e : start ≡ Some text) (line : List ℕ) (later : List (List ℕ)) (ended : RunFault) → let at = way.read text e in lines_of at.lines.rest ≡ line ∷ later
         → line_taken input table s line ≡ Err ended → after_delta input first text ≡ Err ended
     decided_so text e line later ended ahead taken =
         let decides : LineDecides input way.block table s line (Err ended) = subst (LineDecides input way.block table s line) taken (line_decides input way.block table s line way.stands) in
@@ -123,7 +110,8 @@ module _ (input : ℕ) (first : Collation) where
     pub given_whole : s.ended ≡ true → (text : List ℕ) → start ≡ Some text → after_delta input first text ≡ Ok table
     given_whole ended text e =
         let at = way.read text e in
-        answered_by text (Decided (Ok table)) (length (lines_of text)) (from_here text e (lines_of at.rest) refl ∙ given_here input way.block table s way.stands true (lines_of at.rest) ended) refl
+        answered_by text (Decided (Ok table)) (length (lines_of text))
+        (from_here text e (lines_of at.lines.rest) refl ∙ given_here input way.block table s way.stands true (lines_of at.lines.rest) ended) refl
 
     module _ (going : s.ended ≡ false) (new : ReaderState) (left_after : Option (List ℕ)) (failed failed_after : ℕ) where
       -- a line more that was taken
@@ -141,19 +129,15 @@ module _ (input : ℕ) (first : Collation) where
           opens = opens_on;
           read = λ text e.
               let at = way.read text e in
-              let first_line = gives_first reader new left left_after failed failed_after at.rest at.unread gives in
+              let whole = at.lines.whole in
               record {
-                whole = at.whole ++ new.line ∷ [];
-                rest = first_line.rest;
-                unread = first_line.unread;
-                lines = at.lines ∙ (ap (λ lines. at.whole ++ lines) first_line.first ∙ sym (append_assoc at.whole (new.line ∷ []) (lines_of first_line.rest)));
-                fed = λ n. fed_more text at.whole at.rest new.line first_line.rest (at.fed first_line.went_on) (first_line.fed n);
-                count = λ n. let one = leads.counts n in omega (arith, one.1, at.count going, length-append at.whole (new.line ∷ []));
+                lines = one_given text reader new left left_after failed failed_after at.lines gives;
+                count = λ n. let one = leads.counts n in omega (arith, one.1, at.count going, length-append whole (new.line ∷ []));
                 decides = λ ends more.
-                    ap (λ ls. decision input first (delta_outcome ends ls)) (append_assoc at.whole (new.line ∷ []) more) ∙ (at.decides ends (new.line ∷ more) ∙ leads.decides ends more);
+                    ap (λ ls. decision input first (delta_outcome ends ls)) (append_assoc whole (new.line ∷ []) more) ∙ (at.decides ends (new.line ∷ more) ∙ leads.decides ends more);
                 given = at.given ++ leads.given;
                 says = λ ends more.
-                    ap (λ ls. delta_outcome ends ls) (append_assoc at.whole (new.line ∷ []) more) ∙ (at.says ends (new.line ∷ more)
+                    ap (λ ls. delta_outcome ends ls) (append_assoc whole (new.line ∷ []) more) ∙ (at.says ends (new.line ∷ more)
                     ∙ (ap (after_statements at.given) (leads.says ends more) ∙ statements_append at.given leads.given (outcome_from ends leads.next after more)));
               };
         }
@@ -163,67 +147,74 @@ module _ (input : ℕ) (first : Collation) where
         counts on = leads.counts on
 
       -- the lines so far decide nothing
-      undecided : (text : List ℕ) (e : start ≡ Some text) → DecidesNothing (decision input first (delta_outcome false (way.read text e).whole))
+      undecided : (text : List ℕ) (e : start ≡ Some text) → DecidesNothing (decision input first (delta_outcome false (way.read text e).lines.whole))
       undecided text e =
           let at = way.read text e in
-          subst DecidesNothing (sym (ap (λ ls. decision input first (delta_outcome false ls)) (sym (append-nil at.whole)) ∙ at.decides false [])) (undecided_here input way.block table s way.stands going)
+          subst DecidesNothing (sym (ap (λ ls. decision input first (delta_outcome false ls)) (sym (append-nil at.lines.whole)) ∙ at.decides false []))
+          (undecided_here input way.block table s way.stands going)
 
       -- a line more to which memory was refused
-      starved : (number : ℕ) → GivesLine reader new left left_after failed failed_after → IsFaultNumber s new.line number → (text : List ℕ) → start ≡ Some text → DeltaStarvesWithin input first text number
+      starved : (number : ℕ) → GivesLine reader new left left_after failed failed_after → IsFaultNumber s new.line number → (text : List ℕ) → start ≡ Some text
+          → DeltaStarvesWithin input first text number
       starved number gives is text e =
-          let first_line = gives_first reader new left left_after failed failed_after at.rest at.unread gives in
-          (at.whole, new.line, lines_of first_line.rest, at.lines ∙ ap (λ lines. at.whole ++ lines) first_line.first, undecided text e, ⊎_elim of_line of_statement is)
+          let first_line = gives_first reader new left left_after failed failed_after at.lines.rest at.lines.unread gives in
+          (at.lines.whole, new.line, lines_of first_line.rest, at.lines.lines ∙ ap (λ lines. at.lines.whole ++ lines) first_line.first, undecided text e, ⊎_elim of_line of_statement is)
         where
           at : ReadSoFar text reader left way.block table s
           at = way.read text e
 
-          of_line : number ≡ number_of s.lexer → IsLineWithin number (length at.whole + 1) ⊎ IsLineOfStatement (at.whole ++ new.line ∷ []) number
+          of_line : number ≡ number_of s.lexer → IsLineWithin number (length at.lines.whole + 1) ⊎ IsLineOfStatement (at.lines.whole ++ new.line ∷ []) number
           of_line same = let within = next_within s.lexer way.opens in inl (omega (arith, same, within.0), omega (arith, same, within.1, at.count going))
 
-          by_given : (given : List StatementAt) (after : DeltaState) → delta_line s new.line ≡ Ok (given, after) → IsNumberOf given number → IsLineOfStatement (at.whole ++ new.line ∷ []) number
+          by_given : (given : List StatementAt) (after : DeltaState) → delta_line s new.line ≡ Ok (given, after) → IsNumberOf given number → IsLineOfStatement (at.lines.whole ++ new.line ∷ []) number
           by_given [] after step here = absurd here
           by_given (it ∷ more) after step here =
               let stated = line_states input way.block s new.line (it ∷ more) after way.stands step in
               (at.given, it, more ++ stated.0.statements, ap (λ (said : DeltaOutcome). said.statements) (at.says false (new.line ∷ []) ∙ ap (after_statements at.given) stated.1), here)
 
-          of_statement : (given : List StatementAt) × (after : DeltaState) × (delta_line s new.line ≡ Ok (given, after)) × IsNumberOf given number → IsLineWithin number (length at.whole + 1) ⊎ IsLineOfStatement (at.whole ++ new.line ∷ []) number
+          of_statement : (given : List StatementAt) × (after : DeltaState) × (delta_line s new.line ≡ Ok (given, after)) × IsNumberOf given number → IsLineWithin number (length at.lines.whole + 1)
+              ⊎ IsLineOfStatement (at.lines.whole ++ new.line ∷ []) number
           of_statement h = inr (by_given h.0 h.1 h.2 h.3)
 
       -- a line more that was refused
-      refused_by : (kind : Ending) (ended : RunFault) → GivesLine reader new left left_after failed failed_after → FailsAs kind (line_taken input table s new.line) ended → IsFaultNumber s new.line ended.line → (text : List ℕ) → start ≡ Some text → DeltaFails kind input first text left_after ended
+      refused_by : (kind : Ending) (ended : RunFault) → GivesLine reader new left left_after failed failed_after → FailsAs kind (line_taken input table s new.line) ended
+          → IsFaultNumber s new.line ended.line → (text : List ℕ) → start ≡ Some text → DeltaFails kind input first text left_after ended
       refused_by ReadFailed ended gives h number text e = absurd h
       refused_by WriteFailed ended gives h number text e = h
       refused_by Starved ended gives h number text e = inr (starved ended.line gives number text e)
       refused_by Refused ended gives h number text e =
           let at = way.read text e in
-          let first_line = gives_first reader new left left_after failed failed_after at.rest at.unread gives in
+          let first_line = gives_first reader new left left_after failed failed_after at.lines.rest at.lines.unread gives in
           decided_so text e new.line (lines_of first_line.rest) ended first_line.first h
 
-      pub refused : (ended : RunFault) → GivesLine reader new left left_after failed failed_after → FailsAs (ending_of ended) (line_taken input table s new.line) ended → (s.fault ≡ None → IsFaultNumber s new.line ended.line) → ReadsDelta input first table start left_after (Err ended)
+      pub refused : (ended : RunFault) → GivesLine reader new left left_after failed failed_after → FailsAs (ending_of ended) (line_taken input table s new.line) ended
+          → (s.fault ≡ None → IsFaultNumber s new.line ended.line) → ReadsDelta input first table start left_after (Err ended)
       refused ended gives h number = refused_by (ending_of ended) ended gives h (number way.stands.faultless)
 
       -- a line more that is longer than a line may be
-      stopped_long : reader.stop ≡ None → StopsNow reader new left left_after failed failed_after stop.LineTooLong ⊎ StopsAgain reader new left left_after failed failed_after stop.LineTooLong → (text : List ℕ) → start ≡ Some text
+      stopped_long : reader.stop ≡ None → StopsNow reader new left left_after failed failed_after stop.LineTooLong ⊎ StopsAgain reader new left left_after failed failed_after stop.LineTooLong
+          → (text : List ℕ) → start ≡ Some text
           → after_delta input first text ≡ Err (stopped_in input (number_of s.lexer) stop.LineTooLong)
       stopped_long none stops text e =
           let at = way.read text e in
-          let long = stops_long reader new left left_after failed failed_after at.rest at.unread none stops in
+          let long = stops_long reader new left left_after failed failed_after at.lines.rest at.lines.unread none stops in
           decided_so text e long.line long.later (stopped_in input (number_of s.lexer) stop.LineTooLong) long.first (long_line input way.block table s way.stands long.line long.long going)
 
       -- a read that failed
-      stopped_short : reader.stop ≡ None → StopsNow reader new left left_after failed failed_after stop.ReadFault ⊎ StopsAgain reader new left left_after failed failed_after stop.ReadFault → (text : List ℕ) → start ≡ Some text
+      stopped_short : reader.stop ≡ None → StopsNow reader new left left_after failed failed_after stop.ReadFault ⊎ StopsAgain reader new left left_after failed failed_after stop.ReadFault
+          → (text : List ℕ) → start ≡ Some text
           → DeltaFails ReadFailed input first text left_after (stopped_in input (number_of s.lexer) stop.ReadFault)
       stopped_short none stops text e =
           let at = way.read text e in
-          let cut = stops_short reader new left left_after failed failed_after at.rest at.unread none stops in (
+          let cut = stops_short reader new left left_after failed failed_after at.lines.rest at.lines.unread none stops in (
             refl,
             (
-              at.whole,
+              at.lines.whole,
               cut.part,
               cut.rest,
               cut.left,
-              at.fed cut.went_on ∙ ap (λ rest. with_feeds at.whole ++ rest) cut.all,
-              at.lines ∙ ap (λ rest. at.whole ++ lines_of rest) cut.all,
+              at.lines.fed cut.went_on ∙ ap (λ rest. with_feeds at.lines.whole ++ rest) cut.all,
+              at.lines.lines ∙ ap (λ rest. at.lines.whole ++ lines_of rest) cut.all,
               cut.whole,
               cut.short,
               undecided text e,
@@ -231,7 +222,8 @@ module _ (input : ℕ) (first : Collation) where
           )
 
       -- a reader that stops
-      pub stopped : (why : ReadStop) → reader.stop ≡ None → Advances reader new left left_after failed failed_after (Err why) → ReadsDelta input first table start left_after (Err (stopped_in input (number_of s.lexer) why))
+      pub stopped : (why : ReadStop) → reader.stop ≡ None → Advances reader new left left_after failed failed_after (Err why)
+          → ReadsDelta input first table start left_after (Err (stopped_in input (number_of s.lexer) why))
       stopped stop.LineTooLong none stops = stopped_long none stops
       stopped stop.ReadFault none stops = stopped_short none stops
 
@@ -240,13 +232,14 @@ module _ (input : ℕ) (first : Collation) where
           → after_delta input first text ≡ Err (delta_fault_in input (early_end s s.lexer.line))
       all_read ends text e =
           let at = way.read text e in
-          let none = was_last reader new left left_after failed failed_after at.rest at.unread ends in
-          let all : lines_of text ≡ at.whole = at.lines ∙ (ap (λ lines. at.whole ++ lines) none ∙ append-nil at.whole) in
+          let none = was_last reader new left left_after failed failed_after at.lines.rest at.lines.unread ends in
+          let all = all_given text reader new left left_after failed failed_after at.lines ends in
           answered_by text (decision input table (outcome_from true way.block s [])) s.lexer.count (from_here text e [] none) (ap length all ∙ sym (at.count going))
           ∙ ends_here input way.block table s way.stands going
 
       -- a file that ends before its category does: what its reader answers is the answer to the text
-      ends_early : GivesEnd reader new left left_after failed failed_after ⊎ EndsAgain reader new left left_after failed failed_after → (ended : RunFault) → option_map (delta_fault_in input) (delta_end s) ≡ Some ended → ReadsDelta input first table start left_after (Err ended)
+      ends_early : GivesEnd reader new left left_after failed failed_after ⊎ EndsAgain reader new left left_after failed failed_after → (ended : RunFault)
+          → option_map (delta_fault_in input) (delta_end s) ≡ Some ended → ReadsDelta input first table start left_after (Err ended)
       ends_early ends ended h =
           let f = early_end s s.lexer.line in
           let both : Some (delta_fault_in input f) ≡ Some ended = sym (ap (option_map (delta_fault_in input)) (reader_ends input way.block table s way.stands going)) ∙ h in
@@ -268,7 +261,8 @@ module _ (input : ℕ) (first : Collation) where
       ends_ill none = let both : Some (early_end s s.lexer.line) ≡ None = sym (reader_ends input way.block table s way.stands going) ∙ none in cc
 
       -- a file that ends here
-      pub ends_file : GivesEnd reader new left left_after failed failed_after ⊎ EndsAgain reader new left left_after failed failed_after → (r : Result (Unit {0}) RunFault) → OnOk r (delta_end s ≡ None) → IfErr r (λ ended. option_map (delta_fault_in input) (delta_end s) ≡ Some ended)
+      pub ends_file : GivesEnd reader new left left_after failed failed_after ⊎ EndsAgain reader new left left_after failed failed_after → (r : Result (Unit {0}) RunFault)
+          → OnOk r (delta_end s ≡ None) → IfErr r (λ ended. option_map (delta_fault_in input) (delta_end s) ≡ Some ended)
           → ReadsDelta input first table start left_after r
       ends_file ends (Ok done) ok err = absurd (ends_ill ok)
       ends_file ends (Err ended) ok err = ends_early ends ended err

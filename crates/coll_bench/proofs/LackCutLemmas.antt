@@ -27,7 +27,8 @@ abbrev EndsLine : List ℕ → List ℕ → List (List ℕ) → Type 0
 EndsLine line first rest = (later : List ℕ) → lines_of (line ++ line_feed ∷ later) ≡ first ∷ (rest ++ lines_of later)
 
 line_behind : (feed : Bool) (c : ℕ) (line first : List ℕ) (rest : List (List ℕ)) → EndsLine line first rest
-    → (first2 : List ℕ) × (rest2 : List (List ℕ)) × ((later : List ℕ) → (if feed then [] ∷ lines_of (line ++ line_feed ∷ later) else with_first c (lines_of (line ++ line_feed ∷ later))) ≡ first2 ∷ (rest2 ++ lines_of later))
+    → (first2 : List ℕ) × (rest2 : List (List ℕ))
+    × ((later : List ℕ) → (if feed then [] ∷ lines_of (line ++ line_feed ∷ later) else with_first c (lines_of (line ++ line_feed ∷ later))) ≡ first2 ∷ (rest2 ++ lines_of later))
 line_behind true c line first rest is = ([], first ∷ rest, λ later. ap (λ (ls : List (List ℕ)). [] ∷ ls) (is later))
 line_behind false c line first rest is = (c ∷ first, rest, λ later. ap (with_first c) (is later))
 
@@ -77,14 +78,16 @@ shows_earlier bytes rest (before, after, is) = (
 abbrev requests_of : (choices : List Bool) → (ends : Bool) → LexerState → Option OpenBlock → List (List ℕ) → List RequestAt
 requests_of choices ends s block lines = kept_requests ends block (map parsed (logical_lines choices ends s lines))
 
-stops_here : (memory : Bool) (choices : List Bool) (ends : Bool) (s : LexerState) (block : Option OpenBlock) (bytes : List ℕ) (lines : List (List ℕ)) (f : LexFault) → stop_at (parsed_at memory s bytes) ≡ Some f
+stops_here : (memory : Bool) (choices : List Bool) (ends : Bool) (s : LexerState) (block : Option OpenBlock) (bytes : List ℕ) (lines : List (List ℕ)) (f : LexFault)
+    → stop_at (parsed_at memory s bytes) ≡ Some f
     → requests_of (memory ∷ choices) ends s block (bytes ∷ lines) ≡ line_requests block (parsed_at memory s bytes)
 stops_here memory choices ends s block bytes lines f is =
     ap (kept_requests ends block) (parsed_later memory choices ends s bytes lines)
     ∙ requests_stop ends block (parsed_at memory s bytes) (map parsed (logical_lines choices ends (state_by s (served memory s bytes)) lines)) f is
 
 goes_on : (memory : Bool) (choices : List Bool) (ends : Bool) (s : LexerState) (block : Option OpenBlock) (bytes : List ℕ) (lines : List (List ℕ)) → stop_at (parsed_at memory s bytes) ≡ None
-    → requests_of (memory ∷ choices) ends s block (bytes ∷ lines) ≡ line_requests block (parsed_at memory s bytes) ++ requests_of choices ends (state_by s (served memory s bytes)) (line_block block (parsed_at memory s bytes)) lines
+    → requests_of (memory ∷ choices) ends s block (bytes ∷ lines) ≡ line_requests block (parsed_at memory s bytes) ++ requests_of choices ends (state_by s (served memory s bytes))
+    (line_block block (parsed_at memory s bytes)) lines
 goes_on memory choices ends s block bytes lines is =
     ap (kept_requests ends block) (parsed_later memory choices ends s bytes lines)
     ∙ requests_on ends block (parsed_at memory s bytes) (map parsed (logical_lines choices ends (state_by s (served memory s bytes)) lines)) is
@@ -92,10 +95,14 @@ goes_on memory choices ends s block bytes lines is =
 abbrev RequestsPrefix : List Bool → LexerState → Option OpenBlock → (lines later : List (List ℕ)) → Type 0
 RequestsPrefix choices s block lines later = (more : List RequestAt) × (requests_of choices true s block (lines ++ later) ≡ requests_of choices false s block lines ++ more)
 
-prefix_by : (stop : Option LexFault) (memory : Bool) (choices : List Bool) (s : LexerState) (block : Option OpenBlock) (bytes : List ℕ) (lines later : List (List ℕ)) → stop_at (parsed_at memory s bytes) ≡ stop
+prefix_by : (stop : Option LexFault) (memory : Bool) (choices : List Bool) (s : LexerState) (block : Option OpenBlock) (bytes : List ℕ) (lines later : List (List ℕ))
+    → stop_at (parsed_at memory s bytes) ≡ stop
     → RequestsPrefix choices (state_by s (served memory s bytes)) (line_block block (parsed_at memory s bytes)) lines later → RequestsPrefix (memory ∷ choices) s block (bytes ∷ lines) later
-prefix_by (Some f) memory choices s block bytes lines later is next =
-    ([], stops_here memory choices true s block bytes (lines ++ later) f is ∙ sym (stops_here memory choices false s block bytes lines f is) ∙ sym (append-nil (requests_of (memory ∷ choices) false s block (bytes ∷ lines))))
+prefix_by (Some f) memory choices s block bytes lines later is next = (
+  [],
+  stops_here memory choices true s block bytes (lines ++ later) f is ∙ sym (stops_here memory choices false s block bytes lines f is)
+      ∙ sym (append-nil (requests_of (memory ∷ choices) false s block (bytes ∷ lines))),
+)
 prefix_by None memory choices s block bytes lines later is (more, next) =
     let x = parsed_at memory s bytes in
     let first = line_requests block x in (
@@ -110,9 +117,11 @@ requests_prefix : (choices : List Bool) (s : LexerState) (block : Option OpenBlo
 unfolding logical_lines kept_requests
 requests_prefix choices s block [] later = (requests_of choices true s block later, refl)
 requests_prefix [] s block (bytes ∷ lines) later =
-    prefix_by (stop_at (parsed_at false s bytes)) false [] s block bytes lines later refl (requests_prefix [] (state_by s (served false s bytes)) (line_block block (parsed_at false s bytes)) lines later)
+    prefix_by (stop_at (parsed_at false s bytes)) false [] s block bytes lines later refl
+    (requests_prefix [] (state_by s (served false s bytes)) (line_block block (parsed_at false s bytes)) lines later)
 requests_prefix (memory ∷ choices) s block (bytes ∷ lines) later =
-    prefix_by (stop_at (parsed_at memory s bytes)) memory choices s block bytes lines later refl (requests_prefix choices (state_by s (served memory s bytes)) (line_block block (parsed_at memory s bytes)) lines later)
+    prefix_by (stop_at (parsed_at memory s bytes)) memory choices s block bytes lines later refl
+    (requests_prefix choices (state_by s (served memory s bytes)) (line_block block (parsed_at memory s bytes)) lines later)
 
 -- What the lines before the cut ask for, where memory was refused to some, is what they ask for, or further lines show it.
 
@@ -133,12 +142,15 @@ cut_served None choices s block bytes lines is next =
     let block2 = line_block block x in
     ⊎_elim
     (λ (same : requests_of choices false s2 block2 lines ≡ requests_of [] false s2 block2 lines).
-    inl (goes_on false choices false s block bytes lines is ∙ ap (λ (us : List RequestAt). line_requests block x ++ us) same ∙ sym (goes_on false [] false s block bytes lines is) ∙ left_none s block bytes lines))
+    inl (goes_on false choices false s block bytes lines is ∙ ap (λ (us : List RequestAt). line_requests block x ++ us) same ∙ sym (goes_on false [] false s block bytes lines is)
+    ∙ left_none s block bytes lines))
     (λ (lacks : (later : List (List ℕ)) → Lacks (requests_of choices true s2 block2 (lines ++ later))).
-    inr (λ later. subst (λ (us : List RequestAt). Lacks us) (sym (goes_on false choices true s block bytes (lines ++ later) is)) (lacks_later (line_requests block x) (requests_of choices true s2 block2 (lines ++ later)) (lacks later))))
+    inr (λ later. subst (λ (us : List RequestAt). Lacks us) (sym (goes_on false choices true s block bytes (lines ++ later) is))
+    (lacks_later (line_requests block x) (requests_of choices true s2 block2 (lines ++ later)) (lacks later))))
     next
 
-cut_starved : (takes : Bool) (choices : List Bool) (s : LexerState) (block : Option OpenBlock) (bytes : List ℕ) (lines : List (List ℕ)) → takes_memory s bytes ≡ takes → ExactCut (false ∷ choices) s block (bytes ∷ lines) → ExactCut (true ∷ choices) s block (bytes ∷ lines)
+cut_starved : (takes : Bool) (choices : List Bool) (s : LexerState) (block : Option OpenBlock) (bytes : List ℕ) (lines : List (List ℕ)) → takes_memory s bytes ≡ takes
+    → ExactCut (false ∷ choices) s block (bytes ∷ lines) → ExactCut (true ∷ choices) s block (bytes ∷ lines)
 cut_starved true choices s block bytes lines takes fine =
     inr (λ later. subst (λ (hs : List ParsedLine). Lacks (kept_requests true block hs)) (sym (parsed_later true choices true s bytes (lines ++ later)))
     (starved_line_requests block s bytes (map parsed (logical_lines choices true (state_by s (served true s bytes)) (lines ++ later))) takes))
@@ -177,7 +189,8 @@ module _ (lines_starved requests_starved : List Bool) (table : Collation) (read 
       output_kept lines_starved requests_starved true table (read ++ later)
       ∙ ap (λ (ls : List (List ℕ)). answers (begun table) (requests_of lines_starved true first_state None ls) requests_starved) (cut later)
 
-  shown_before : ShowsLack (answers (begun table) (asked_of lines_starved read) requests_starved) → (later : List ℕ) → ShowsLack (starved_output lines_starved requests_starved true table (read ++ later))
+  shown_before : ShowsLack (answers (begun table) (asked_of lines_starved read) requests_starved) → (later : List ℕ)
+      → ShowsLack (starved_output lines_starved requests_starved true table (read ++ later))
   shown_before shows later =
       let asked = asked_of lines_starved read in
       let (more, requests_are) = requests_prefix lines_starved first_state None (lines_of read) (lines_of later) in
@@ -185,11 +198,13 @@ module _ (lines_starved requests_starved : List Bool) (table : Collation) (read 
       subst (λ (bytes : List ℕ). ShowsLack bytes) (sym (continued later ∙ ap (λ (us : List RequestAt). answers (begun table) us requests_starved) requests_are ∙ bytes_are))
       (shows_earlier (answers (begun table) asked requests_starved) rest shows)
 
-  shown_later : ((later : List (List ℕ)) → Lacks (requests_of lines_starved true first_state None (lines_of read ++ later))) → (later : List ℕ) → ShowsLack (starved_output lines_starved requests_starved true table (read ++ later))
+  shown_later : ((later : List (List ℕ)) → Lacks (requests_of lines_starved true first_state None (lines_of read ++ later))) → (later : List ℕ)
+      → ShowsLack (starved_output lines_starved requests_starved true table (read ++ later))
   shown_later lacks later =
       subst (λ (bytes : List ℕ). ShowsLack bytes) (sym (continued later)) (answers_lack (begun table) (asked_with lines_starved read later) requests_starved (lacks (lines_of later)))
 
-  exact_there : (starved_output lines_starved requests_starved false table read ≡ starved_output [] [] false table read) ⊎ ((later : List ℕ) → ShowsLack (starved_output lines_starved requests_starved true table (read ++ later)))
+  exact_there : (starved_output lines_starved requests_starved false table read ≡ starved_output [] [] false table read)
+      ⊎ ((later : List ℕ) → ShowsLack (starved_output lines_starved requests_starved true table (read ++ later)))
   unfolding written_from
   exact_there =
       ⊎_elim

@@ -95,7 +95,8 @@ withdraw_step h k later choices ih false = answered_step h (kind.Command (comman
 
 -- a command that takes no memory is answered, and one that does may show it
 command_step : (h : History) (c : Command) (later : List RequestAt) (choices : List Bool) → ((h2 : History) → Exact (answers h2 later choices) (answers h2 later []))
-    → Exact (reply_if true h (kind.Command c) ++ answers (history_after_if true h (kind.Command c)) later choices) (reply_if false h (kind.Command c) ++ answers (history_after_if false h (kind.Command c)) later [])
+    → Exact (reply_if true h (kind.Command c) ++ answers (history_after_if true h (kind.Command c)) later choices)
+    (reply_if false h (kind.Command c) ++ answers (history_after_if false h (kind.Command c)) later [])
 command_step h command.Undo later choices ih = answered_step h (kind.Command command.Undo) later choices ih
 command_step h command.Redo later choices ih = answered_step h (kind.Command command.Redo) later choices ih
 command_step h command.List later choices ih = answered_step h (kind.Command command.List) later choices ih
@@ -108,7 +109,8 @@ command_step h command.Check later choices ih = answered_step h (kind.Command co
 
 answers_step : (c : Bool) (h : History) (asks : Request) (later : List RequestAt) (choices : List Bool) → ((h2 : History) → Exact (answers h2 later choices) (answers h2 later []))
     → Exact (reply_if c h asks ++ answers (history_after_if c h asks) later choices) (reply_if false h asks ++ answers (history_after_if false h asks) later [])
-answers_step false h asks later choices ih = exact_later (reply_if false h asks) (answers (history_after_if false h asks) later choices) (answers (history_after_if false h asks) later []) (ih (history_after_if false h asks))
+answers_step false h asks later choices ih =
+    exact_later (reply_if false h asks) (answers (history_after_if false h asks) later choices) (answers (history_after_if false h asks) later []) (ih (history_after_if false h asks))
 answers_step true h (kind.Command c) later choices ih = command_step h c later choices ih
 answers_step true h (kind.Refused f) later choices ih = answered_step h (kind.Refused f) later choices ih
 answers_step true h (kind.Statement s) later choices ih = inr ([], answers h later choices, refl)
@@ -178,14 +180,17 @@ refused_lacks (Some block) n opening.Neither lines = stays block.so_far
     stays (so_far.Spoiled at) = starved_requests block.line n lines
     stays (so_far.Starved w) = starved_requests block.line w lines
 
-pub starved_line_requests : (block : Option OpenBlock) (s : LexerState) (bytes : List ℕ) (lines : List ParsedLine) → takes_memory s bytes ≡ true → Lacks (kept_requests true block (option_to_list (parsed_at true s bytes) ++ lines))
+pub starved_line_requests : (block : Option OpenBlock) (s : LexerState) (bytes : List ℕ) (lines : List ParsedLine) → takes_memory s bytes ≡ true
+    → Lacks (kept_requests true block (option_to_list (parsed_at true s bytes) ++ lines))
 unfolding parsed_in
 starved_line_requests block s bytes lines takes =
-    subst (λ (a : Result (Option Line × LexerState) LexFault). Lacks (kept_requests true block (option_to_list (parsed_by true (number_of s) (opening_of (first_line s bytes)) a) ++ lines))) (sym (served_starved s bytes takes))
+    subst (λ (a : Result (Option Line × LexerState) LexFault). Lacks (kept_requests true block (option_to_list (parsed_by true (number_of s) (opening_of (first_line s bytes)) a) ++ lines)))
+    (sym (served_starved s bytes takes))
     (refused_lacks block (number_of s) (opening_of (first_line s bytes)) lines)
 
 -- a line that no memory is taken for is served as if memory was there
-pub spared : (choices : List Bool) (ends : Bool) (s : LexerState) (bytes : List ℕ) (lines : List (List ℕ)) → takes_memory s bytes ≡ false → logical_lines (false ∷ choices) ends s (bytes ∷ lines) ≡ logical_lines (true ∷ choices) ends s (bytes ∷ lines)
+pub spared : (choices : List Bool) (ends : Bool) (s : LexerState) (bytes : List ℕ) (lines : List (List ℕ)) → takes_memory s bytes ≡ false → logical_lines (false ∷ choices) ends s (bytes ∷ lines)
+    ≡ logical_lines (true ∷ choices) ends s (bytes ∷ lines)
 unfolding logical_lines served
 spared choices ends s bytes lines none =
     ap (λ (b : Bool). lines_by s bytes (if b then Err lex.OutOfMemory else fed s bytes) ++ logical_lines choices ends (state_by s (if b then Err lex.OutOfMemory else fed s bytes)) lines) (sym none)
@@ -194,7 +199,8 @@ spared choices ends s bytes lines none =
 abbrev ExactRequests : List RequestAt → List RequestAt → Type 0
 ExactRequests asked stated = (asked ≡ stated) ⊎ Lacks asked
 
-served_requests : (stop : Option LexFault) (block : Option OpenBlock) (x : Option ParsedLine) (lines stated : List ParsedLine) → stop_at x ≡ stop → ExactRequests (kept_requests true (line_block block x) lines) (kept_requests true (line_block block x) stated)
+served_requests : (stop : Option LexFault) (block : Option OpenBlock) (x : Option ParsedLine) (lines stated : List ParsedLine) → stop_at x ≡ stop
+    → ExactRequests (kept_requests true (line_block block x) lines) (kept_requests true (line_block block x) stated)
     → ExactRequests (kept_requests true block (option_to_list x ++ lines)) (kept_requests true block (option_to_list x ++ stated))
 served_requests (Some f) block x lines stated is later = inl (requests_stop true block x lines f is ∙ sym (requests_stop true block x stated f is))
 served_requests None block x lines stated is later =
@@ -213,31 +219,39 @@ parsed_later_none : (s : LexerState) (bytes : List ℕ) (lines : List (List ℕ)
 unfolding logical_lines
 parsed_later_none s bytes lines = parsed_later false [] true s bytes lines
 
-exact_served : (choices : List Bool) (s : LexerState) (block : Option OpenBlock) (bytes : List ℕ) (lines : List (List ℕ)) → ExactLines choices (state_by s (served false s bytes)) (line_block block (parsed_at false s bytes)) lines → ExactLines (false ∷ choices) s block (bytes ∷ lines)
+exact_served : (choices : List Bool) (s : LexerState) (block : Option OpenBlock) (bytes : List ℕ) (lines : List (List ℕ))
+    → ExactLines choices (state_by s (served false s bytes)) (line_block block (parsed_at false s bytes)) lines → ExactLines (false ∷ choices) s block (bytes ∷ lines)
 exact_served choices s block bytes lines later =
     let x = parsed_at false s bytes in
     let s2 = state_by s (served false s bytes) in
-    subst (λ (hs : List ParsedLine). ExactRequests (kept_requests true block hs) (kept_requests true block (map parsed (logical_lines [] true s (bytes ∷ lines))))) (sym (parsed_later false choices true s bytes lines))
-    (subst (λ (hs : List ParsedLine). ExactRequests (kept_requests true block (option_to_list x ++ map parsed (logical_lines choices true s2 lines))) (kept_requests true block hs)) (sym (parsed_later_none s bytes lines))
+    subst (λ (hs : List ParsedLine). ExactRequests (kept_requests true block hs) (kept_requests true block (map parsed (logical_lines [] true s (bytes ∷ lines)))))
+    (sym (parsed_later false choices true s bytes lines))
+    (subst (λ (hs : List ParsedLine). ExactRequests (kept_requests true block (option_to_list x ++ map parsed (logical_lines choices true s2 lines))) (kept_requests true block hs))
+    (sym (parsed_later_none s bytes lines))
     (served_requests (stop_at x) block x (map parsed (logical_lines choices true s2 lines)) (map parsed (logical_lines [] true s2 lines)) refl later))
 
-exact_starved : (takes : Bool) (choices : List Bool) (s : LexerState) (block : Option OpenBlock) (bytes : List ℕ) (lines : List (List ℕ)) → takes_memory s bytes ≡ takes → ExactLines (false ∷ choices) s block (bytes ∷ lines) → ExactLines (true ∷ choices) s block (bytes ∷ lines)
+exact_starved : (takes : Bool) (choices : List Bool) (s : LexerState) (block : Option OpenBlock) (bytes : List ℕ) (lines : List (List ℕ)) → takes_memory s bytes ≡ takes
+    → ExactLines (false ∷ choices) s block (bytes ∷ lines) → ExactLines (true ∷ choices) s block (bytes ∷ lines)
 exact_starved true choices s block bytes lines takes fine =
     inr (subst (λ (hs : List ParsedLine). Lacks (kept_requests true block hs)) (sym (parsed_later true choices true s bytes lines))
     (starved_line_requests block s bytes (map parsed (logical_lines choices true (state_by s (served true s bytes)) lines)) takes))
 exact_starved false choices s block bytes lines none fine =
-    subst (λ (ls : List LogicalLine). ExactRequests (kept_requests true block (map parsed ls)) (kept_requests true block (map parsed (logical_lines [] true s (bytes ∷ lines))))) (spared choices true s bytes lines none) fine
+    subst (λ (ls : List LogicalLine). ExactRequests (kept_requests true block (map parsed ls)) (kept_requests true block (map parsed (logical_lines [] true s (bytes ∷ lines)))))
+    (spared choices true s bytes lines none) fine
 
 requests_exact : (choices : List Bool) (s : LexerState) (block : Option OpenBlock) (lines : List (List ℕ)) → ExactLines choices s block lines
 unfolding logical_lines
 requests_exact choices s block [] = inl refl
 requests_exact [] s block (bytes ∷ lines) = inl refl
 requests_exact (true ∷ choices) s block (bytes ∷ lines) =
-    exact_starved (takes_memory s bytes) choices s block bytes lines refl (exact_served choices s block bytes lines (requests_exact choices (state_by s (served false s bytes)) (line_block block (parsed_at false s bytes)) lines))
-requests_exact (false ∷ choices) s block (bytes ∷ lines) = exact_served choices s block bytes lines (requests_exact choices (state_by s (served false s bytes)) (line_block block (parsed_at false s bytes)) lines)
+    exact_starved (takes_memory s bytes) choices s block bytes lines refl
+    (exact_served choices s block bytes lines (requests_exact choices (state_by s (served false s bytes)) (line_block block (parsed_at false s bytes)) lines))
+requests_exact (false ∷ choices) s block (bytes ∷ lines) =
+    exact_served choices s block bytes lines (requests_exact choices (state_by s (served false s bytes)) (line_block block (parsed_at false s bytes)) lines)
 
 -- what is written from the beginning, by what the session keeps
-written_exact : (choices : List Bool) (us_starved : List Bool) (h : History) (lines : List (List ℕ)) → Exact (written_from first_state None h choices us_starved true lines) (written_from first_state None h [] [] true lines)
+written_exact : (choices : List Bool) (us_starved : List Bool) (h : History) (lines : List (List ℕ))
+    → Exact (written_from first_state None h choices us_starved true lines) (written_from first_state None h [] [] true lines)
 unfolding written_from
 written_exact choices us_starved h lines =
     let asked = kept_requests true None (map parsed (logical_lines choices true first_state lines)) in
@@ -256,7 +270,8 @@ lack_shows lines_starved requests_starved table text =
 
 -- the last line of the text, where memory was refused to some lines, is the stated one, or a request shows it
 abbrev ExactLast : List Bool → LexerState → Option OpenBlock → List (List ℕ) → Type 0
-ExactLast choices s block lines = (last_line (logical_lines choices true s lines) ≡ last_line (logical_lines [] true s lines)) ⊎ Lacks (kept_requests true block (map parsed (logical_lines choices true s lines)))
+ExactLast choices s block lines = (last_line (logical_lines choices true s lines) ≡ last_line (logical_lines [] true s lines))
+    ⊎ Lacks (kept_requests true block (map parsed (logical_lines choices true s lines)))
 
 pub none_chosen : (ends : Bool) (s : LexerState) (bytes : List ℕ) (lines : List (List ℕ)) → logical_lines (false ∷ []) ends s (bytes ∷ lines) ≡ logical_lines [] ends s (bytes ∷ lines)
 unfolding logical_lines
@@ -278,12 +293,14 @@ last_served None choices s block bytes lines is later =
     (lacks_later (line_requests block x) (kept_requests true (line_block block x) (map parsed (logical_lines choices true s2 lines))) lacks))))
     later
 
-last_starved : (takes : Bool) (choices : List Bool) (s : LexerState) (block : Option OpenBlock) (bytes : List ℕ) (lines : List (List ℕ)) → takes_memory s bytes ≡ takes → ExactLast (false ∷ choices) s block (bytes ∷ lines) → ExactLast (true ∷ choices) s block (bytes ∷ lines)
+last_starved : (takes : Bool) (choices : List Bool) (s : LexerState) (block : Option OpenBlock) (bytes : List ℕ) (lines : List (List ℕ)) → takes_memory s bytes ≡ takes
+    → ExactLast (false ∷ choices) s block (bytes ∷ lines) → ExactLast (true ∷ choices) s block (bytes ∷ lines)
 last_starved true choices s block bytes lines takes fine =
     inr (subst (λ (hs : List ParsedLine). Lacks (kept_requests true block hs)) (sym (parsed_later true choices true s bytes lines))
     (starved_line_requests block s bytes (map parsed (logical_lines choices true (state_by s (served true s bytes)) lines)) takes))
 last_starved false choices s block bytes lines none fine =
-    subst (λ (ls : List LogicalLine). (last_line ls ≡ last_line (logical_lines [] true s (bytes ∷ lines))) ⊎ Lacks (kept_requests true block (map parsed ls))) (spared choices true s bytes lines none) fine
+    subst (λ (ls : List LogicalLine). (last_line ls ≡ last_line (logical_lines [] true s (bytes ∷ lines))) ⊎ Lacks (kept_requests true block (map parsed ls))) (spared choices true s bytes lines none)
+    fine
 
 last_exact : (choices : List Bool) (s : LexerState) (block : Option OpenBlock) (lines : List (List ℕ)) → ExactLast choices s block lines
 unfolding logical_lines
@@ -295,7 +312,8 @@ last_exact (true ∷ choices) s block (bytes ∷ lines) =
 last_exact (false ∷ choices) s block (bytes ∷ lines) =
     last_served (stop_at (parsed_at false s bytes)) choices s block bytes lines refl (last_exact choices (state_by s (served false s bytes)) (line_block block (parsed_at false s bytes)) lines)
 
-written_lacks : (choices : List Bool) (us_starved : List Bool) (h : History) (lines : List (List ℕ)) → Lacks (kept_requests true None (map parsed (logical_lines choices true first_state lines))) → ShowsLack (written_from first_state None h choices us_starved true lines)
+written_lacks : (choices : List Bool) (us_starved : List Bool) (h : History) (lines : List (List ℕ)) → Lacks (kept_requests true None (map parsed (logical_lines choices true first_state lines)))
+    → ShowsLack (written_from first_state None h choices us_starved true lines)
 unfolding written_from
 written_lacks choices us_starved h lines lacks = answers_lack h (kept_requests true None (map parsed (logical_lines choices true first_state lines))) us_starved lacks
 
@@ -303,5 +321,6 @@ pub lack_shows_last : LackShowsLast
 lack_shows_last lines_starved requests_starved table text =
     ⊎_elim (λ (same : last_of lines_starved true text ≡ last_of [] true text). inl same)
     (λ (lacks : Lacks (kept_requests true None (map parsed (logical_lines lines_starved true first_state (lines_of text))))).
-    inr (subst (λ (bytes : List ℕ). ShowsLack bytes) (sym (output_kept lines_starved requests_starved true table text)) (written_lacks lines_starved requests_starved (begun table) (lines_of text) lacks)))
+    inr (subst (λ (bytes : List ℕ). ShowsLack bytes) (sym (output_kept lines_starved requests_starved true table text))
+    (written_lacks lines_starved requests_starved (begun table) (lines_of text) lacks)))
     (last_exact lines_starved first_state None (lines_of text))

@@ -18,7 +18,8 @@ module _ (input : ℕ) (table : Collation) (s : DeltaState) (line : List ℕ) (g
   by_table r e = ap (by_step input table) step ∙ ap (λ (r : Result Collation RunFault). unless_faulty r (λ changed. unless_stored input after.fault (changed, after))) e
 
   -- its table stands, unless the line is at fault behind it
-  pub by_stored : (changed : Collation) (stored : Option DeltaFault) → rewritten input table given ≡ Ok changed → after.fault ≡ stored → line_taken input table s line ≡ unless_stored input stored (changed, after)
+  pub by_stored : (changed : Collation) (stored : Option DeltaFault) → rewritten input table given ≡ Ok changed → after.fault ≡ stored
+      → line_taken input table s line ≡ unless_stored input stored (changed, after)
   by_stored changed stored e f = by_table (Ok changed) e ∙ ap (λ (o : Option DeltaFault). unless_stored input o (changed, after)) f
 
   -- a statement that fails is what the line is taken as
@@ -29,10 +30,12 @@ module _ (input : ℕ) (table : Collation) (s : DeltaState) (line : List ℕ) (g
   fails_so Refused ended h = by_table (Err ended) h
 
   -- a fault behind the statement is what the line is taken as
-  pub stored_fails : (changed : Collation) (f : DeltaFault) → rewritten input table given ≡ Ok changed → after.fault ≡ Some f → FailsAs (ending_of (delta_fault_in input f)) (line_taken input table s line) (delta_fault_in input f)
+  pub stored_fails : (changed : Collation) (f : DeltaFault) → rewritten input table given ≡ Ok changed → after.fault ≡ Some f
+      → FailsAs (ending_of (delta_fault_in input f)) (line_taken input table s line) (delta_fault_in input f)
   stored_fails changed f e stored = delta_fails input f (line_taken input table s line) (λ ample. by_stored changed (Some f) e stored)
 
 -- a line that its reader refuses is taken as this fault
-pub line_fails : (input : ℕ) (table : Collation) (s : DeltaState) (line : List ℕ) (f : DeltaFault) → (lacks_memory f.cause ≡ false → delta_line s line ≡ Err f) → FailsAs (ending_of (delta_fault_in input f)) (line_taken input table s line) (delta_fault_in input f)
+pub line_fails : (input : ℕ) (table : Collation) (s : DeltaState) (line : List ℕ) (f : DeltaFault) → (lacks_memory f.cause ≡ false → delta_line s line ≡ Err f)
+    → FailsAs (ending_of (delta_fault_in input f)) (line_taken input table s line) (delta_fault_in input f)
 unfolding line_taken
 line_fails input table s line f h = delta_fails input f (line_taken input table s line) (λ ample. ap (by_step input table) (h ample))

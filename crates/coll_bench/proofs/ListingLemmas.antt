@@ -6,7 +6,8 @@ use Rattle.coll_nodes.specs.Walks.{Visited, VisitedSection, VisitedEntry, visite
 use Rattle.coll_bench.specs.Replies.{header, listed_line, listed_lines, listed_sections}
 use Rattle.coll_bench.specs.Listing.{listed_visited, visited_line, rank_after}
 
-entries_listed : (rank : ℕ) (entries : List Entry) (rest : List Visited) → listed_visited rank (map VisitedEntry entries ++ rest) ≡ listed_lines rank entries ++ listed_visited (rank + length entries) rest
+entries_listed : (rank : ℕ) (entries : List Entry) (rest : List Visited) → listed_visited rank (map VisitedEntry entries ++ rest)
+    ≡ listed_lines rank entries ++ listed_visited (rank + length entries) rest
 unfolding listed_visited listed_lines
 entries_listed rank [] rest =
     let same : rank ≡ rank + 0 = omega (arith) in
@@ -55,7 +56,8 @@ length-visited (section ∷ later) =
     )
 
 -- the lines of what is met begin with that of the first
-pub visited_more : (rank next : ℕ) (first : Visited) (left later : List Visited) → left ≡ first ∷ later → next ≡ rank_after rank first → listed_visited rank left ≡ visited_line rank first ++ listed_visited next later
+pub visited_more : (rank next : ℕ) (first : Visited) (left later : List Visited) → left ≡ first ∷ later → next ≡ rank_after rank first
+    → listed_visited rank left ≡ visited_line rank first ++ listed_visited next later
 unfolding listed_visited
 visited_more rank next first left later steps counted =
     ap (listed_visited rank) steps ∙ ap (λ (n : ℕ). visited_line rank first ++ listed_visited n later) (sym counted)

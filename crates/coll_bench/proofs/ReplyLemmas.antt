@@ -1,5 +1,6 @@
 -- What is written for what a call of the history or of the keys answered.
-use Rattle.std.proofs.Common.{◌≡◌, ◌≢◌, ◌||◌, ◌++◌, ◌∷◌, Bool, true, false, if◌then◌else◌, Option, Some, Result, Ok, Err, IsErr, codes, inl, inr, ⊎_elim, ℕ, zero, suc, ◌+◌, ◌≤◌, List, [], length, drop, refl, sym, ap, ◌∙◌, subst, append-nil, arith}
+use Rattle.std.proofs.Common.{◌≡◌, ◌≢◌, ◌||◌, ◌++◌, ◌∷◌, Bool, true, false, if◌then◌else◌, Option, Some, Result, Ok, Err, IsErr, codes, inl, inr}
+use Rattle.std.proofs.Common.{⊎_elim, ℕ, zero, suc, ◌+◌, ◌≤◌, List, [], length, drop, refl, sym, ap, ◌∙◌, subst, append-nil, arith}
 use Rattle.std.specs.Prelude.{◌⊎◌, IfOk, IfErr, IsTrue, OnErr, slice_get}
 use Rattle.std.proofs.lemmas.List.{drop_all}
 use Rattle.std.specs.Fmt.{digits}
@@ -21,7 +22,8 @@ use Rattle.coll_key.specs.declared.key_faults.KeyFault.TheVariants as key_fault
 use Rattle.coll_bench.specs.Faults.{fault_of}
 use Rattle.coll_history.specs.Histories.{History, SessionValue, table_now, judged, numbered, RefusesStatement}
 use Rattle.coll_history.specs.Withdrawal.{is_numbered, withdrawn}
-use Rattle.coll_bench.specs.Replies.{counted_line, refused_line, starved_line, still_needed_line, too_long_line, order_word, count_reply, outcome_line, history_or, command_reply, history_after_command, reply, history_after, reply_if, history_after_if, key_line, order_line, history_line, history_lines}
+use Rattle.coll_bench.specs.Replies.{counted_line, refused_line, starved_line, still_needed_line, too_long_line, order_word, count_reply, outcome_line, history_or, command_reply}
+use Rattle.coll_bench.specs.Replies.{history_after_command, reply, history_after, reply_if, history_after_if, key_line, order_line, history_line, history_lines}
 use Rattle.coll_history.specs.declared.history_faults.BenchFault.{BenchFault}
 use Rattle.coll_history.specs.declared.history_faults.BenchFault.TheVariants as bench
 use Rattle.coll_bench.specs.declared.faults.Fault.TheVariants as fault
@@ -69,13 +71,15 @@ abbrev pub Obeys : {T E : Type 0} → (old new : Option (List ℕ)) → (h h2 : 
 Obeys old new h h2 c r = Answers old new h h2 (kind.Command c) r
 
 -- a command that takes no memory
-pub obeys : {T E : Type 0} (old new : Option (List ℕ)) (h h2 : History) (c : Command) (line : List ℕ) (r : Result T E) → Sends old new line r → line ≡ command_reply h c → h2 ≡ history_after_command h c → Obeys old new h h2 c r
+pub obeys : {T E : Type 0} (old new : Option (List ℕ)) (h h2 : History) (c : Command) (line : List ℕ) (r : Result T E) → Sends old new line r → line ≡ command_reply h c
+    → h2 ≡ history_after_command h c → Obeys old new h h2 c r
 unfolding reply history_after
 obeys old new h h2 c line r sent is state = (false, subst (λ (bytes : List ℕ). Sends old new bytes r) is sent, state)
 
 -- an undo or a redo
 pub obeys_outcome : {T E : Type 0} (old new : Option (List ℕ)) (h h2 : History) (c : Command) (word : List ℕ) (given : Result History BenchFault) (outcome : Result ℕ BenchFault) (r : Result T E)
-    → Outcome word h h2 outcome given → Sends old new (outcome_line word outcome) r → count_reply word given ≡ command_reply h c → history_or h given ≡ history_after_command h c → Obeys old new h h2 c r
+    → Outcome word h h2 outcome given → Sends old new (outcome_line word outcome) r → count_reply word given ≡ command_reply h c → history_or h given ≡ history_after_command h c
+    → Obeys old new h h2 c r
 obeys_outcome old new h h2 c word given outcome r o sent line state = obeys old new h h2 c (outcome_line word outcome) r sent (o.line ∙ line) (o.state ∙ state)
 
 -- a key and an order leave the history, whether memory was refused or not
@@ -157,26 +161,31 @@ still_needed statement reason = refl
 -- the reply to a withdrawal
 pub obeys_withdraw : {T E : Type 0} (old new : Option (List ℕ)) (h h2 : History) (k : ℕ) (outcome : Result ℕ BenchFault) (r : Result T E)
     → IfOk outcome (λ _. withdrawn h k ≡ Ok h2) → IfOk outcome (λ n. n ≡ length h2.remaining) → IfErr outcome (λ f. f ≢ bench.Table refusal.OutOfMemory → withdrawn h k ≡ Err f)
-    → IfErr outcome (λ f. f ≡ bench.Table refusal.OutOfMemory → IsTrue (is_numbered h k)) → OnErr outcome (h2 ≡ h) → Sends old new (outcome_line (codes "withdrawn") outcome) r → Obeys old new h h2 (command.Withdraw k) r
+    → IfErr outcome (λ f. f ≡ bench.Table refusal.OutOfMemory → IsTrue (is_numbered h k)) → OnErr outcome (h2 ≡ h) → Sends old new (outcome_line (codes "withdrawn") outcome) r
+    → Obeys old new h h2 (command.Withdraw k) r
 obeys_withdraw old new h h2 k (Ok n) r ok count err memory same sent =
     obeys_outcome old new h h2 (command.Withdraw k) (codes "withdrawn") (withdrawn h k) (Ok n) r (outcome_is (codes "withdrawn") h h2 (Ok n) (withdrawn h k) ok count tt same) sent refl refl
 obeys_withdraw old new h h2 k (Err f) r ok count err memory same sent =
     ⊎_elim (λ (lack : f ≡ bench.Table refusal.OutOfMemory). withdraw_starved old new h h2 k f r lack (memory lack) same sent)
-    (λ (other_fault : f ≢ bench.Table refusal.OutOfMemory). obeys_outcome old new h h2 (command.Withdraw k) (codes "withdrawn") (withdrawn h k) (Err f) r (outcome_is (codes "withdrawn") h h2 (Err f) (withdrawn h k) ok count (err other_fault) same) sent refl refl)
+    (λ (other_fault : f ≢ bench.Table refusal.OutOfMemory). obeys_outcome old new h h2 (command.Withdraw k) (codes "withdrawn") (withdrawn h k) (Err f) r
+    (outcome_is (codes "withdrawn") h h2 (Err f) (withdrawn h k) ok count (err other_fault) same) sent refl refl)
     (lack_or_not f)
 
 -- the reply to what is refused
-pub answers_refused : {T E : Type 0} (old new : Option (List ℕ)) (h : History) (f : RequestFault) (r : Result T E) → Sends old new (refused_line (fault_of f)) r → Answers old new h h (kind.Refused f) r
+pub answers_refused : {T E : Type 0} (old new : Option (List ℕ)) (h : History) (f : RequestFault) (r : Result T E) → Sends old new (refused_line (fault_of f)) r
+    → Answers old new h h (kind.Refused f) r
 unfolding reply history_after
 answers_refused old new h f r sent = (false, sent, refl)
 
 -- a key is written, where the text isn't too long
 pub sends_key : {T E : Type 0} (old new : Option (List ℕ)) (h : History) (text : List ℕ) (rules : List Rule) (key : List ℕ) (r : Result T E)
-    → rules ≡ (table_now h).rules → key ≡ key_of (table_now h) text → is_too_long text ≡ false → Sends old new (written_key rules key ++ 10 ∷ []) r → SendsReply old new h (kind.Command (command.Key text)) r
+    → rules ≡ (table_now h).rules → key ≡ key_of (table_now h) text → is_too_long text ≡ false → Sends old new (written_key rules key ++ 10 ∷ []) r
+    → SendsReply old new h (kind.Command (command.Key text)) r
 unfolding reply key_line
 sends_key old new h text rules key r rules_are key_is short sent =
     let given : Sends old new (written_key (table_now h).rules (key_of (table_now h) text) ++ 10 ∷ []) r =
-    subst (λ (rs : List Rule). Sends old new (written_key rs (key_of (table_now h) text) ++ 10 ∷ []) r) rules_are (subst (λ (k : List ℕ). Sends old new (written_key rules k ++ 10 ∷ []) r) key_is sent) in (
+    subst (λ (rs : List Rule). Sends old new (written_key rs (key_of (table_now h) text) ++ 10 ∷ []) r) rules_are
+    (subst (λ (k : List ℕ). Sends old new (written_key rules k ++ 10 ∷ []) r) key_is sent) in (
       false,
       subst (λ (long : Bool). Sends old new (if long then too_long_line else written_key (table_now h).rules (key_of (table_now h) text) ++ 10 ∷ []) r) (sym short) given,
     )
@@ -191,7 +200,8 @@ refuses_key old new h text key_fault.TextTooLong r long sent =
 
 -- an order is written, where neither text is too long
 pub sends_order : {T E : Type 0} (old new : Option (List ℕ)) (h : History) (text other_text : List ℕ) (order : Ordering) (r : Result T E)
-    → order ≡ order_of (table_now h) text other_text → (is_too_long text || is_too_long other_text) ≡ false → Sends old new (order_word order ++ 10 ∷ []) r → SendsReply old new h (kind.Command (command.Compare text other_text)) r
+    → order ≡ order_of (table_now h) text other_text → (is_too_long text || is_too_long other_text) ≡ false → Sends old new (order_word order ++ 10 ∷ []) r
+    → SendsReply old new h (kind.Command (command.Compare text other_text)) r
 unfolding reply order_line
 sends_order old new h text other_text order r order_is short sent =
     let given : Sends old new (order_word (order_of (table_now h) text other_text) ++ 10 ∷ []) r = subst (λ (o : Ordering). Sends old new (order_word o ++ 10 ∷ []) r) order_is sent in
@@ -199,7 +209,8 @@ sends_order old new h text other_text order r order_is short sent =
 
 -- an order is refused: a text is too long, or memory was refused
 pub refuses_order : {T E : Type 0} (old new : Option (List ℕ)) (h : History) (text other_text : List ℕ) (f : KeyFault) (r : Result T E)
-    → (f ≢ key_fault.OutOfMemory → (is_too_long text || is_too_long other_text) ≡ true) → Sends old new (refused_line (fault.Key f)) r → SendsReply old new h (kind.Command (command.Compare text other_text)) r
+    → (f ≢ key_fault.OutOfMemory → (is_too_long text || is_too_long other_text) ≡ true) → Sends old new (refused_line (fault.Key f)) r
+    → SendsReply old new h (kind.Command (command.Compare text other_text)) r
 unfolding reply order_line refused_line
 refuses_order old new h text other_text key_fault.OutOfMemory r long sent = (true, sent)
 refuses_order old new h text other_text key_fault.TextTooLong r long sent =
@@ -211,13 +222,15 @@ flushed old mid new line (Ok x) sent kept = Appends-kept old mid new line sent k
 flushed old mid new line (Err e) sent kept = (line, [], sym (append-nil line), Appends-kept old mid new line sent kept)
 
 -- the lines of the statements from one on are its line and those of the later ones
-past_from : (n k : ℕ) (statements : List Statement) (s : Statement) → slice_get statements k ≡ Some s → history_lines n (drop k statements) ≡ history_line n s ++ history_lines (suc n) (drop (suc k) statements)
+past_from : (n k : ℕ) (statements : List Statement) (s : Statement) → slice_get statements k ≡ Some s
+    → history_lines n (drop k statements) ≡ history_line n s ++ history_lines (suc n) (drop (suc k) statements)
 unfolding history_lines
 past_from n k [] s is = absurd cc
 past_from n zero (first ∷ statements) s is = let same : first ≡ s = cc in ap (λ (x : Statement). history_line n x ++ history_lines (suc n) statements) same
 past_from n (suc k) (first ∷ statements) s is = past_from n k statements s is
 
-past_on : (n : ℕ) (statements : List Statement) (s : Statement) → Some s ≡ numbered statements (n + 1) → history_lines (n + 1) (drop n statements) ≡ history_line (n + 1) s ++ history_lines (n + 1 + 1) (drop (n + 1) statements)
+past_on : (n : ℕ) (statements : List Statement) (s : Statement) → Some s ≡ numbered statements (n + 1) → history_lines (n + 1) (drop n statements)
+    ≡ history_line (n + 1) s ++ history_lines (n + 1 + 1) (drop (n + 1) statements)
 past_on n statements s is =
     let next : n + 1 ≡ suc n = omega arith in
     let after : n + 1 + 1 ≡ suc (n + 1) = omega arith in
@@ -232,7 +245,8 @@ pub past_more : (n : ℕ) (statements : List Statement) (s : Statement) (done wh
 past_more n statements s done whole is so_far = so_far ∙ ap (λ (l : List ℕ). done ++ l) (past_on n statements s is)
 
 -- a call that stopped at the line of the next statement sent a prefix of all lines
-pub past_stopped : (old mid new : Option (List ℕ)) (n : ℕ) (statements : List Statement) (s : Statement) (done whole : List ℕ) → Some s ≡ numbered statements (n + 1) → whole ≡ done ++ history_lines (n + 1) (drop n statements)
+pub past_stopped : (old mid new : Option (List ℕ)) (n : ℕ) (statements : List Statement) (s : Statement) (done whole : List ℕ) → Some s ≡ numbered statements (n + 1)
+    → whole ≡ done ++ history_lines (n + 1) (drop n statements)
     → Appends old mid done → AppendsPrefix mid new (history_line (n + 1) s) → AppendsPrefix old new whole
 past_stopped old mid new n statements s done whole is so_far sent prefix =
     let later = history_lines (n + 1 + 1) (drop (n + 1) statements) in

@@ -1,21 +1,24 @@
 -- How a run of a batch ends, by what its inputs and its output answered.
-use Rattle.std.proofs.Common.{◌≡◌, inl, inr, ⊎_elim, ℕ, zero, suc, pred, ◌<◌, ◌≤◌, Bool, true, false, if◌then◌else◌, List, [], ◌++◌, Option, Some, None, Result, Ok, Err, refl, sym, ap, ◌∙◌, subst, arith, append-nil}
+use Rattle.std.proofs.Common.{◌≡◌, inl, inr, ⊎_elim, ℕ, zero, suc, pred, ◌<◌, ◌≤◌, Bool, true, false, if◌then◌else◌, List, []}
+use Rattle.std.proofs.Common.{◌++◌, Option, Some, None, Result, Ok, Err, refl, sym, ap, ◌∙◌, subst, arith, append-nil}
 use Rattle.std.specs.Prelude.{IfErr}
 use Rattle.std.specs.Io.KnownBytes.{Appends}
 use Rattle.coll_nodes.specs.Table.{Collation}
 use Rattle.coll_nodes.specs.TableLayout.{TableValue, collation}
 use Rattle.coll_table.specs.Loads.{Loads, FaultSays}
-use Rattle.coll_builder.specs.Reading.{reads}
+use Rattle.coll_texts.specs.Reading.{reads}
 use Rattle.coll_lex.specs.declared.faults.LexFault.{LexFault}
 use Rattle.coll_lex.specs.declared.faults.LexFault.TheVariants as lex
 use Rattle.coll_syntax.specs.declared.syntax_faults.SyntaxFault.{SyntaxFault}
 use Rattle.coll_syntax.specs.declared.syntax_faults.SyntaxFault.TheVariants as syntax
-use Rattle.coll_builder.specs.declared.load_faults.LoadFault.{LoadFault}
-use Rattle.coll_builder.specs.declared.load_faults.LoadCause.{LoadCause}
-use Rattle.coll_builder.specs.declared.load_faults.LoadCause.TheVariants as load
-use Rattle.coll_bench.specs.BatchOutcome.{table_fault, table_or_fault, unless_faulty, after_deltas, after_inputs, texts_of, is_any_too_long, batch_output, text_too_long, output_or_fault, batch_outcome, fault_in}
+use Rattle.coll_texts.specs.declared.load_faults.LoadFault.{LoadFault}
+use Rattle.coll_texts.specs.declared.load_faults.LoadCause.{LoadCause}
+use Rattle.coll_texts.specs.declared.load_faults.LoadCause.TheVariants as load
+use Rattle.coll_bench.specs.BatchOutcome.{table_fault, table_or_fault, unless_faulty, after_deltas, after_inputs, texts_of}
+use Rattle.coll_bench.specs.BatchOutcome.{is_any_too_long, batch_output, text_too_long, output_or_fault, batch_outcome, fault_in}
 use Rattle.coll_bench.specs.BatchReading.{ReadsDeltas, DeltasFail, InputsFail, ReadsInputs}
-use Rattle.coll_bench.specs.BatchRuns.{Ending, ReadFailed, WriteFailed, Starved, Refused, ending_of, DeltasStopWithin, InputsStopWithin, DeltasStarve, InputsStarve, WritesPrefix, BatchRanTo, BatchRuns, CountsInputs, raised_at}
+use Rattle.coll_bench.specs.BatchRuns.{Ending, ReadFailed, WriteFailed, Starved, Refused, ending_of, DeltasStopWithin, InputsStopWithin}
+use Rattle.coll_bench.specs.BatchRuns.{DeltasStarve, InputsStarve, WritesPrefix, BatchRanTo, BatchRuns, CountsInputs, raised_at}
 use Rattle.coll_bench.specs.BatchWriting.{Outputs, IsOfOutput, starved_key}
 use Rattle.coll_bench.specs.Reports.{write_refused}
 use Rattle.coll_bench.specs.Serving.{ReadsNone}
@@ -38,7 +41,8 @@ module _ (table_text : List ℕ) (delta_texts : List (List ℕ)) (left_after : O
   abbrev fails : LoadCause → ℕ → Type 0
   fails cause line = let f : LoadFault = record { line = line; cause = cause } in InputsFail (ending_of (table_fault f)) table_text delta_texts left_after lefts_after (table_fault f)
 
-  at_fault : (cause : LoadCause) (line : ℕ) → reads table_text ≡ Err (record { line = line; cause = cause }) → after_inputs table_text delta_texts ≡ Err (table_fault (record { line = line; cause = cause }))
+  at_fault : (cause : LoadCause) (line : ℕ) → reads table_text ≡ Err (record { line = line; cause = cause })
+      → after_inputs table_text delta_texts ≡ Err (table_fault (record { line = line; cause = cause }))
   at_fault cause line h = faulty_table table_text delta_texts (record { line = line; cause = cause }) h
 
   by_lex : (l : LexFault) (line : ℕ) → FaultSays (load.Lex l) line table_text left_after → fails (load.Lex l) line
@@ -90,14 +94,16 @@ module _ (table_text : List ℕ) (delta_texts : List (List ℕ)) (left_after : O
   by_cause load.OutOfMemory line h = h
 
 -- what a load says of the inputs where it answers a fault
-pub load_fails : (left left_after : Option (List ℕ)) (lefts lefts_after : List (Option (List ℕ))) (f : LoadFault) → Loads left left_after (Err f) → ReadsInputs left left_after lefts lefts_after (Err (table_fault f))
+pub load_fails : (left left_after : Option (List ℕ)) (lefts lefts_after : List (Option (List ℕ))) (f : LoadFault) → Loads left left_after (Err f)
+    → ReadsInputs left left_after lefts lefts_after (Err (table_fault f))
 load_fails left left_after lefts lefts_after f says table_text delta_texts e es = by_cause table_text delta_texts left_after lefts_after f.cause f.line (says table_text e)
 
 -- The delta files behind the table.
 
 module _ (table_text : List ℕ) (delta_texts : List (List ℕ)) (table : Collation) (sound : reads table_text ≡ Ok table) where
   -- what a fault says of the delta files it says of the inputs
-  fails_behind : (kind : Ending) (left : Option (List ℕ)) (lefts : List (Option (List ℕ))) (ended : RunFault) → 0 < ended.input → DeltasFail kind table delta_texts lefts ended → InputsFail kind table_text delta_texts left lefts ended
+  fails_behind : (kind : Ending) (left : Option (List ℕ)) (lefts : List (Option (List ℕ))) (ended : RunFault) → 0 < ended.input → DeltasFail kind table delta_texts lefts ended
+      → InputsFail kind table_text delta_texts left lefts ended
   fails_behind ReadFailed left lefts ended behind h = (h.0, at_input ended.input behind h.1)
     where
       at_input : (input : ℕ) → 0 < input → DeltasStopWithin (pred input) table delta_texts lefts → InputsStopWithin input table_text delta_texts left lefts
@@ -111,7 +117,8 @@ module _ (table_text : List ℕ) (delta_texts : List (List ℕ)) (table : Collat
       at_input (suc before) behind h = (table, sound, h)
   fails_behind Refused left lefts ended behind h = sound_table table_text delta_texts table sound ∙ h
 
-pub deltas_fail : (left left_after : Option (List ℕ)) (lefts lefts_after : List (Option (List ℕ))) (table new : Collation) (ended : RunFault) → ((text : List ℕ) → left ≡ Some text → reads text ≡ Ok table) → 0 < ended.input
+pub deltas_fail : (left left_after : Option (List ℕ)) (lefts lefts_after : List (Option (List ℕ))) (table new : Collation) (ended : RunFault)
+    → ((text : List ℕ) → left ≡ Some text → reads text ≡ Ok table) → 0 < ended.input
     → ReadsDeltas table new lefts lefts_after (Err ended) → ReadsInputs left left_after lefts lefts_after (Err ended)
 deltas_fail left left_after lefts lefts_after table new ended sound behind h table_text delta_texts e es =
     fails_behind table_text delta_texts table (sound table_text e) (ending_of ended) left_after lefts_after ended behind (h delta_texts es)
@@ -152,12 +159,17 @@ module _ (b : Batch) (left left_after : Option (List ℕ)) (lefts lefts_after : 
         ([], t ∙ ap Some (sym (append-nil before)), (refl, sound_inputs table_text delta_texts (collation table) true (read table_text delta_texts e es) long))
 
     -- the output is written
-    pub output_done : (taken_after : Option (List ℕ)) → is_any_too_long (texts_of b) ≡ false → Appends taken taken_after (batch_output b (collation table)) → BatchRuns b left left_after lefts lefts_after taken taken_after (Ok tt)
-    output_done taken_after short sent table_text delta_texts before e es t =
-        (batch_output b (collation table), appended taken taken_after before (batch_output b (collation table)) t sent, sound_inputs table_text delta_texts (collation table) false (read table_text delta_texts e es) short)
+    pub output_done : (taken_after : Option (List ℕ)) → is_any_too_long (texts_of b) ≡ false → Appends taken taken_after (batch_output b (collation table))
+        → BatchRuns b left left_after lefts lefts_after taken taken_after (Ok tt)
+    output_done taken_after short sent table_text delta_texts before e es t = (
+      batch_output b (collation table),
+      appended taken taken_after before (batch_output b (collation table)) t sent,
+      sound_inputs table_text delta_texts (collation table) false (read table_text delta_texts e es) short,
+    )
 
     -- a prefix of the output is written
-    pub output_stops : (taken_after : Option (List ℕ)) (f : Fault) → is_any_too_long (texts_of b) ≡ false → Outputs {T = Unit {0}} taken taken_after (batch_output b (collation table)) (Err f) → BatchRuns b left left_after lefts lefts_after taken taken_after (Err (fault_in 0 0 f))
+    pub output_stops : (taken_after : Option (List ℕ)) (f : Fault) → is_any_too_long (texts_of b) ≡ false → Outputs {T = Unit {0}} taken taken_after (batch_output b (collation table)) (Err f)
+        → BatchRuns b left left_after lefts lefts_after taken taken_after (Err (fault_in 0 0 f))
     output_stops taken_after f short sent table_text delta_texts before e es t =
         let prefix = sent.1 in (
           prefix.0,
@@ -165,11 +177,16 @@ module _ (b : Batch) (left left_after : Option (List ℕ)) (lefts lefts_after : 
           by_fault prefix.0 f sent.0 (prefix.1, sound_inputs table_text delta_texts (collation table) false (read table_text delta_texts e es) short ∙ ap Ok prefix.2),
         )
       where
-        by_fault : (written : List ℕ) (f : Fault) → IsOfOutput f → WritesPrefix b table_text delta_texts written → BatchRanTo (ending_of (fault_in 0 0 f)) b table_text delta_texts left_after lefts_after written (fault_in 0 0 f)
+        by_fault : (written : List ℕ) (f : Fault) → IsOfOutput f → WritesPrefix b table_text delta_texts written
+            → BatchRanTo (ending_of (fault_in 0 0 f)) b table_text delta_texts left_after lefts_after written (fault_in 0 0 f)
         by_fault written f own h =
             ⊎_elim
-            (λ (e : f ≡ write_refused). subst (λ (f : Fault). BatchRanTo (ending_of (fault_in 0 0 f)) b table_text delta_texts left_after lefts_after written (fault_in 0 0 f)) (sym e) ((refl, refl), h))
-            (λ (e : f ≡ starved_key). subst (λ (f : Fault). BatchRanTo (ending_of (fault_in 0 0 f)) b table_text delta_texts left_after lefts_after written (fault_in 0 0 f)) (sym e) (inl ((refl, refl), h)))
+            (λ (e : f ≡ write_refused). subst (λ (f : Fault). BatchRanTo (ending_of (fault_in 0 0 f)) b table_text delta_texts left_after lefts_after written (fault_in 0 0 f)) (sym e) (
+              (refl, refl),
+              h,
+            ))
+            (λ (e : f ≡ starved_key). subst (λ (f : Fault). BatchRanTo (ending_of (fault_in 0 0 f)) b table_text delta_texts left_after lefts_after written (fault_in 0 0 f)) (sym e)
+            (inl ((refl, refl), h)))
             own
 
 -- an answer to the output counts no read

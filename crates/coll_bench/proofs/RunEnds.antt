@@ -39,7 +39,8 @@ not_last o lex.CharacterConstant goes = refl
 not_last o lex.BadCharDirective goes = refl
 not_last o lex.OutOfMemory goes = refl
 
-last_by : (s : LexerState) (line : List ℕ) (a : Result (Option Line × LexerState) LexFault) (later : List LogicalLine) → stop_at (parsed_by true (number_of s) (opening_of (first_line s line)) a) ≡ None → last_line (lines_by s line a ++ later) ≡ last_line later
+last_by : (s : LexerState) (line : List ℕ) (a : Result (Option Line × LexerState) LexFault) (later : List LogicalLine) → stop_at (parsed_by true (number_of s) (opening_of (first_line s line)) a)
+    ≡ None → last_line (lines_by s line a ++ later) ≡ last_line later
 unfolding last_line
 last_by s line (Ok (None, after)) later goes = refl
 last_by s line (Ok (Some given, after)) later goes = refl
@@ -107,7 +108,8 @@ unfolding answers reply history_after refused_lines
 answers-refused h [] = refl
 answers-refused h (at ∷ faults) = ap (λ (bytes : List ℕ). refused_line (fault_of at.fault) ++ bytes) (answers-refused h faults)
 
-end_by : (block : Option OpenBlock) (h : History) (o : Option OpenLine) → answers h (kept_requests true block (map parsed (line_left_open o))) [] ≡ refused_lines (kept_end_faults block (option_map (λ (o : OpenLine). o.number) o))
+end_by : (block : Option OpenBlock) (h : History) (o : Option OpenLine) → answers h (kept_requests true block (map parsed (line_left_open o))) []
+    ≡ refused_lines (kept_end_faults block (option_map (λ (o : OpenLine). o.number) o))
 unfolding kept_requests
 end_by block h None = answers-refused h (kept_end_faults block None)
 end_by block h (Some o) = answers-refused h (kept_end_faults block (Some o.number))

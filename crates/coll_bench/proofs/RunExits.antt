@@ -43,7 +43,8 @@ abbrev GoesBy : (text read line : List ℕ) → List (List ℕ) → Type 0
 GoesBy text read line later = lines_of text ≡ lines_of read ++ line ∷ later
 
 -- a fault of a last line
-lex_fault_ran : (table : Collation) (text : List ℕ) (left : Option (List ℕ)) (written : List ℕ) (ls us : List Bool) (number : ℕ) (f : LexFault) → ends_text f ≡ true → RanToLastLine table text written ls us number f → RanToLexFault table text left written number f
+lex_fault_ran : (table : Collation) (text : List ℕ) (left : Option (List ℕ)) (written : List ℕ) (ls us : List Bool) (number : ℕ) (f : LexFault) → ends_text f ≡ true
+    → RanToLastLine table text written ls us number f → RanToLexFault table text left written number f
 lex_fault_ran table text left written ls us number lex.LineTooLong last r = (ls, us, r)
 lex_fault_ran table text left written ls us number lex.TooManyLines last r = (ls, us, r)
 lex_fault_ran table text left written ls us number lex.DanglingEscape last r = (ls, us, r)
@@ -58,7 +59,8 @@ lex_fault_ran table text left written ls us number lex.BadCharDirective last r =
 lex_fault_ran table text left written ls us number lex.OutOfMemory last r = absurd (cc)
 
 -- the whole output, of a text whose next line is this one
-output_by : (table : Collation) (text before : List ℕ) (ended0 : Bool) (unread0 taken0 : Option (List ℕ)) (old : RunState) (read rest written : List ℕ) (lines requests : List Bool) (line : List ℕ) (later : List (List ℕ)) (c d : List Bool)
+output_by : (table : Collation) (text before : List ℕ) (ended0 : Bool) (unread0 taken0 : Option (List ℕ)) (old : RunState) (read rest written : List ℕ) (lines requests : List Bool) (line : List ℕ)
+    (later : List (List ℕ)) (c d : List Bool)
     → IsUnderway table text before ended0 unread0 taken0 old read rest written lines requests → GoesBy text read line later
     → starved_output (lines ++ c) (requests ++ d) true table text ≡ written ++ written_from old.parser old.block old.session.history c d true (line ∷ later)
 output_by table text before ended0 unread0 taken0 old read rest written lines requests line later c d u by =
@@ -66,11 +68,14 @@ output_by table text before ended0 unread0 taken0 old read rest written lines re
     ∙ ap (λ (ls : List (List ℕ)). written_from first_state None (begun table) (lines ++ c) (requests ++ d) true ls) by ∙ u.goes_on c d true (line ∷ later)
 
 -- the session ends with the line: what the whole output is
-output_stop : (table : Collation) (text before : List ℕ) (ended0 : Bool) (unread0 taken0 : Option (List ℕ)) (old : RunState) (read rest written : List ℕ) (lines requests : List Bool) (line : List ℕ) (later : List (List ℕ)) (memory starved : Bool) (f : LexFault)
+output_stop : (table : Collation) (text before : List ℕ) (ended0 : Bool) (unread0 taken0 : Option (List ℕ)) (old : RunState) (read rest written : List ℕ) (lines requests : List Bool) (line : List ℕ)
+    (later : List (List ℕ)) (memory starved : Bool) (f : LexFault)
     → IsUnderway table text before ended0 unread0 taken0 old read rest written lines requests → GoesBy text read line later → stop_at (parsed_at memory old.parser line) ≡ Some f
-    → starved_output (lines ++ memory ∷ []) (requests ++ (choices_for starved (line_requests old.block (parsed_at memory old.parser line)) ++ [])) true table text ≡ written ++ line_replies memory starved old line
+    → starved_output (lines ++ memory ∷ []) (requests ++ (choices_for starved (line_requests old.block (parsed_at memory old.parser line)) ++ [])) true table text
+    ≡ written ++ line_replies memory starved old line
 output_stop table text before ended0 unread0 taken0 old read rest written lines requests line later memory starved f u by stops =
-    output_by table text before ended0 unread0 taken0 old read rest written lines requests line later (memory ∷ []) (choices_for starved (line_requests old.block (parsed_at memory old.parser line)) ++ []) u by
+    output_by table text before ended0 unread0 taken0 old read rest written lines requests line later (memory ∷ [])
+    (choices_for starved (line_requests old.block (parsed_at memory old.parser line)) ++ []) u by
     ∙ ap (λ (l : List ℕ). written ++ l) (written_stop memory starved old.parser old.block old.session.history line [] [] true later f stops)
 
 -- a prefix of the bytes that were to be written was written
@@ -79,7 +84,8 @@ prefix_written written prefix back more bytes is =
     ap (λ (l : List ℕ). written ++ (l ++ more)) is ∙ ap (λ (l : List ℕ). written ++ l) (append_assoc prefix back more) ∙ sym (append_assoc written prefix (back ++ more))
 
 -- a write failed: a prefix of what the text's whole output goes on with was written
-write_ran : (table : Collation) (text before : List ℕ) (left taken0 taken1 : Option (List ℕ)) (written bytes more : List ℕ) (ls us : List Bool) (ended : RunFault) → starved_output ls us true table text ≡ written ++ (bytes ++ more)
+write_ran : (table : Collation) (text before : List ℕ) (left taken0 taken1 : Option (List ℕ)) (written bytes more : List ℕ) (ls us : List Bool) (ended : RunFault)
+    → starved_output ls us true table text ≡ written ++ (bytes ++ more)
     → taken0 ≡ Some (before ++ written) → ended ≡ write_failed → AppendsPrefix taken0 taken1 bytes → Leaves table text before left taken1 (Err ended)
 write_ran table text before left taken0 taken1 written bytes more ls us ended is taken_is failed (prefix, back, parts, more_taken) = (
   written ++ prefix,
@@ -88,7 +94,8 @@ write_ran table text before left taken0 taken1 written bytes more ls us ended is
 )
 
 -- a last line was served whole
-last_ran : (table : Collation) (text before : List ℕ) (left taken0 taken1 : Option (List ℕ)) (written bytes : List ℕ) (ls us : List Bool) (number : ℕ) (f : LexFault) (ended : RunFault) → ends_text f ≡ true → RanToLastLine table text (written ++ bytes) ls us number f
+last_ran : (table : Collation) (text before : List ℕ) (left taken0 taken1 : Option (List ℕ)) (written bytes : List ℕ) (ls us : List Bool) (number : ℕ) (f : LexFault) (ended : RunFault)
+    → ends_text f ≡ true → RanToLastLine table text (written ++ bytes) ls us number f
     → taken0 ≡ Some (before ++ written) → ended ≡ stopped_at number f → Appends taken0 taken1 bytes → Leaves table text before left taken1 (Err ended)
 last_ran table text before left taken0 taken1 written bytes ls us number f ended last r taken_is stopped more = (
   written ++ bytes,
@@ -97,7 +104,8 @@ last_ran table text before left taken0 taken1 written bytes ls us number f ended
 )
 
 -- the session ends at a line, of which memory was refused or not
-stop_ran : (table : Collation) (text before : List ℕ) (left : Option (List ℕ)) (ended0 : Bool) (unread0 taken0 taken1 : Option (List ℕ)) (old : RunState) (read rest written : List ℕ) (lines requests : List Bool) (line : List ℕ) (later : List (List ℕ)) (memory starved : Bool) (f : LexFault) (ended : RunFault)
+stop_ran : (table : Collation) (text before : List ℕ) (left : Option (List ℕ)) (ended0 : Bool) (unread0 taken0 taken1 : Option (List ℕ)) (old : RunState) (read rest written : List ℕ)
+    (lines requests : List Bool) (line : List ℕ) (later : List (List ℕ)) (memory starved : Bool) (f : LexFault) (ended : RunFault)
     → IsUnderway table text before ended0 unread0 taken0 old read rest written lines requests → GoesBy text read line later → stop_at (parsed_at memory old.parser line) ≡ Some f
     → EndsWith (number_of old.parser) f taken0 taken1 (line_replies memory starved old line) ended → Leaves table text before left taken1 (Err ended)
 stop_ran table text before left ended0 unread0 taken0 taken1 old read rest written lines requests line later memory starved f ended u by stops ends =
@@ -117,7 +125,8 @@ stop_ran table text before left ended0 unread0 taken0 taken1 old read rest writt
     ends
 
 -- a write failed at a line that the session would go on after
-cut_ran : (table : Collation) (text before : List ℕ) (left : Option (List ℕ)) (ended0 : Bool) (unread0 taken0 taken1 : Option (List ℕ)) (old : RunState) (read rest written : List ℕ) (lines requests : List Bool) (line : List ℕ) (later : List (List ℕ)) (memory starved : Bool) (ended : RunFault)
+cut_ran : (table : Collation) (text before : List ℕ) (left : Option (List ℕ)) (ended0 : Bool) (unread0 taken0 taken1 : Option (List ℕ)) (old : RunState) (read rest written : List ℕ)
+    (lines requests : List Bool) (line : List ℕ) (later : List (List ℕ)) (memory starved : Bool) (ended : RunFault)
     → IsUnderway table text before ended0 unread0 taken0 old read rest written lines requests → GoesBy text read line later → stop_at (parsed_at memory old.parser line) ≡ None
     → ended ≡ write_failed → AppendsPrefix taken0 taken1 (line_replies memory starved old line) → Leaves table text before left taken1 (Err ended)
 cut_ran table text before left ended0 unread0 taken0 taken1 old read rest written lines requests line later memory starved ended u by on failed prefix =
@@ -129,8 +138,10 @@ cut_ran table text before left ended0 unread0 taken0 taken1 old read rest writte
     ∙ ap (λ (l : List ℕ). written ++ l) (written_on memory starved old.parser old.block old.session.history line [] [] true later on))
     u.taken_is failed prefix
 
-ends_by : (table : Collation) (text before : List ℕ) (left : Option (List ℕ)) (ended0 : Bool) (unread0 taken0 taken1 : Option (List ℕ)) (old : RunState) (read rest written : List ℕ) (lines requests : List Bool) (line : List ℕ) (later : List (List ℕ)) (memory starved : Bool) (ended : RunFault)
-    → IsUnderway table text before ended0 unread0 taken0 old read rest written lines requests → GoesBy text read line later → EndsAtLine memory starved old line taken0 taken1 ended → Leaves table text before left taken1 (Err ended)
+ends_by : (table : Collation) (text before : List ℕ) (left : Option (List ℕ)) (ended0 : Bool) (unread0 taken0 taken1 : Option (List ℕ)) (old : RunState) (read rest written : List ℕ)
+    (lines requests : List Bool) (line : List ℕ) (later : List (List ℕ)) (memory starved : Bool) (ended : RunFault)
+    → IsUnderway table text before ended0 unread0 taken0 old read rest written lines requests → GoesBy text read line later → EndsAtLine memory starved old line taken0 taken1 ended
+    → Leaves table text before left taken1 (Err ended)
 ends_by table text before left ended0 unread0 taken0 taken1 old read rest written lines requests line later memory starved ended u by ends =
     ⊎_elim
     (λ (e : (f : LexFault) × (stop_at (parsed_at memory old.parser line) ≡ Some f) × EndsWith (number_of old.parser) f taken0 taken1 (line_replies memory starved old line) ended).
@@ -140,11 +151,13 @@ ends_by table text before left ended0 unread0 taken0 taken1 old read rest writte
     ends
 
 -- the session ended at a line
-pub line_ended : (table : Collation) (text before : List ℕ) (left : Option (List ℕ)) (ended0 ended1 : Bool) (unread0 unread1 taken0 taken1 : Option (List ℕ)) (old : RunState) (line : List ℕ) (ended : RunFault) → Underway table text before ended0 unread0 taken0 old → ended0 ≡ false
+pub line_ended : (table : Collation) (text before : List ℕ) (left : Option (List ℕ)) (ended0 ended1 : Bool) (unread0 unread1 taken0 taken1 : Option (List ℕ)) (old : RunState) (line : List ℕ)
+    (ended : RunFault) → Underway table text before ended0 unread0 taken0 old → ended0 ≡ false
     → Cuts ended1 unread0 unread1 line → IsInLine line → (memory : Bool) × (starved : Bool) × EndsAtLine memory starved old line taken0 taken1 ended → Leaves table text before left taken1 (Err ended)
 line_ended table text before left ended0 ended1 unread0 unread1 taken0 taken1 old line ended (read, rest, written, lines, requests, u) going cuts whole (memory, starved, did) =
     let (rest2, unread_is, cut) = unread_after ended1 unread0 unread1 rest line u.unread_is cuts in
-    ends_by table text before left ended0 unread0 taken0 taken1 old read rest written lines requests line (lines_of rest2) memory starved ended u (ap lines_of u.text_is ∙ lines_next ended1 read rest rest2 line whole cut (u.there.cut going)) did
+    ends_by table text before left ended0 unread0 taken0 taken1 old read rest written lines requests line (lines_of rest2) memory starved ended u
+    (ap lines_of u.text_is ∙ lines_next ended1 read rest rest2 line whole cut (u.there.cut going)) did
 
 -- a line too long ended the session
 abbrev long_line_at : LexerState → ParsedLine
@@ -154,32 +167,44 @@ long_at : (s : LexerState) (line : List ℕ) → 65536 < length line → parsed_
 unfolding parsed_in served
 long_at s line long = ap (λ (a : Result (Option Line × LexerState) LexFault). parsed_by true (number_of s) (opening_of (first_line s line)) a) (fed-too_long s line long)
 
-long_line : (read rest held more : List ℕ) → rest ≡ held ++ more → IsLongLine held → IsCut read → (line : List ℕ) × (later : List (List ℕ)) × (lines_of (read ++ rest) ≡ lines_of read ++ line ∷ later) × (65536 < length line)
+long_line : (read rest held more : List ℕ) → rest ≡ held ++ more → IsLongLine held → IsCut read → (line : List ℕ) × (later : List (List ℕ)) × (lines_of (read ++ rest) ≡ lines_of read ++ line ∷ later)
+    × (65536 < length line)
 long_line read rest held more is long cut =
     let (line, later, begins, longer) = lines_of-long held more long in
     (line, later, cut rest ∙ ap (λ (ls : List (List ℕ)). lines_of read ++ ls) (ap lines_of is ∙ begins), longer)
 
-held_first : (held : List ℕ) (unread0 left1 : Option (List ℕ)) (rest : List ℕ) → unread0 ≡ Some rest → Keeps unread0 (prepend_known held left1) → (more : List ℕ) × (left1 ≡ Some more) × (rest ≡ held ++ more)
+held_first : (held : List ℕ) (unread0 left1 : Option (List ℕ)) (rest : List ℕ) → unread0 ≡ Some rest → Keeps unread0 (prepend_known held left1) → (more : List ℕ) × (left1 ≡ Some more)
+    × (rest ≡ held ++ more)
 held_first held None left1 rest is keeps = absurd (cc)
 held_first held (Some all) None rest is keeps = absurd keeps
 held_first held (Some all) (Some more) rest is keeps = let same : all ≡ rest = cc in (more, refl, sym same ∙ sym keeps)
 
-ends_long : (old : RunState) (line : List ℕ) (taken0 taken1 : Option (List ℕ)) (ended : RunFault) → 65536 < length line → EndsWith (number_of old.parser) lex.LineTooLong taken0 taken1 (refused_lines (kept_last_faults old.block (number_of old.parser) lex.LineTooLong)) ended
+ends_long : (old : RunState) (line : List ℕ) (taken0 taken1 : Option (List ℕ)) (ended : RunFault) → 65536 < length line
+    → EndsWith (number_of old.parser) lex.LineTooLong taken0 taken1 (refused_lines (kept_last_faults old.block (number_of old.parser) lex.LineTooLong)) ended
     → EndsAtLine false false old line taken0 taken1 ended
 ends_long old line taken0 taken1 ended long ends =
     let at = long_at old.parser line long in
-    inl (lex.LineTooLong, ap stop_at at, subst (λ (bytes : List ℕ). EndsWith (number_of old.parser) lex.LineTooLong taken0 taken1 bytes ended) (stopped_replies false false old line (long_line_at old.parser) lex.LineTooLong at refl) ends)
+    inl (
+      lex.LineTooLong,
+      ap stop_at at,
+      subst (λ (bytes : List ℕ). EndsWith (number_of old.parser) lex.LineTooLong taken0 taken1 bytes ended)
+          (stopped_replies false false old line (long_line_at old.parser) lex.LineTooLong at refl) ends,
+    )
 
-pub long_ended : (table : Collation) (text before : List ℕ) (left : Option (List ℕ)) (ended0 : Bool) (unread0 left1 taken0 taken1 : Option (List ℕ)) (old : RunState) (held : List ℕ) (ended : RunFault) → Underway table text before ended0 unread0 taken0 old → ended0 ≡ false → Keeps unread0 (prepend_known held left1) → IsLongLine held
-    → EndsWith (number_of old.parser) lex.LineTooLong taken0 taken1 (refused_lines (kept_last_faults old.block (number_of old.parser) lex.LineTooLong)) ended → Leaves table text before left taken1 (Err ended)
+pub long_ended : (table : Collation) (text before : List ℕ) (left : Option (List ℕ)) (ended0 : Bool) (unread0 left1 taken0 taken1 : Option (List ℕ)) (old : RunState) (held : List ℕ) (ended : RunFault)
+    → Underway table text before ended0 unread0 taken0 old → ended0 ≡ false → Keeps unread0 (prepend_known held left1) → IsLongLine held
+    → EndsWith (number_of old.parser) lex.LineTooLong taken0 taken1 (refused_lines (kept_last_faults old.block (number_of old.parser) lex.LineTooLong)) ended
+    → Leaves table text before left taken1 (Err ended)
 long_ended table text before left ended0 unread0 left1 taken0 taken1 old held ended (read, rest, written, lines, requests, u) going keeps long ends =
     let (more, left_is, rest_is) = held_first held unread0 left1 rest u.unread_is keeps in
     let (line, later, by, longer) = long_line read rest held more rest_is long (u.there.cut going) in
-    ends_by table text before left ended0 unread0 taken0 taken1 old read rest written lines requests line later false false ended u (ap lines_of u.text_is ∙ by) (ends_long old line taken0 taken1 ended longer ends)
+    ends_by table text before left ended0 unread0 taken0 taken1 old read rest written lines requests line later false false ended u (ap lines_of u.text_is ∙ by)
+    (ends_long old line taken0 taken1 ended longer ends)
 
 -- a read failed: a part of the next line was read
 read_ran : (table : Collation) (text before : List ℕ) (ended0 : Bool) (unread0 taken0 : Option (List ℕ)) (old : RunState) (read rest written : List ℕ) (lines requests : List Bool) (held more : List ℕ)
-    → IsUnderway table text before ended0 unread0 taken0 old read rest written lines requests → ended0 ≡ false → rest ≡ held ++ more → IsInLine held → length held ≤ most_line_bytes → RanToReadFault table text (Some more) written (lines ++ []) (requests ++ []) read held more
+    → IsUnderway table text before ended0 unread0 taken0 old read rest written lines requests → ended0 ≡ false → rest ≡ held ++ more → IsInLine held → length held ≤ most_line_bytes
+    → RanToReadFault table text (Some more) written (lines ++ []) (requests ++ []) read held more
 read_ran table text before ended0 unread0 taken0 old read rest written lines requests held more u going is whole short = record {
   text_is = u.text_is ∙ ap (λ (r : List ℕ). read ++ r) is;
   in_feeds = u.there.in_feeds going;
@@ -187,12 +212,14 @@ read_ran table text before ended0 unread0 taken0 old read rest written lines req
   part_in_line = whole;
   part_short = short;
   left_is = refl;
-  output_is = sym (output_kept (lines ++ []) (requests ++ []) false table read ∙ ap (λ (ls : List (List ℕ)). written_from first_state None (begun table) (lines ++ []) (requests ++ []) false ls) (sym (append-nil (lines_of read)))
+  output_is = sym (output_kept (lines ++ []) (requests ++ []) false table read ∙ ap (λ (ls : List (List ℕ)). written_from first_state None (begun table) (lines ++ []) (requests ++ []) false ls)
+      (sym (append-nil (lines_of read)))
       ∙ u.goes_on [] [] false [] ∙ ap (λ (l : List ℕ). written ++ l) (written_cut old.parser old.block old.session.history) ∙ append-nil written);
   no_last = ap (λ (ls : List (List ℕ)). last_line (logical_lines (lines ++ []) false first_state ls)) (sym (append-nil (lines_of read))) ∙ u.last [] false [] ∙ last_cut old.parser;
 }
 
-pub read_ended : (table : Collation) (text before : List ℕ) (ended0 : Bool) (unread0 left1 taken0 taken1 : Option (List ℕ)) (old : RunState) (held : List ℕ) (ended : RunFault) → Underway table text before ended0 unread0 taken0 old → ended0 ≡ false → Keeps unread0 (prepend_known held left1) → IsInLine held → length held ≤ most_line_bytes
+pub read_ended : (table : Collation) (text before : List ℕ) (ended0 : Bool) (unread0 left1 taken0 taken1 : Option (List ℕ)) (old : RunState) (held : List ℕ) (ended : RunFault)
+    → Underway table text before ended0 unread0 taken0 old → ended0 ≡ false → Keeps unread0 (prepend_known held left1) → IsInLine held → length held ≤ most_line_bytes
     → (ended ≡ read_failed) × (taken1 ≡ taken0) → Leaves table text before left1 taken1 (Err ended)
 read_ended table text before ended0 unread0 left1 taken0 taken1 old held ended (read, rest, written, lines, requests, u) going keeps whole short (is, kept) =
     let (more, left_is, rest_is) = held_first held unread0 left1 rest u.unread_is keeps in (
@@ -226,14 +253,17 @@ end_lines : (text read rest : List ℕ) → text ≡ read ++ rest → rest ≡ [
 end_lines text read rest is none = ap lines_of (is ∙ ap (λ (r : List ℕ). read ++ r) none ∙ append-nil read) ∙ sym (append-nil (lines_of read))
 
 end_output : (table : Collation) (text before : List ℕ) (ended0 : Bool) (unread0 taken0 : Option (List ℕ)) (old : RunState) (read rest written : List ℕ) (lines requests : List Bool)
-    → IsUnderway table text before ended0 unread0 taken0 old read rest written lines requests → rest ≡ [] → starved_output (lines ++ []) (requests ++ []) true table text ≡ written ++ refused_lines (kept_end_faults old.block (pending old.parser))
+    → IsUnderway table text before ended0 unread0 taken0 old read rest written lines requests → rest ≡ [] → starved_output (lines ++ []) (requests ++ []) true table text
+    ≡ written ++ refused_lines (kept_end_faults old.block (pending old.parser))
 end_output table text before ended0 unread0 taken0 old read rest written lines requests u none =
     output_kept (lines ++ []) (requests ++ []) true table text
     ∙ ap (λ (ls : List (List ℕ)). written_from first_state None (begun table) (lines ++ []) (requests ++ []) true ls) (end_lines text read rest u.text_is none)
     ∙ u.goes_on [] [] true [] ∙ ap (λ (l : List ℕ). written ++ l) (written_end old.parser old.block old.session.history)
 
-end_ran : (table : Collation) (text before : List ℕ) (left1 taken0 taken1 : Option (List ℕ)) (ended0 : Bool) (unread0 : Option (List ℕ)) (old : RunState) (read rest written : List ℕ) (lines requests : List Bool) (r : Result (Unit {0}) RunFault)
-    → IsUnderway table text before ended0 unread0 taken0 old read rest written lines requests → rest ≡ [] → left1 ≡ Some [] → FinishesWith taken0 taken1 (refused_lines (kept_end_faults old.block (pending old.parser))) r → Leaves table text before left1 taken1 r
+end_ran : (table : Collation) (text before : List ℕ) (left1 taken0 taken1 : Option (List ℕ)) (ended0 : Bool) (unread0 : Option (List ℕ)) (old : RunState) (read rest written : List ℕ)
+    (lines requests : List Bool) (r : Result (Unit {0}) RunFault)
+    → IsUnderway table text before ended0 unread0 taken0 old read rest written lines requests → rest ≡ [] → left1 ≡ Some []
+    → FinishesWith taken0 taken1 (refused_lines (kept_end_faults old.block (pending old.parser))) r → Leaves table text before left1 taken1 r
 end_ran table text before left1 taken0 taken1 ended0 unread0 old read rest written lines requests (Ok done) u none left_is more =
     let bytes = refused_lines (kept_end_faults old.block (pending old.parser)) in (
       written ++ bytes,
@@ -261,29 +291,36 @@ nothing_left [] (Some all) (Some more) is keeps = let none : all ≡ [] = cc in 
 nothing_left (c ∷ held) (Some all) left1 is keeps = absurd cc
 
 -- the end was met now, or an earlier call has met it
-at_end : (old new : ReaderState) (left left1 : Option (List ℕ)) (failed failed1 : ℕ) (rest : List ℕ) → unread old left ≡ Some rest → (old.ended ≡ true → rest ≡ []) → GivesEnd old new left left1 failed failed1 ⊎ EndsAgain old new left left1 failed failed1
+at_end : (old new : ReaderState) (left left1 : Option (List ℕ)) (failed failed1 : ℕ) (rest : List ℕ) → unread old left ≡ Some rest → (old.ended ≡ true → rest ≡ [])
+    → GivesEnd old new left left1 failed failed1 ⊎ EndsAgain old new left left1 failed failed1
     → (rest ≡ []) × (left1 ≡ Some [])
 at_end old new left left1 failed failed1 rest is past end =
     ⊎_elim
     (λ (now : GivesEnd old new left left1 failed failed1).
-    nothing_unread (unread old left) left1 rest is (subst (λ (h : List ℕ). Keeps (unread old left) (prepend_known h left1)) now.held now.kept) (subst (λ (h : List ℕ). IsAtEnd (prepend_known h left1)) now.held now.end))
+    nothing_unread (unread old left) left1 rest is (subst (λ (h : List ℕ). Keeps (unread old left) (prepend_known h left1)) now.held now.kept)
+    (subst (λ (h : List ℕ). IsAtEnd (prepend_known h left1)) now.held now.end))
     (λ (again : EndsAgain old new left left1 failed failed1). let none = past again.ended in (none, nothing_left old.held left left1 (is ∙ ap Some none) again.kept))
     end
 
-pub text_ended : (table : Collation) (text before : List ℕ) (old new : ReaderState) (left left1 taken0 taken1 : Option (List ℕ)) (failed failed1 : ℕ) (state : RunState) (r : Result (Unit {0}) RunFault) → Underway table text before old.ended (unread old left) taken0 state
-    → GivesEnd old new left left1 failed failed1 ⊎ EndsAgain old new left left1 failed failed1 → FinishesWith taken0 taken1 (refused_lines (kept_end_faults state.block (pending state.parser))) r → Leaves table text before left1 taken1 r
+pub text_ended : (table : Collation) (text before : List ℕ) (old new : ReaderState) (left left1 taken0 taken1 : Option (List ℕ)) (failed failed1 : ℕ) (state : RunState)
+    (r : Result (Unit {0}) RunFault) → Underway table text before old.ended (unread old left) taken0 state
+    → GivesEnd old new left left1 failed failed1 ⊎ EndsAgain old new left left1 failed failed1 → FinishesWith taken0 taken1 (refused_lines (kept_end_faults state.block (pending state.parser))) r
+    → Leaves table text before left1 taken1 r
 text_ended table text before old new left left1 taken0 taken1 failed failed1 state r (read, rest, written, lines, requests, u) end finishes =
     let e = at_end old new left left1 failed failed1 rest u.unread_is u.there.past_end end in
     end_ran table text before left1 taken0 taken1 old.ended (unread old left) state read rest written lines requests r u e.0 e.1 finishes
 
 -- memory was refused before the first line was read
-pub never_begun : (table : Collation) (text before : List ℕ) (left taken : Option (List ℕ)) (ended : RunFault) → ended ≡ never_ran → left ≡ Some text → taken ≡ Some before → Leaves table text before left taken (Err ended)
+pub never_begun : (table : Collation) (text before : List ℕ) (left taken : Option (List ℕ)) (ended : RunFault) → ended ≡ never_ran → left ≡ Some text → taken ≡ Some before
+    → Leaves table text before left taken (Err ended)
 never_begun table text before left taken ended is left_is taken_is =
     ([], taken_is ∙ ap Some (sym (append-nil before)), subst (λ (e : RunFault). Ran table text left [] (Err e)) (sym is) (refl, record { nothing_written = refl; nothing_read = left_is }))
 
 -- no further line could be read
-pub cut_off_ended : (table : Collation) (text before : List ℕ) (old new : ReaderState) (left left1 taken0 taken1 : Option (List ℕ)) (failed failed1 : ℕ) (state : RunState) (stop : ReadStop) (ended : RunFault) → StopsNow old new left left1 failed failed1 stop
-    → Underway table text before old.ended (unread old left) taken0 state → IsCutOff stop (number_of state.parser) taken0 taken1 (refused_lines (kept_last_faults state.block (number_of state.parser) lex.LineTooLong)) ended → Leaves table text before left1 taken1 (Err ended)
+pub cut_off_ended : (table : Collation) (text before : List ℕ) (old new : ReaderState) (left left1 taken0 taken1 : Option (List ℕ)) (failed failed1 : ℕ) (state : RunState) (stop : ReadStop)
+    (ended : RunFault) → StopsNow old new left left1 failed failed1 stop
+    → Underway table text before old.ended (unread old left) taken0 state → IsCutOff stop (number_of state.parser) taken0 taken1
+    (refused_lines (kept_last_faults state.block (number_of state.parser) lex.LineTooLong)) ended → Leaves table text before left1 taken1 (Err ended)
 cut_off_ended table text before old new left left1 taken0 taken1 failed failed1 state stop.LineTooLong ended stops u cut =
     long_ended table text before left1 old.ended (unread old left) left1 taken0 taken1 state new.held ended u stops.not_ended stops.kept stops.cause.1 cut
 cut_off_ended table text before old new left left1 taken0 taken1 failed failed1 state stop.ReadFault ended stops u cut =

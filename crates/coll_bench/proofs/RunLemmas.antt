@@ -46,28 +46,32 @@ answers-append starved h (request ∷ requests) later choices =
 answers-all : (starved : Bool) (h : History) (requests : List RequestAt) (choices : List Bool) → answers h requests (choices_for starved requests ++ choices) ≡ replies_to starved h requests
 unfolding answers replies_to
 answers-all starved h [] choices = refl
-answers-all starved h (request ∷ requests) choices = ap (λ (bytes : List ℕ). reply_if starved h request.request ++ bytes) (answers-all starved (history_after_if starved h request.request) requests choices)
+answers-all starved h (request ∷ requests) choices =
+    ap (λ (bytes : List ℕ). reply_if starved h request.request ++ bytes) (answers-all starved (history_after_if starved h request.request) requests choices)
 
 map-append : (xs ys : List LogicalLine) → map parsed (xs ++ ys) ≡ map parsed xs ++ map parsed ys
 map-append [] ys = refl
 map-append (x ∷ xs) ys = ap (λ (hs : List ParsedLine). parsed x ∷ hs) (map-append xs ys)
 
 -- what is parsed of the logical lines that an answer gives
-parsed_lines : (s : LexerState) (line : List ℕ) (a : Result (Option Line × LexerState) LexFault) → map parsed (lines_by s line a) ≡ option_to_list (parsed_by true (number_of s) (opening_of (first_line s line)) a)
+parsed_lines : (s : LexerState) (line : List ℕ) (a : Result (Option Line × LexerState) LexFault)
+    → map parsed (lines_by s line a) ≡ option_to_list (parsed_by true (number_of s) (opening_of (first_line s line)) a)
 parsed_lines s line (Ok (None, after)) = refl
 parsed_lines s line (Ok (Some given, after)) = refl
 parsed_lines s line (Err f) = refl
 
 -- what is parsed of a physical line, and then of those that come later
 pub parsed_later : (memory : Bool) (choices : List Bool) (ends : Bool) (s : LexerState) (line : List ℕ) (later : List (List ℕ))
-    → map parsed (logical_lines (memory ∷ choices) ends s (line ∷ later)) ≡ option_to_list (parsed_at memory s line) ++ map parsed (logical_lines choices ends (state_by s (served memory s line)) later)
+    → map parsed (logical_lines (memory ∷ choices) ends s (line ∷ later))
+    ≡ option_to_list (parsed_at memory s line) ++ map parsed (logical_lines choices ends (state_by s (served memory s line)) later)
 unfolding logical_lines parsed_in
 parsed_later memory choices ends s line later =
     map-append (lines_by s line (served memory s line)) (logical_lines choices ends (state_by s (served memory s line)) later)
     ∙ ap (λ (hs : List ParsedLine). hs ++ map parsed (logical_lines choices ends (state_by s (served memory s line)) later)) (parsed_lines s line (served memory s line))
 
 -- the requests of what was parsed of a line, and then of what comes later
-pub requests_on : (ends : Bool) (block : Option OpenBlock) (h : Option ParsedLine) (later : List ParsedLine) → stop_at h ≡ None → kept_requests ends block (option_to_list h ++ later) ≡ line_requests block h ++ kept_requests ends (line_block block h) later
+pub requests_on : (ends : Bool) (block : Option OpenBlock) (h : Option ParsedLine) (later : List ParsedLine) → stop_at h ≡ None → kept_requests ends block (option_to_list h ++ later)
+    ≡ line_requests block h ++ kept_requests ends (line_block block h) later
 unfolding kept_requests line_requests line_block
 requests_on ends block None later goes = refl
 requests_on ends block (Some x) later goes =
@@ -75,7 +79,8 @@ requests_on ends block (Some x) later goes =
     ∙ ap (λ (o : Option LexFault). requests_or_last block x o ++ kept_requests ends (kept_after block x) later) (sym goes)
 
 -- the last requests
-pub requests_stop : (ends : Bool) (block : Option OpenBlock) (h : Option ParsedLine) (later : List ParsedLine) (f : LexFault) → stop_at h ≡ Some f → kept_requests ends block (option_to_list h ++ later) ≡ line_requests block h
+pub requests_stop : (ends : Bool) (block : Option OpenBlock) (h : Option ParsedLine) (later : List ParsedLine) (f : LexFault) → stop_at h ≡ Some f
+    → kept_requests ends block (option_to_list h ++ later) ≡ line_requests block h
 unfolding kept_requests line_requests
 requests_stop ends block None later f stops = absurd cc
 requests_stop ends block (Some x) later f stops =
@@ -83,7 +88,8 @@ requests_stop ends block (Some x) later f stops =
     ∙ ap (requests_or_last block x) (sym stops)
 
 -- a physical line that the session goes on after: its replies, and what is then left to be written
-pub written_on : (memory starved : Bool) (s : LexerState) (block : Option OpenBlock) (h : History) (line : List ℕ) (c d : List Bool) (ends : Bool) (later : List (List ℕ)) → stop_at (parsed_at memory s line) ≡ None
+pub written_on : (memory starved : Bool) (s : LexerState) (block : Option OpenBlock) (h : History) (line : List ℕ) (c d : List Bool) (ends : Bool) (later : List (List ℕ))
+    → stop_at (parsed_at memory s line) ≡ None
     → written_from s block h (memory ∷ c) (choices_for starved (line_requests block (parsed_at memory s line)) ++ d) ends (line ∷ later)
     ≡ replies_to starved h (line_requests block (parsed_at memory s line))
     ++ written_from (state_by s (served memory s line)) (line_block block (parsed_at memory s line)) (history_after_all starved h (line_requests block (parsed_at memory s line))) c d ends later
@@ -96,8 +102,10 @@ written_on memory starved s block h line c d ends later goes =
     ∙ answers-append starved h (line_requests block x) (kept_requests ends (line_block block x) rest) d
 
 -- a physical line at which the session ends: its replies are the last
-pub written_stop : (memory starved : Bool) (s : LexerState) (block : Option OpenBlock) (h : History) (line : List ℕ) (c d : List Bool) (ends : Bool) (later : List (List ℕ)) (f : LexFault) → stop_at (parsed_at memory s line) ≡ Some f
-    → written_from s block h (memory ∷ c) (choices_for starved (line_requests block (parsed_at memory s line)) ++ d) ends (line ∷ later) ≡ replies_to starved h (line_requests block (parsed_at memory s line))
+pub written_stop : (memory starved : Bool) (s : LexerState) (block : Option OpenBlock) (h : History) (line : List ℕ) (c d : List Bool) (ends : Bool) (later : List (List ℕ)) (f : LexFault)
+    → stop_at (parsed_at memory s line) ≡ Some f
+    → written_from s block h (memory ∷ c) (choices_for starved (line_requests block (parsed_at memory s line)) ++ d) ends (line ∷ later)
+    ≡ replies_to starved h (line_requests block (parsed_at memory s line))
 unfolding written_from
 written_stop memory starved s block h line c d ends later f stops =
     let x = parsed_at memory s line in

@@ -25,7 +25,8 @@ use Rattle.coll_bench.proofs.RunLemmas.{choices_for, written_on}
 use Rattle.coll_bench.proofs.RunEnds.{last_on}
 
 -- nothing was read or written yet
-pub underway_begun : (table : Collation) (text before : List ℕ) (ended : Bool) (unread taken : Option (List ℕ)) (state : RunState) → IsBegun state table → ended ≡ false → unread ≡ Some text → taken ≡ Some before → Underway table text before ended unread taken state
+pub underway_begun : (table : Collation) (text before : List ℕ) (ended : Bool) (unread taken : Option (List ℕ)) (state : RunState) → IsBegun state table → ended ≡ false → unread ≡ Some text
+    → taken ≡ Some before → Underway table text before ended unread taken state
 underway_begun table text before ended unread taken state b going unread_is taken_is = (
   [],
   text,
@@ -68,8 +69,10 @@ in_feeds-more read line lines whole more =
 
 next_ended : (read rest2 line : List ℕ) → IsInLine line → IsCut read → read ≡ with_feeds (lines_of read) → NextLine false read (line ++ line_feed ∷ rest2) rest2 line (read ++ (line ++ line_feed ∷ []))
 next_ended read rest2 line whole cut in_feeds =
-    let ended : (later : List ℕ) → (read ++ (line ++ line_feed ∷ [])) ++ later ≡ read ++ (line ++ line_feed ∷ later) = λ later. append_assoc read (line ++ line_feed ∷ []) later ∙ ap (λ (l : List ℕ). read ++ l) (append_assoc line (line_feed ∷ []) later) in
-    let lines : lines_of (read ++ (line ++ line_feed ∷ [])) ≡ lines_of read ++ line ∷ [] = cut (line ++ line_feed ∷ []) ∙ ap (λ (ls : List (List ℕ)). lines_of read ++ ls) (lines_of-ended line [] whole ∙ ap (λ (ls : List (List ℕ)). line ∷ ls) lines_of-nil) in
+    let ended : (later : List ℕ) → (read ++ (line ++ line_feed ∷ [])) ++ later ≡ read ++ (line ++ line_feed ∷ later) =
+    λ later. append_assoc read (line ++ line_feed ∷ []) later ∙ ap (λ (l : List ℕ). read ++ l) (append_assoc line (line_feed ∷ []) later) in
+    let lines : lines_of (read ++ (line ++ line_feed ∷ [])) ≡ lines_of read ++ line ∷ [] =
+    cut (line ++ line_feed ∷ []) ∙ ap (λ (ls : List (List ℕ)). lines_of read ++ ls) (lines_of-ended line [] whole ∙ ap (λ (ls : List (List ℕ)). line ∷ ls) lines_of-nil) in
     record {
       text_is = sym (ended rest2);
       lines_are = lines;
@@ -88,14 +91,16 @@ next_last read line whole some cut = record {
   there = record { cut = λ going. absurd (false≢true (sym going)); in_feeds = λ going. absurd (false≢true (sym going)); past_end = λ _. refl };
 }
 
-next_line : (ended : Bool) (read rest rest2 line : List ℕ) → IsInLine line → CutsLine ended rest line rest2 → IsCut read → read ≡ with_feeds (lines_of read) → (read2 : List ℕ) × NextLine ended read rest rest2 line read2
+next_line : (ended : Bool) (read rest rest2 line : List ℕ) → IsInLine line → CutsLine ended rest line rest2 → IsCut read → read ≡ with_feeds (lines_of read) → (read2 : List ℕ)
+    × NextLine ended read rest rest2 line read2
 next_line false read rest rest2 line whole cuts cut in_feeds = (
   read ++ (line ++ line_feed ∷ []),
   subst (λ (r : List ℕ). NextLine false read r rest2 line (read ++ (line ++ line_feed ∷ []))) (sym cuts) (next_ended read rest2 line whole cut in_feeds),
 )
 next_line true read rest rest2 line whole cuts cut in_feeds = (
   read ++ line,
-  subst (λ (r : List ℕ). NextLine true read r rest2 line (read ++ line)) (sym cuts.0) (subst (λ (r : List ℕ). NextLine true read line r line (read ++ line)) (sym cuts.2) (next_last read line whole cuts.1 cut)),
+  subst (λ (r : List ℕ). NextLine true read r rest2 line (read ++ line)) (sym cuts.0)
+      (subst (λ (r : List ℕ). NextLine true read line r line (read ++ line)) (sym cuts.2) (next_last read line whole cuts.1 cut)),
 )
 
 -- the lines of a text, one of which comes next
@@ -125,18 +130,23 @@ appended (Some xs) (Some ys) before written bytes is more =
 
 -- how a run goes on from what was read and written so far, for all further lines and choices
 abbrev GoesOn : Collation → (read written : List ℕ) → (lines requests : List Bool) → LexerState → Option OpenBlock → History → Type 0
-GoesOn table read written lines requests s block h = (c d : List Bool) (ends : Bool) (later : List (List ℕ)) → written_from first_state None (begun table) (lines ++ c) (requests ++ d) ends (lines_of read ++ later) ≡ written ++ written_from s block h c d ends later
+GoesOn table read written lines requests s block h = (c d : List Bool) (ends : Bool) (later : List (List ℕ))
+    → written_from first_state None (begun table) (lines ++ c) (requests ++ d) ends (lines_of read ++ later) ≡ written ++ written_from s block h c d ends later
 
 -- the same of a text's last line
 abbrev HasLast : (read : List ℕ) → List Bool → LexerState → Type 0
-HasLast read lines s = (c : List Bool) (ends : Bool) (later : List (List ℕ)) → last_line (logical_lines (lines ++ c) ends first_state (lines_of read ++ later)) ≡ last_line (logical_lines c ends s later)
+HasLast read lines s = (c : List Bool) (ends : Bool) (later : List (List ℕ)) → last_line (logical_lines (lines ++ c) ends first_state (lines_of read ++ later))
+    ≡ last_line (logical_lines c ends s later)
 
 pub one_more : (read read2 line : List ℕ) (later : List (List ℕ)) → lines_of read2 ≡ lines_of read ++ line ∷ [] → lines_of read2 ++ later ≡ lines_of read ++ line ∷ later
 one_more read read2 line later more = ap (λ (ls : List (List ℕ)). ls ++ later) more ∙ append_assoc (lines_of read) (line ∷ []) later
 
-goes_on_by : (table : Collation) (read read2 written line : List ℕ) (lines requests : List Bool) (s s2 : LexerState) (block block2 : Option OpenBlock) (h h2 : History) (memory starved : Bool) → GoesOn table read written lines requests s block h
-    → lines_of read2 ≡ lines_of read ++ line ∷ [] → stop_at (parsed_at memory s line) ≡ None → s2 ≡ state_by s (served memory s line) → block2 ≡ line_block block (parsed_at memory s line) → h2 ≡ history_after_all starved h (line_requests block (parsed_at memory s line))
-    → GoesOn table read2 (written ++ replies_to starved h (line_requests block (parsed_at memory s line))) (lines ++ memory ∷ []) (requests ++ choices_for starved (line_requests block (parsed_at memory s line))) s2 block2 h2
+goes_on_by : (table : Collation) (read read2 written line : List ℕ) (lines requests : List Bool) (s s2 : LexerState) (block block2 : Option OpenBlock) (h h2 : History) (memory starved : Bool)
+    → GoesOn table read written lines requests s block h
+    → lines_of read2 ≡ lines_of read ++ line ∷ [] → stop_at (parsed_at memory s line) ≡ None → s2 ≡ state_by s (served memory s line) → block2 ≡ line_block block (parsed_at memory s line)
+    → h2 ≡ history_after_all starved h (line_requests block (parsed_at memory s line))
+    → GoesOn table read2 (written ++ replies_to starved h (line_requests block (parsed_at memory s line))) (lines ++ memory ∷ [])
+    (requests ++ choices_for starved (line_requests block (parsed_at memory s line))) s2 block2 h2
 goes_on_by table read read2 written line lines requests s s2 block block2 h h2 memory starved goes more on s_is block_is h_is c d ends later =
     let us = line_requests block (parsed_at memory s line) in
     let first = written_from first_state None (begun table) in
@@ -150,7 +160,8 @@ goes_on_by table read read2 written line lines requests s s2 block block2 h h2 m
     ∙ ap (λ (x : History). replies_to starved h us ++ written_from s2 block2 x c d ends later) (sym h_is))
     ∙ sym (append_assoc written (replies_to starved h us) (written_from s2 block2 h2 c d ends later))
 
-has_last_by : (read read2 line : List ℕ) (lines : List Bool) (s s2 : LexerState) (memory : Bool) → HasLast read lines s → lines_of read2 ≡ lines_of read ++ line ∷ [] → stop_at (parsed_at memory s line) ≡ None → s2 ≡ state_by s (served memory s line)
+has_last_by : (read read2 line : List ℕ) (lines : List Bool) (s s2 : LexerState) (memory : Bool) → HasLast read lines s → lines_of read2 ≡ lines_of read ++ line ∷ []
+    → stop_at (parsed_at memory s line) ≡ None → s2 ≡ state_by s (served memory s line)
     → HasLast read2 (lines ++ memory ∷ []) s2
 has_last_by read read2 line lines s s2 memory last more on s_is c ends later =
     ap (λ (ls : List (List ℕ)). last_line (logical_lines ((lines ++ memory ∷ []) ++ c) ends first_state ls)) (one_more read read2 line later more)
@@ -159,8 +170,10 @@ has_last_by read read2 line lines s s2 memory last more on s_is c ends later =
     ∙ last_on memory s line c ends later on
     ∙ ap (λ (x : LexerState). last_line (logical_lines c ends x later)) (sym s_is)
 
-served_on : (table : Collation) (text before : List ℕ) (ended ended2 : Bool) (unread0 unread1 taken0 taken1 : Option (List ℕ)) (old new : RunState) (read rest written : List ℕ) (lines requests : List Bool) (memory starved : Bool) (line : List ℕ)
-    → IsUnderway table text before ended unread0 taken0 old read rest written lines requests → ended ≡ false → Cuts ended2 unread0 unread1 line → IsInLine line → Served memory starved old new line → Appends taken0 taken1 (line_replies memory starved old line)
+served_on : (table : Collation) (text before : List ℕ) (ended ended2 : Bool) (unread0 unread1 taken0 taken1 : Option (List ℕ)) (old new : RunState) (read rest written : List ℕ)
+    (lines requests : List Bool) (memory starved : Bool) (line : List ℕ)
+    → IsUnderway table text before ended unread0 taken0 old read rest written lines requests → ended ≡ false → Cuts ended2 unread0 unread1 line → IsInLine line → Served memory starved old new line
+    → Appends taken0 taken1 (line_replies memory starved old line)
     → Underway table text before ended2 unread1 taken1 new
 served_on table text before ended ended2 unread0 unread1 taken0 taken1 old new read rest written lines requests memory starved line u going cuts whole served more =
     let (rest2, unread_is, cut) = unread_after ended2 unread0 unread1 rest line u.unread_is cuts in
@@ -175,19 +188,22 @@ served_on table text before ended ended2 unread0 unread1 taken0 taken1 old new r
         there = n.there;
         unread_is = unread_is;
         taken_is = appended taken0 taken1 before written (line_replies memory starved old line) u.taken_is more;
-        goes_on = goes_on_by table read read2 written line lines requests old.parser new.parser old.block new.block old.session.history new.session.history memory starved u.goes_on n.lines_are served.goes_on served.parser served.block served.session;
+        goes_on = goes_on_by table read read2 written line lines requests old.parser new.parser old.block new.block old.session.history new.session.history memory starved u.goes_on n.lines_are
+            served.goes_on served.parser served.block served.session;
         last = has_last_by read read2 line lines old.parser new.parser memory u.last n.lines_are served.goes_on served.parser;
       },
     )
 
 -- one more line was served, and the run goes on
-pub underway_on : (table : Collation) (text before : List ℕ) (ended ended2 : Bool) (unread0 unread1 taken0 taken1 : Option (List ℕ)) (old new : RunState) (line : List ℕ) → Underway table text before ended unread0 taken0 old → ended ≡ false → Cuts ended2 unread0 unread1 line → IsInLine line
+pub underway_on : (table : Collation) (text before : List ℕ) (ended ended2 : Bool) (unread0 unread1 taken0 taken1 : Option (List ℕ)) (old new : RunState) (line : List ℕ)
+    → Underway table text before ended unread0 taken0 old → ended ≡ false → Cuts ended2 unread0 unread1 line → IsInLine line
     → (memory : Bool) × (starved : Bool) × Served memory starved old new line × Appends taken0 taken1 (line_replies memory starved old line) → Underway table text before ended2 unread1 taken1 new
 underway_on table text before ended ended2 unread0 unread1 taken0 taken1 old new line (read, rest, written, lines, requests, u) going cuts whole (memory, starved, served, more) =
     served_on table text before ended ended2 unread0 unread1 taken0 taken1 old new read rest written lines requests memory starved line u going cuts whole served more
 
 -- what the reader did, by its answer
-pub gives_line : (old new : ReaderState) (left left_after : Option (List ℕ)) (failed failed_after : ℕ) (more : Bool) → Advances old new left left_after failed failed_after (Ok more) → more ≡ true → GivesLine old new left left_after failed failed_after
+pub gives_line : (old new : ReaderState) (left left_after : Option (List ℕ)) (failed failed_after : ℕ) (more : Bool) → Advances old new left left_after failed failed_after (Ok more) → more ≡ true
+    → GivesLine old new left left_after failed failed_after
 gives_line old new left left_after failed failed_after true did is = did
 gives_line old new left left_after failed failed_after false did is = absurd (cc)
 
@@ -196,13 +212,15 @@ pub gives_end : (old new : ReaderState) (left left_after : Option (List ℕ)) (f
 gives_end old new left left_after failed failed_after true did is = absurd (cc)
 gives_end old new left left_after failed failed_after false did is = did
 
-pub stops_now : (old new : ReaderState) (left left_after : Option (List ℕ)) (failed failed_after : ℕ) (stop : ReadStop) → Advances old new left left_after failed failed_after (Err stop) → old.stop ≡ None → StopsNow old new left left_after failed failed_after stop
+pub stops_now : (old new : ReaderState) (left left_after : Option (List ℕ)) (failed failed_after : ℕ) (stop : ReadStop) → Advances old new left left_after failed failed_after (Err stop)
+    → old.stop ≡ None → StopsNow old new left left_after failed failed_after stop
 stops_now old new left left_after failed failed_after stop did going =
     ⊎_elim (λ (now : StopsNow old new left left_after failed failed_after stop). now)
     (λ (again : StopsAgain old new left left_after failed failed_after stop). let stopped = again.stopped in absurd (cc)) did
 
 -- no read failed where the end was met
-pub count_at_end : (old new : ReaderState) (left left_after : Option (List ℕ)) (failed failed_after : ℕ) → GivesEnd old new left left_after failed failed_after ⊎ EndsAgain old new left left_after failed failed_after → failed_after ≡ failed
+pub count_at_end : (old new : ReaderState) (left left_after : Option (List ℕ)) (failed failed_after : ℕ) → GivesEnd old new left left_after failed failed_after
+    ⊎ EndsAgain old new left left_after failed failed_after → failed_after ≡ failed
 count_at_end old new left left_after failed failed_after end =
     ⊎_elim (λ (now : GivesEnd old new left left_after failed failed_after). now.count) (λ (again : EndsAgain old new left left_after failed failed_after). again.count) end
 

@@ -1,5 +1,6 @@
 -- Serving a line: the request that it completes is answered, or there is none.
-use Rattle.std.proofs.Common.{◌≡◌, ℕ, ◌+◌, ◌<◌, ◌≤◌, min, arith, Bool, true, false, List, [], ◌∷◌, ◌++◌, Option, Some, None, Result, Ok, Err, refl, sym, ap, ◌∙◌, subst, append-nil, append_assoc, ⊎_elim, inl, inr}
+use Rattle.std.proofs.Common.{◌≡◌, ℕ, ◌+◌, ◌<◌, ◌≤◌, min, arith, Bool, true, false, List, [], ◌∷◌, ◌++◌, Option, Some, None}
+use Rattle.std.proofs.Common.{Result, Ok, Err, refl, sym, ap, ◌∙◌, subst, append-nil, append_assoc, ⊎_elim, inl, inr}
 use Rattle.std.specs.Prelude.{◌⊎◌, ◌==◌, option_to_list, if◌then◌else◌}
 use Rattle.std.specs.Io.KnownBytes.{Appends}
 use Rattle.std.proofs.KnownBytes.{Appends-nil}
@@ -110,13 +111,16 @@ count_of memory s s2 line stands none few =
 abbrev pub Takes : (s s2 : LexerState) → List ℕ → (block block2 : Option OpenBlock) → Result (Option RequestAt) LexFault → Type 0
 Takes s s2 line block block2 r = (memory : Bool) × TakesPhysical memory s s2 line block block2 r
 
-pub counts_line : (s s2 : LexerState) (line : List ℕ) (block block2 : Option OpenBlock) (completed : Option RequestAt) → Takes s s2 line block block2 (Ok completed) → s.count ≤ most_lines → CountsLine s s2
+pub counts_line : (s s2 : LexerState) (line : List ℕ) (block block2 : Option OpenBlock) (completed : Option RequestAt) → Takes s s2 line block block2 (Ok completed) → s.count ≤ most_lines
+    → CountsLine s s2
 counts_line s s2 line block block2 completed (memory, takes) few = count_of memory s s2 line takes.stands takes.answers.0 few
 
 -- a line that was taken, with its reply
-pub serves_taken : {E : Type 0} (old new : RunState) (s2 : LexerState) (block2 : Option OpenBlock) (line : List ℕ) (completed : Option RequestAt) (taken taken_after : Option (List ℕ)) (r : Result (Unit {0}) E)
+pub serves_taken : {E : Type 0} (old new : RunState) (s2 : LexerState) (block2 : Option OpenBlock) (line : List ℕ) (completed : Option RequestAt) (taken taken_after : Option (List ℕ))
+    (r : Result (Unit {0}) E)
     → Takes old.parser s2 line old.block block2 (Ok completed) → new.parser ≡ s2 → new.block ≡ block2
-    → (starved : Bool) × Sends taken taken_after (replies_to starved old.session.history (option_to_list completed)) r × (new.session.history ≡ history_after_all starved old.session.history (option_to_list completed))
+    → (starved : Bool) × Sends taken taken_after (replies_to starved old.session.history (option_to_list completed)) r
+    × (new.session.history ≡ history_after_all starved old.session.history (option_to_list completed))
     → (memory : Bool) × (starved : Bool) × Served memory starved old new line × Sends taken taken_after (line_replies memory starved old line) r
 serves_taken old new s2 block2 line completed taken taken_after r (memory, takes) parser block (starved, sent, session) = (
   memory,
@@ -137,7 +141,8 @@ refusals_replies true h (at ∷ faults) = ap (λ (bytes : List ℕ). refused_lin
 refusals_replies false h (at ∷ faults) = ap (λ (bytes : List ℕ). refused_line (fault_of at.fault) ++ bytes) (refusals_replies false h faults)
 
 -- the replies at a line at which the session ends
-pub stopped_replies : (memory starved : Bool) (old : RunState) (line : List ℕ) (x : ParsedLine) (f : LexFault) → parsed_at memory old.parser line ≡ Some x → stop_of x.parsed ≡ Some f → refused_lines (kept_last_faults old.block x.number f) ≡ line_replies memory starved old line
+pub stopped_replies : (memory starved : Bool) (old : RunState) (line : List ℕ) (x : ParsedLine) (f : LexFault) → parsed_at memory old.parser line ≡ Some x → stop_of x.parsed ≡ Some f
+    → refused_lines (kept_last_faults old.block x.number f) ≡ line_replies memory starved old line
 unfolding line_requests
 stopped_replies memory starved old line x f at stops =
     sym (refusals_replies starved old.session.history (kept_last_faults old.block x.number f))
@@ -159,7 +164,8 @@ unfolding parsed_in
 number_at memory s line x f at stops = stop_number (number_of s) (opening_of (first_line s line)) (served memory s line) x f at stops
 
 -- the last replies, at a line at which the session ends
-last_replies : (memory starved : Bool) (old : RunState) (line : List ℕ) (h : Option ParsedLine) (f : LexFault) → parsed_at memory old.parser line ≡ h → stop_at h ≡ Some f → refused_lines (kept_last_faults old.block (number_of old.parser) f) ≡ line_replies memory starved old line
+last_replies : (memory starved : Bool) (old : RunState) (line : List ℕ) (h : Option ParsedLine) (f : LexFault) → parsed_at memory old.parser line ≡ h → stop_at h ≡ Some f
+    → refused_lines (kept_last_faults old.block (number_of old.parser) f) ≡ line_replies memory starved old line
 last_replies memory starved old line None f at stops = absurd cc
 last_replies memory starved old line (Some x) f at stops =
     ap (λ (n : ℕ). refused_lines (kept_last_faults old.block n f)) (sym (number_at memory old.parser line x f at stops)) ∙ stopped_replies memory starved old line x f at stops
@@ -186,10 +192,12 @@ serves_failed old new line taken taken_after ended is s = (s.0, s.1, inr (s.2.go
 pub refused_lines-push : (faults : List FaultAt) (at : FaultAt) → refused_lines (faults ++ at ∷ []) ≡ refused_lines faults ++ refused_line (fault_of at.fault)
 unfolding refused_lines
 refused_lines-push [] at = append-nil (refused_line (fault_of at.fault))
-refused_lines-push (first ∷ faults) at = ap (λ (bytes : List ℕ). refused_line (fault_of first.fault) ++ bytes) (refused_lines-push faults at) ∙ sym (append_assoc (refused_line (fault_of first.fault)) (refused_lines faults) (refused_line (fault_of at.fault)))
+refused_lines-push (first ∷ faults) at = ap (λ (bytes : List ℕ). refused_line (fault_of first.fault) ++ bytes) (refused_lines-push faults at)
+    ∙ sym (append_assoc (refused_line (fault_of first.fault)) (refused_lines faults) (refused_line (fault_of at.fault)))
 
 -- the last replies at a fault that isn't that of a line continued where the text ends
-pub dropped_replies : (block : Option OpenBlock) (n : ℕ) (f : LexFault) → (f ≡ lex.DanglingEscape → ⊥) → refused_lines (kept_dropped_faults block) ++ refused_line (faults.Lex f) ≡ refused_lines (kept_last_faults block n f)
+pub dropped_replies : (block : Option OpenBlock) (n : ℕ) (f : LexFault) → (f ≡ lex.DanglingEscape → ⊥) → refused_lines (kept_dropped_faults block) ++ refused_line (faults.Lex f)
+    ≡ refused_lines (kept_last_faults block n f)
 dropped_replies block n f other = sym (refused_lines-push (kept_dropped_faults block) (fault_at n (request.Lex f))) ∙ ap refused_lines (sym (last_is f other))
   where
     last_is : (f : LexFault) → (f ≡ lex.DanglingEscape → ⊥) → kept_last_faults block n f ≡ kept_dropped_faults block ++ fault_at n (request.Lex f) ∷ []

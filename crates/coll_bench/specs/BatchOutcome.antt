@@ -4,10 +4,10 @@ use Rattle.std.specs.Prelude.{ℕ, suc, Bool, true, if◌then◌else◌, List, [
 use Rattle.std.specs.List.{flat_map, list_any}
 use Rattle.coll_devices.specs.PhysicalLines.{lines_of}
 use Rattle.coll_nodes.specs.Table.{Collation}
-use Rattle.coll_print.specs.CanonicalText.{text}
+use Rattle.coll_texts.specs.CanonicalText.{text}
 use Rattle.coll_table.specs.Delta.{delta}
-use Rattle.coll_builder.specs.Reading.{reads}
-use Rattle.coll_builder.specs.declared.load_faults.LoadFault.{LoadFault}
+use Rattle.coll_texts.specs.Reading.{reads}
+use Rattle.coll_texts.specs.declared.load_faults.LoadFault.{LoadFault}
 use Rattle.coll_table.specs.declared.refusals.Refusal.{Refusal}
 use Rattle.coll_requests.specs.DeltaFiles.{DeltaEnd, Ended, AtFault, Undecided as EndUndecided, DeltaOutcome, at_line, delta_outcome}
 use Rattle.coll_requests.specs.declared.delta_faults.DeltaCause.{DeltaCause}
@@ -61,7 +61,8 @@ judged_at input line (Err refusal) = Err (fault_in input line (fault.Table refus
 -- a table after the statements of a delta file, one after another; the first that is refused is a fault at its line
 unfoldable pub rewritten : (input : ℕ) → Collation → List StatementAt → Result Collation RunFault
 rewritten input table [] = Ok table
-rewritten input table (at ∷ later) = unless_faulty (judged_at input at.line (delta table at.statement)) (λ after. rewritten input after later)
+rewritten input table (at ∷ later) =
+    unless_faulty (judged_at input at.line (delta table at.statement)) (λ after. rewritten input after later)
 
 -- what lines of a delta file decide: the table after the file, or a fault; or nothing yet, and then the cause of the fault if the
 -- file ends with them

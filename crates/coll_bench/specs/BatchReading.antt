@@ -12,7 +12,8 @@ use Rattle.coll_requests.specs.declared.delta_faults.DeltaFault.{DeltaFault}
 use Rattle.coll_requests.specs.declared.delta_files.StatementAt.{StatementAt}
 use Rattle.coll_bench.specs.Faults.{fault_number}
 use Rattle.coll_bench.specs.BatchOutcome.{fault_in, delta_fault_in, unless_faulty, rewritten, after_delta, after_deltas, after_inputs}
-use Rattle.coll_bench.specs.BatchRuns.{Ending, ReadFailed, WriteFailed, Starved, Refused, ending_of, DeltaStopsWithin, DeltasStopWithin, InputsStopWithin, DeltaStarves, DeltasStarve, InputsStarve, BatchRuns, raised_at}
+use Rattle.coll_bench.specs.BatchRuns.{Ending, ReadFailed, WriteFailed, Starved, Refused, ending_of, DeltaStopsWithin, DeltasStopWithin}
+use Rattle.coll_bench.specs.BatchRuns.{InputsStopWithin, DeltaStarves, DeltasStarve, InputsStarve, BatchRuns, raised_at}
 use Rattle.coll_bench.specs.declared.batches.Batch.{Batch}
 use Rattle.coll_bench.specs.declared.faults.Fault.TheVariants as fault
 use Rattle.coll_bench.specs.declared.faults.RunFault.{RunFault}
@@ -29,7 +30,8 @@ unless_stored input (Some f) taken = Err (delta_fault_in input f)
 
 -- a line by what the reader of the file makes of it
 abbrev pub by_step : (input : ℕ) → Collation → Step → Taken
-by_step input table (Ok (given, after)) = unless_faulty (rewritten input table given) (λ changed. unless_stored input after.fault (changed, after))
+by_step input table (Ok (given, after)) =
+    unless_faulty (rewritten input table given) (λ changed. unless_stored input after.fault (changed, after))
 by_step input table (Err f) = Err (delta_fault_in input f)
 
 -- what one more line of a delta file is taken as
@@ -51,7 +53,8 @@ IsNumberOf (at ∷ later) number = number ≡ at.line
 -- the number that a fault of a line has that was handed in: that of its logical line, or of the statement that it completes
 abbrev pub IsFaultNumber : DeltaState → List ℕ → ℕ → Type 0
 IsFaultNumber s line number =
-    (number ≡ number_of s.lexer) ⊎ ((given : List StatementAt) × (after : DeltaState) × (delta_line s line ≡ Ok (given, after)) × IsNumberOf given number)
+    (number ≡ number_of s.lexer) ⊎ ((given : List StatementAt) × (after : DeltaState) × (delta_line s line ≡ Ok (given, after))
+    × IsNumberOf given number)
 
 -- the fault of an input for which memory was refused before its first line
 abbrev pub starved_in : (input : ℕ) → RunFault
@@ -72,7 +75,8 @@ DeltaFails Refused input table text left ended = after_delta input table text �
 -- what an answer says of a delta file
 abbrev pub ReadsDelta : (input : ℕ) → (old new : Collation) → (left left_after : Option (List ℕ)) → Result (Unit {0}) RunFault → Type 0
 ReadsDelta input old new left left_after (Ok done) = (text : List ℕ) → left ≡ Some text → after_delta input old text ≡ Ok new
-ReadsDelta input old new left left_after (Err ended) = (text : List ℕ) → left ≡ Some text → DeltaFails (ending_of ended) input old text left_after ended
+ReadsDelta input old new left left_after (Err ended) =
+    (text : List ℕ) → left ≡ Some text → DeltaFails (ending_of ended) input old text left_after ended
 
 -- a failed read is counted, and nothing else is
 abbrev pub CountsDelta : ℕ → ℕ → Result (Unit {0}) RunFault → Type 0
@@ -93,7 +97,8 @@ DeltasFail Refused table texts lefts ended = after_deltas 1 table texts ≡ Err 
 -- what an answer says of the delta files
 abbrev pub ReadsDeltas : (old new : Collation) → (lefts lefts_after : List (Option (List ℕ))) → Result (Unit {0}) RunFault → Type 0
 ReadsDeltas old new lefts lefts_after (Ok done) = (texts : List (List ℕ)) → lefts ≡ map Some texts → after_deltas 1 old texts ≡ Ok new
-ReadsDeltas old new lefts lefts_after (Err ended) = (texts : List (List ℕ)) → lefts ≡ map Some texts → DeltasFail (ending_of ended) old texts lefts_after ended
+ReadsDeltas old new lefts lefts_after (Err ended) =
+    (texts : List (List ℕ)) → lefts ≡ map Some texts → DeltasFail (ending_of ended) old texts lefts_after ended
 
 -- a failed read is counted by its delta file, and nothing else is
 abbrev pub CountsDeltas : (old new : List ℕ) → Result (Unit {0}) RunFault → Type 0
@@ -101,20 +106,26 @@ CountsDeltas old new (Ok done) = new ≡ old
 CountsDeltas old new (Err ended) = new ≡ (if fault_number ended.fault == 67 then raised_at (pred ended.input) old else old)
 
 -- what a fault says of the inputs, by its kind
-abbrev pub InputsFail : Ending → (table_text : List ℕ) → (delta_texts : List (List ℕ)) → (left : Option (List ℕ)) → (lefts : List (Option (List ℕ))) → RunFault → Type 0
-InputsFail ReadFailed table_text delta_texts left lefts ended = (ended.line ≡ 0) × InputsStopWithin ended.input table_text delta_texts left lefts
+abbrev pub InputsFail : Ending → (table_text : List ℕ) → (delta_texts : List (List ℕ)) → (left : Option (List ℕ))
+    → (lefts : List (Option (List ℕ))) → RunFault → Type 0
+InputsFail ReadFailed table_text delta_texts left lefts ended =
+    (ended.line ≡ 0) × InputsStopWithin ended.input table_text delta_texts left lefts
 InputsFail WriteFailed table_text delta_texts left lefts ended = ⊥
 InputsFail Starved table_text delta_texts left lefts ended = InputsStarve ended.input ended.line table_text delta_texts left
 InputsFail Refused table_text delta_texts left lefts ended = after_inputs table_text delta_texts ≡ Err ended
 
 -- what an answer says of the inputs
-abbrev pub ReadsInputs : (left left_after : Option (List ℕ)) → (lefts lefts_after : List (Option (List ℕ))) → Result TableValue RunFault → Type 0
+abbrev pub ReadsInputs : (left left_after : Option (List ℕ)) → (lefts lefts_after : List (Option (List ℕ))) → Result TableValue RunFault
+    → Type 0
 ReadsInputs left left_after lefts lefts_after (Ok table) =
-    (table_text : List ℕ) (delta_texts : List (List ℕ)) → left ≡ Some table_text → lefts ≡ map Some delta_texts → after_inputs table_text delta_texts ≡ Ok (collation table)
+    (table_text : List ℕ) (delta_texts : List (List ℕ)) → left ≡ Some table_text → lefts ≡ map Some delta_texts
+    → after_inputs table_text delta_texts ≡ Ok (collation table)
 ReadsInputs left left_after lefts lefts_after (Err ended) =
-    (table_text : List ℕ) (delta_texts : List (List ℕ)) → left ≡ Some table_text → lefts ≡ map Some delta_texts → InputsFail (ending_of ended) table_text delta_texts left_after lefts_after ended
+    (table_text : List ℕ) (delta_texts : List (List ℕ)) → left ≡ Some table_text → lefts ≡ map Some delta_texts
+    → InputsFail (ending_of ended) table_text delta_texts left_after lefts_after ended
 
 -- an answer to a batch of which the inputs gave this table, whatever they are
 abbrev pub AnswersBatch : Batch → TableValue → (taken taken_after : Option (List ℕ)) → Result (Unit {0}) RunFault → Type 0
 AnswersBatch b table taken taken_after r =
-    (left left_after : Option (List ℕ)) (lefts lefts_after : List (Option (List ℕ))) → ReadsInputs left left_after lefts lefts_after (Ok table) → BatchRuns b left left_after lefts lefts_after taken taken_after r
+    (left left_after : Option (List ℕ)) (lefts lefts_after : List (Option (List ℕ)))
+    → ReadsInputs left left_after lefts lefts_after (Ok table) → BatchRuns b left left_after lefts lefts_after taken taken_after r

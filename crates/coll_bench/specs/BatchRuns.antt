@@ -1,12 +1,13 @@
 -- A whole run of a batch: what was written and what was answered are stated functions of what its inputs have.
-use Rattle.std.specs.Prelude.{◌≡◌, ◌≤◌, ◌+◌, ◌==◌, ◌⊎◌, ℕ, zero, suc, false, if◌then◌else◌, List, [], ◌∷◌, ◌++◌, length, map, take, slice_get, Option, Some, Result, Ok, Err}
+use Rattle.std.specs.Prelude.{◌≡◌, ◌≤◌, ◌+◌, ◌==◌, ◌⊎◌, ℕ, zero, suc, false, if◌then◌else◌, List, [], ◌∷◌}
+use Rattle.std.specs.Prelude.{◌++◌, length, map, take, slice_get, Option, Some, Result, Ok, Err}
 use Rattle.coll_devices.specs.Devices.{raised}
 use Rattle.coll_devices.specs.Limits.{most_line_bytes}
 use Rattle.coll_devices.specs.PhysicalLines.{lines_of, IsInLine, with_feeds}
 use Rattle.coll_nodes.specs.Table.{Collation}
 use Rattle.coll_table.specs.Loads.{IsLineWithin, StopsWithin, FaultSays}
-use Rattle.coll_builder.specs.declared.load_faults.LoadCause.TheVariants as load
-use Rattle.coll_builder.specs.Reading.{reads}
+use Rattle.coll_texts.specs.declared.load_faults.LoadCause.TheVariants as load
+use Rattle.coll_texts.specs.Reading.{reads}
 use Rattle.coll_requests.specs.DeltaFiles.{delta_outcome}
 use Rattle.coll_requests.specs.declared.delta_files.StatementAt.{StatementAt}
 use Rattle.coll_bench.specs.Faults.{fault_number}
@@ -24,7 +25,8 @@ pub data Ending : Type 0 where
 
 -- the kind of a fault, by its number
 abbrev pub ending_of_number : ℕ → Ending
-ending_of_number number = if number == 67 then ReadFailed else (if number == 68 then WriteFailed else (if number == 70 then Starved else Refused))
+ending_of_number number = if number == 67 then ReadFailed
+    else (if number == 68 then WriteFailed else (if number == 70 then Starved else Refused))
 
 -- the kind of the fault that ended a run
 abbrev pub ending_of : RunFault → Ending
@@ -40,7 +42,8 @@ DecidesNothing (Undecided cause) = Unit {0}
 abbrev pub DeltaStopsWithin : (input : ℕ) → Collation → (text : List ℕ) → (left : Option (List ℕ)) → Type 0
 DeltaStopsWithin input table text left =
     (whole : List (List ℕ)) × (part : List ℕ) × (rest : List ℕ) × (left ≡ Some rest) × (text ≡ with_feeds whole ++ (part ++ rest))
-    × (lines_of text ≡ whole ++ lines_of (part ++ rest)) × IsInLine part × (length part ≤ most_line_bytes) × DecidesNothing (decision input table (delta_outcome false whole))
+    × (lines_of text ≡ whole ++ lines_of (part ++ rest)) × IsInLine part × (length part ≤ most_line_bytes)
+    × DecidesNothing (decision input table (delta_outcome false whole))
 
 -- a read of one of the delta files failed, with so many before it, which give a table
 abbrev pub DeltasStopWithin : (before : ℕ) → Collation → (texts : List (List ℕ)) → (lefts : List (Option (List ℕ))) → Type 0
@@ -49,7 +52,8 @@ DeltasStopWithin before first texts lefts =
     × (slice_get texts before ≡ Some text) × (slice_get lefts before ≡ Some left) × DeltaStopsWithin (suc before) table text left
 
 -- a read of an input failed, and nothing before that is at fault
-abbrev pub InputsStopWithin : (input : ℕ) → (table_text : List ℕ) → (delta_texts : List (List ℕ)) → (left : Option (List ℕ)) → (lefts : List (Option (List ℕ))) → Type 0
+abbrev pub InputsStopWithin : (input : ℕ) → (table_text : List ℕ) → (delta_texts : List (List ℕ)) → (left : Option (List ℕ))
+    → (lefts : List (Option (List ℕ))) → Type 0
 InputsStopWithin zero table_text delta_texts left lefts = StopsWithin table_text left
 InputsStopWithin (suc before) table_text delta_texts left lefts =
     (first : Collation) × (reads table_text ≡ Ok first) × DeltasStopWithin before first delta_texts lefts
@@ -57,14 +61,16 @@ InputsStopWithin (suc before) table_text delta_texts left lefts =
 -- the number of a statement that these lines of a delta file give
 abbrev pub IsLineOfStatement : (lines : List (List ℕ)) → (number : ℕ) → Type 0
 IsLineOfStatement lines number =
-    (before : List StatementAt) × (at : StatementAt) × (later : List StatementAt) × ((delta_outcome false lines).statements ≡ before ++ at ∷ later) × (number ≡ at.line)
+    (before : List StatementAt) × (at : StatementAt) × (later : List StatementAt)
+    × ((delta_outcome false lines).statements ≡ before ++ at ∷ later) × (number ≡ at.line)
 
 -- memory was refused at a line of a delta file: the lines handed in before it decide nothing, and the fault has the number of a line
 -- up to it, or that of a statement that these lines give
 abbrev pub DeltaStarvesWithin : (input : ℕ) → Collation → (text : List ℕ) → (number : ℕ) → Type 0
 DeltaStarvesWithin input table text number =
     (whole : List (List ℕ)) × (line : List ℕ) × (later : List (List ℕ)) × (lines_of text ≡ whole ++ line ∷ later)
-    × DecidesNothing (decision input table (delta_outcome false whole)) × (IsLineWithin number (length whole + 1) ⊎ IsLineOfStatement (whole ++ line ∷ []) number)
+    × DecidesNothing (decision input table (delta_outcome false whole))
+    × (IsLineWithin number (length whole + 1) ⊎ IsLineOfStatement (whole ++ line ∷ []) number)
 
 -- memory was refused to a delta file: before its first line, or at one of its lines
 abbrev pub DeltaStarves : (input : ℕ) → Collation → (text : List ℕ) → (number : ℕ) → Type 0
@@ -93,7 +99,8 @@ IsOfNoLine ended = (ended.input ≡ 0) × (ended.line ≡ 0)
 -- what a run did that ended with a fault, by its kind: nothing is written where an input is at fault or a read fails; a write that
 -- fails leaves a prefix of the output; and where memory is refused, this is no line's, and leaves a prefix of the output, or it is
 -- that of an input, and nothing is written
-abbrev pub BatchRanTo : Ending → Batch → (table_text : List ℕ) → (delta_texts : List (List ℕ)) → (left : Option (List ℕ)) → (lefts : List (Option (List ℕ))) → (written : List ℕ) → RunFault → Type 0
+abbrev pub BatchRanTo : Ending → Batch → (table_text : List ℕ) → (delta_texts : List (List ℕ)) → (left : Option (List ℕ))
+    → (lefts : List (Option (List ℕ))) → (written : List ℕ) → RunFault → Type 0
 BatchRanTo ReadFailed b table_text delta_texts left lefts written ended =
     (written ≡ []) × (ended.line ≡ 0) × InputsStopWithin ended.input table_text delta_texts left lefts
 BatchRanTo WriteFailed b table_text delta_texts left lefts written ended =
@@ -105,15 +112,19 @@ BatchRanTo Refused b table_text delta_texts left lefts written ended =
     (written ≡ []) × (batch_outcome b table_text delta_texts ≡ Err ended)
 
 -- what a run of a batch did, by its answer
-abbrev pub BatchRan : Batch → (table_text : List ℕ) → (delta_texts : List (List ℕ)) → (left : Option (List ℕ)) → (lefts : List (Option (List ℕ))) → (written : List ℕ) → Result (Unit {0}) RunFault → Type 0
+abbrev pub BatchRan : Batch → (table_text : List ℕ) → (delta_texts : List (List ℕ)) → (left : Option (List ℕ))
+    → (lefts : List (Option (List ℕ))) → (written : List ℕ) → Result (Unit {0}) RunFault → Type 0
 BatchRan b table_text delta_texts left lefts written (Ok done) = batch_outcome b table_text delta_texts ≡ Ok written
-BatchRan b table_text delta_texts left lefts written (Err ended) = BatchRanTo (ending_of ended) b table_text delta_texts left lefts written ended
+BatchRan b table_text delta_texts left lefts written (Err ended) =
+    BatchRanTo (ending_of ended) b table_text delta_texts left lefts written ended
 
 -- the theorem of a batch: whatever texts the inputs have, and whatever the sink took before, what was written and what was
 -- answered are as stated for these texts
-abbrev pub BatchRuns : Batch → (left left_after : Option (List ℕ)) → (lefts lefts_after : List (Option (List ℕ))) → (taken taken_after : Option (List ℕ)) → Result (Unit {0}) RunFault → Type 0
+abbrev pub BatchRuns : Batch → (left left_after : Option (List ℕ)) → (lefts lefts_after : List (Option (List ℕ)))
+    → (taken taken_after : Option (List ℕ)) → Result (Unit {0}) RunFault → Type 0
 BatchRuns b left left_after lefts lefts_after taken taken_after r =
-    (table_text : List ℕ) (delta_texts : List (List ℕ)) (before : List ℕ) → left ≡ Some table_text → lefts ≡ map Some delta_texts → taken ≡ Some before
+    (table_text : List ℕ) (delta_texts : List (List ℕ)) (before : List ℕ) → left ≡ Some table_text → lefts ≡ map Some delta_texts
+    → taken ≡ Some before
     → (written : List ℕ) × (taken_after ≡ Some (before ++ written)) × BatchRan b table_text delta_texts left_after lefts_after written r
 
 -- the counts of the inputs, that of one of them, by its number, one higher

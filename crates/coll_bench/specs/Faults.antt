@@ -4,10 +4,10 @@ use Rattle.coll_devices.specs.Stops.{read_stop_number, read_stop_name, write_sto
 use Rattle.coll_lex.specs.Faults.{lex_fault_number, lex_fault_name}
 use Rattle.coll_syntax.specs.SyntaxFaults.{syntax_fault_number, syntax_fault_name}
 use Rattle.coll_table.specs.Refusals.{refusal_number, refusal_name}
-use Rattle.coll_builder.specs.LoadFaults.{load_fault_number, load_fault_name}
+use Rattle.coll_texts.specs.LoadFaults.{load_fault_number, load_fault_name}
 use Rattle.coll_history.specs.HistoryFaults.{bench_fault_number, bench_fault_name}
 use Rattle.coll_key.specs.KeyFaults.{fault_number as key_fault_number, fault_name as key_fault_name}
-use Rattle.coll_builder.specs.declared.load_faults.LoadCause.TheVariants as load
+use Rattle.coll_texts.specs.declared.load_faults.LoadCause.TheVariants as load
 use Rattle.coll_requests.specs.declared.delta_faults.DeltaCause.{DeltaCause}
 use Rattle.coll_requests.specs.declared.delta_faults.DeltaCause.TheVariants as delta
 use Rattle.coll_requests.specs.declared.request_faults.RequestFault.{RequestFault}

@@ -10,7 +10,8 @@ use Rattle.coll_bench.specs.Runs.{starved_output, output, last_of}
 
 -- a request whose reply is a refusal, lack of memory included, leaves the history
 abbrev pub RefusedChangesNothing : Type 0
-RefusedChangesNothing = (starved : Bool) (h : History) (request : Request) (f : Fault) → reply_if starved h request ≡ refused_line f → history_after_if starved h request ≡ h
+RefusedChangesNothing = (starved : Bool) (h : History) (request : Request) (f : Fault) → reply_if starved h request ≡ refused_line f
+    → history_after_if starved h request ≡ h
 
 -- the reply to lack of memory stands in these bytes
 abbrev pub ShowsLack : List ℕ → Type 0
@@ -19,7 +20,8 @@ ShowsLack bytes = (before : List ℕ) × (after : List ℕ) × (bytes ≡ before
 -- lack of memory shows: what is written for a whole text is what is stated, or that reply stands in it
 abbrev pub LackShows : Type 0
 LackShows = (lines_starved requests_starved : List Bool) (table : Collation) (text : List ℕ)
-    → (starved_output lines_starved requests_starved true table text ≡ output table text) ⊎ ShowsLack (starved_output lines_starved requests_starved true table text)
+    → (starved_output lines_starved requests_starved true table text ≡ output table text)
+    ⊎ ShowsLack (starved_output lines_starved requests_starved true table text)
 
 -- the last line of a text, if it has one that is too long or one too many, is the stated one, or that reply stands in the output
 abbrev pub LackShowsLast : Type 0
@@ -35,5 +37,6 @@ LackShowsCut = (lines_starved requests_starved : List Bool) (table : Collation) 
 
 -- a prefix of what is to be written for a whole text is one of what is stated, or that reply stands in the whole
 abbrev pub LackShowsPrefix : Type 0
-LackShowsPrefix = (lines_starved requests_starved : List Bool) (table : Collation) (text written back : List ℕ) → starved_output lines_starved requests_starved true table text ≡ written ++ back
+LackShowsPrefix = (lines_starved requests_starved : List Bool) (table : Collation) (text written back : List ℕ)
+    → starved_output lines_starved requests_starved true table text ≡ written ++ back
     → ((later : List ℕ) × (output table text ≡ written ++ later)) ⊎ ShowsLack (written ++ back)

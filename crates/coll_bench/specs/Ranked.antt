@@ -1,5 +1,6 @@
 -- What a session keeps beside its table (the project's own): what is kept is true of the table now.
-use Rattle.std.specs.Prelude.{◌≡◌, ◌+◌, ◌-◌, ◌*◌, ◌^◌, ℕ, min, nat_le, nat_lt, if◌then◌else◌, List, [], Bool, true, false, Option, Some, None, is_some, unwrap_or}
+use Rattle.std.specs.Prelude.{◌≡◌, ◌+◌, ◌-◌, ◌*◌, ◌^◌, ℕ, min, nat_le, nat_lt, if◌then◌else◌, List, []}
+use Rattle.std.specs.Prelude.{Bool, true, false, Option, Some, None, is_some, unwrap_or}
 use Rattle.coll_nodes.specs.NodeNumbers.{AreNumbersOf}
 use Rattle.coll_nodes.specs.Table.{Collation}
 use Rattle.coll_nodes.specs.TableLayout.{TableLayout}

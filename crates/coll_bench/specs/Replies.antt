@@ -1,11 +1,12 @@
 -- The replies of a session (the project's own): what is written for each request, from the history before it.
-use Rattle.std.specs.Prelude.{ℕ, suc, ◌+◌, Bool, true, false, ◌&&◌, ◌||◌, if◌then◌else◌, List, [], ◌∷◌, ◌++◌, length, Option, Some, None, Result, Ok, Err, codes, decimal}
+use Rattle.std.specs.Prelude.{ℕ, suc, ◌+◌, Bool, true, false, ◌&&◌, ◌||◌, if◌then◌else◌, List, [], ◌∷◌, ◌++◌}
+use Rattle.std.specs.Prelude.{length, Option, Some, None, Result, Ok, Err, codes, decimal}
 use Rattle.coll_lex.specs.LogicalLines.{first_choice, later_choices}
 use Rattle.coll_lex.specs.declared.faults.LexFault.TheVariants as lex
 use Rattle.coll_nodes.specs.Table.{Collation, Section, entries_of}
-use Rattle.coll_print.specs.CanonicalText.{text}
-use Rattle.coll_print.specs.Pieces.{words_line}
-use Rattle.coll_print.specs.PrintedParts.{id_bytes, symbol_bytes}
+use Rattle.coll_texts.specs.CanonicalText.{text}
+use Rattle.coll_texts.specs.Pieces.{words_line}
+use Rattle.coll_texts.specs.PrintedParts.{id_bytes, symbol_bytes}
 use Rattle.coll_syntax.specs.declared.statements.Statement.{Statement}
 use Rattle.coll_syntax.specs.declared.statements.Statement.TheVariants as statement
 use Rattle.coll_key.specs.KeyLimits.{is_too_long}
@@ -148,7 +149,8 @@ order_word Greater = codes "greater"
 
 -- the reply to `:compare`
 unfoldable pub order_line : Collation → (text other : List ℕ) → List ℕ
-order_line table text other = if is_too_long text || is_too_long other then too_long_line else order_word (order_of table text other) ++ 10 ∷ []
+order_line table text other = if is_too_long text || is_too_long other then too_long_line else order_word (order_of table text other)
+    ++ 10 ∷ []
 
 -- the reply to a command
 abbrev pub command_reply : History → Command → List ℕ
@@ -230,4 +232,5 @@ outcome_line word (Err f) = refused_line (fault.Bench f)
 -- is left, memory was there
 unfoldable pub answers : History → List RequestAt → List Bool → List ℕ
 answers h [] starved = []
-answers h (request ∷ later) starved = reply_if (first_choice starved) h request.request ++ answers (history_after_if (first_choice starved) h request.request) later (later_choices starved)
+answers h (request ∷ later) starved = reply_if (first_choice starved) h request.request
+    ++ answers (history_after_if (first_choice starved) h request.request) later (later_choices starved)

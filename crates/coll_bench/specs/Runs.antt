@@ -1,5 +1,6 @@
 -- A whole run of a session: what is written is a stated function of what is read.
-use Rattle.std.specs.Prelude.{◌≡◌, ◌==◌, ◌≤◌, ℕ, Bool, true, false, if◌then◌else◌, List, [], ◌∷◌, ◌++◌, map, length, Option, Some, None, Result, Ok, Err}
+use Rattle.std.specs.Prelude.{◌≡◌, ◌==◌, ◌≤◌, ℕ, Bool, true, false, if◌then◌else◌, List, [], ◌∷◌}
+use Rattle.std.specs.Prelude.{◌++◌, map, length, Option, Some, None, Result, Ok, Err}
 use Rattle.coll_devices.specs.Devices.{raised}
 use Rattle.coll_devices.specs.Limits.{most_line_bytes}
 use Rattle.coll_devices.specs.PhysicalLines.{lines_of, IsInLine, with_feeds}
@@ -44,14 +45,16 @@ abbrev pub last_of : List Bool → (ends : Bool) → List ℕ → Option (ℕ ×
 last_of starved ends text = last_line (logical_lines starved ends first_state (lines_of text))
 
 -- the whole text was served
-pub record RanToEnd (table : Collation) (text : List ℕ) (left : Option (List ℕ)) (written : List ℕ) (lines_starved requests_starved : List Bool) : Type 0 where
+pub record RanToEnd (table : Collation) (text : List ℕ) (left : Option (List ℕ)) (written : List ℕ)
+    (lines_starved requests_starved : List Bool) : Type 0 where
   pub output_is : written ≡ starved_output lines_starved requests_starved true table text
   pub no_last : last_of lines_starved true text ≡ None
   pub left_is : left ≡ Some []
 
 -- a read failed: the lines read whole before it, each of which ends in a line feed, were served, and of the next a part was
 -- read, which is no longer than a line may be
-pub record RanToReadFault (table : Collation) (text : List ℕ) (left : Option (List ℕ)) (written : List ℕ) (lines_starved requests_starved : List Bool) (read part rest : List ℕ) : Type 0 where
+pub record RanToReadFault (table : Collation) (text : List ℕ) (left : Option (List ℕ)) (written : List ℕ)
+    (lines_starved requests_starved : List Bool) (read part rest : List ℕ) : Type 0 where
   pub text_is : text ≡ read ++ (part ++ rest)
   pub in_feeds : read ≡ with_feeds (lines_of read)
   pub whole : lines_of text ≡ lines_of read ++ lines_of (part ++ rest)
@@ -62,7 +65,8 @@ pub record RanToReadFault (table : Collation) (text : List ℕ) (left : Option (
   pub no_last : last_of lines_starved false read ≡ None
 
 -- the text has a line too long, or a line too many, which was the last to be served
-pub record RanToLastLine (table : Collation) (text : List ℕ) (written : List ℕ) (lines_starved requests_starved : List Bool) (number : ℕ) (f : LexFault) : Type 0 where
+pub record RanToLastLine (table : Collation) (text : List ℕ) (written : List ℕ) (lines_starved requests_starved : List Bool) (number : ℕ)
+    (f : LexFault) : Type 0 where
   pub output_is : written ≡ starved_output lines_starved requests_starved true table text
   pub last : last_of lines_starved true text ≡ Some (number, f)
 
@@ -74,16 +78,19 @@ pub record NeverRan (text : List ℕ) (left : Option (List ℕ)) (written : List
 -- a run that ended with a fault of the lexer: lack of memory before it began, or the fault of its last line
 abbrev pub RanToLexFault : Collation → List ℕ → Option (List ℕ) → List ℕ → ℕ → LexFault → Type 0
 RanToLexFault table text left written number lex.OutOfMemory = (number ≡ 0) × NeverRan text left written
-RanToLexFault table text left written number f = (lines_starved : List Bool) × (requests_starved : List Bool) × RanToLastLine table text written lines_starved requests_starved number f
+RanToLexFault table text left written number f =
+    (lines_starved : List Bool) × (requests_starved : List Bool) × RanToLastLine table text written lines_starved requests_starved number f
 
 -- a run that ended with a fault
 abbrev pub RanToFault : Collation → List ℕ → Option (List ℕ) → List ℕ → ℕ → Fault → Type 0
 RanToFault table text left written number (fault.Read read.ReadFault) =
-    (number ≡ 0) × (lines_starved : List Bool) × (requests_starved : List Bool) × (read : List ℕ) × (part : List ℕ) × (rest : List ℕ) × RanToReadFault table text left written lines_starved requests_starved read part rest
+    (number ≡ 0) × (lines_starved : List Bool) × (requests_starved : List Bool) × (read : List ℕ) × (part : List ℕ) × (rest : List ℕ)
+    × RanToReadFault table text left written lines_starved requests_starved read part rest
 RanToFault table text left written number (fault.Read read.LineTooLong) = ⊥
 -- a write failed: a prefix of what was to be written was
 RanToFault table text left written number (fault.Write stop) =
-    (number ≡ 0) × (lines_starved : List Bool) × (requests_starved : List Bool) × (back : List ℕ) × (starved_output lines_starved requests_starved true table text ≡ written ++ back)
+    (number ≡ 0) × (lines_starved : List Bool) × (requests_starved : List Bool) × (back : List ℕ)
+    × (starved_output lines_starved requests_starved true table text ≡ written ++ back)
 RanToFault table text left written number (fault.Lex f) = RanToLexFault table text left written number f
 RanToFault table text left written number (fault.Syntax f) = ⊥
 RanToFault table text left written number (fault.Load f) = ⊥
@@ -97,14 +104,16 @@ RanToFault table text left written number fault.NoBlock = ⊥
 
 -- what a run over a text wrote, by its answer
 abbrev pub Ran : Collation → List ℕ → Option (List ℕ) → List ℕ → Result (Unit {0}) RunFault → Type 0
-Ran table text left written (Ok done) = (lines_starved : List Bool) × (requests_starved : List Bool) × RanToEnd table text left written lines_starved requests_starved
+Ran table text left written (Ok done) =
+    (lines_starved : List Bool) × (requests_starved : List Bool) × RanToEnd table text left written lines_starved requests_starved
 Ran table text left written (Err ended) = RanToFault table text left written ended.line ended.fault
 
 -- the theorem of a session: whatever text the source has, and whatever the sink took before, the bytes that the sink
 -- took are those that are stated for the text, and nothing else
 abbrev pub Runs : Collation → (left left_after taken taken_after : Option (List ℕ)) → Result (Unit {0}) RunFault → Type 0
 Runs table left left_after taken taken_after r =
-    (text before : List ℕ) → left ≡ Some text → taken ≡ Some before → (written : List ℕ) × (taken_after ≡ Some (before ++ written)) × Ran table text left_after written r
+    (text before : List ℕ) → left ≡ Some text → taken ≡ Some before → (written : List ℕ) × (taken_after ≡ Some (before ++ written))
+    × Ran table text left_after written r
 
 -- a failed read is counted, and nothing else is
 abbrev pub CountsReads : ℕ → ℕ → Result (Unit {0}) RunFault → Type 0

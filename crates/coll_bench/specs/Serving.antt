@@ -24,7 +24,8 @@ use Rattle.coll_bench.specs.declared.serving.RunState.{RunState}
 -- the replies to some requests, to each of which memory was refused or not
 unfoldable pub replies_to : (starved : Bool) → History → List RequestAt → List ℕ
 replies_to starved h [] = []
-replies_to starved h (request ∷ later) = reply_if starved h request.request ++ replies_to starved (history_after_if starved h request.request) later
+replies_to starved h (request ∷ later) =
+    reply_if starved h request.request ++ replies_to starved (history_after_if starved h request.request) later
 
 -- the history after some requests, to each of which memory was refused or not
 unfoldable pub history_after_all : (starved : Bool) → History → List RequestAt → History
@@ -42,7 +43,8 @@ pub record Served (memory starved : Bool) (old new : RunState) (line : List ℕ)
   pub goes_on : stop_at (parsed_at memory old.parser line) ≡ None
   pub parser : new.parser ≡ state_by old.parser (served memory old.parser line)
   pub block : new.block ≡ line_block old.block (parsed_at memory old.parser line)
-  pub session : new.session.history ≡ history_after_all starved old.session.history (line_requests old.block (parsed_at memory old.parser line))
+  pub session : new.session.history
+      ≡ history_after_all starved old.session.history (line_requests old.block (parsed_at memory old.parser line))
 
 -- the session ends with a write that failed
 abbrev pub write_failed : RunFault
@@ -64,13 +66,17 @@ line_replies memory starved old line = replies_to starved old.session.history (l
 -- the session ended at this line: at a fault of the lexer, or since a write failed
 abbrev pub EndsAtLine : (memory starved : Bool) → RunState → List ℕ → Option (List ℕ) → Option (List ℕ) → RunFault → Type 0
 EndsAtLine memory starved old line taken taken_after ended =
-    ((f : LexFault) × (stop_at (parsed_at memory old.parser line) ≡ Some f) × EndsWith (number_of old.parser) f taken taken_after (line_replies memory starved old line) ended)
-    ⊎ ((stop_at (parsed_at memory old.parser line) ≡ None) × (ended ≡ write_failed) × AppendsPrefix taken taken_after (line_replies memory starved old line))
+    ((f : LexFault) × (stop_at (parsed_at memory old.parser line) ≡ Some f)
+    × EndsWith (number_of old.parser) f taken taken_after (line_replies memory starved old line) ended)
+    ⊎ ((stop_at (parsed_at memory old.parser line) ≡ None) × (ended ≡ write_failed)
+    × AppendsPrefix taken taken_after (line_replies memory starved old line))
 
 -- what serving a physical line did
 abbrev pub ServesLine : RunState → RunState → List ℕ → Option (List ℕ) → Option (List ℕ) → Result (Unit {0}) RunFault → Type 0
-ServesLine old new line taken taken_after (Ok done) = (memory : Bool) × (starved : Bool) × Served memory starved old new line × Appends taken taken_after (line_replies memory starved old line)
-ServesLine old new line taken taken_after (Err ended) = (memory : Bool) × (starved : Bool) × EndsAtLine memory starved old line taken taken_after ended
+ServesLine old new line taken taken_after (Ok done) = (memory : Bool) × (starved : Bool) × Served memory starved old new line
+    × Appends taken taken_after (line_replies memory starved old line)
+ServesLine old new line taken taken_after (Err ended) =
+    (memory : Bool) × (starved : Bool) × EndsAtLine memory starved old line taken taken_after ended
 
 -- the session ended for another reason than a failed read
 abbrev pub ReadsNone : RunFault → Type 0

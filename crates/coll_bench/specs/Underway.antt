@@ -14,8 +14,10 @@ use Rattle.coll_bench.specs.declared.serving.RunState.{RunState}
 -- what is written from some moment on, for further physical lines: where the lexer stands, which block is kept and the
 -- history say the moment. Memory is refused to lines and requests as the choices say; the test says whether the text's
 -- end is seen
-unfoldable pub written_from : LexerState → Option OpenBlock → History → (lines_starved requests_starved : List Bool) → (ends : Bool) → List (List ℕ) → List ℕ
-written_from s block h lines_starved requests_starved ends lines = answers h (kept_requests ends block (map parsed (logical_lines lines_starved ends s lines))) requests_starved
+unfoldable pub written_from : LexerState → Option OpenBlock → History → (lines_starved requests_starved : List Bool) → (ends : Bool)
+    → List (List ℕ) → List ℕ
+written_from s block h lines_starved requests_starved ends lines =
+    answers h (kept_requests ends block (map parsed (logical_lines lines_starved ends s lines))) requests_starved
 
 -- what was read are whole lines, whatever comes after them
 abbrev pub IsCut : List ℕ → Type 0
@@ -29,15 +31,20 @@ pub record IsCutThere (ended : Bool) (read rest : List ℕ) : Type 0 where
 
 -- what was read and written of a text so far, and how it goes on for all further lines and choices; the test says whether
 -- the end of the input was met
-pub record IsUnderway (table : Collation) (text before : List ℕ) (ended : Bool) (unread taken : Option (List ℕ)) (state : RunState) (read rest written : List ℕ) (lines requests : List Bool) : Type 0 where
+pub record IsUnderway (table : Collation) (text before : List ℕ) (ended : Bool) (unread taken : Option (List ℕ)) (state : RunState)
+    (read rest written : List ℕ) (lines requests : List Bool) : Type 0 where
   pub text_is : text ≡ read ++ rest
   pub there : IsCutThere ended read rest
   pub unread_is : unread ≡ Some rest
   pub taken_is : taken ≡ Some (before ++ written)
-  pub goes_on : (c d : List Bool) (ends : Bool) (later : List (List ℕ)) → written_from first_state None (begun table) (lines ++ c) (requests ++ d) ends (lines_of read ++ later) ≡ written ++ written_from state.parser state.block state.session.history c d ends later
-  pub last : (c : List Bool) (ends : Bool) (later : List (List ℕ)) → last_line (logical_lines (lines ++ c) ends first_state (lines_of read ++ later)) ≡ last_line (logical_lines c ends state.parser later)
+  pub goes_on : (c d : List Bool) (ends : Bool) (later : List (List ℕ)) → written_from first_state None (begun table) (lines ++ c)
+      (requests ++ d) ends (lines_of read ++ later) ≡ written ++ written_from state.parser state.block state.session.history c d ends later
+  pub last : (c : List Bool) (ends : Bool) (later : List (List ℕ))
+      → last_line (logical_lines (lines ++ c) ends first_state (lines_of read ++ later))
+      ≡ last_line (logical_lines c ends state.parser later)
 
 -- the same, of some reading and writing
 abbrev pub Underway : Collation → List ℕ → List ℕ → (ended : Bool) → Option (List ℕ) → Option (List ℕ) → RunState → Type 0
 Underway table text before ended unread taken state =
-    (read : List ℕ) × (rest : List ℕ) × (written : List ℕ) × (lines : List Bool) × (requests : List Bool) × IsUnderway table text before ended unread taken state read rest written lines requests
+    (read : List ℕ) × (rest : List ℕ) × (written : List ℕ) × (lines : List Bool) × (requests : List Bool)
+    × IsUnderway table text before ended unread taken state read rest written lines requests

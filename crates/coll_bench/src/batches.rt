@@ -49,7 +49,8 @@ pub fn run_batch<R: Source, W: Sink>(
     deltas: &mut [R],
     output: &mut W,
 ) -> Result<(), RunFault>
-    ensures run { BatchRuns batch (R.left table.old) (R.left table.new) (map R.left deltas.old) (map R.left deltas.new) (W.taken output.old) (W.taken output.new) result }
+    ensures run { BatchRuns batch (R.left table.old) (R.left table.new) (map R.left deltas.old) (map R.left deltas.new) (W.taken output.old)
+        (W.taken output.new) result }
     ensures input { IfErr result (λ ended. ended.input ≤ length deltas.old) }
     ensures reads { CountsInputs (R.failed table.old ∷ map R.failed deltas.old) (R.failed table.new ∷ map R.failed deltas.new) result }
     ensures writes { CountsWrites (W.failed output.old) (W.failed output.new) result }
@@ -73,7 +74,8 @@ pub fn run_batch_keyed<R: Source, W: Sink>(
     deltas: &mut [R],
     output: &mut W,
 ) -> Result<(), RunFault>
-    ensures run { BatchRuns batch (R.left table.old) (R.left table.new) (map R.left deltas.old) (map R.left deltas.new) (W.taken output.old) (W.taken output.new) result }
+    ensures run { BatchRuns batch (R.left table.old) (R.left table.new) (map R.left deltas.old) (map R.left deltas.new) (W.taken output.old)
+        (W.taken output.new) result }
     ensures input { IfErr result (λ ended. ended.input ≤ length deltas.old) }
     ensures reads { CountsInputs (R.failed table.old ∷ map R.failed deltas.old) (R.failed table.new ∷ map R.failed deltas.new) result }
     ensures writes { CountsWrites (W.failed output.old) (W.failed output.new) result }

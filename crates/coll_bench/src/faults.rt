@@ -6,7 +6,6 @@
 ghost use Rattle.std.specs.Prelude.{◌≡◌};
 ghost use Rattle.coll_bench.specs.Faults.{fault_number, fault_name, fault_of, delta_fault_of};
 
-use coll_builder::{LoadCause, LoadFault};
 use coll_devices::{ReadStop, WriteStop};
 use coll_history::BenchFault;
 use coll_key::KeyFault;
@@ -14,6 +13,7 @@ use coll_lex::LexFault;
 use coll_requests::{DeltaCause, DeltaFault, RequestFault};
 use coll_syntax::SyntaxFault;
 use coll_table::Refusal;
+use coll_texts::{LoadCause, LoadFault};
 use std::fmt;
 use thiserror::Error;
 

@@ -14,7 +14,8 @@ ghost use Rattle.coll_key.specs.SortKey.{key_of};
 ghost use Rattle.coll_key.specs.TextOrder.{order_of};
 ghost use Rattle.coll_key.specs.WrittenKey.{has_key_form};
 ghost use Rattle.coll_key.specs.declared.key_faults.KeyFault.TheVariants.{OutOfMemory};
-ghost use Rattle.coll_bench.specs.Ranked.{AreNumbersIf, AreRanksIfAny, CanServe, IsKeptFor, given_up, kept_nothing, short_work, short_works, spent_with, work_after};
+ghost use Rattle.coll_bench.specs.Ranked.{AreNumbersIf, AreRanksIfAny, CanServe, IsKeptFor, given_up};
+ghost use Rattle.coll_bench.specs.Ranked.{kept_nothing, short_work, short_works, spent_with, work_after};
 
 use coll_key::{KeyFault, compare, compare_texts, key, key_of_text};
 use coll_lookups::EntryNumbers;
@@ -113,7 +114,8 @@ impl KeptRanks {
     ) -> Result<Ordering, KeyFault>
         requires { IsKeptFor self.old (collation table.now) table.now.layout }
         ensures kept { IsKeptFor self.new (collation table.now) table.now.layout }
-        ensures spares { IsSome (spent_with self.old.work (short_works (length text.now) (length other.now))) → self.new.ranks ≡ self.old.ranks }
+        ensures spares { IsSome (spent_with self.old.work (short_works (length text.now) (length other.now)))
+            → self.new.ranks ≡ self.old.ranks }
         ensures work { self.new.work ≡ work_after self.old (short_works (length text.now) (length other.now)) }
         ensures ok { IfOk result (λ order. order ≡ order_of (collation table.now) (chars text.now) (chars other.now)) }
         ensures short { IfOk result (λ _. (is_too_long (chars text.now) || is_too_long (chars other.now)) ≡ false) }

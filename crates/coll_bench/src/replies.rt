@@ -1,7 +1,7 @@
 //! The replies of a session, written to its sink.
 //!
 //! Each request has one reply, which is written piece by piece, without taking memory, and flushed. Where a write or the
-//! flush fails, the device has taken a prefix of the reply. A new kind of request is a new case of `respond`, and of the
+//! flush fails, the device has taken a prefix of the reply. A new kind of request is a new case of `write_reply`, and of the
 //! definition of replies.
 
 ghost use Rattle.std.specs.Prelude.{◌≡◌, ◌≤◌, Bool, true, chars, codes, IfOk, OnOk};
@@ -12,7 +12,8 @@ ghost use Rattle.coll_requests.specs.ProperLines.{IsProperRequest};
 ghost use Rattle.coll_nodes.specs.WalkItems.{visited_by};
 ghost use Rattle.coll_bench.specs.Listing.{visited_line, rank_after};
 ghost use Rattle.coll_bench.specs.declared.faults.Fault.TheVariants.{Bench};
-ghost use Rattle.coll_bench.specs.Replies.{checked_line, counted_line, told_line, refused_line, still_needed_line, section_line, listed_line, listed_sections, listing, outcome_line, reply_if, history_after_if};
+ghost use Rattle.coll_bench.specs.Replies.{checked_line, counted_line, told_line, refused_line, still_needed_line, section_line};
+ghost use Rattle.coll_bench.specs.Replies.{listed_line, listed_sections, listing, outcome_line, reply_if, history_after_if};
 
 mod history_reply;
 mod texts;
@@ -22,9 +23,9 @@ use crate::ranked_sessions::RankedSession;
 use coll_devices::{Sink, WriteStop};
 use coll_history::BenchFault;
 use coll_nodes::{Entry, WalkItem};
-use coll_print::{Piece, write_pieces};
 use coll_requests::{Command, Request};
 use coll_table::{Refusal, Table};
+use coll_texts::{Piece, write_pieces};
 use history_reply::write_history;
 use std::alloc::Global;
 use texts::{answer_compare, answer_key};
@@ -46,7 +47,7 @@ pub fn answer<W: Sink>(
     ensures errors { CountsErr (W.failed out.old) (W.failed out.new) result }
     ensures flushed { OnOk result (W.flushed out.new ≡ true) }
 {
-    respond(alloc, session, request, out)?;
+    write_reply(alloc, session, request, out)?;
     flush(out)
 }
 
@@ -73,7 +74,7 @@ fn flush<W: Sink>(out: &mut W) -> Result<(), WriteStop>
 }
 
 // Does what a request asks for, and writes its reply.
-fn respond<W: Sink>(
+fn write_reply<W: Sink>(
     alloc: Global,
     session: &mut RankedSession,
     request: Request,
@@ -101,7 +102,8 @@ fn obey<W: Sink>(
     command: &Command,
     out: &mut W,
 ) -> Result<(), WriteStop>
-    ensures answered { (starved : Bool) × Sends (W.taken out.old) (W.taken out.new) (reply_if starved session.old.history (Request.Command command.now)) result
+    ensures answered { (starved : Bool)
+        × Sends (W.taken out.old) (W.taken out.new) (reply_if starved session.old.history (Request.Command command.now)) result
         × (session.new.history ≡ history_after_if starved session.old.history (Request.Command command.now)) }
     ensures errors { CountsErr (W.failed out.old) (W.failed out.new) result }
 {

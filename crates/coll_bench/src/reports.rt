@@ -8,7 +8,7 @@ ghost use Rattle.coll_bench.specs.Reports.{fault_line, placed, exit_status as st
 
 use crate::faults::{Fault, RunFault};
 use coll_devices::{Sink, WriteStop};
-use coll_print::{Piece, write_pieces};
+use coll_texts::{Piece, write_pieces};
 
 /// Writes the line of a fault, `FILE:LINE: NUMBER NAME`, where FILE is the name of its input, and LINE is 0 where it comes from no
 /// line.

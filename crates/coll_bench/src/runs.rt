@@ -56,7 +56,8 @@ fn serve_text<R: Source, W: Sink>(
     input: &mut R,
     output: &mut W,
 ) -> Result<(), RunFault>
-    ensures run { (table : Collation) → IsBegun state.old table → Runs table (R.left input.old) (R.left input.new) (W.taken output.old) (W.taken output.new) result }
+    ensures run { (table : Collation) → IsBegun state.old table
+        → Runs table (R.left input.old) (R.left input.new) (W.taken output.old) (W.taken output.new) result }
     ensures input { IfErr result (λ ended. ended.input ≡ 0) }
     ensures ends { IfErr result (λ ended. EndsSession ended.fault) }
     ensures reads { CountsReads (R.failed input.old) (R.failed input.new) result }
@@ -82,7 +83,8 @@ fn serve_lines<R: Source, W: Sink>(
     output: &mut W,
 ) -> Result<(), RunFault>
     requires { reader.old ≡ no_line }
-    ensures run { (table : Collation) → IsBegun state.old table → Runs table (R.left input.old) (R.left input.new) (W.taken output.old) (W.taken output.new) result }
+    ensures run { (table : Collation) → IsBegun state.old table
+        → Runs table (R.left input.old) (R.left input.new) (W.taken output.old) (W.taken output.new) result }
     ensures input { IfErr result (λ ended. ended.input ≡ 0) }
     ensures ends { IfErr result (λ ended. EndsSession ended.fault) }
     ensures reads { CountsReads (R.failed input.old) (R.failed input.new) result }
@@ -92,6 +94,7 @@ fn serve_lines<R: Source, W: Sink>(
     'lines: loop {
         match reader.advance(input) {
             Ok(true) => {
+                // Not `?`: behind its conversion this exit would need a lemma.
                 if let Err(ended) = state.serve(alloc, reader.line(), output) {
                     return Err(ended);
                 }

@@ -14,7 +14,8 @@ ghost use Rattle.coll_nodes.specs.TableLayout.{collation};
 ghost use Rattle.coll_requests.specs.OpenBlocks.{kept_end_faults, kept_dropped_faults, kept_last_faults};
 ghost use Rattle.coll_bench.specs.Replies.{refused_line, refused_lines};
 ghost use Rattle.coll_requests.specs.Requests.{dangling as dangling_faults};
-ghost use Rattle.coll_bench.specs.Serving.{EndsSession, EndsWith, FinishesWith, IsCutOff, CountsEnd, CountsWrites, CountsStop, IsFlushedAt, IsFlushedAfter, ReadsNone, write_failed as failed_write, too_long};
+ghost use Rattle.coll_bench.specs.Serving.{EndsSession, EndsWith, FinishesWith, IsCutOff, CountsEnd, CountsWrites, CountsStop};
+ghost use Rattle.coll_bench.specs.Serving.{IsFlushedAt, IsFlushedAfter, ReadsNone, write_failed as failed_write, too_long};
 
 use crate::faults::{Fault, RunFault};
 use crate::ranked_sessions::RankedSession;
@@ -87,7 +88,8 @@ impl RunState {
         output: &mut W,
     ) -> Result<(), WriteStop>
         requires { IfSome request (λ completed. IsProperRequest completed.request) }
-        ensures answered { (starved : Bool) × Sends (W.taken output.old) (W.taken output.new) (replies_to starved self.old.session.history (option_to_list request)) result
+        ensures answered { (starved : Bool)
+            × Sends (W.taken output.old) (W.taken output.new) (replies_to starved self.old.session.history (option_to_list request)) result
             × (self.new.session.history ≡ history_after_all starved self.old.session.history (option_to_list request)) }
         ensures block { self.new.block ≡ self.old.block }
         ensures parser { self.new.parser ≡ self.old.parser }
@@ -104,7 +106,8 @@ impl RunState {
     #[tactic(auto, using(crate::proofs::ServingLemmas::text_ends))]
     fn stop<W: Sink>(&self, number: u32, fault: LexFault, output: &mut W) -> RunFault
         requires { ends_text fault ≡ true }
-        ensures ended { EndsWith number fault (W.taken output.old) (W.taken output.new) (refused_lines (kept_last_faults self.now.block number fault)) result }
+        ensures ended { EndsWith number fault (W.taken output.old) (W.taken output.new)
+            (refused_lines (kept_last_faults self.now.block number fault)) result }
         ensures input { result.input ≡ 0 }
         ensures ends { EndsSession result.fault }
         ensures reads { ReadsNone result }
@@ -123,7 +126,8 @@ impl RunState {
 
     /// Ends the session with its text.
     pub fn finish<W: Sink>(&mut self, output: &mut W) -> Result<(), RunFault>
-        ensures ended { FinishesWith (W.taken output.old) (W.taken output.new) (refused_lines (kept_end_faults self.old.block (pending self.old.parser))) result }
+        ensures ended { FinishesWith (W.taken output.old) (W.taken output.new)
+            (refused_lines (kept_end_faults self.old.block (pending self.old.parser))) result }
         ensures input { IfErr result (λ ended. ended.input ≡ 0) }
         ensures ends { IfErr result (λ ended. EndsSession ended.fault) }
         ensures reads { IfErr result (λ ended. ReadsNone ended) }
@@ -196,7 +200,8 @@ fn write_dropped<W: Sink>(
     fault: LexFault,
     output: &mut W,
 ) -> Result<(), WriteStop>
-    ensures sent { Sends (W.taken output.old) (W.taken output.new) (refused_lines (kept_dropped_faults block.now) ++ refused_line (Fault.Lex fault)) result }
+    ensures sent { Sends (W.taken output.old) (W.taken output.new)
+        (refused_lines (kept_dropped_faults block.now) ++ refused_line (Fault.Lex fault)) result }
     ensures errors { CountsErr (W.failed output.old) (W.failed output.new) result }
     ensures flushed { W.flushed output.old ≡ true → OnOk result (W.flushed output.new ≡ true) }
 {

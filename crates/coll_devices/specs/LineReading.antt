@@ -1,5 +1,6 @@
 -- What a line reader holds, and what one call of it gives, by cases.
-use Rattle.std.specs.Prelude.{◌≡◌, ℕ, ◌+◌, ◌<◌, ◌≤◌, Bool, true, false, List, [], ◌∷◌, ◌++◌, length, take, Option, None, Some, Result, Ok, Err, MatchResult, ◌⊎◌, ⊤}
+use Rattle.std.specs.Prelude.{◌≡◌, ℕ, ◌+◌, ◌<◌, ◌≤◌, Bool, true, false, List, [], ◌∷◌, ◌++◌, length, take}
+use Rattle.std.specs.Prelude.{Option, None, Some, Result, Ok, Err, MatchResult, ◌⊎◌, ⊤}
 use Rattle.std.specs.Bool.{OnTrue}
 use Rattle.std.specs.Borrow.{Bor}
 use Rattle.std.specs.Io.KnownBytes.{prepend_known, Keeps, Consumes, IsAtEnd}
@@ -101,20 +102,26 @@ pub record StopsAgain (old new : ReaderState) (left left_after : Option (List �
 -- what one call did: it gave a line, met the end, or stopped
 abbrev pub Advances : ReaderState → ReaderState → Option (List ℕ) → Option (List ℕ) → ℕ → ℕ → Result Bool ReadStop → Type 0
 Advances old new left left_after failed failed_after (Ok true) = GivesLine old new left left_after failed failed_after
-Advances old new left left_after failed failed_after (Ok false) = GivesEnd old new left left_after failed failed_after ⊎ EndsAgain old new left left_after failed failed_after
-Advances old new left left_after failed failed_after (Err stop) = StopsNow old new left left_after failed failed_after stop ⊎ StopsAgain old new left left_after failed failed_after stop
+Advances old new left left_after failed failed_after (Ok false) =
+    GivesEnd old new left left_after failed failed_after ⊎ EndsAgain old new left left_after failed failed_after
+Advances old new left left_after failed failed_after (Err stop) =
+    StopsNow old new left left_after failed failed_after stop ⊎ StopsAgain old new left left_after failed failed_after stop
 
 -- what one call did, with the line that it lends
 abbrev pub Nexts : ReaderState → ReaderState → Option (List ℕ) → Option (List ℕ) → ℕ → ℕ → Result (Option (Bor (List ℕ))) ReadStop → Type 0
-Nexts old new left left_after failed failed_after (Ok (Some line)) = GivesLine old new left left_after failed failed_after × (line.now ≡ new.line)
-Nexts old new left left_after failed failed_after (Ok None) = GivesEnd old new left left_after failed failed_after ⊎ EndsAgain old new left left_after failed failed_after
-Nexts old new left left_after failed failed_after (Err stop) = StopsNow old new left left_after failed failed_after stop ⊎ StopsAgain old new left left_after failed failed_after stop
+Nexts old new left left_after failed failed_after (Ok (Some line)) =
+    GivesLine old new left left_after failed failed_after × (line.now ≡ new.line)
+Nexts old new left left_after failed failed_after (Ok None) =
+    GivesEnd old new left left_after failed failed_after ⊎ EndsAgain old new left left_after failed failed_after
+Nexts old new left left_after failed failed_after (Err stop) =
+    StopsNow old new left left_after failed failed_after stop ⊎ StopsAgain old new left left_after failed failed_after stop
 
 -- one read: the bytes read, if any, stand behind those that were held back
 abbrev pub Fills : {E : Type 0} → ReaderState → ReaderState → Option (List ℕ) → Option (List ℕ) → Result ℕ E → Type 0
 Fills old new left left_after r =
     MatchResult r
-    (λ n. (more : List ℕ) × (new ≡ record old { line = []; held = old.held ++ more }) × (length more ≡ n) × Consumes left left_after more × (n ≡ 0 → IsAtEnd left_after))
+    (λ n. (more : List ℕ) × (new ≡ record old { line = []; held = old.held ++ more }) × (length more ≡ n) × Consumes left left_after more
+    × (n ≡ 0 → IsAtEnd left_after))
     (λ _. (new ≡ record old { line = [] }) × Keeps left left_after)
 
 -- the line at the front of the bytes held back was taken off, with its line feed

@@ -1,5 +1,6 @@
 -- The longest prefix of a text that is an element's string is that of its longest element.
-use Rattle.std.proofs.Common.{◌≡◌, ◌<◌, ◌≤◌, ◌≢◌, ℕ, zero, suc, ◌+◌, Bool, true, false, ◌||◌, cond, List, [], ◌∷◌, ◌++◌, length, take, drop, chars, Option, Some, None, is_some, All, sym, ap, ap₂, subst, ◌∙◌, refl, arith, length-append}
+use Rattle.std.proofs.Common.{◌≡◌, ◌<◌, ◌≤◌, ◌≢◌, ℕ, zero, suc, ◌+◌, Bool, true, false, ◌||◌, cond, List, [], ◌∷◌, ◌++◌, length, take, drop}
+use Rattle.std.proofs.Common.{chars, Option, Some, None, is_some, All, sym, ap, ap₂, subst, ◌∙◌, refl, arith, length-append}
 use Rattle.std.specs.Prelude.{nat_lt}
 use Rattle.std.specs.List.{flat_map, list_any}
 use Rattle.std.specs.Option.{option_or}
@@ -58,17 +59,20 @@ within entry_of text (suc n) prefix is = by (λ e. within entry_of text n prefix
       size_or (Some p) = p.1
 
 -- the same prefixes have entries
-same_prefixes : (entry_of other_of : List ℕ → Option Entry) (text : List ℕ) (most : ℕ) → ((size : ℕ) → size ≤ most → other_of (take size text) ≡ entry_of (take size text)) → longest_prefix other_of text most ≡ longest_prefix entry_of text most
+same_prefixes : (entry_of other_of : List ℕ → Option Entry) (text : List ℕ) (most : ℕ) → ((size : ℕ) → size ≤ most → other_of (take size text) ≡ entry_of (take size text))
+    → longest_prefix other_of text most ≡ longest_prefix entry_of text most
 same_prefixes entry_of other_of text zero same = refl
 same_prefixes entry_of other_of text (suc n) same =
-    ap₂ (λ (e : Option Entry) (f : Option (Entry × ℕ)). option_or (with_length e (suc n)) f) (same (suc n) (omega arith)) (same_prefixes entry_of other_of text n (λ size small. same size (omega (arith, small))))
+    ap₂ (λ (e : Option Entry) (f : Option (Entry × ℕ)). option_or (with_length e (suc n)) f) (same (suc n) (omega arith))
+    (same_prefixes entry_of other_of text n (λ size small. same size (omega (arith, small))))
 
 -- the entry of a longest element, with the length of its string, is that of the longest prefix
 abbrev IsThatOf : List Entry → (text : List ℕ) → Option Element → Option (Entry × ℕ) → Type 0
 IsThatOf entries text None None = Unit {0}
 IsThatOf entries text None (Some prefix) = ⊥
 IsThatOf entries text (Some element) None = ⊥
-IsThatOf entries text (Some element) (Some prefix) = (entry_at entries (Named element.name) ≡ Some prefix.0) × (length element.text ≡ prefix.1) × (begins_with text element.text ≡ true) × (0 < length element.text)
+IsThatOf entries text (Some element) (Some prefix) = (entry_at entries (Named element.name) ≡ Some prefix.0) × (length element.text ≡ prefix.1) × (begins_with text element.text ≡ true)
+    × (0 < length element.text)
 
 -- of an entry with its length and another prefix that may be there, the longer
 abbrev longer_of : (Entry × ℕ) → Option (Entry × ℕ) → Entry × ℕ
@@ -90,7 +94,8 @@ module _ (table : Collation) (text : List ℕ) where
 
     other_prefix : (prefix : List ℕ) → prefix ≢ string → of_prefix (declaration.Element name string ∷ declared) prefix ≡ of_prefix declared prefix
     other_prefix prefix other =
-        by_test (λ b. same_name prefix string ≡ b → entry_if_named (entries_of table) (option_or (cond b (Some name) None) (element_name declared prefix)) ≡ of_prefix declared prefix) (same_name prefix string)
+        by_test (λ b. same_name prefix string ≡ b → entry_if_named (entries_of table) (option_or (cond b (Some name) None) (element_name declared prefix)) ≡ of_prefix declared prefix)
+        (same_name prefix string)
         (λ on e. absurd (other ((same_name_decides prefix string).0 e)))
         (λ off e. refl) refl
 
@@ -123,11 +128,13 @@ module _ (table : Collation) (text : List ℕ) where
           → longest_prefix (of_prefix (declaration.Element name string ∷ declared)) text (suc n) ≡ Some (longer_of (entry, length string) (longest_prefix (of_prefix declared) text (suc n)))
       at_string n e =
           let here : take (suc n) text ≡ string = ap (λ k. take k text) e ∙ the_prefix in
-          let found : of_prefix (declaration.Element name string ∷ declared) (take (suc n) text) ≡ Some entry = ap (of_prefix (declaration.Element name string ∷ declared)) here ∙ (its_prefix ∙ placed) in
+          let found : of_prefix (declaration.Element name string ∷ declared) (take (suc n) text) ≡ Some entry =
+          ap (of_prefix (declaration.Element name string ∷ declared)) here ∙ (its_prefix ∙ placed) in
           let before : of_prefix declared (take (suc n) text) ≡ None = ap (of_prefix declared) here ∙ not_before in
           ap (λ f. option_or (with_length f (suc n)) (longest_prefix (of_prefix (declaration.Element name string ∷ declared)) text n)) found
           ∙ (ap (λ k. Some (pair entry k)) e
-          ∙ ap Some (sym (ap (λ f. longer_of (entry, length string) (option_or (with_length f (suc n)) (longest_prefix (of_prefix declared) text n))) before ∙ shorter (longest_prefix (of_prefix declared) text n) refl))) where
+          ∙ ap Some (sym (ap (λ f. longer_of (entry, length string) (option_or (with_length f (suc n)) (longest_prefix (of_prefix declared) text n))) before
+          ∙ shorter (longest_prefix (of_prefix declared) text n) refl))) where
             pair : Entry → ℕ → Entry × ℕ
             pair a b = (a, b)
 
@@ -141,10 +148,12 @@ module _ (table : Collation) (text : List ℕ) where
           → longest_prefix (of_prefix (declaration.Element name string ∷ declared)) text size ≡ Some (longer_of (entry, length string) (longest_prefix (of_prefix declared) text size))
       longer_prefixes zero long small = absurd (omega (arith, long, some))
       longer_prefixes (suc n) long small =
-          by_test (λ b. nat_lt n (length string) ≡ b → longest_prefix (of_prefix (declaration.Element name string ∷ declared)) text (suc n) ≡ Some (longer_of (entry, length string) (longest_prefix (of_prefix declared) text (suc n)))) (nat_lt n (length string))
+          by_test (λ b. nat_lt n (length string) ≡ b → longest_prefix (of_prefix (declaration.Element name string ∷ declared)) text (suc n)
+          ≡ Some (longer_of (entry, length string) (longest_prefix (of_prefix declared) text (suc n)))) (nat_lt n (length string))
           (λ on less. let below = (Decides-ltb n (length string)).0 less in at_string n (omega (arith, long, below)))
           (λ off more. let above : length string ≤ n = ltb-false n (length string) more in beyond n above small (longer_prefixes n above (omega (arith, small)))) refl where
-            beyond : (n : ℕ) → length string ≤ n → suc n ≤ length text → longest_prefix (of_prefix (declaration.Element name string ∷ declared)) text n ≡ Some (longer_of (entry, length string) (longest_prefix (of_prefix declared) text n))
+            beyond : (n : ℕ) → length string ≤ n → suc n ≤ length text → longest_prefix (of_prefix (declaration.Element name string ∷ declared)) text n
+                ≡ Some (longer_of (entry, length string) (longest_prefix (of_prefix declared) text n))
                 → longest_prefix (of_prefix (declaration.Element name string ∷ declared)) text (suc n) ≡ Some (longer_of (entry, length string) (longest_prefix (of_prefix declared) text (suc n)))
             beyond n above small before =
                 ap₂ (λ (f : Option Entry) (g : Option (Entry × ℕ)). option_or (with_length f (suc n)) g)
@@ -178,15 +187,22 @@ module _ (table : Collation) (text : List ℕ) where
         here : Element
         here = record { name = name; text = string }
 
-        both : (entry : Entry) → entry_at (entries_of table) (Named name) ≡ Some entry → begins_with text string ≡ true → (other : Option Element) (shorter : Option (Entry × ℕ)) → IsThatOf (entries_of table) text other shorter
+        both : (entry : Entry) → entry_at (entries_of table) (Named name) ≡ Some entry → begins_with text string ≡ true → (other : Option Element) (shorter : Option (Entry × ℕ))
+            → IsThatOf (entries_of table) text other shorter
             → IsThatOf (entries_of table) text (Some (longer element_text here other)) (Some (longer_of (entry, length string) shorter))
         both entry is begun None None h = (is, refl, begun, some)
         both entry is begun None (Some shorter) h = absurd h
         both entry is begun (Some other) None h = absurd h
         both entry is begun (Some other) (Some shorter) h =
             ap_that (length other.text) h.1 (nat_lt (length other.text) (length string)) refl where
-              ap_that : (size : ℕ) → size ≡ shorter.1 → (b : Bool) → nat_lt size (length string) ≡ b → IsThatOf (entries_of table) text (Some (cond b here other)) (Some (cond (nat_lt shorter.1 (length string)) (entry, length string) shorter))
-              ap_that size e true less = subst (λ b. IsThatOf (entries_of table) text (Some here) (Some (cond b (entry, length string) shorter))) (sym less ∙ ap (λ n. nat_lt n (length string)) e) (is, refl, begun, some)
+              ap_that : (size : ℕ) → size ≡ shorter.1 → (b : Bool) → nat_lt size (length string) ≡ b
+                  → IsThatOf (entries_of table) text (Some (cond b here other)) (Some (cond (nat_lt shorter.1 (length string)) (entry, length string) shorter))
+              ap_that size e true less = subst (λ b. IsThatOf (entries_of table) text (Some here) (Some (cond b (entry, length string) shorter))) (sym less ∙ ap (λ n. nat_lt n (length string)) e) (
+                is,
+                refl,
+                begun,
+                some,
+              )
               ap_that size e false less = subst (λ b. IsThatOf (entries_of table) text (Some other) (Some (cond b (entry, length string) shorter))) (sym less ∙ ap (λ n. nat_lt n (length string)) e) h
 
         placed : (entry : Entry) → entry_at (entries_of table) (Named name) ≡ Some entry → IsThatOf (entries_of table) text later prefix → (begun : Bool) → begins_with text string ≡ begun
@@ -199,19 +215,25 @@ module _ (table : Collation) (text : List ℕ) where
             (both entry is begun later prefix h)
         placed entry is h false begun =
             subst (IsThatOf (entries_of table) text later)
-            (sym (same_prefixes (of_prefix declared) (of_prefix (declaration.Element name string ∷ declared)) text (length text) (λ size small. other_prefix name string declared distinct.0 (take size text) (λ same.
+            (sym (same_prefixes (of_prefix declared) (of_prefix (declaration.Element name string ∷ declared)) text (length text)
+            (λ size small. other_prefix name string declared distinct.0 (take size text) (λ same.
             false≢true (sym begun ∙ (ap (λ t. begins_with t string) (sym (take-append-drop size text) ∙ ap (λ f. f ++ drop size text) same) ∙ begins_so string (drop size text)))))))
             h
 
         by_entry : IsThatOf (entries_of table) text later prefix → (entry : Option Entry) → entry_at (entries_of table) (Named name) ≡ entry
-            → IsThatOf (entries_of table) text (longest element_text (flat_map (element_placed table) (declaration.Element name string ∷ declared)) text) (longest_prefix (of_prefix (declaration.Element name string ∷ declared)) text (length text))
+            → IsThatOf (entries_of table) text (longest element_text (flat_map (element_placed table) (declaration.Element name string ∷ declared)) text)
+            (longest_prefix (of_prefix (declaration.Element name string ∷ declared)) text (length text))
         by_entry h None none =
             let apart : is_placed table (Named name) ≡ false = entry_placed (entries_of table) (Named name) ∙ ap is_some none in
-            subst (λ b. IsThatOf (entries_of table) text (longest element_text (cond b (here ∷ []) [] ++ flat_map (element_placed table) declared) text) (longest_prefix (of_prefix (declaration.Element name string ∷ declared)) text (length text))) (sym apart)
-            (subst (IsThatOf (entries_of table) text later) (sym (same_prefixes (of_prefix declared) (of_prefix (declaration.Element name string ∷ declared)) text (length text) (λ size small. not_placed name string declared distinct.0 none (take size text)))) h)
+            subst (λ b. IsThatOf (entries_of table) text (longest element_text (cond b (here ∷ []) [] ++ flat_map (element_placed table) declared) text)
+            (longest_prefix (of_prefix (declaration.Element name string ∷ declared)) text (length text))) (sym apart)
+            (subst (IsThatOf (entries_of table) text later)
+            (sym (same_prefixes (of_prefix declared) (of_prefix (declaration.Element name string ∷ declared)) text (length text)
+            (λ size small. not_placed name string declared distinct.0 none (take size text)))) h)
         by_entry h (Some entry) is =
             let there : is_placed table (Named name) ≡ true = entry_placed (entries_of table) (Named name) ∙ ap is_some is in
-            subst (λ b. IsThatOf (entries_of table) text (longest element_text (cond b (here ∷ []) [] ++ flat_map (element_placed table) declared) text) (longest_prefix (of_prefix (declaration.Element name string ∷ declared)) text (length text))) (sym there)
+            subst (λ b. IsThatOf (entries_of table) text (longest element_text (cond b (here ∷ []) [] ++ flat_map (element_placed table) declared) text)
+            (longest_prefix (of_prefix (declaration.Element name string ∷ declared)) text (length text))) (sym there)
             (placed entry is h (begins_with text string) refl)
 
 -- a prefix one character longer, which is before the rest of a text
@@ -223,30 +245,37 @@ next_prefix text before rest size whole counted =
 
 module _ (entry_of : List ℕ → Option Entry) (text before : List ℕ) (size : ℕ) (is : take (suc size) text ≡ before) where
   -- where it is an element, it is the longest
-  pub prefix_is : (entry : Entry) (found : FoundPrefix) → entry_of before ≡ Some entry → found.entry.now ≡ entry → text ≡ before ++ chars found.rest.now → suc size + length (chars found.rest.now) ≡ length text
+  pub prefix_is : (entry : Entry) (found : FoundPrefix) → entry_of before ≡ Some entry → found.entry.now ≡ entry → text ≡ before ++ chars found.rest.now → suc size + length (chars found.rest.now)
+      ≡ length text
       → FindsPrefix text (longest_prefix entry_of text (suc size)) (Some found)
   prefix_is entry found there same whole counted =
       subst (λ f. FindsPrefix text (option_or (with_length f (suc size)) (longest_prefix entry_of text size)) (Some found)) (sym (ap entry_of is ∙ there))
       (record { entry_is = same; size_is = counted; goes_on = whole ∙ ap (λ f. f ++ chars found.rest.now) (sym is) })
 
   -- where it is none, a shorter one is
-  pub prefix_is_none : (shorter : Option FoundPrefix) → entry_of before ≡ None → FindsPrefix text (longest_prefix entry_of text size) shorter → FindsPrefix text (longest_prefix entry_of text (suc size)) shorter
+  pub prefix_is_none : (shorter : Option FoundPrefix) → entry_of before ≡ None → FindsPrefix text (longest_prefix entry_of text size) shorter
+      → FindsPrefix text (longest_prefix entry_of text (suc size)) shorter
   prefix_is_none shorter none found =
       subst (λ f. FindsPrefix text (option_or (with_length f (suc size)) (longest_prefix entry_of text size)) shorter) (sym (ap entry_of is ∙ none)) found
 
 -- a text that begins with an element has it first, and then those behind it
-begins_named : (table : Collation) (text : List ℕ) (element : Element) (rest : List ℕ) → longest element_text (elements_placed table) text ≡ Some element → text ≡ element.text ++ rest → 0 < length element.text
+begins_named : (table : Collation) (text : List ℕ) (element : Element) (rest : List ℕ) → longest element_text (elements_placed table) text ≡ Some element → text ≡ element.text ++ rest
+    → 0 < length element.text
     → elements_of table text ≡ Named element.name ∷ elements_of table rest
 unfolding elements_of
 begins_named table text element rest found whole some = split_found element_text (elements_placed table) part_id element (Named element.name) text rest found (λ c. refl) whole some
 
 -- a text that begins with none has its first character first
-pub begins_alone : (table : Collation) → IsWellFormed table → (c : ℕ) (text : List ℕ) → FindsPrefix (c ∷ text) (longest_prefix (element_entry table) (c ∷ text) (length (c ∷ text))) None → elements_of table (c ∷ text) ≡ Char c ∷ elements_of table text
+pub begins_alone : (table : Collation) → IsWellFormed table → (c : ℕ) (text : List ℕ) → FindsPrefix (c ∷ text) (longest_prefix (element_entry table) (c ∷ text) (length (c ∷ text))) None
+    → elements_of table (c ∷ text) ≡ Char c ∷ elements_of table text
 unfolding elements_of
 begins_alone table well c text finds =
-    by (longest element_text (elements_placed table) (c ∷ text)) refl (longest_prefix (element_entry table) (c ∷ text) (length (c ∷ text))) (longest_among table (c ∷ text) table.declared well.built.distinct_texts well.built.texts) finds where
-      by : (element : Option Element) → longest element_text (elements_placed table) (c ∷ text) ≡ element → (prefix : Option (Entry × ℕ)) → IsThatOf (entries_of table) (c ∷ text) element prefix → FindsPrefix (c ∷ text) prefix None
-          → part_id (longest element_text (elements_placed table) (c ∷ text)) c ∷ split element_text (elements_placed table) part_id (beyond_first element_text (longest element_text (elements_placed table) (c ∷ text))) text ≡ Char c ∷ split element_text (elements_placed table) part_id 0 text
+    by (longest element_text (elements_placed table) (c ∷ text)) refl (longest_prefix (element_entry table) (c ∷ text) (length (c ∷ text)))
+    (longest_among table (c ∷ text) table.declared well.built.distinct_texts well.built.texts) finds where
+      by : (element : Option Element) → longest element_text (elements_placed table) (c ∷ text) ≡ element → (prefix : Option (Entry × ℕ)) → IsThatOf (entries_of table) (c ∷ text) element prefix
+          → FindsPrefix (c ∷ text) prefix None
+          → part_id (longest element_text (elements_placed table) (c ∷ text)) c ∷ split element_text (elements_placed table) part_id
+          (beyond_first element_text (longest element_text (elements_placed table) (c ∷ text))) text ≡ Char c ∷ split element_text (elements_placed table) part_id 0 text
       by None e None h f = ap (λ l. part_id l c ∷ split element_text (elements_placed table) part_id (beyond_first element_text l) text) e
       by None e (Some prefix) h f = absurd h
       by (Some element) e None h f = absurd h
@@ -258,7 +287,8 @@ unfolding elements_of
 no_elements table = refl
 
 -- one element more of a text is known
-pub one_more : (table : Collation) (ids : List Id) (elements : List ElementEntry) (id : Id) (element : ElementEntry) → AreElementsOf table ids elements → IsElementOf table id element → AreElementsOf table (ids ++ id ∷ []) (elements ++ element ∷ [])
+pub one_more : (table : Collation) (ids : List Id) (elements : List ElementEntry) (id : Id) (element : ElementEntry) → AreElementsOf table ids elements → IsElementOf table id element
+    → AreElementsOf table (ids ++ id ∷ []) (elements ++ element ∷ [])
 one_more table [] [] id element all one = (one, tt)
 one_more table [] (e ∷ elements) id element all one = absurd all
 one_more table (i ∷ ids) [] id element all one = absurd all
@@ -268,9 +298,12 @@ one_more table (i ∷ ids) (e ∷ elements) id element all one = (all.0, one_mor
 pub element_found : (table : Collation) → IsWellFormed table → (text : List ℕ) (found : FoundPrefix) → FindsPrefix text (longest_prefix (element_entry table) text (length text)) (Some found)
     → (id : Id) × (elements_of table text ≡ id ∷ elements_of table (chars found.rest.now)) × (entry_at (entries_of table) id ≡ Some found.entry.now) × (length (chars found.rest.now) < length text)
 element_found table well text found finds =
-    by (longest element_text (elements_placed table) text) refl (longest_prefix (element_entry table) text (length text)) (longest_among table text table.declared well.built.distinct_texts well.built.texts) finds where
-      by : (element : Option Element) → longest element_text (elements_placed table) text ≡ element → (prefix : Option (Entry × ℕ)) → IsThatOf (entries_of table) text element prefix → FindsPrefix text prefix (Some found)
-          → (id : Id) × (elements_of table text ≡ id ∷ elements_of table (chars found.rest.now)) × (entry_at (entries_of table) id ≡ Some found.entry.now) × (length (chars found.rest.now) < length text)
+    by (longest element_text (elements_placed table) text) refl (longest_prefix (element_entry table) text (length text))
+    (longest_among table text table.declared well.built.distinct_texts well.built.texts) finds where
+      by : (element : Option Element) → longest element_text (elements_placed table) text ≡ element → (prefix : Option (Entry × ℕ)) → IsThatOf (entries_of table) text element prefix
+          → FindsPrefix text prefix (Some found)
+          → (id : Id) × (elements_of table text ≡ id ∷ elements_of table (chars found.rest.now)) × (entry_at (entries_of table) id ≡ Some found.entry.now)
+          × (length (chars found.rest.now) < length text)
       by None e None h f = absurd f
       by None e (Some prefix) h f = absurd h
       by (Some element) e None h f = absurd f

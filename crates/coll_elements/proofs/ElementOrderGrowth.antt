@@ -44,14 +44,16 @@ ascending_with strings text ascending reached earlier place order below =
       all : List (List ℕ)
       all = strings ++ text ∷ []
 
-last_begun_with : (strings : List (List ℕ)) (added text : List ℕ) (bound among : ℕ) → bound ≤ length strings → IsLastBegun strings text bound among → IsLastBegun (strings ++ added ∷ []) text bound among
+last_begun_with : (strings : List (List ℕ)) (added text : List ℕ) (bound among : ℕ) → bound ≤ length strings → IsLastBegun strings text bound among
+    → IsLastBegun (strings ++ added ∷ []) text bound among
 last_begun_with strings added text bound among within last = record {
   within = last.within;
   begun = λ some. ap (begins_with text) (string_before strings added (among - 1) (omega (arith, some, within, last.within))) ∙ last.begun some;
   apart = λ place low high. ap (begins_with text) (string_before strings added place (omega (arith, high, within))) ∙ last.apart place low high;
 }
 
-linked_with : (strings : List (List ℕ)) (links text : List ℕ) (among : ℕ) → length links ≡ length strings → AreLinked strings links → IsLastBegun strings text (length strings) among → AreLinked (strings ++ text ∷ []) (links ++ among ∷ [])
+linked_with : (strings : List (List ℕ)) (links text : List ℕ) (among : ℕ) → length links ≡ length strings → AreLinked strings links → IsLastBegun strings text (length strings) among
+    → AreLinked (strings ++ text ∷ []) (links ++ among ∷ [])
 linked_with strings links text among counted linked last place below =
     at_each (λ n. IsLastBegun all (string_there all n) n (get_or (links ++ among ∷ []) n 0)) (length strings) place (omega (arith, below, one_more strings text))
     (λ before.
@@ -77,9 +79,11 @@ record IsWider (starts ends others behind : List ℕ) (count c : ℕ) : Type 0 w
   from : (place : ℕ) → get_or starts c 0 ≤ place → place < get_or ends c 0 → get_or others c 0 ≤ place
   to : get_or ends c 0 ≤ get_or behind c 0
 
-wider : (starts ends others behind : List ℕ) (first count c : ℕ) → AreSet starts ends others behind first count → get_or starts c 0 ≤ get_or ends c 0 → get_or ends c 0 ≤ count → IsWider starts ends others behind count c
+wider : (starts ends others behind : List ℕ) (first count c : ℕ) → AreSet starts ends others behind first count → get_or starts c 0 ≤ get_or ends c 0 → get_or ends c 0 ≤ count
+    → IsWider starts ends others behind count c
 wider starts ends others behind first count c set order bounded =
-    by_test (λ b. get_or others c 0 ≡ cond (b && (get_or ends c 0 == 0)) count (get_or starts c 0) → get_or behind c 0 ≡ cond b (count + 1) (get_or ends c 0) → IsWider starts ends others behind count c) (c == first)
+    by_test (λ b. get_or others c 0 ≡ cond (b && (get_or ends c 0 == 0)) count (get_or starts c 0) → get_or behind c 0 ≡ cond b (count + 1) (get_or ends c 0)
+    → IsWider starts ends others behind count c) (c == first)
     (λ same start end.
     by_test (λ b. get_or others c 0 ≡ cond b count (get_or starts c 0) → IsWider starts ends others behind count c) (get_or ends c 0 == 0)
     (λ none at.
@@ -104,10 +108,12 @@ wider starts ends others behind first count c set order bounded =
     }) (set.0 c) (set.1 c)
 
 -- the last that is added is between them
-last_between : (starts ends others behind : List ℕ) (first count : ℕ) → AreSet starts ends others behind first count → get_or starts first 0 ≤ get_or ends first 0 → get_or ends first 0 ≤ count → (get_or others first 0 ≤ count) × (count < get_or behind first 0)
+last_between : (starts ends others behind : List ℕ) (first count : ℕ) → AreSet starts ends others behind first count → get_or starts first 0 ≤ get_or ends first 0 → get_or ends first 0 ≤ count
+    → (get_or others first 0 ≤ count) × (count < get_or behind first 0)
 last_between starts ends others behind first count set order bounded =
     let same : (first == first) ≡ true = (Decides-eqb first first).1 refl in
-    let start : get_or others first 0 ≡ cond (get_or ends first 0 == 0) count (get_or starts first 0) = set.0 first ∙ ap (λ b. cond (b && (get_or ends first 0 == 0)) count (get_or starts first 0)) same in
+    let start : get_or others first 0 ≡ cond (get_or ends first 0 == 0) count (get_or starts first 0) =
+    set.0 first ∙ ap (λ b. cond (b && (get_or ends first 0 == 0)) count (get_or starts first 0)) same in
     let end : get_or behind first 0 ≡ count + 1 = set.1 first ∙ ap (λ b. cond b (count + 1) (get_or ends first 0)) same in (
       by_test (λ b. get_or others first 0 ≡ cond b count (get_or starts first 0) → get_or others first 0 ≤ count) (get_or ends first 0 == 0)
           (λ none at. omega (arith, at))
@@ -115,7 +121,8 @@ last_between starts ends others behind first count set order bounded =
       omega (arith, end),
     )
 
-between_with : (firsts starts ends others behind : List ℕ) (first : ℕ) → AreBetween firsts starts ends → ((c : ℕ) → (get_or starts c 0 ≤ get_or ends c 0) × (get_or ends c 0 ≤ length firsts)) → AreSet starts ends others behind first (length firsts) → AreBetween (firsts ++ first ∷ []) others behind
+between_with : (firsts starts ends others behind : List ℕ) (first : ℕ) → AreBetween firsts starts ends → ((c : ℕ) → (get_or starts c 0 ≤ get_or ends c 0) × (get_or ends c 0 ≤ length firsts))
+    → AreSet starts ends others behind first (length firsts) → AreBetween (firsts ++ first ∷ []) others behind
 between_with firsts starts ends others behind first between bounded set c place below is =
     at_each (λ n. get_or (firsts ++ first ∷ []) n 4_294_967_296 ≡ c → (get_or others c 0 ≤ n) × (n < get_or behind c 0)) (length firsts) place (omega (arith, below, one_more firsts first))
     (λ before here.
@@ -128,29 +135,37 @@ between_with firsts starts ends others behind first between bounded set c place 
     (last_between starts ends others behind first (length firsts) set (bounded first).0 (bounded first).1)) is
 
 -- the strings with one more
-pub strings_with : (ordered all : List OrderedElement) (element : OrderedElement) (text : List ℕ) → IsUtf8 text → element.text ≡ chars text → all ≡ ordered ++ element ∷ [] → strings_in all ≡ strings_in ordered ++ text ∷ []
+pub strings_with : (ordered all : List OrderedElement) (element : OrderedElement) (text : List ℕ) → IsUtf8 text → element.text ≡ chars text → all ≡ ordered ++ element ∷ []
+    → strings_in all ≡ strings_in ordered ++ text ∷ []
 strings_with ordered all element text utf8 made is =
     ap strings_in is ∙ (map-append (λ (e : OrderedElement). encode_utf8_all e.text) ordered (element ∷ [])
     ∙ ap (λ s. strings_in ordered ++ s ∷ []) (ap encode_utf8_all made ∙ encodes-chars text utf8))
 
 -- one element more is in its order
-pub order_with : (ordered all : List OrderedElement) (element : OrderedElement) (starts ends others behind text : List ℕ) (first count : ℕ) → IsOrder ordered starts ends → AreReached (strings_in ordered) text (length ordered) → IsUtf8 text → 0 < length (chars text) → element.text ≡ chars text → first ≡ first_of (chars text) → IsLastBegun (strings_in ordered) text (length ordered) element.among → AreSet starts ends others behind first count → count ≡ length ordered → all ≡ ordered ++ element ∷ [] → IsOrder all others behind
+pub order_with : (ordered all : List OrderedElement) (element : OrderedElement) (starts ends others behind text : List ℕ) (first count : ℕ) → IsOrder ordered starts ends
+    → AreReached (strings_in ordered) text (length ordered) → IsUtf8 text → 0 < length (chars text) → element.text ≡ chars text → first ≡ first_of (chars text)
+    → IsLastBegun (strings_in ordered) text (length ordered) element.among → AreSet starts ends others behind first count → count ≡ length ordered → all ≡ ordered ++ element ∷ []
+    → IsOrder all others behind
 order_with ordered all element starts ends others behind text first count order reached utf8 some made first_is last set counted is = record {
   ascending = subst AreAscending (sym strings) (ascending_with (strings_in ordered) text order.ascending (λ place below. reached place (omega (arith, below, strings_count ordered))));
   strings = λ place below.
       subst (λ ss. IsString (string_there ss place) (get_or (firsts_in all) place 4_294_967_296)) (sym strings)
       (subst (λ fs. IsString (string_there (strings_in ordered ++ text ∷ []) place) (get_or fs place 4_294_967_296)) (sym firsts)
-      (at_each (λ n. IsString (string_there (strings_in ordered ++ text ∷ []) n) (get_or (firsts_in ordered ++ first ∷ []) n 4_294_967_296)) (length ordered) place (omega (arith, below, ap length is, one_more ordered element))
+      (at_each (λ n. IsString (string_there (strings_in ordered ++ text ∷ []) n) (get_or (firsts_in ordered ++ first ∷ []) n 4_294_967_296)) (length ordered) place
+      (omega (arith, below, ap length is, one_more ordered element))
       (λ before.
       subst (λ s. IsString s (get_or (firsts_in ordered ++ first ∷ []) place 4_294_967_296)) (sym (string_before (strings_in ordered) text place (omega (arith, before, strings_count ordered))))
-      (subst (λ (f : ℕ). IsString (string_there (strings_in ordered) place) f) (sym (get_or-append (firsts_in ordered) (first ∷ []) 4_294_967_296 place (omega (arith, before, firsts_count)))) (order.strings place before)))
-      (subst (λ s. IsString s (get_or (firsts_in ordered ++ first ∷ []) (length ordered) 4_294_967_296)) (sym (ap (string_there (strings_in ordered ++ text ∷ [])) (sym (strings_count ordered)) ∙ string_last (strings_in ordered) text))
+      (subst (λ (f : ℕ). IsString (string_there (strings_in ordered) place) f) (sym (get_or-append (firsts_in ordered) (first ∷ []) 4_294_967_296 place (omega (arith, before, firsts_count))))
+      (order.strings place before)))
+      (subst (λ s. IsString s (get_or (firsts_in ordered ++ first ∷ []) (length ordered) 4_294_967_296))
+      (sym (ap (string_there (strings_in ordered ++ text ∷ [])) (sym (strings_count ordered)) ∙ string_last (strings_in ordered) text))
       (subst (λ (f : ℕ). IsString text f) (sym (ap (λ n. get_or (firsts_in ordered ++ first ∷ []) n 4_294_967_296) (sym firsts_count) ∙ get_or-append_seam (firsts_in ordered) first [] 4_294_967_296))
       (record { utf8 = utf8; some = some; first_is = sym first_is })))));
   linked =
       subst (λ ss. AreLinked ss (links_in all)) (sym strings)
       (subst (λ (ls : List ℕ). AreLinked (strings_in ordered ++ text ∷ []) ls) (sym links)
-      (linked_with (strings_in ordered) (links_in ordered) text element.among (links_count ∙ sym (strings_count ordered)) order.linked (subst (λ (n : ℕ). IsLastBegun (strings_in ordered) text n element.among) (sym (strings_count ordered)) last)));
+      (linked_with (strings_in ordered) (links_in ordered) text element.among (links_count ∙ sym (strings_count ordered)) order.linked
+      (subst (λ (n : ℕ). IsLastBegun (strings_in ordered) text n element.among) (sym (strings_count ordered)) last)));
   between =
       subst (λ fs. AreBetween fs others behind) (sym firsts)
       (between_with (firsts_in ordered) starts ends others behind first order.between

@@ -12,7 +12,8 @@ abbrev pub size_of : RankedElement → ℕ
 size_of ranked = length (ranked_text ranked)
 
 -- a text begins with no element
-pub longest_none : (xs : List RankedElement) (text : List ℕ) → ((place : ℕ) (x : RankedElement) → place < length xs → x ≡ get_or xs place x → begins_with text (ranked_text x) ≡ false) → longest ranked_text xs text ≡ None
+pub longest_none : (xs : List RankedElement) (text : List ℕ) → ((place : ℕ) (x : RankedElement) → place < length xs → x ≡ get_or xs place x → begins_with text (ranked_text x) ≡ false)
+    → longest ranked_text xs text ≡ None
 longest_none [] text none = refl
 longest_none (x ∷ xs) text none =
     ap (λ b. cond b (Some (longer ranked_text x (longest ranked_text xs text))) (longest ranked_text xs text)) (none 0 x (omega arith) refl)
@@ -23,7 +24,8 @@ abbrev IsShorter : Option RankedElement → ℕ → Type 0
 IsShorter None size = 0 ≤ size
 IsShorter (Some x) size = size_of x < size
 
-shorter_all : (xs : List RankedElement) (text : List ℕ) (size : ℕ) → ((place : ℕ) (x : RankedElement) → place < length xs → x ≡ get_or xs place x → begins_with text (ranked_text x) ≡ true → size_of x < size) → IsShorter (longest ranked_text xs text) size
+shorter_all : (xs : List RankedElement) (text : List ℕ) (size : ℕ)
+    → ((place : ℕ) (x : RankedElement) → place < length xs → x ≡ get_or xs place x → begins_with text (ranked_text x) ≡ true → size_of x < size) → IsShorter (longest ranked_text xs text) size
 shorter_all [] text size all = omega arith
 shorter_all (x ∷ xs) text size all =
     let later : IsShorter (longest ranked_text xs text) size = shorter_all xs text size (λ place y there is on. all (suc place) y (omega (arith, there)) is on) in
@@ -40,13 +42,16 @@ longer_stays x None less = refl
 longer_stays x (Some y) less = ap (λ b. cond b x y) ((Decides-ltb (size_of y) (size_of x)).1 less)
 
 -- an element that a text begins with is the longest, if no other is longer, and no later one as long
-pub longest_is : (xs : List RankedElement) (text : List ℕ) (place : ℕ) (x : RankedElement) → place < length xs → x ≡ get_or xs place x → begins_with text (ranked_text x) ≡ true → ((other : ℕ) (y : RankedElement) → other < length xs → y ≡ get_or xs other y → begins_with text (ranked_text y) ≡ true → (size_of y ≤ size_of x) × (place < other → size_of y < size_of x)) → longest ranked_text xs text ≡ Some x
+pub longest_is : (xs : List RankedElement) (text : List ℕ) (place : ℕ) (x : RankedElement) → place < length xs → x ≡ get_or xs place x → begins_with text (ranked_text x) ≡ true
+    → ((other : ℕ) (y : RankedElement) → other < length xs → y ≡ get_or xs other y → begins_with text (ranked_text y) ≡ true → (size_of y ≤ size_of x) × (place < other → size_of y < size_of x))
+    → longest ranked_text xs text ≡ Some x
 longest_is [] text place x there is on all = absurd (omega (arith, there))
 longest_is (y ∷ ys) text zero x there is on all =
     ap (longest_with_first ys) (sym is) ∙ (ap (λ b. cond b (Some (longer ranked_text x (longest ranked_text ys text))) (longest ranked_text ys text)) on
-    ∙ ap Some (longer_stays x (longest ranked_text ys text) (shorter_all ys text (size_of x) (λ later z below same begun. (all (suc later) z (omega (arith, below)) same begun).1 (omega arith))))) where
-      longest_with_first : List RankedElement → RankedElement → Option RankedElement
-      longest_with_first zs z = longest ranked_text (z ∷ zs) text
+    ∙ ap Some (longer_stays x (longest ranked_text ys text) (shorter_all ys text (size_of x) (λ later z below same begun. (all (suc later) z (omega (arith, below)) same begun).1 (omega arith)))))
+  where
+    longest_with_first : List RankedElement → RankedElement → Option RankedElement
+    longest_with_first zs z = longest ranked_text (z ∷ zs) text
 longest_is (y ∷ ys) text (suc place) x there is on all =
     let rest : longest ranked_text ys text ≡ Some x = longest_is ys text place x (omega (arith, there)) is on (λ other z below same begun.
     let told = all (suc other) z (omega (arith, below)) same begun in

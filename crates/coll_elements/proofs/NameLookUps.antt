@@ -13,14 +13,17 @@ use Rattle.coll_nodes.specs.LookUps.{characters_of}
 use Rattle.coll_elements.specs.NameMaps.{named_numbers, number_named, AreKeys, IsText}
 
 -- the first name of a list has another number
-here : (first wanted : List ℕ) → first ≡ wanted → (other : List ℕ) (v w later : Option ℕ) → cond (same_name other first) v later ≡ cond (same_name other wanted) v (cond (same_name other first) w later)
-here first wanted e other v w later = ap (λ k. cond (same_name other k) v later) e ∙ (by (same_name other wanted) ∙ sym (ap (λ k. cond (same_name other wanted) v (cond (same_name other k) w later)) e)) where
-  by : (b : Bool) → cond b v later ≡ cond b v (cond b w later)
-  by true = refl
-  by false = refl
+here : (first wanted : List ℕ) → first ≡ wanted → (other : List ℕ) (v w later : Option ℕ)
+    → cond (same_name other first) v later ≡ cond (same_name other wanted) v (cond (same_name other first) w later)
+here first wanted e other v w later =
+    ap (λ k. cond (same_name other k) v later) e ∙ (by (same_name other wanted) ∙ sym (ap (λ k. cond (same_name other wanted) v (cond (same_name other k) w later)) e)) where
+      by : (b : Bool) → cond b v later ≡ cond b v (cond b w later)
+      by true = refl
+      by false = refl
 
 -- the first name of a list stays, and later ones have another number
-behind : (first wanted : List ℕ) → same_name wanted first ≡ false → (other : List ℕ) (v w later changed : Option ℕ) → changed ≡ cond (same_name other wanted) v later → cond (same_name other first) w changed ≡ cond (same_name other wanted) v (cond (same_name other first) w later)
+behind : (first wanted : List ℕ) → same_name wanted first ≡ false → (other : List ℕ) (v w later changed : Option ℕ) → changed ≡ cond (same_name other wanted) v later
+    → cond (same_name other first) w changed ≡ cond (same_name other wanted) v (cond (same_name other first) w later)
 behind first wanted apart other v w later changed e = by (same_name other first) refl where
   by : (b : Bool) → same_name other first ≡ b → cond b w changed ≡ cond (same_name other wanted) v (cond b w later)
   by true t =
@@ -46,11 +49,15 @@ module _ {Y : Type 0} where
   texts_agree a b p q = same_spelling (string_bytes a) (string_bytes b) p q
 
   -- a name that is put in has its number, and all others have theirs
-  pub set_number : (es : List (String Y × ℕ)) (text : String Y) (number : ℕ) → AreKeys IsText es → IsText text → (other : List ℕ) → number_named (named_numbers (with_number es text number)) other ≡ cond (same_name other (characters_of text)) (Some number) (number_named (named_numbers es) other)
+  pub set_number : (es : List (String Y × ℕ)) (text : String Y) (number : ℕ) → AreKeys IsText es → IsText text → (other : List ℕ) → number_named (named_numbers (with_number es text number)) other
+      ≡ cond (same_name other (characters_of text)) (Some number) (number_named (named_numbers es) other)
   set_number [] text number h g other = refl
   set_number (e ∷ es) text number h g other = by (set_number es text number h.1 g other) (bytes_eq (string_bytes text) (string_bytes e.0)) refl where
-    by : number_named (named_numbers (with_number es text number)) other ≡ cond (same_name other (characters_of text)) (Some number) (number_named (named_numbers es) other) → (b : Bool) → bytes_eq (string_bytes text) (string_bytes e.0) ≡ b → number_named (named_numbers (cond b ((e.0, number) ∷ es) (e ∷ with_number es text number))) other ≡ cond (same_name other (characters_of text)) (Some number) (cond (same_name other (characters_of e.0)) (Some e.1) (number_named (named_numbers es) other))
-    by later true t = here (characters_of e.0) (characters_of text) (sym ((same_name_decides (characters_of text) (characters_of e.0)).0 (texts_agree text e.0 g h.0 ∙ t))) other (Some number) (Some e.1) _
+    by : number_named (named_numbers (with_number es text number)) other ≡ cond (same_name other (characters_of text)) (Some number) (number_named (named_numbers es) other) → (b : Bool)
+        → bytes_eq (string_bytes text) (string_bytes e.0) ≡ b → number_named (named_numbers (cond b ((e.0, number) ∷ es) (e ∷ with_number es text number))) other
+        ≡ cond (same_name other (characters_of text)) (Some number) (cond (same_name other (characters_of e.0)) (Some e.1) (number_named (named_numbers es) other))
+    by later true t = here (characters_of e.0) (characters_of text) (sym ((same_name_decides (characters_of text) (characters_of e.0)).0 (texts_agree text e.0 g h.0 ∙ t))) other (Some number)
+        (Some e.1) _
     by later false t = behind (characters_of e.0) (characters_of text) (texts_agree text e.0 g h.0 ∙ t) other (Some number) (Some e.1) _ _ later
 
   -- and all keys are texts

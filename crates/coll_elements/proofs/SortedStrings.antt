@@ -51,7 +51,8 @@ pub numbers_count : (ys : List Numbered) → length (numbers_of ys) ≡ length y
 numbers_count ys = length-map ys (λ (s : Numbered). s.1)
 
 -- one string more, with its number
-pub numbered_more : (elements : List RankedElement) (xs ys : List Numbered) (string : Bor (List ℕ)) (count number : ℕ) → AreNumbered elements count xs → number ≡ count → ((ranked : RankedElement) → ranked ≡ get_or elements count ranked → IsSpelled ranked string.now) → ys ≡ xs ++ (string, number) ∷ [] → AreNumbered elements (count + 1) ys
+pub numbered_more : (elements : List RankedElement) (xs ys : List Numbered) (string : Bor (List ℕ)) (count number : ℕ) → AreNumbered elements count xs → number ≡ count
+    → ((ranked : RankedElement) → ranked ≡ get_or elements count ranked → IsSpelled ranked string.now) → ys ≡ xs ++ (string, number) ∷ [] → AreNumbered elements (count + 1) ys
 numbered_more elements xs ys string count number numbered same spelled is =
     subst (AreNumbered elements (count + 1)) (sym is) record {
       counted = omega (arith, length-append xs ((string, number) ∷ []), numbered.counted);
@@ -59,11 +60,13 @@ numbered_more elements xs ys string count number numbered same spelled is =
           by_test (λ _. IsSpelled ranked (string_there (texts_of all) place)) (nat_lt place count)
           (λ on.
           let before : place < count = (Decides-ltb place count).0 on in
-          subst (IsSpelled ranked) (sym (ap (λ ts. string_there ts place) texts ∙ get_or-append (texts_of xs) (string.now ∷ []) [] place (omega (arith, before, numbered.counted, texts_count xs)))) (numbered.each place ranked before ranked_is))
+          subst (IsSpelled ranked) (sym (ap (λ ts. string_there ts place) texts ∙ get_or-append (texts_of xs) (string.now ∷ []) [] place (omega (arith, before, numbered.counted, texts_count xs))))
+          (numbered.each place ranked before ranked_is))
           (λ off.
           let here : count ≡ place = omega (arith, below, ltb-false place count off) in
           subst (λ (n : ℕ). IsSpelled ranked (string_there (texts_of all) n)) here
-          (subst (IsSpelled ranked) (sym (ap (λ ts. string_there ts count) texts ∙ (ap (string_there (texts_of xs ++ string.now ∷ [])) (sym (texts_count xs ∙ numbered.counted)) ∙ get_or-append_seam (texts_of xs) string.now [] [])))
+          (subst (IsSpelled ranked) (sym (ap (λ ts. string_there ts count) texts
+          ∙ (ap (string_there (texts_of xs ++ string.now ∷ [])) (sym (texts_count xs ∙ numbered.counted)) ∙ get_or-append_seam (texts_of xs) string.now [] [])))
           (spelled ranked (ranked_is ∙ ap (λ n. get_or elements n ranked) (sym here)))));
       numbers = λ place below.
           ap (λ ns. get_or ns place 0) numbers
@@ -120,7 +123,8 @@ module _ (elements : List RankedElement) (xs ys : List Numbered) (numbered : Are
       let found = Contains-permutation ys xs y (IsPermutation-sym xs ys shuffled) (at, there, sym is) in
       (found.0, found.1, sym found.2)
 
-  number_there : (at : ℕ) → at < length ys → (get_or (numbers_of ys) at 0 < length elements) × ((ranked : RankedElement) → ranked ≡ get_or elements (get_or (numbers_of ys) at 0) ranked → IsSpelled ranked (string_there (texts_of ys) at))
+  number_there : (at : ℕ) → at < length ys → (get_or (numbers_of ys) at 0 < length elements)
+      × ((ranked : RankedElement) → ranked ≡ get_or elements (get_or (numbers_of ys) at 0) ranked → IsSpelled ranked (string_there (texts_of ys) at))
   number_there at there =
       let here = there_is ys at there in
       let from = origin at here.0 there here.1 in
@@ -163,7 +167,8 @@ module _ (elements : List RankedElement) (xs ys : List Numbered) (numbered : Are
         let before : earlier < length ys = omega (arith, order, there_too) in
         let x = there_is ys earlier before in
         let y = there_is ys at there_too in
-        let strings : slice_cmp nat_cmp y.0.0.now x.0.0.now ≡ Equal = ap (λ s. slice_cmp nat_cmp s x.0.0.now) (sym (text_is ys at y.0 there_too y.1) ∙ (sym same ∙ text_is ys earlier x.0 before x.1)) ∙ same_order x.0.0.now in
+        let strings : slice_cmp nat_cmp y.0.0.now x.0.0.now ≡ Equal = ap (λ s. slice_cmp nat_cmp s x.0.0.now) (sym (text_is ys at y.0 there_too y.1) ∙ (sym same ∙ text_is ys earlier x.0 before x.1))
+        ∙ same_order x.0.0.now in
         let numbers : x.0.1 ≤ y.0.1 = not_less y.0.1 x.0.1 (ap (λ o. is_lt (ordering_then o (nat_cmp y.0.1 x.0.1))) (sym strings) ∙ rises earlier at x.0 y.0 order there_too x.1 y.1) in
         omega (arith, numbers, number_is ys at y.0 there_too y.1, number_is ys earlier x.0 before x.1);
   }
@@ -179,7 +184,8 @@ so_many ys at strings so_far = omega (arith, ap length so_far, few at (texts_of 
 
 module _ (ys : List Numbered) (at : ℕ) (y : Numbered) (there : at < length ys) (is : y ≡ get_or ys at y) where
   -- the next one doesn't stand before them
-  pub next_behind : (strings : List (List ℕ)) → AreAscending (texts_of ys) → strings ≡ take at (texts_of ys) → (place : ℕ) → place < length strings → stands_before y.0.now (string_there strings place) ≡ false
+  pub next_behind : (strings : List (List ℕ)) → AreAscending (texts_of ys) → strings ≡ take at (texts_of ys) → (place : ℕ) → place < length strings → stands_before y.0.now (string_there strings place)
+      ≡ false
   next_behind strings ascending so_far place below =
       let counted : length strings ≤ at = so_many ys at strings so_far in
       let before : place < at = omega (arith, below, counted) in
@@ -197,8 +203,10 @@ module _ (ys : List Numbered) (at : ℕ) (y : Numbered) (there : at < length ys)
   -- with it there are so many more
   pub next_texts : (strings all : List (List ℕ)) → strings ≡ take at (texts_of ys) → all ≡ strings ++ y.0.now ∷ [] → all ≡ take (at + 1) (texts_of ys)
   next_texts strings all so_far with =
-      with ∙ (ap₂ (λ (ss : List (List ℕ)) (s : List ℕ). ss ++ s ∷ []) so_far (sym (text_is ys at y there is)) ∙ (sym (take-suc (texts_of ys) at [] (omega (arith, there, texts_count ys))) ∙ ap (λ n. take n (texts_of ys)) (one_more at)))
+      with ∙ (ap₂ (λ (ss : List (List ℕ)) (s : List ℕ). ss ++ s ∷ []) so_far (sym (text_is ys at y there is))
+      ∙ (sym (take-suc (texts_of ys) at [] (omega (arith, there, texts_count ys))) ∙ ap (λ n. take n (texts_of ys)) (one_more at)))
 
   pub next_numbers : (places all : List ℕ) → places ≡ take at (numbers_of ys) → all ≡ places ++ y.1 ∷ [] → all ≡ take (at + 1) (numbers_of ys)
   next_numbers places all so_far with =
-      with ∙ (ap₂ (λ (ns : List ℕ) (n : ℕ). ns ++ n ∷ []) so_far (sym (number_is ys at y there is)) ∙ (sym (take-suc (numbers_of ys) at 0 (omega (arith, there, numbers_count ys))) ∙ ap (λ n. take n (numbers_of ys)) (one_more at)))
+      with ∙ (ap₂ (λ (ns : List ℕ) (n : ℕ). ns ++ n ∷ []) so_far (sym (number_is ys at y there is))
+      ∙ (sym (take-suc (numbers_of ys) at 0 (omega (arith, there, numbers_count ys))) ∙ ap (λ n. take n (numbers_of ys)) (one_more at)))

@@ -1,5 +1,6 @@
 -- The elements of declarations that have a rank are the placed ones of the table.
-use Rattle.std.proofs.Common.{◌≡◌, ◌<◌, ◌≤◌, All, ℕ, suc, ◌+◌, Bool, true, false, cond, List, [], ◌∷◌, ◌++◌, length, map, Option, Some, None, is_some, sym, ap, ap₂, ◌∙◌, refl, arith, append_assoc, length-append}
+use Rattle.std.proofs.Common.{◌≡◌, ◌<◌, ◌≤◌, All, ℕ, suc, ◌+◌, Bool, true, false, cond, List, [], ◌∷◌, ◌++◌, length, map, Option}
+use Rattle.std.proofs.Common.{Some, None, is_some, sym, ap, ap₂, ◌∙◌, refl, arith, append_assoc, length-append}
 use Rattle.std.specs.Prelude.{◌||◌}
 use Rattle.std.specs.List.{flat_map}
 use Rattle.std.specs.Option.{option_or, option_map, unwrap_or}
@@ -34,21 +35,26 @@ has_place (entry ∷ entries) id = ap (λ b. same_id id entry.id || b) (has_plac
   by false (Some n) = refl
 
 -- the ranked elements of declarations are those placed, with their ranks
-pub elements_ranked : (table : Collation) (places : NamePlacesValue) (declared : List Declaration) → AreNameRanksOf places table → flat_map (ranked_declared (place_named places)) declared ≡ map (ranked_in table) (flat_map (element_placed table) declared)
+pub elements_ranked : (table : Collation) (places : NamePlacesValue) (declared : List Declaration) → AreNameRanksOf places table → flat_map (ranked_declared (place_named places)) declared
+    ≡ map (ranked_in table) (flat_map (element_placed table) declared)
 elements_ranked table places [] are = refl
 elements_ranked table places (declaration.Symbol name ∷ declared) are = elements_ranked table places declared are
 elements_ranked table places (declaration.Equivalence name symbol ∷ declared) are = elements_ranked table places declared are
 elements_ranked table places (declaration.Element name text ∷ declared) are =
-    ap₂ (λ (r : Option ℕ) (later : List RankedElement). ranked_if_any name text r ++ later) (are name ∙ or_none (place_among (entries_of table) (Named name))) (elements_ranked table places declared are)
-    ∙ (by (place_among (entries_of table) (Named name)) refl ∙ ap (λ b. map (ranked_in table) (cond b (record { name = name; text = text } ∷ []) [] ++ flat_map (element_placed table) declared)) (sym (has_place (entries_of table) (Named name)))) where
-      by : (p : Option ℕ) → place_among (entries_of table) (Named name) ≡ p → ranked_if_any name text p ++ map (ranked_in table) (flat_map (element_placed table) declared) ≡ map (ranked_in table) (cond (is_some p) (record { name = name; text = text } ∷ []) [] ++ flat_map (element_placed table) declared)
+    ap₂ (λ (r : Option ℕ) (later : List RankedElement). ranked_if_any name text r ++ later) (are name ∙ or_none (place_among (entries_of table) (Named name)))
+    (elements_ranked table places declared are)
+    ∙ (by (place_among (entries_of table) (Named name)) refl ∙ ap (λ b. map (ranked_in table) (cond b (record { name = name; text = text } ∷ []) [] ++ flat_map (element_placed table) declared))
+    (sym (has_place (entries_of table) (Named name)))) where
+      by : (p : Option ℕ) → place_among (entries_of table) (Named name) ≡ p → ranked_if_any name text p ++ map (ranked_in table) (flat_map (element_placed table) declared)
+          ≡ map (ranked_in table) (cond (is_some p) (record { name = name; text = text } ∷ []) [] ++ flat_map (element_placed table) declared)
       by None e = refl
       by (Some rank) e =
           let known : known_rank table (Named name) ≡ rank = ap (λ p. unwrap_or (option_or p None) 0) e in
           ap (λ r. record { element = record { name = name; text = text }; rank = r } ∷ map (ranked_in table) (flat_map (element_placed table) declared)) (sym known)
 
 -- what is put in, and what is left
-pub put_more : (all with whole : List RankedElement) (rank : List ℕ → Option ℕ) (left later : List Declaration) (item : Declaration) → left ≡ item ∷ later → with ≡ all ++ ranked_declared rank item → all ++ flat_map (ranked_declared rank) left ≡ whole → with ++ flat_map (ranked_declared rank) later ≡ whole
+pub put_more : (all with whole : List RankedElement) (rank : List ℕ → Option ℕ) (left later : List Declaration) (item : Declaration) → left ≡ item ∷ later → with ≡ all ++ ranked_declared rank item
+    → all ++ flat_map (ranked_declared rank) left ≡ whole → with ++ flat_map (ranked_declared rank) later ≡ whole
 put_more all with whole rank left later item first put is =
     ap (λ es. es ++ flat_map (ranked_declared rank) later) put
     ∙ (append_assoc all (ranked_declared rank item) (flat_map (ranked_declared rank) later) ∙ (ap (λ ds. all ++ flat_map (ranked_declared rank) ds) (sym first) ∙ is))
@@ -62,7 +68,8 @@ one_at_most rank (declaration.Element name text) = by (rank name) where
   by None = omega arith
   by (Some place) = omega arith
 
-pub few_more : (all with : List RankedElement) (rank : List ℕ → Option ℕ) (left later : List Declaration) (item : Declaration) → left ≡ item ∷ later → with ≡ all ++ ranked_declared rank item → length all + length left < 1_000_000 → length with + length later < 1_000_000
+pub few_more : (all with : List RankedElement) (rank : List ℕ → Option ℕ) (left later : List Declaration) (item : Declaration) → left ≡ item ∷ later → with ≡ all ++ ranked_declared rank item
+    → length all + length left < 1_000_000 → length with + length later < 1_000_000
 few_more all with rank left later item first put few =
     let one = one_at_most rank item in
     let counted : length with ≡ length all + length (ranked_declared rank item) = ap length put ∙ length-append all (ranked_declared rank item) in

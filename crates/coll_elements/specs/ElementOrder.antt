@@ -25,7 +25,8 @@ string_there strings place = slice_index_or strings place []
 
 -- no string stands before an earlier one
 abbrev pub AreAscending : List (List ℕ) → Type 0
-AreAscending strings = (earlier place : ℕ) → earlier ≤ place → place < length strings → stands_before (string_there strings place) (string_there strings earlier) ≡ false
+AreAscending strings = (earlier place : ℕ) → earlier ≤ place → place < length strings
+    → stands_before (string_there strings place) (string_there strings earlier) ≡ false
 
 -- of the first strings, as many as the bound says, the last that a text begins with is the last among so many
 pub record IsLastBegun (strings : List (List ℕ)) (text : List ℕ) (bound among : ℕ) : Type 0 where
@@ -35,12 +36,14 @@ pub record IsLastBegun (strings : List (List ℕ)) (text : List ℕ) (bound amon
 
 -- with each string stands among how many the last one is that it begins with, of those before it
 abbrev pub AreLinked : (strings : List (List ℕ)) → (links : List ℕ) → Type 0
-AreLinked strings links = (place : ℕ) → place < length strings → IsLastBegun strings (string_there strings place) place (slice_index_or links place 0)
+AreLinked strings links = (place : ℕ) → place < length strings
+    → IsLastBegun strings (string_there strings place) place (slice_index_or links place 0)
 
 -- what begins with a character stands between its start and its end
 abbrev pub AreBetween : (firsts starts ends : List ℕ) → Type 0
 AreBetween firsts starts ends =
-    (first place : ℕ) → place < length firsts → slice_index_or firsts place 4_294_967_296 ≡ first → (slice_index_or starts first 0 ≤ place) × (place < slice_index_or ends first 0)
+    (first place : ℕ) → place < length firsts → slice_index_or firsts place 4_294_967_296 ≡ first → (slice_index_or starts first 0 ≤ place)
+    × (place < slice_index_or ends first 0)
 
 -- the strings of elements, their links, their first characters and their places in the order of the declarations
 abbrev pub strings_in : List OrderedElement → List (List ℕ)
@@ -70,7 +73,8 @@ pub record IsSpelled (ranked : RankedElement) (bytes : List ℕ) : Type 0 where
 -- the elements are in order, linked, and found by their first characters
 pub record IsOrder (ordered : List OrderedElement) (starts ends : List ℕ) : Type 0 where
   pub ascending : AreAscending (strings_in ordered)
-  pub strings : (place : ℕ) → place < length ordered → IsString (string_there (strings_in ordered) place) (slice_index_or (firsts_in ordered) place 4_294_967_296)
+  pub strings : (place : ℕ) → place < length ordered
+      → IsString (string_there (strings_in ordered) place) (slice_index_or (firsts_in ordered) place 4_294_967_296)
   pub linked : AreLinked (strings_in ordered) (links_in ordered)
   pub between : AreBetween (firsts_in ordered) starts ends
   pub bounded : (first : ℕ) → (slice_index_or starts first 0 ≤ slice_index_or ends first 0) × (slice_index_or ends first 0 ≤ length ordered)
@@ -79,10 +83,12 @@ pub record IsOrder (ordered : List OrderedElement) (starts ends : List ℕ) : Ty
 -- the later has the later place
 pub record AreStringsOf (elements : List RankedElement) (strings : List (List ℕ)) (places : List ℕ) : Type 0 where
   pub counted : length places ≡ length strings
-  pub each : (at : ℕ) (ranked : RankedElement) → at < length strings → ranked ≡ slice_index_or elements (slice_index_or places at 0) ranked → IsSpelled ranked (string_there strings at)
+  pub each : (at : ℕ) (ranked : RankedElement) → at < length strings → ranked ≡ slice_index_or elements (slice_index_or places at 0) ranked
+      → IsSpelled ranked (string_there strings at)
   pub within : (at : ℕ) → at < length strings → slice_index_or places at 0 < length elements
   pub every : (place : ℕ) → place < length elements → (at : ℕ) × (at < length strings) × (slice_index_or places at 0 ≡ place)
-  pub alike : (earlier at : ℕ) → earlier ≤ at → at < length strings → string_there strings earlier ≡ string_there strings at → slice_index_or places earlier 0 ≤ slice_index_or places at 0
+  pub alike : (earlier at : ℕ) → earlier ≤ at → at < length strings → string_there strings earlier ≡ string_there strings at
+      → slice_index_or places earlier 0 ≤ slice_index_or places at 0
 
 -- the strings of numbered strings, and their numbers
 abbrev pub texts_of : List (Bor (List ℕ) × ℕ) → List (List ℕ)
@@ -94,5 +100,6 @@ numbers_of numbered = map (λ (string : Bor (List ℕ) × ℕ). string.1) number
 -- these are the strings of the first elements, as many as this, each with the place of its element
 pub record AreNumbered (elements : List RankedElement) (count : ℕ) (numbered : List (Bor (List ℕ) × ℕ)) : Type 0 where
   pub counted : length numbered ≡ count
-  pub each : (place : ℕ) (ranked : RankedElement) → place < count → ranked ≡ slice_index_or elements place ranked → IsSpelled ranked (string_there (texts_of numbered) place)
+  pub each : (place : ℕ) (ranked : RankedElement) → place < count → ranked ≡ slice_index_or elements place ranked
+      → IsSpelled ranked (string_there (texts_of numbered) place)
   pub numbers : (place : ℕ) → place < count → slice_index_or (numbers_of numbered) place 0 ≡ place

@@ -19,7 +19,8 @@ ranked_text ranked = ranked.element.text
 -- the string of the last element of a name
 abbrev pub last_string : List RankedElement → List ℕ → Option (List ℕ)
 last_string [] name = None
-last_string (first ∷ later) name = option_or (last_string later name) (if same_name name first.element.name then Some (ranked_text first) else None)
+last_string (first ∷ later) name =
+    option_or (last_string later name) (if same_name name first.element.name then Some (ranked_text first) else None)
 
 -- an element of a table with its rank
 abbrev pub ranked_in : Collation → Element → RankedElement

@@ -41,7 +41,8 @@ pub fn split_text<'a>(
     table: &'a Table,
     text: &str,
 ) -> Result<Vec<ElementEntry<'a>>, AllocError>
-    ensures { IfOk result (λ elements. AreElementsOf (collation table.now) (elements_of (collation table.now) (chars text.now)) elements.items) }
+    ensures { IfOk result (λ elements.
+        AreElementsOf (collation table.now) (elements_of (collation table.now) (chars text.now)) elements.items) }
 {
     let mut elements = Vec::new(alloc);
     let mut left = text;
@@ -55,7 +56,9 @@ pub fn split_text<'a>(
 // The element that a text begins with, and the text behind it; none where the text is empty.
 fn first_element<'a, 'b>(table: &'a Table, text: &'b str) -> Option<(ElementEntry<'a>, &'b str)>
     ensures none { MatchOption result (chars text.now ≡ []) (λ first. length (chars first.1.now) < length (chars text.now)) }
-    ensures element { IfSome result (λ first. (id : Id) × (elements_of (collation table.now) (chars text.now) ≡ id ∷ elements_of (collation table.now) (chars first.1.now)) × IsElementOf (collation table.now) id first.0) }
+    ensures element { IfSome result (λ first. (id : Id)
+        × (elements_of (collation table.now) (chars text.now) ≡ id ∷ elements_of (collation table.now) (chars first.1.now))
+        × IsElementOf (collation table.now) id first.0) }
 {
     table.lemma_well_formed();
     let mut letters = text.chars();
@@ -78,7 +81,8 @@ fn character(table: &Table, c: char) -> ElementEntry<'_>
 
 // The longest element that is placed and that a text begins with, and the text behind its string.
 fn longest_element<'a, 'b>(table: &'a Table, text: &'b str) -> Option<FoundPrefix<'a, 'b>>
-    ensures { FindsPrefix (chars text.now) (longest_prefix (element_entry (collation table.now)) (chars text.now) (length (chars text.now))) result }
+    ensures { FindsPrefix (chars text.now) (longest_prefix (element_entry (collation table.now)) (chars text.now) (length (chars text.now)))
+        result }
 {
     let mut longest = None;
     let mut rest = text;
@@ -107,7 +111,9 @@ fn longer_prefix<'a, 'b>(
     shorter: Option<FoundPrefix<'a, 'b>>,
 ) -> Option<FoundPrefix<'a, 'b>>
     requires { (prefix : List ℕ) × (text.now ≡ prefix ++ rest.now) }
-    ensures { (size : ℕ) → suc size + length (chars rest.now) ≡ length (chars text.now) → FindsPrefix (chars text.now) (longest_prefix (element_entry (collation table.now)) (chars text.now) size) shorter.entry → FindsPrefix (chars text.now) (longest_prefix (element_entry (collation table.now)) (chars text.now) (suc size)) result }
+    ensures { (size : ℕ) → suc size + length (chars rest.now) ≡ length (chars text.now)
+        → FindsPrefix (chars text.now) (longest_prefix (element_entry (collation table.now)) (chars text.now) size) shorter.entry
+        → FindsPrefix (chars text.now) (longest_prefix (element_entry (collation table.now)) (chars text.now) (suc size)) result }
 {
     match table.element_entry(before(text, rest)) {
         Some(entry) => Some(FoundPrefix { entry, rest }),

@@ -5,10 +5,12 @@
 //! last one before it that its string begins with; so one goes from there to shorter ones, at most as often as a string has
 //! characters, until the text begins with one.
 
-ghost use Rattle.std.specs.Prelude.{◌≡◌, ◌<◌, ◌≤◌, ◌++◌, ◌∷◌, ◌==◌, ◌&&◌, [], if◌then◌else◌, ℕ, false, List, slice_index_or, chars, length, vec_len, encode_utf8_all, OnOk};
+ghost use Rattle.std.specs.Prelude.{◌≡◌, ◌<◌, ◌≤◌, ◌++◌, ◌∷◌, ◌==◌, ◌&&◌, [], if◌then◌else◌, ℕ, false, List};
+ghost use Rattle.std.specs.Prelude.{slice_index_or, chars, length, vec_len, encode_utf8_all, OnOk};
 ghost use Rattle.coll_elements.specs.Elements.{begins_with};
 ghost use Rattle.coll_elements.specs.ElementOrder.{first_of};
-ghost use Rattle.coll_elements.specs.ElementOrder.{stands_before, string_there, strings_in, places_in, links_in, IsLastBegun, IsOrder, AreAscending, AreLinked};
+ghost use Rattle.coll_elements.specs.ElementOrder.{stands_before, string_there, strings_in, places_in, links_in};
+ghost use Rattle.coll_elements.specs.ElementOrder.{IsLastBegun, IsOrder, AreAscending, AreLinked};
 
 use crate::code_points::CodePoints;
 use coll_lex::TextBuf;
@@ -60,8 +62,10 @@ fn count_up_to(ordered: &[OrderedElement], start: usize, end: usize, text: &str)
     requires ascending { AreAscending (strings_in ordered.now) }
     ensures from { start ≤ result }
     ensures to { result ≤ end }
-    ensures reached { start < result → (place : ℕ) → place < result → stands_before text.now (string_there (strings_in ordered.now) place) ≡ false }
-    ensures behind { (place : ℕ) → result ≤ place → place < end → begins_with text.now (string_there (strings_in ordered.now) place) ≡ false }
+    ensures reached { start < result → (place : ℕ) → place < result → stands_before text.now (string_there (strings_in ordered.now) place)
+        ≡ false }
+    ensures behind { (place : ℕ) → result ≤ place → place < end → begins_with text.now (string_there (strings_in ordered.now) place)
+        ≡ false }
 {
     let mut low = start;
     let mut high = end;
@@ -87,7 +91,8 @@ pub(crate) fn last_begun_with(
 ) -> usize
     requires { IsOrder ordered.now starts.now ends.now }
     ensures within { result ≤ length ordered.now }
-    ensures last { (rest : List ℕ) → chars text.now ≡ first ∷ rest → IsLastBegun (strings_in ordered.now) text.now (length ordered.now) result }
+    ensures last { (rest : List ℕ) → chars text.now ≡ first ∷ rest
+        → IsLastBegun (strings_in ordered.now) text.now (length ordered.now) result }
 {
     let start = starts.get(first) as usize;
     let end = ends.get(first) as usize;
@@ -109,7 +114,8 @@ pub(crate) fn push_ordered(
 ) -> Result<(), AllocError>
     requires few { vec_len ordered.old < 1_000_000 }
     requires order { IsOrder ordered.old.items starts.old ends.old }
-    requires behind { (place : ℕ) → place < length ordered.old.items → stands_before text.now (string_there (strings_in ordered.old.items) place) ≡ false }
+    requires behind { (place : ℕ) → place < length ordered.old.items
+        → stands_before text.now (string_there (strings_in ordered.old.items) place) ≡ false }
     requires some { 0 < length (chars text.now) }
     ensures order { OnOk result (IsOrder ordered.new.items starts.new ends.new) }
     ensures strings { OnOk result (strings_in ordered.new.items ≡ strings_in ordered.old.items ++ text.now ∷ []) }
@@ -136,7 +142,8 @@ fn start_at(
     first: char,
     place: u32,
 ) -> Result<(), AllocError>
-    ensures { OnOk result ((c : ℕ) → slice_index_or starts.new c 0 ≡ (if (c == first) && (slice_index_or ends.now c 0 == 0) then place else slice_index_or starts.old c 0)) }
+    ensures { OnOk result ((c : ℕ) → slice_index_or starts.new c 0
+        ≡ (if (c == first) && (slice_index_or ends.now c 0 == 0) then place else slice_index_or starts.old c 0)) }
 {
     if ends.get(first) == 0 {
         starts.set(first, place)

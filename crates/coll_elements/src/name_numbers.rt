@@ -51,7 +51,8 @@ impl NameNumbers {
 
     /// Gives a name a number.
     pub(crate) fn set(&mut self, name: &str, number: u32) -> Result<(), AllocError>
-        ensures { OnOk result ((other : List ℕ) → number_named self.new other ≡ cond (same_name other (chars name.now)) (Some number) (number_named self.old other)) }
+        ensures { OnOk result ((other : List ℕ)
+            → number_named self.new other ≡ cond (same_name other (chars name.now)) (Some number) (number_named self.old other)) }
     {
         let text = String::from_str(self.alloc, name)?;
         self.numbers.insert(text, number)?;

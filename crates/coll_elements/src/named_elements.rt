@@ -114,7 +114,8 @@ impl NamedElements {
     /// The element at a place, if a text begins with it.
     pub(crate) fn found_at<'a>(&self, place: usize, text: &'a str) -> Option<FoundElement<'a>>
         requires { place < length self.now }
-        ensures { (ranked : RankedElement) → ranked ≡ slice_index_or self.now place ranked → Finds (if_begun (chars text.now) ranked) (chars text.now) result }
+        ensures { (ranked : RankedElement) → ranked ≡ slice_index_or self.now place ranked
+            → Finds (if_begun (chars text.now) ranked) (chars text.now) result }
     {
         self.elements[place].found_in(text)
     }
@@ -165,7 +166,8 @@ fn put(
     requires some { 0 < length (chars text.now) }
     requires few { vec_len elements.old < 1_000_000 }
     ensures named { OnOk result (AreNamed elements.old.items places.old → AreNamed elements.new.items places.new) }
-    ensures element { OnOk result (elements_in elements.new.items ≡ elements_in elements.old.items ++ ranked_element (chars name.now) (chars text.now) rank ∷ []) }
+    ensures element { OnOk result (elements_in elements.new.items
+        ≡ elements_in elements.old.items ++ ranked_element (chars name.now) (chars text.now) rank ∷ []) }
 {
     let place = elements.len() as u32;
     places.set(name, place)?;

@@ -5,7 +5,8 @@
 
 ghost use Rattle.std.specs.Prelude.{◌≡◌, ◌<◌, ◌∷◌, [], ℕ, List, None, false, chars, length, option_copied, vec_len, All, IfOk, OnOk};
 ghost use Rattle.coll_elements.specs.RankedElements.{RankedElement};
-ghost use Rattle.coll_elements.specs.ElementOrder.{IsOrder, AreStringsOf, AreAscending, strings_in, places_in, texts_of, numbers_of, AreNumbered};
+ghost use Rattle.coll_elements.specs.ElementOrder.{IsOrder, AreStringsOf, AreAscending, strings_in};
+ghost use Rattle.coll_elements.specs.ElementOrder.{places_in, texts_of, numbers_of, AreNumbered};
 ghost use Rattle.coll_elements.specs.NamedElements.{Finds};
 
 use crate::code_points::CodePoints;
@@ -39,7 +40,8 @@ impl Model for PlacedElements {
 
     ghost view = { λ e. e.named };
 
-    ghost invariant = { λ e. IsOrder e.ordered.items e.starts e.ends × AreStringsOf e.named (strings_in e.ordered.items) (places_in e.ordered.items) };
+    ghost invariant = { λ e. IsOrder e.ordered.items e.starts e.ends
+        × AreStringsOf e.named (strings_in e.ordered.items) (places_in e.ordered.items) };
 }
 
 impl PlacedElements {
@@ -82,7 +84,8 @@ impl PlacedElements {
     /// memory.
     #[inline(always)]
     pub fn longest<'a>(&self, text: &'a str, first: char) -> Option<FoundElement<'a>>
-        ensures { (rest : List ℕ) → chars text.now ≡ first ∷ rest → Finds (longest ranked_text self.now (chars text.now)) (chars text.now) result }
+        ensures { (rest : List ℕ) → chars text.now ≡ first ∷ rest
+            → Finds (longest ranked_text self.now (chars text.now)) (chars text.now) result }
     {
         if self.may_begin_with(first) {
             self.longest_in_order(text, first)
@@ -93,7 +96,8 @@ impl PlacedElements {
 
     // The same, found in the order of the strings.
     fn longest_in_order<'a>(&self, text: &'a str, first: char) -> Option<FoundElement<'a>>
-        ensures { (rest : List ℕ) → chars text.now ≡ first ∷ rest → Finds (longest ranked_text self.now (chars text.now)) (chars text.now) result }
+        ensures { (rest : List ℕ) → chars text.now ≡ first ∷ rest
+            → Finds (longest ranked_text self.now (chars text.now)) (chars text.now) result }
     {
         let among = last_begun_with(&self.ordered, &self.starts, &self.ends, text, first);
         if among == 0 {

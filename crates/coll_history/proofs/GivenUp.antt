@@ -140,7 +140,8 @@ module _ (turns : RecordsTurnBack) (put_in : UndonePutIn) where
       subst (λ (ns : List NodeId). AreLoose table.layout (ns ++ added_by_all later)) (sym nodes)
       (record {
         loose = λ node there.
-            by_test (λ b. (b || has_node (added_by_all later) node) ≡ true → has_node (added_nodes k.change.items) node ≡ b → IsLooseNode table.layout node) (has_node (added_nodes k.change.items) node)
+            by_test (λ b. (b || has_node (added_by_all later) node) ≡ true → has_node (added_nodes k.change.items) node ≡ b → IsLooseNode table.layout node)
+            (has_node (added_nodes k.change.items) node)
             (λ e p q. own.loose.loose node e)
             (λ e p q. own.others node (rest.loose node p))
             (sym (has_joined (added_nodes k.change.items) (added_by_all later) node) ∙ there) refl;
@@ -158,14 +159,16 @@ loose_kept old new nodes keeps l = record {
   once = l.once;
 } where
   by_content : (node : NodeId) (it : Option Content) → content_of old node ≡ it → IsSome (content_of old node)
-      → ((c : Content) → is_in old.rings node ≡ false → content_of old node ≡ Some c → (is_in new.rings node ≡ false) × (content_of new node ≡ Some c)) → is_in old.rings node ≡ false → IsLooseNode new node
+      → ((c : Content) → is_in old.rings node ≡ false → content_of old node ≡ Some c → (is_in new.rings node ≡ false) × (content_of new node ≡ Some c)) → is_in old.rings node ≡ false
+      → IsLooseNode new node
   by_content node None e made stays apart = absurd (false≢true (subst (λ (x : Option Content). IsSome x) e made))
   by_content node (Some c) e made stays apart =
       let both = stays c apart e in
       record { made = subst (λ (x : Option Content). IsSome x) (sym both.1) refl; apart = both.0 }
 
 -- the nodes of undone records, those of the last one first
-pub in_order : (layout : TableLayout) (undone rest : List Kept) (k : Kept) → undone ≡ rest ++ k ∷ [] → AreLoose layout (added_by_all (reverse undone)) → AreLoose layout (dropped_nodes k.change ++ added_by_all (reverse rest))
+pub in_order : (layout : TableLayout) (undone rest : List Kept) (k : Kept) → undone ≡ rest ++ k ∷ [] → AreLoose layout (added_by_all (reverse undone))
+    → AreLoose layout (dropped_nodes k.change ++ added_by_all (reverse rest))
 in_order layout undone rest k shrunk l = subst (AreLoose layout) (ap (λ (ks : List Kept). added_by_all (reverse ks)) shrunk ∙ given_up_first rest k) l
 
 -- Nodes dropped one list after another.
@@ -177,7 +180,8 @@ nodes_without_joined a b (first ∷ later) =
     ∙ ap (λ (ns : List MadeNode). cond (not (has_node a first.node || has_node b first.node)) (first ∷ ns) ns) (nodes_without_joined a b later)
     ∙ by (has_node a first.node) refl where
       by : (t : Bool) → has_node a first.node ≡ t
-          → cond (not (t || has_node b first.node)) (first ∷ nodes_without b (nodes_without a later)) (nodes_without b (nodes_without a later)) ≡ nodes_without b (cond (not t) (first ∷ nodes_without a later) (nodes_without a later))
+          → cond (not (t || has_node b first.node)) (first ∷ nodes_without b (nodes_without a later)) (nodes_without b (nodes_without a later))
+          ≡ nodes_without b (cond (not t) (first ∷ nodes_without a later) (nodes_without a later))
       by true e = refl
       by false e = refl
 

@@ -84,12 +84,14 @@ turned_change table table1 k k1 t before after it = record {
 pub leads_shorter : (table table1 : TableValue) (kept : List Kept) (k k1 : Kept) → IsTurned table k k1 table1 → Leads table (kept ++ k ∷ []) → Leads table1 kept
 leads_shorter table table1 kept k k1 t leads = subst (λ (x : TableValue). Leads x kept) (sym t.table_is) (Leads-last table kept k leads).earlier
 
-pub leads_on_longer : (table table1 : TableValue) (kept undone : List Kept) (k k1 : Kept) → IsTurned table k k1 table1 → Leads table (kept ++ k ∷ []) → LeadsOn table (reverse undone) → LeadsOn table1 (reverse (undone ++ k1 ∷ []))
+pub leads_on_longer : (table table1 : TableValue) (kept undone : List Kept) (k k1 : Kept) → IsTurned table k k1 table1 → Leads table (kept ++ k ∷ []) → LeadsOn table (reverse undone)
+    → LeadsOn table1 (reverse (undone ++ k1 ∷ []))
 unfolding LeadsOn
 leads_on_longer table table1 kept undone k k1 t leads leads_on =
     let last = Leads-last table kept k leads in
     let change : IsChange table1 (turn table1 k1.change) k1 =
-    subst (λ (x : TableValue). IsChange table1 x k1) (sym t.back) (subst (λ (x : TableValue). IsChange x table k1) (sym t.table_is) (turned_change table table1 k k1 t (turn table k.change) table last.change)) in
+    subst (λ (x : TableValue). IsChange table1 x k1) (sym t.back)
+    (subst (λ (x : TableValue). IsChange x table k1) (sym t.table_is) (turned_change table table1 k k1 t (turn table k.change) table last.change)) in
     subst (LeadsOn table1) (sym (reverse-append undone (k1 ∷ [])))
     (change, undone_turns table k k1 t.change_is false last.in_force, t.fits, subst (λ (x : TableValue). LeadsOn x (reverse undone)) (sym t.back) leads_on)
 
@@ -151,11 +153,13 @@ leads_next table undone k leads_on =
     let it : LeadsOn table (k ∷ reverse undone) = subst (LeadsOn table) (reversed undone k) leads_on in
     record { change = it.0; is_undone = it.1; fits = it.2; later = it.3 }
 
-pub leads_longer : (table table1 : TableValue) (kept undone : List Kept) (k k1 : Kept) → IsTurned table k k1 table1 → LeadsOn table (reverse (undone ++ k ∷ [])) → Leads table kept → Leads table1 (kept ++ k1 ∷ [])
+pub leads_longer : (table table1 : TableValue) (kept undone : List Kept) (k k1 : Kept) → IsTurned table k k1 table1 → LeadsOn table (reverse (undone ++ k ∷ [])) → Leads table kept
+    → Leads table1 (kept ++ k1 ∷ [])
 leads_longer table table1 kept undone k k1 t leads_on leads =
     let next = leads_next table undone k leads_on in
     let change : IsChange (turn table1 k1.change) table1 k1 =
-    subst (λ (x : TableValue). IsChange x table1 k1) (sym t.back) (subst (λ (x : TableValue). IsChange table x k1) (sym t.table_is) (turned_change table table1 k k1 t table (turn table k.change) next.change)) in
+    subst (λ (x : TableValue). IsChange x table1 k1) (sym t.back)
+    (subst (λ (x : TableValue). IsChange table x k1) (sym t.table_is) (turned_change table table1 k k1 t table (turn table k.change) next.change)) in
     Leads-push table1 kept k1
     (record { earlier = subst (λ (x : TableValue). Leads x kept) (sym t.back) leads; change = change; in_force = undone_turns table k k1 t.change_is true next.is_undone; fits = t.fits })
 
@@ -240,7 +244,8 @@ module _ (turns : RecordsTurnBack) (wider : RecordsFitWider) (narrower : Records
       }
 
 -- what a table's calls ensure of a statement that was accepted, without the counts
-pub accepts : (old after new : TableValue) (k : Kept) → IsTable old → IsTable after → IsTable new → IsProper k.statement → delta (collation old) k.statement ≡ Ok (collation after) → k.change.undone ≡ false → Fits after k.change
+pub accepts : (old after new : TableValue) (k : Kept) → IsTable old → IsTable after → IsTable new → IsProper k.statement → delta (collation old) k.statement ≡ Ok (collation after)
+    → k.change.undone ≡ false → Fits after k.change
     → Extends (turn after k.change) old → steps_of k.change.items ≡ statement_steps (collation old) k.statement → Extends after new → Accepts (uncounted old) (uncounted after) (uncounted new) k
 accepts old after new k o a n proper accepted in_force fits back steps given_up = record {
   old_is = table_uncounted old o;

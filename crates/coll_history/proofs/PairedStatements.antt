@@ -29,7 +29,8 @@ same_prefix xs ys x y e = later x y (reverse xs) (reverse ys) (sym (reverse-appe
   later x y xs ys e = cc
 
 -- what stands before the last member of a list
-pub stands_before : (kept prefix one earlier later : List Kept) (whole part : ℕ) → prefix ≡ take whole kept → one ≡ drop whole kept → length one ≡ 1 → earlier ≡ take part prefix → later ≡ drop part prefix → StandsBeforeLast kept later
+pub stands_before : (kept prefix one earlier later : List Kept) (whole part : ℕ) → prefix ≡ take whole kept → one ≡ drop whole kept → length one ≡ 1 → earlier ≡ take part prefix
+    → later ≡ drop part prefix → StandsBeforeLast kept later
 stands_before kept prefix [] earlier later whole part f o n e l = absurd (omega (arith, n))
 stands_before kept prefix (x ∷ y ∷ ys) earlier later whole part f o n e l = absurd (omega (arith, n))
 stands_before kept prefix (x ∷ []) earlier later whole part f o n e l = record {

@@ -29,7 +29,8 @@ pub goes_on : (left_out number : ℕ) (table next : Collation) (s : Statement) (
     → withdrawn_from left_out number table (s ∷ later) ≡ withdrawn_from left_out (suc number) next later
 unfolding withdrawn_from
 goes_on left_out number table next s later above accepted =
-    ap (λ (b : Bool). if b then withdrawn_from left_out (suc number) table later else going_on number (delta table s) (λ (t : Collation). withdrawn_from left_out (suc number) t later)) (ne_eqb number left_out (λ e. omega (arith, e, above)))
+    ap (λ (b : Bool). if b then withdrawn_from left_out (suc number) table later else going_on number (delta table s) (λ (t : Collation). withdrawn_from left_out (suc number) t later))
+    (ne_eqb number left_out (λ e. omega (arith, e, above)))
     ∙ ap (λ (r : Result Collation Refusal). going_on number r (λ (t : Collation). withdrawn_from left_out (suc number) t later)) accepted
 
 -- it is refused
@@ -37,7 +38,8 @@ pub stops : (left_out number : ℕ) (table : Collation) (s : Statement) (later :
     → withdrawn_from left_out number table (s ∷ later) ≡ Err (StillNeeded number refusal)
 unfolding withdrawn_from
 stops left_out number table s later refusal above refused =
-    ap (λ (b : Bool). if b then withdrawn_from left_out (suc number) table later else going_on number (delta table s) (λ (t : Collation). withdrawn_from left_out (suc number) t later)) (ne_eqb number left_out (λ e. omega (arith, e, above)))
+    ap (λ (b : Bool). if b then withdrawn_from left_out (suc number) table later else going_on number (delta table s) (λ (t : Collation). withdrawn_from left_out (suc number) t later))
+    (ne_eqb number left_out (λ e. omega (arith, e, above)))
     ∙ ap (λ (r : Result Collation Refusal). going_on number r (λ (t : Collation). withdrawn_from left_out (suc number) t later)) refused
 
 -- none is left
@@ -94,7 +96,8 @@ unpaired_less (first ∷ kept) rest [] k change e = unpaired_all kept [] refl �
   later x y xs ys e = cc
 unpaired_less (first ∷ kept) rest (f ∷ fresh) k change e = unpaired_less kept rest fresh k change e
 
-pub paired_more : (kept rest : List Kept) (fresh : List Record) (k : Kept) (change : Record) → unpaired kept fresh ≡ k ∷ rest → paired kept (fresh ++ change ∷ []) ≡ paired kept fresh ++ with_record k change ∷ []
+pub paired_more : (kept rest : List Kept) (fresh : List Record) (k : Kept) (change : Record) → unpaired kept fresh ≡ k ∷ rest
+    → paired kept (fresh ++ change ∷ []) ≡ paired kept fresh ++ with_record k change ∷ []
 unfolding paired unpaired
 paired_more [] rest fresh k change e = cc
 paired_more (first ∷ kept) rest [] k change e =
@@ -116,7 +119,8 @@ pub loose_on : (a b c : TableLayout) → KeepsLoose a b → KeepsLoose b c → K
 loose_on a b c p q node it apart made = let still = p node it apart made in q node it still.0 still.1
 
 module _ (turns : RecordsTurnBack) (wider : RecordsFitWider) (narrower : RecordsFitNarrower) (same : SameCollation) where
-  pub rebuilt_more : (old now after : TableValue) (kept : List Kept) (k : Kept) → IsRebuilt old now kept → Accepts now after after k → KeepsLoose now.layout after.layout → IsRebuilt old after (kept ++ k ∷ [])
+  pub rebuilt_more : (old now after : TableValue) (kept : List Kept) (k : Kept) → IsRebuilt old now kept → Accepts now after after k → KeepsLoose now.layout after.layout
+      → IsRebuilt old after (kept ++ k ∷ [])
   rebuilt_more old now after kept k r a loose = record {
     leads = λ before leads.
         subst (Leads after) (append_assoc before kept (k ∷ [])) (leads_after turns wider narrower same now after after (before ++ kept) k a (r.leads before leads)).leads;
@@ -203,7 +207,8 @@ pub turned_loose : UndonePutIn → (table : TableValue) (r : Record) → IsTable
 turned_loose put_in table r is undone fits = subst (AreLoose table.layout) (sym (drops_added r undone)) (put_in table r is undone fits).loose
 
 -- a record that was turned and forgotten
-pub is_given_back : RecordsAddAlike → (table turned_table after : TableValue) (r r1 : Record) → r.undone ≡ false → IsSame turned_table (turn table r) → r1 ≡ turned table r → after ≡ without_nodes turned_table (dropped_nodes r1)
+pub is_given_back : RecordsAddAlike → (table turned_table after : TableValue) (r r1 : Record) → r.undone ≡ false → IsSame turned_table (turn table r) → r1 ≡ turned table r
+    → after ≡ without_nodes turned_table (dropped_nodes r1)
     → uncounted after ≡ without_nodes (turn (uncounted table) r) (added_nodes r.items)
 is_given_back add table turned_table after r r1 in_force same e forgotten =
     ap uncounted forgotten

@@ -1,6 +1,7 @@
 -- A withdrawal as its definition has it: what remains before the statement is accepted as it was, and those after it as they are
 -- put to the table anew.
-use Rattle.std.proofs.Common.{◌≡◌, ℕ, ◌+◌, ◌-◌, ◌≤◌, ◌&&◌, Bool, true, false, List, [], ◌∷◌, ◌++◌, length, reverse, take, drop, Result, Ok, Err, refl, sym, ap, ◌∙◌, subst, arith, suc, eqb, length-append}
+use Rattle.std.proofs.Common.{◌≡◌, ℕ, ◌+◌, ◌-◌, ◌≤◌, ◌&&◌, Bool, true, false, List, [], ◌∷◌, ◌++◌, length, reverse, take}
+use Rattle.std.proofs.Common.{drop, Result, Ok, Err, refl, sym, ap, ◌∙◌, subst, arith, suc, eqb, length-append}
 use Rattle.std.specs.Prelude.{if◌then◌else◌, nat_le}
 use Rattle.std.proofs.lemmas.Bool.{eq-eqb, le-leb, ne_eqb}
 use Rattle.std.proofs.lemmas.List.{append_assoc, length-map, length-reverse, map-append, reverse-append}
@@ -33,7 +34,8 @@ unfolding withdrawn
 is_missing h number none =
     ap (λ (b : Bool). if b then history_where (withdrawn_from number 1 h.start h.remaining) (without_statement h number) else Err NoSuchStatement) none
 
-pub is_judged : (h : History) (number : ℕ) (r : Result Collation BenchFault) → is_numbered h number ≡ true → withdrawn_from number 1 h.start h.remaining ≡ r → withdrawn h number ≡ history_where r (without_statement h number)
+pub is_judged : (h : History) (number : ℕ) (r : Result Collation BenchFault) → is_numbered h number ≡ true → withdrawn_from number 1 h.start h.remaining ≡ r
+    → withdrawn h number ≡ history_where r (without_statement h number)
 unfolding withdrawn
 is_judged h number r some e =
     ap (λ (b : Bool). if b then history_where (withdrawn_from number 1 h.start h.remaining) (without_statement h number) else Err NoSuchStatement) some
@@ -65,7 +67,8 @@ not_missing h number some e = by (withdrawn_from number 1 h.start h.remaining) r
   by (Ok table) f = accepted_not (withdrawn h number) (without_statement h number) (is_judged h number (Ok table) some f) e
   by (Err fault) f = all_judged number 1 h.start h.remaining (f ∙ ap Err (same_fault (withdrawn h number) fault (is_judged h number (Err fault) some f) e))
 
-pub numbered_here : (table : TableValue) (kept undone : List Kept) (number len : ℕ) (b : Bool) → len ≡ length kept → (nat_le 1 number && nat_le number len) ≡ b → is_numbered (history_of table kept undone) number ≡ b
+pub numbered_here : (table : TableValue) (kept undone : List Kept) (number len : ℕ) (b : Bool) → len ≡ length kept → (nat_le 1 number && nat_le number len) ≡ b
+    → is_numbered (history_of table kept undone) number ≡ b
 numbered_here table kept undone number len b same e =
     ap (λ n. nat_le 1 number && nat_le number n) (length-remaining table kept undone ∙ sym same) ∙ e
 
@@ -94,7 +97,8 @@ length_later : (later : List Kept) → length (statements_of (reverse later)) �
 length_later later = length-map (reverse later) (λ (k : Kept). k.statement) ∙ length-reverse later
 
 -- the statements that remained are those that still do, the one that is left out, and the later ones
-pub high_remaining : (high : History) (table : TableValue) (kept undone later : List Kept) (count : ℕ) → IsLowered high (history_of table kept undone) (count + 1) → length later ≡ count → (p : StandsBeforeLast undone later)
+pub high_remaining : (high : History) (table : TableValue) (kept undone later : List Kept) (count : ℕ) → IsLowered high (history_of table kept undone) (count + 1) → length later ≡ count
+    → (p : StandsBeforeLast undone later)
     → high.remaining ≡ statements_of kept ++ p.last.statement ∷ statements_of (reverse later)
 high_remaining high table kept undone later count l n p =
     l.remaining
@@ -121,11 +125,14 @@ before_accepted table (k ∷ kept) leads left_out number rest n =
 left_out_one : (number : ℕ) (table : Collation) (s : Statement) (later : List Statement) → withdrawn_from number number table (s ∷ later) ≡ withdrawn_from number (suc number) table later
 unfolding withdrawn_from
 left_out_one number table s later =
-    ap (λ (b : Bool). if b then withdrawn_from number (suc number) table later else going_on number (delta table s) (λ (t : Collation). withdrawn_from number (suc number) t later)) (eq-eqb number number refl)
+    ap (λ (b : Bool). if b then withdrawn_from number (suc number) table later else going_on number (delta table s) (λ (t : Collation). withdrawn_from number (suc number) t later))
+    (eq-eqb number number refl)
 
 -- where a statement was taken down to, and those after it judged anew
-pub judged_anew : (high : History) (table : TableValue) (kept undone later : List Kept) (number count : ℕ) (r : Result Collation BenchFault) → Leads table kept → IsLowered high (history_of table kept undone) (count + 1)
-    → length later ≡ count → StandsBeforeLast undone later → length kept + 1 ≡ number → withdrawn_from number (number + 1) (collation table) (statements_of (reverse later)) ≡ r → withdrawn high number ≡ history_where r (without_statement high number)
+pub judged_anew : (high : History) (table : TableValue) (kept undone later : List Kept) (number count : ℕ) (r : Result Collation BenchFault) → Leads table kept
+    → IsLowered high (history_of table kept undone) (count + 1)
+    → length later ≡ count → StandsBeforeLast undone later → length kept + 1 ≡ number → withdrawn_from number (number + 1) (collation table) (statements_of (reverse later)) ≡ r
+    → withdrawn high number ≡ history_where r (without_statement high number)
 judged_anew high table kept undone later number count r leads l n p place e =
     let remaining_is = high_remaining high table kept undone later count l n p in
     let kept_len : length (statements_of kept) ≡ length kept = length-map kept (λ (k : Kept). k.statement) in
@@ -164,7 +171,8 @@ paired_later later earlier fresh n =
     ap (λ (ks : List Kept). paired ks fresh) (reverse-append earlier later) ∙ paired_prefix (reverse later) (reverse earlier) fresh (n ∙ sym (length-reverse later))
 
 -- what remains without it
-remaining_without : (all prefix : List Statement) (s : Statement) (later : List Statement) (number : ℕ) → all ≡ prefix ++ s ∷ later → length prefix + 1 ≡ number → take (number - 1) all ++ drop number all ≡ prefix ++ later
+remaining_without : (all prefix : List Statement) (s : Statement) (later : List Statement) (number : ℕ) → all ≡ prefix ++ s ∷ later → length prefix + 1 ≡ number
+    → take (number - 1) all ++ drop number all ≡ prefix ++ later
 remaining_without all prefix s later number e n =
     let before : number - 1 ≡ length prefix = omega (arith, n) in
     let whole : number ≡ length (prefix ++ s ∷ []) = omega (arith, n, length-append prefix (s ∷ [])) in
@@ -175,7 +183,8 @@ remaining_without all prefix s later number e n =
     ∙ ap (λ (ss : List Statement). prefix ++ drop (length (prefix ++ s ∷ [])) ss) (e ∙ sym (append_assoc prefix (s ∷ []) later))
     ∙ ap (λ (ss : List Statement). prefix ++ ss) (drop-append_seam (prefix ++ s ∷ []) later)
 
-pub settled_history : (high : History) (table table3 : TableValue) (kept undone later kept3 undone3 : List Kept) (fresh : List Record) (number count : ℕ) → IsLowered high (history_of table kept undone) (count + 1) → length later ≡ count
+pub settled_history : (high : History) (table table3 : TableValue) (kept undone later kept3 undone3 : List Kept) (fresh : List Record) (number count : ℕ)
+    → IsLowered high (history_of table kept undone) (count + 1) → length later ≡ count
     → StandsBeforeLast undone later → length kept + 1 ≡ number → length fresh ≡ length later → kept3 ≡ kept ++ paired (reverse later) fresh → undone3 ≡ []
     → collation (undone_by table3 kept3) ≡ collation (undone_by table kept) → history_of table3 kept3 undone3 ≡ without_statement high number
 settled_history high table table3 kept undone later kept3 undone3 fresh number count l n p place paired_len kept_is none start =
@@ -213,8 +222,10 @@ later_proper table undone later leads_on p =
     (subst AreProper (comes_first undone (p.earlier ++ later) p.last p.parts) (all_proper table (reverse undone) leads_on))))
 
 -- their nodes are loose in the table that was rebuilt
-pub loose_rebuilt : RecordsTurnBack → UndonePutIn → (table now : TableValue) (undone kept : List Kept) → IsTable table → LeadsOn table (reverse undone) → IsRebuilt table now kept → AreLoose now.layout (added_by_all (reverse undone))
-loose_rebuilt turns put_in table now undone kept is leads_on r = loose_kept table.layout now.layout (added_by_all (reverse undone)) r.loose (undone_loose turns put_in table is (reverse undone) leads_on)
+pub loose_rebuilt : RecordsTurnBack → UndonePutIn → (table now : TableValue) (undone kept : List Kept) → IsTable table → LeadsOn table (reverse undone) → IsRebuilt table now kept
+    → AreLoose now.layout (added_by_all (reverse undone))
+loose_rebuilt turns put_in table now undone kept is leads_on r =
+    loose_kept table.layout now.layout (added_by_all (reverse undone)) r.loose (undone_loose turns put_in table is (reverse undone) leads_on)
 
 -- what remains leads back in the table that was rebuilt, and from which the old records' nodes were dropped
 pub record LeadsSettled (table3 table : TableValue) (kept3 kept : List Kept) : Type 0 where
@@ -222,7 +233,8 @@ pub record LeadsSettled (table3 table : TableValue) (kept3 kept : List Kept) : T
   pub start : collation (undone_by table3 kept3) ≡ collation (undone_by table kept)
 
 module _ (turns : RecordsTurnBack) (wider : RecordsFitWider) (narrower : RecordsFitNarrower) (same : SameCollation) where
-  pub leads_settled : (table now table3 : TableValue) (kept fresh kept3 : List Kept) → IsTable now → IsTable table3 → Leads table kept → IsRebuilt table now fresh → Extends now table3 → kept3 ≡ kept ++ fresh → LeadsSettled table3 table kept3 kept
+  pub leads_settled : (table now table3 : TableValue) (kept fresh kept3 : List Kept) → IsTable now → IsTable table3 → Leads table kept → IsRebuilt table now fresh → Extends now table3
+      → kept3 ≡ kept ++ fresh → LeadsSettled table3 table kept3 kept
   leads_settled table now table3 kept fresh kept3 now_is is leads r extends e =
       let alike = leads_narrower turns wider narrower same now table3 now_is is extends (kept ++ fresh) (r.leads kept leads) in
       subst (λ (ks : List Kept). LeadsSettled table3 table ks kept) (sym e)

@@ -1,6 +1,7 @@
 -- The history of a session (the project's own): which statements remain, which were taken back, and what a statement, an undo and
 -- a redo do.
-use Rattle.std.specs.Prelude.{◌≡◌, ◌≢◌, ◌-◌, ◌==◌, ℕ, zero, suc, nat_le, if◌then◌else◌, List, [], ◌∷◌, ◌++◌, length, take, drop, slice_get, Option, None, Result, Ok, Err}
+use Rattle.std.specs.Prelude.{◌≡◌, ◌≢◌, ◌-◌, ◌==◌, ℕ, zero, suc, nat_le, if◌then◌else◌, List, [], ◌∷◌, ◌++◌}
+use Rattle.std.specs.Prelude.{length, take, drop, slice_get, Option, None, Result, Ok, Err}
 use Rattle.coll_syntax.specs.declared.statements.Statement.{Statement}
 use Rattle.coll_nodes.specs.Table.{Collation}
 use Rattle.coll_nodes.specs.TableLayout.{TableLayout}
@@ -38,7 +39,8 @@ judged_by h statement (Err reason) = Err (Table reason)
 
 -- what becomes of a statement: refused where the history is full, and else judged by the table
 unfoldable pub judged : History → Statement → Result History BenchFault
-judged h statement = if nat_le most_remaining (length h.remaining) then Err HistoryFull else judged_by h statement (delta (table_now h) statement)
+judged h statement = if nat_le most_remaining (length h.remaining) then Err HistoryFull
+    else judged_by h statement (delta (table_now h) statement)
 
 -- the last statement that remains is the next to be put again
 abbrev pub stepped_back : History → History

@@ -36,7 +36,8 @@ pub record IsChange (before after : TableValue) (k : Kept) : Type 0 where
 unfoldable pub Leads : TableValue → List Kept → Type 0
 Leads table [] = Unit {0}
 Leads table (k ∷ later) =
-    IsChange (undone_by table (k ∷ later)) (undone_by table later) k × (k.change.undone ≡ false) × Fits (undone_by table later) k.change × Leads table later
+    IsChange (undone_by table (k ∷ later)) (undone_by table later) k × (k.change.undone ≡ false) × Fits (undone_by table later) k.change
+    × Leads table later
 
 -- each undone record, the next to be put again first, fits, and leads on to the table that its statement gives
 unfoldable pub LeadsOn : TableValue → List Kept → Type 0
@@ -51,7 +52,8 @@ history_of table remaining undone =
 
 -- what contracts see of a session
 abbrev pub session_of : TableValue → List Kept → List Kept → SessionValue
-session_of table remaining undone = record { history = history_of (uncounted table) remaining undone; layout = table.layout; steps = table.steps }
+session_of table remaining undone =
+    record { history = history_of (uncounted table) remaining undone; layout = table.layout; steps = table.steps }
 
 -- what holds of a session: its records lead where they say, the history isn't too long, and each undo and each redo has its room
 pub record IsSoundSession (s : Inside) : Type 0 where

@@ -14,4 +14,5 @@ pub record Restores (before after undone : History) : Type 0 where
 
 -- what an accepted statement adds, the undo after it takes back
 abbrev pub UndoRestores : Type 0
-UndoRestores = (before after : History) (statement : Statement) → judged before statement ≡ Ok after → (undone : History) × Restores before after undone
+UndoRestores = (before after : History) (statement : Statement) → judged before statement ≡ Ok after → (undone : History)
+    × Restores before after undone

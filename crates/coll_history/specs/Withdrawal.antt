@@ -1,6 +1,7 @@
 -- Withdrawal of a statement from the middle of a history (the project's own): the table rewritten by all other statements that
 -- remain.
-use Rattle.std.specs.Prelude.{ℕ, ◌-◌, ◌==◌, ◌&&◌, Bool, suc, nat_le, if◌then◌else◌, List, [], ◌∷◌, ◌++◌, length, take, drop, Result, Ok, Err}
+use Rattle.std.specs.Prelude.{ℕ, ◌-◌, ◌==◌, ◌&&◌, Bool, suc, nat_le, if◌then◌else◌, List, []}
+use Rattle.std.specs.Prelude.{◌∷◌, ◌++◌, length, take, drop, Result, Ok, Err}
 use Rattle.coll_syntax.specs.declared.statements.Statement.{Statement}
 use Rattle.coll_nodes.specs.Table.{Collation}
 use Rattle.coll_table.specs.Delta.{delta}
@@ -37,4 +38,5 @@ history_where (Err fault) h = Err fault
 
 -- the history after a withdrawal, which is refused where no such statement remains, and where a later one needs it
 unfoldable pub withdrawn : History → ℕ → Result History BenchFault
-withdrawn h number = if is_numbered h number then history_where (withdrawn_from number 1 h.start h.remaining) (without_statement h number) else Err NoSuchStatement
+withdrawn h number = if is_numbered h number then history_where (withdrawn_from number 1 h.start h.remaining) (without_statement h number)
+    else Err NoSuchStatement

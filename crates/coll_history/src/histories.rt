@@ -6,14 +6,16 @@
 //! its statement was accepted in. Whoever adds a call that changes the history has to keep to that, and to make the room that every
 //! later undo and redo needs before the table changes.
 
-ghost use Rattle.std.specs.Prelude.{◌≡◌, ◌≢◌, ◌↔◌, ◌<◌, ◌≤◌, ◌+◌, [], length, reverse, slice_get, vec_len, vec_capacity, option_copied, IsOk, IsTrue, Ok, Err, IfOk, IfErr, OnOk, OnErr};
+ghost use Rattle.std.specs.Prelude.{◌≡◌, ◌≢◌, ◌↔◌, ◌<◌, ◌≤◌, ◌+◌, [], length, reverse, slice_get, vec_len};
+ghost use Rattle.std.specs.Prelude.{vec_capacity, option_copied, IsOk, IsTrue, Ok, Err, IfOk, IfErr, OnOk, OnErr};
 ghost use Rattle.coll_syntax.specs.Proper.{IsProper};
 ghost use Rattle.coll_table.specs.Record.{AreLoose, Extends, dropped_nodes, more_steps, without_nodes};
 ghost use Rattle.coll_nodes.specs.TableLayout.{collation};
 ghost use Rattle.coll_history.specs.Kept.{added_by_all, statements_of};
 ghost use Rattle.coll_history.specs.Limits.{most_remaining};
 ghost use Rattle.coll_history.specs.declared.history_faults.BenchFault.TheVariants.{HistoryFull};
-ghost use Rattle.coll_history.specs.Histories.{History, begun, judged, taken_back, put_again, undo_steps, redo_steps, numbered, table_now, RefusesStatement};
+ghost use Rattle.coll_history.specs.Histories.{History, begun, judged, taken_back, put_again, undo_steps};
+ghost use Rattle.coll_history.specs.Histories.{redo_steps, numbered, table_now, RefusesStatement};
 
 use crate::history_faults::BenchFault;
 use crate::limits::MOST_REMAINING;

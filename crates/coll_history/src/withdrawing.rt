@@ -6,7 +6,8 @@
 //! before. No table is copied, and nothing on the way back takes memory. A change of the way keeps to the definition,
 //! `specs/Withdrawal.antt`, and to the order in which undone records are given up: the one that was taken back last comes first.
 
-ghost use Rattle.std.specs.Prelude.{◌&&◌, nat_le, is_some, IfSome, ◌≡◌, ◌≢◌, ◌<◌, ◌≤◌, ◌+◌, ◌^◌, ◌∷◌, ◌++◌, ℕ, List, [], length, reverse, true, false, vec_len, vec_capacity, Ok, Err, IfOk, IfErr, OnOk, OnErr};
+ghost use Rattle.std.specs.Prelude.{◌&&◌, nat_le, is_some, IfSome, ◌≡◌, ◌≢◌, ◌<◌, ◌≤◌, ◌+◌, ◌^◌, ◌∷◌, ◌++◌, ℕ, List, [], length};
+ghost use Rattle.std.specs.Prelude.{reverse, true, false, vec_len, vec_capacity, Ok, Err, IfOk, IfErr, OnOk, OnErr};
 ghost use Rattle.coll_nodes.specs.TableLayout.{TableValue, collation};
 ghost use Rattle.coll_table.specs.Record.{AreLoose, Extends, Fits, KeepsLoose, added_nodes, dropped_nodes, turn, without_nodes};
 ghost use Rattle.coll_table.specs.declared.refusals.Refusal.TheVariants.{OutOfMemory};
@@ -14,7 +15,8 @@ ghost use Rattle.coll_history.specs.Histories.{History};
 ghost use Rattle.coll_history.specs.Kept.{Leads, LeadsOn, added_by_all, history_of, statements_of, uncounted};
 ghost use Rattle.coll_history.specs.Limits.{most_remaining};
 ghost use Rattle.coll_history.specs.Withdrawal.{is_numbered, withdrawn, withdrawn_from};
-ghost use Rattle.coll_history.specs.Withdrawing.{AreProper, CanGiveBack, IsLowered, IsRebuilt, LastFits, StandsBeforeLast, TurnsLast, given_back, paired, raised, with_record};
+ghost use Rattle.coll_history.specs.Withdrawing.{AreProper, CanGiveBack, IsLowered, IsRebuilt, LastFits};
+ghost use Rattle.coll_history.specs.Withdrawing.{StandsBeforeLast, TurnsLast, given_back, paired, raised, with_record};
 ghost use Rattle.coll_history.specs.declared.histories.Kept.{Kept};
 ghost use Rattle.coll_history.specs.declared.history_faults.BenchFault.TheVariants as bench;
 
@@ -52,7 +54,8 @@ fn take_down(table: &mut Table, remaining: &mut Vec<Kept>, undone: &mut Vec<Kept
     requires room { vec_len undone.old + count ≤ vec_capacity undone.old }
     ensures leads { Leads (uncounted table.new) remaining.new.items }
     ensures leads_on { LeadsOn (uncounted table.new) (reverse undone.new.items) }
-    ensures lowered { IsLowered (history_of (uncounted table.old) remaining.old.items undone.old.items) (history_of (uncounted table.new) remaining.new.items undone.new.items) count }
+    ensures lowered { IsLowered (history_of (uncounted table.old) remaining.old.items undone.old.items)
+        (history_of (uncounted table.new) remaining.new.items undone.new.items) count }
     ensures up { raised count (uncounted table.new) (reverse undone.new.items) ≡ uncounted table.old }
     ensures remaining_len { vec_len remaining.new + count ≡ vec_len remaining.old }
     ensures undone_len { vec_len undone.new ≡ vec_len undone.old + count }
@@ -74,7 +77,8 @@ fn put_up(table: &mut Table, remaining: &mut Vec<Kept>, undone: &mut Vec<Kept>, 
     requires room { vec_len remaining.old + count ≤ vec_capacity remaining.old }
     ensures leads { Leads (uncounted table.new) remaining.new.items }
     ensures leads_on { LeadsOn (uncounted table.new) (reverse undone.new.items) }
-    ensures lowered { (high : History) → IsLowered high (history_of (uncounted table.old) remaining.old.items undone.old.items) count → history_of (uncounted table.new) remaining.new.items undone.new.items ≡ high }
+    ensures lowered { (high : History) → IsLowered high (history_of (uncounted table.old) remaining.old.items undone.old.items) count
+        → history_of (uncounted table.new) remaining.new.items undone.new.items ≡ high }
     ensures up { uncounted table.new ≡ raised count (uncounted table.old) (reverse undone.old.items) }
     ensures remaining_len { vec_len remaining.new ≡ vec_len remaining.old + count }
     ensures undone_len { vec_len undone.new + count ≡ vec_len undone.old }
@@ -114,8 +118,10 @@ fn put_anew(
     ensures back { given_back (uncounted table.new) (reverse fresh.new.items) ≡ uncounted table.old }
     ensures rebuilt { OnOk result (IsRebuilt (uncounted table.old) (uncounted table.new) (paired (reverse later.now) fresh.new.items)) }
     ensures count { OnOk result (vec_len fresh.new ≡ length later.now) }
-    ensures accepted { OnOk result ((left_out : ℕ) → left_out < first → withdrawn_from left_out first (collation (uncounted table.old)) (statements_of (reverse later.now)) ≡ Ok (collation (uncounted table.new))) }
-    ensures refused { IfErr result (λ fault. fault ≢ bench.Table OutOfMemory → (left_out : ℕ) → left_out < first → withdrawn_from left_out first (collation (uncounted table.old)) (statements_of (reverse later.now)) ≡ Err fault) }
+    ensures accepted { OnOk result ((left_out : ℕ) → left_out < first → withdrawn_from left_out first (collation (uncounted table.old))
+        (statements_of (reverse later.now)) ≡ Ok (collation (uncounted table.new))) }
+    ensures refused { IfErr result (λ fault. fault ≢ bench.Table OutOfMemory → (left_out : ℕ) → left_out < first
+        → withdrawn_from left_out first (collation (uncounted table.old)) (statements_of (reverse later.now)) ≡ Err fault) }
 {
     lemma_records_turn_back();
     lemma_records_fit_wider();
@@ -174,8 +180,10 @@ fn rebuild(
     requires room { vec_len fresh.old + length later.now ≤ vec_capacity fresh.old }
     ensures rebuilt { OnOk result (IsRebuilt (uncounted table.old) (uncounted table.new) (paired (reverse later.now) fresh.new.items)) }
     ensures count { OnOk result (vec_len fresh.new ≡ length later.now) }
-    ensures accepted { OnOk result ((left_out : ℕ) → left_out < first → withdrawn_from left_out first (collation (uncounted table.old)) (statements_of (reverse later.now)) ≡ Ok (collation (uncounted table.new))) }
-    ensures refused { IfErr result (λ fault. fault ≢ bench.Table OutOfMemory → (left_out : ℕ) → left_out < first → withdrawn_from left_out first (collation (uncounted table.old)) (statements_of (reverse later.now)) ≡ Err fault) }
+    ensures accepted { OnOk result ((left_out : ℕ) → left_out < first → withdrawn_from left_out first (collation (uncounted table.old))
+        (statements_of (reverse later.now)) ≡ Ok (collation (uncounted table.new))) }
+    ensures refused { IfErr result (λ fault. fault ≢ bench.Table OutOfMemory → (left_out : ℕ) → left_out < first
+        → withdrawn_from left_out first (collation (uncounted table.old)) (statements_of (reverse later.now)) ≡ Err fault) }
     ensures unchanged { OnErr result (uncounted table.new ≡ uncounted table.old) }
 {
     if let Err(fault) = put_anew(table, later, first, fresh) {
@@ -211,7 +219,8 @@ fn pair(
     requires count { vec_len fresh.old ≤ vec_len undone.old }
     requires room { vec_len remaining.old + vec_len fresh.old ≤ vec_capacity remaining.old }
     ensures table { Extends table.old table.new }
-    ensures dropped { without_nodes table.new (added_by_all (reverse undone.new.items)) ≡ without_nodes table.old (added_by_all (reverse undone.old.items)) }
+    ensures dropped { without_nodes table.new (added_by_all (reverse undone.new.items))
+        ≡ without_nodes table.old (added_by_all (reverse undone.old.items)) }
     ensures loose { AreLoose table.new.layout (added_by_all (reverse undone.new.items)) }
     ensures remaining { remaining.new.items ≡ remaining.old.items ++ paired (reverse undone.old.items) (reverse fresh.old.items) }
     ensures len { vec_len remaining.new ≡ vec_len remaining.old + vec_len fresh.old }
@@ -236,7 +245,8 @@ fn settle(
     requires room { vec_len remaining.old + vec_len fresh.old ≤ vec_capacity remaining.old }
     ensures table { Extends table.old table.new }
     ensures dropped { table.new ≡ without_nodes table.old (added_by_all (reverse undone.old.items)) }
-    ensures remaining { (rest : List Kept) (last : Kept) → undone.old.items ≡ rest ++ last ∷ [] → remaining.new.items ≡ remaining.old.items ++ paired (reverse rest) fresh.old.items }
+    ensures remaining { (rest : List Kept) (last : Kept) → undone.old.items ≡ rest ++ last ∷ []
+        → remaining.new.items ≡ remaining.old.items ++ paired (reverse rest) fresh.old.items }
     ensures undone { undone.new.items ≡ [] }
     ensures len { vec_len remaining.new ≡ vec_len remaining.old + vec_len fresh.old }
     ensures undone_len { vec_len undone.new ≡ 0 }
@@ -280,9 +290,12 @@ fn withdraw_from(
     requires room { later ≤ vec_capacity fresh.old }
     ensures leads { Leads (uncounted table.new) remaining.new.items }
     ensures leads_on { LeadsOn (uncounted table.new) (reverse undone.new.items) }
-    ensures withdrawn { OnOk result (withdrawn (history_of (uncounted table.old) remaining.old.items undone.old.items) number ≡ Ok (history_of (uncounted table.new) remaining.new.items undone.new.items)) }
-    ensures refused { IfErr result (λ fault. fault ≢ bench.Table OutOfMemory → withdrawn (history_of (uncounted table.old) remaining.old.items undone.old.items) number ≡ Err fault) }
-    ensures unchanged { OnErr result (history_of (uncounted table.new) remaining.new.items undone.new.items ≡ history_of (uncounted table.old) remaining.old.items undone.old.items) }
+    ensures withdrawn { OnOk result (withdrawn (history_of (uncounted table.old) remaining.old.items undone.old.items) number
+        ≡ Ok (history_of (uncounted table.new) remaining.new.items undone.new.items)) }
+    ensures refused { IfErr result (λ fault. fault ≢ bench.Table OutOfMemory
+        → withdrawn (history_of (uncounted table.old) remaining.old.items undone.old.items) number ≡ Err fault) }
+    ensures unchanged { OnErr result (history_of (uncounted table.new) remaining.new.items undone.new.items
+        ≡ history_of (uncounted table.old) remaining.old.items undone.old.items) }
     ensures layout { OnErr result (table.new.layout ≡ table.old.layout) }
     ensures fewer { vec_len remaining.new + vec_len undone.new ≤ vec_len remaining.old + vec_len undone.old }
     ensures remaining_room { vec_capacity remaining.new ≡ vec_capacity remaining.old }

@@ -1,5 +1,6 @@
 -- The steps along the numbers of a text at a forward level, and texts that begin alike.
-use Rattle.std.proofs.Common.{◌≡◌, ℕ, suc, ◌+◌, ◌<◌, ◌≤◌, Bool, true, false, nat_lt, List, [], ◌∷◌, ◌++◌, length, map, Option, None, Some, Less, Equal, Greater, refl, sym, ap, ◌∙◌, add-one, add-zero, arith}
+use Rattle.std.proofs.Common.{◌≡◌, ℕ, suc, ◌+◌, ◌<◌, ◌≤◌, Bool, true, false, nat_lt, List, [], ◌∷◌, ◌++◌, length, map, Option}
+use Rattle.std.proofs.Common.{None, Some, Less, Equal, Greater, refl, sym, ap, ◌∙◌, add-one, add-zero, arith}
 use Rattle.std.specs.Cmp.{nat_cmp_is}
 use Rattle.std.specs.Ordering.{nat_cmp, ordering_then}
 use Rattle.std.proofs.lemmas.Bool.{ltb-false}
@@ -97,7 +98,8 @@ order_behind true gaps (Some n ∷ prefix) xs ys =
 order_behind false gaps (Some n ∷ prefix) xs ys = same_first n (listed false 0 (prefix ++ xs)) (listed false 0 (prefix ++ ys)) ∙ order_behind false 0 prefix xs ys
 
 -- the order of two ways that begin alike is that of what is left of them
-pub order_alike : {P : Type 0} (p : Bool) (f : P → List ℕ) (xs ys later others : List P) → BeginAlike xs ys later others → list_order (listed p 0 (items f xs)) (listed p 0 (items f ys)) ≡ list_order (listed p 0 (items f later)) (listed p 0 (items f others))
+pub order_alike : {P : Type 0} (p : Bool) (f : P → List ℕ) (xs ys later others : List P) → BeginAlike xs ys later others → list_order (listed p 0 (items f xs)) (listed p 0 (items f ys))
+    ≡ list_order (listed p 0 (items f later)) (listed p 0 (items f others))
 order_alike p f xs ys later others alike =
     ap (λ zs. list_order (listed p 0 (items f zs)) (listed p 0 (items f ys))) alike.1
     ∙ (ap (λ zs. list_order (listed p 0 (items f (alike.0 ++ later))) (listed p 0 (items f zs))) alike.2

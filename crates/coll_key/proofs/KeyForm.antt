@@ -46,7 +46,8 @@ listed_paired true gaps (None ∷ sequence) = listed_paired true (suc gaps) sequ
 listed_paired true gaps (Some n ∷ sequence) = listed_paired true 0 sequence
 
 -- a level, ended, before the others
-level_before : (rule : Rule) (rules : List Rule) (xs ks : List ℕ) → All IsPositive xs → is_paired rule.position xs ≡ true → has_key_form rules ks ≡ true → has_key_form (rule ∷ rules) (ended xs ++ ks) ≡ true
+level_before : (rule : Rule) (rules : List Rule) (xs ks : List ℕ) → All IsPositive xs → is_paired rule.position xs ≡ true → has_key_form rules ks ≡ true → has_key_form (rule ∷ rules) (ended xs ++ ks)
+    ≡ true
 level_before rule rules xs ks positive paired others =
     ap (has_key_form (rule ∷ rules)) (append_assoc xs (0 ∷ []) ks)
     ∙ ap (λ b. b && (is_paired rule.position (first_level (xs ++ 0 ∷ ks)) && has_key_form rules (later_levels (xs ++ 0 ∷ ks)))) (level_there xs ks)
@@ -56,7 +57,8 @@ level_before rule rules xs ks positive paired others =
     ∙ others
 
 -- the lists of levels, each ended by 0
-lists_form : {P : Type 0} (f : ℕ → P → List ℕ) (positive : (level : ℕ) (part : P) → All IsPositive (f level part)) (rules : List Rule) (level : ℕ) (parts : List P) → has_key_form rules (flat_map ended (level_lists_from rules level f parts)) ≡ true
+lists_form : {P : Type 0} (f : ℕ → P → List ℕ) (positive : (level : ℕ) (part : P) → All IsPositive (f level part)) (rules : List Rule) (level : ℕ) (parts : List P)
+    → has_key_form rules (flat_map ended (level_lists_from rules level f parts)) ≡ true
 lists_form f positive [] level parts = refl
 lists_form f positive (rule ∷ rules) level parts =
     level_before rule rules (level_list rule (f level) parts) (flat_map ended (level_lists_from rules (suc level) f parts))

@@ -1,5 +1,6 @@
 -- Keys are ordered as their texts are, since no number of a level is the 0 that ends it.
-use Rattle.std.proofs.Common.{◌≡◌, ℕ, zero, suc, ◌+◌, ◌<◌, ◌||◌, Bool, true, false, cond, List, [], ◌∷◌, ◌++◌, length, get_or, map, reverse, replicate, Option, Some, None, Ordering, Less, Equal, Greater, All, MatchOption, refl, sym, ap, ◌∙◌, append_assoc, arith}
+use Rattle.std.proofs.Common.{◌≡◌, ℕ, zero, suc, ◌+◌, ◌<◌, ◌||◌, Bool, true, false, cond, List, [], ◌∷◌, ◌++◌, length, get_or, map, reverse, replicate}
+use Rattle.std.proofs.Common.{Option, Some, None, Ordering, Less, Equal, Greater, All, MatchOption, refl, sym, ap, ◌∙◌, append_assoc, arith}
 use Rattle.std.specs.Cmp.{nat_cmp_is}
 use Rattle.std.specs.List.{flat_map}
 use Rattle.std.specs.Option.{option_map, option_or, unwrap_or, is_some}
@@ -89,14 +90,17 @@ listed_positive false gaps (Some n ∷ sequence) all =
 module _ {P : Type 0} (f : ℕ → P → List ℕ) (positive : (level : ℕ) (part : P) → All IsPositive (f level part)) where
   items_positive : (level : ℕ) (parts : List P) → All IsPositiveItem (items (f level) parts)
   items_positive level [] = All-nil IsPositiveItem
-  items_positive level (part ∷ parts) = All-append IsPositiveItem (items_of (f level part)) (items (f level) parts) (items_of_positive (f level part) (positive level part)) (items_positive level parts)
+  items_positive level (part ∷ parts) =
+      All-append IsPositiveItem (items_of (f level part)) (items (f level) parts) (items_of_positive (f level part) (positive level part)) (items_positive level parts)
 
   -- the list of a level has no 0
   pub level_positive : (rule : Rule) (level : ℕ) (parts : List P) → All IsPositive (level_list rule (f level) parts)
-  level_positive rule level parts = listed_positive rule.position 0 (directed rule.backward (items (f level) parts)) (directed_positive rule.backward (items (f level) parts) (items_positive level parts))
+  level_positive rule level parts =
+      listed_positive rule.position 0 (directed rule.backward (items (f level) parts)) (directed_positive rule.backward (items (f level) parts) (items_positive level parts))
 
   -- the lists of levels, each ended by 0, have the order of the first that differ
-  ended_lists_order : (rules : List Rule) (level : ℕ) (ps qs : List P) → list_order (flat_map ended (level_lists_from rules level f ps)) (flat_map ended (level_lists_from rules level f qs)) ≡ first_difference (level_lists_from rules level f ps) (level_lists_from rules level f qs)
+  ended_lists_order : (rules : List Rule) (level : ℕ) (ps qs : List P) → list_order (flat_map ended (level_lists_from rules level f ps)) (flat_map ended (level_lists_from rules level f qs))
+      ≡ first_difference (level_lists_from rules level f ps) (level_lists_from rules level f qs)
   ended_lists_order [] level ps qs = refl
   ended_lists_order (rule ∷ rules) level ps qs =
       let xs = level_list rule (f level) ps in
@@ -114,7 +118,8 @@ module _ {P : Type 0} (f : ℕ → P → List ℕ) (positive : (level : ℕ) (pa
 place_positive : (entries : List Entry) (id : Id) → MatchOption (place_among entries id) (Unit {0}) IsPositive
 place_positive [] id = tt
 place_positive (entry ∷ entries) id =
-    by_test (λ b. MatchOption (cond b (Some 1) (option_map (λ place. suc place) (place_among entries id))) (Unit {0}) IsPositive) (same_id id entry.id) (λ on. omega arith) (λ off. one_more (place_among entries id))
+    by_test (λ b. MatchOption (cond b (Some 1) (option_map (λ place. suc place) (place_among entries id))) (Unit {0}) IsPositive) (same_id id entry.id) (λ on. omega arith)
+    (λ off. one_more (place_among entries id))
   where
     one_more : (place : Option ℕ) → MatchOption (option_map (λ n. suc n) place) (Unit {0}) IsPositive
     one_more None = tt
@@ -124,7 +129,8 @@ place_positive (entry ∷ entries) id =
 place_there : (entries : List Entry) (id : Id) → is_some (place_among entries id) ≡ has_id (ids_of entries) id
 place_there [] id = refl
 place_there (entry ∷ entries) id =
-    by_test (λ b. is_some (cond b (Some 1) (option_map (λ place. suc place) (place_among entries id))) ≡ (b || has_id (ids_of entries) id)) (same_id id entry.id) (λ on. refl) (λ off. one_more (place_among entries id) ∙ place_there entries id)
+    by_test (λ b. is_some (cond b (Some 1) (option_map (λ place. suc place) (place_among entries id))) ≡ (b || has_id (ids_of entries) id)) (same_id id entry.id) (λ on. refl)
+    (λ off. one_more (place_among entries id) ∙ place_there entries id)
   where
     one_more : (place : Option ℕ) → is_some (option_map (λ n. suc n) place) ≡ is_some place
     one_more None = refl
@@ -142,7 +148,8 @@ undefined_rank (Some n) entries positive = positive
 module _ (table : Collation) where
   -- the rank of what is placed is above 0, and so is that of UNDEFINED
   rank_positive : (id : Id) → is_placed table id ≡ true → 0 < known_rank table id
-  rank_positive id placed = placed_rank (place_among (entries_of table) id) (rank_unplaced (length (entries_of table)) id) (place_positive (entries_of table) id) (place_there (entries_of table) id ∙ placed)
+  rank_positive id placed = placed_rank (place_among (entries_of table) id) (rank_unplaced (length (entries_of table)) id) (place_positive (entries_of table) id)
+      (place_there (entries_of table) id ∙ placed)
 
   undefined_positive : 0 < known_rank table Undefined
   undefined_positive = undefined_rank (place_among (entries_of table) Undefined) (length (entries_of table)) (place_positive (entries_of table) Undefined)
@@ -160,7 +167,8 @@ module _ (table : Collation) where
   names_positive : (ids : List Id) → All IsPlaced ids → All IsPositive (map (λ id. number_of (known_rank table id)) ids)
   names_positive [] placed = All-nil IsPositive
   names_positive (id ∷ ids) placed =
-      All-cons IsPositive (number_of (known_rank table id)) (map (λ id. number_of (known_rank table id)) ids) (omega (arith, rank_positive id (All-first IsPlaced id ids placed))) (names_positive ids (All-others IsPlaced id ids placed))
+      All-cons IsPositive (number_of (known_rank table id)) (map (λ id. number_of (known_rank table id)) ids) (omega (arith, rank_positive id (All-first IsPlaced id ids placed)))
+      (names_positive ids (All-others IsPlaced id ids placed))
 
   -- the numbers of a weight that names what is placed
   weight_positive : (id : Id) (weight : Weight) → All IsPlaced (weight_ids weight) → All IsPositive (weight_numbers table id weight)
@@ -175,7 +183,8 @@ module _ (table : Collation) where
   one_placed (weight ∷ weights) (suc level) placed = one_placed weights level (All-back IsPlaced (weight_ids weight) (flat_map weight_ids weights) placed)
 
   -- the weights of an entry, and others
-  entry_placed : (entries : List Entry) → All (HasPlacedWeights table) entries → (id : Id) (others : List Weight) → All IsPlaced (flat_map weight_ids others) → All IsPlaced (flat_map weight_ids (weights_or (entry_at entries id) others))
+  entry_placed : (entries : List Entry) → All (HasPlacedWeights table) entries → (id : Id) (others : List Weight) → All IsPlaced (flat_map weight_ids others)
+      → All IsPlaced (flat_map weight_ids (weights_or (entry_at entries id) others))
   entry_placed [] all id others placed = placed
   entry_placed (entry ∷ entries) all id others placed =
       by_test (λ b. All IsPlaced (flat_map weight_ids (weights_or (cond b (Some entry) (entry_at entries id)) others))) (same_id id entry.id)

@@ -31,20 +31,23 @@ level_list_same rule f g ps qs same =
     ap (λ xs. listed rule.position 0 (directed rule.backward xs)) (items_by_map f ps ∙ ap (flat_map items_of) same ∙ sym (items_by_map g qs))
 
 -- with the same numbers at each level all levels have the same lists
-pub level_lists_same : {P Q : Type 0} (rules : List Rule) (from : ℕ) (f : ℕ → P → List ℕ) (g : ℕ → Q → List ℕ) (ps : List P) (qs : List Q) → ((level : ℕ) → from ≤ level → level < from + length rules → map (f level) ps ≡ map (g level) qs) → level_lists_from rules from f ps ≡ level_lists_from rules from g qs
+pub level_lists_same : {P Q : Type 0} (rules : List Rule) (from : ℕ) (f : ℕ → P → List ℕ) (g : ℕ → Q → List ℕ) (ps : List P) (qs : List Q)
+    → ((level : ℕ) → from ≤ level → level < from + length rules → map (f level) ps ≡ map (g level) qs) → level_lists_from rules from f ps ≡ level_lists_from rules from g qs
 level_lists_same [] from f g ps qs same = refl
 level_lists_same (rule ∷ rules) from f g ps qs same =
     ap (λ xs. xs ∷ level_lists_from rules (suc from) f ps) (level_list_same rule (f from) (g from) ps qs (same from (omega arith) (omega arith)))
     ∙ ap (λ xs. level_list rule (g from) qs ∷ xs) (level_lists_same rules (suc from) f g ps qs (λ level low high. same level (omega arith) (omega arith)))
 
 -- the lists of a text are those of parts with the numbers of its elements
-pub level_lists_by_numbers : {P : Type 0} (table : Collation) (text : List ℕ) (f : ℕ → P → List ℕ) (parts : List P) → ((level : ℕ) → level < length table.rules → map (f level) parts ≡ map (numbers_at table level) (elements_of table text)) → level_lists table text ≡ level_lists_from table.rules 0 f parts
+pub level_lists_by_numbers : {P : Type 0} (table : Collation) (text : List ℕ) (f : ℕ → P → List ℕ) (parts : List P)
+    → ((level : ℕ) → level < length table.rules → map (f level) parts ≡ map (numbers_at table level) (elements_of table text)) → level_lists table text ≡ level_lists_from table.rules 0 f parts
 unfolding level_lists
 level_lists_by_numbers table text f parts numbers =
     sym (level_lists_same table.rules 0 f (numbers_at table) parts (elements_of table text) (λ level low high. numbers level (omega arith)))
 
 -- so they are those of its parts by the ranks of the table
-pub level_lists_by_parts : (ranks : RanksValue) (table : Collation) → AreRanksOf ranks table → IsWellFormed table → (text : List ℕ) → level_lists table text ≡ level_lists_from table.rules 0 (part_numbers ranks.compiled) (parts_of ranks text)
+pub level_lists_by_parts : (ranks : RanksValue) (table : Collation) → AreRanksOf ranks table → IsWellFormed table → (text : List ℕ)
+    → level_lists table text ≡ level_lists_from table.rules 0 (part_numbers ranks.compiled) (parts_of ranks text)
 level_lists_by_parts ranks table are well text =
     level_lists_by_numbers table text (part_numbers ranks.compiled) (parts_of ranks text) (λ level within. numbers_are ranks table are well level within text)
 

@@ -8,7 +8,7 @@ use Rattle.coll_devices.proofs.WritingLemmas.{AppendsPrefix-before, AppendsPrefi
 use Rattle.coll_syntax.specs.declared.identifiers.Id.{Id}
 use Rattle.coll_syntax.specs.declared.weights.Weight.{Weight}
 use Rattle.coll_nodes.specs.Table.{Collation}
-use Rattle.coll_print.proofs.PrintedParts.{left_begins}
+use Rattle.coll_texts.proofs.PrintedParts.{left_begins}
 use Rattle.coll_key.specs.CompiledListing.{compiled_listing, listing_head, listed_rule}
 use Rattle.coll_key.specs.ListingParts.{entries_part, is_star, level_bytes, levels_bytes}
 use Rattle.coll_ranks.specs.Ranks.{RanksValue, compiled_weight}
@@ -43,7 +43,10 @@ pub left_none : (whole left : List ℕ) (a b : Option (List ℕ)) → left ≡ [
 left_none whole left a b none h = subst (Appends a b) (sym (h.1 ∙ (ap (λ l. h.0 ++ l) none ∙ append-nil h.0))) h.2
 
 -- the levels from one on are that level, and those behind it
-pub levels_next : (ranks : RanksValue) (rank : ℕ) (id : Id) (weights : List Weight) (level : ℕ) (weight : Weight) → level < length weights → weight ≡ get_or weights level weight → levels_bytes ranks rank id level (drop level weights) ≡ level_bytes (is_star id weight) (compiled_weight ranks.compiled rank level) ++ levels_bytes ranks rank id (level + 1) (drop (level + 1) weights)
+pub levels_next : (ranks : RanksValue) (rank : ℕ) (id : Id) (weights : List Weight) (level : ℕ) (weight : Weight) → level < length weights → weight ≡ get_or weights level weight
+    → levels_bytes ranks rank id level (drop level weights) ≡ level_bytes (is_star id weight) (compiled_weight ranks.compiled rank level)
+    ++ levels_bytes ranks rank id (level + 1) (drop (level + 1) weights)
 levels_next ranks rank id weights level weight within is =
     ap (levels_bytes ranks rank id level) (left_begins weights level weight within is)
-    ∙ ap (λ n. level_bytes (is_star id weight) (compiled_weight ranks.compiled rank level) ++ levels_bytes ranks rank id n (drop (level + 1) weights)) (let next : suc level ≡ level + 1 = omega arith in next)
+    ∙ ap (λ n. level_bytes (is_star id weight) (compiled_weight ranks.compiled rank level) ++ levels_bytes ranks rank id n (drop (level + 1) weights))
+    (let next : suc level ≡ level + 1 = omega arith in next)

@@ -1,5 +1,6 @@
 -- The order of two texts, and the key of a text, by the levels that are done and those that are left.
-use Rattle.std.proofs.Common.{◌≡◌, ℕ, suc, ◌+◌, ◌<◌, ◌≤◌, true, false, List, ◌++◌, length, get_or, drop, Ordering, Less, Equal, Greater, refl, sym, ap, ◌∙◌, append-nil, append_assoc, arith, map, [], ◌∷◌}
+use Rattle.std.proofs.Common.{◌≡◌, ℕ, suc, ◌+◌, ◌<◌, ◌≤◌, true, false, List, ◌++◌, length, get_or, drop, Ordering, Less}
+use Rattle.std.proofs.Common.{Equal, Greater, refl, sym, ap, ◌∙◌, append-nil, append_assoc, arith, map, [], ◌∷◌}
 use Rattle.std.specs.List.{flat_map}
 use Rattle.std.specs.Ordering.{is_ne, ordering_then}
 use Rattle.std.proofs.lemmas.List.{at_drop_more, at_drop_all}
@@ -35,7 +36,8 @@ module _ {P : Type 0} (f : ℕ → P → List ℕ) (ps qs : List P) where
   order_from level rules = first_difference (level_lists_from rules level f ps) (level_lists_from rules level f qs)
 
   -- the level at hand decides
-  pub order_decided : (level : ℕ) (items rules : List Rule) (rule : Rule) (order : Ordering) → items ≡ rules → level < length items → true ≡ is_ne order → order ≡ list_order (level_list (get_or items level rule) (f level) ps) (level_list (get_or items level rule) (f level) qs) → order_from level (drop level rules) ≡ order
+  pub order_decided : (level : ℕ) (items rules : List Rule) (rule : Rule) (order : Ordering) → items ≡ rules → level < length items → true ≡ is_ne order
+      → order ≡ list_order (level_list (get_or items level rule) (f level) ps) (level_list (get_or items level rule) (f level) qs) → order_from level (drop level rules) ≡ order
   order_decided level items rules rule order same within ne decides =
       ap (λ rs. order_from level (drop level rs)) (sym same)
       ∙ at_drop_more (order_from level) items level rule within
@@ -43,7 +45,9 @@ module _ {P : Type 0} (f : ℕ → P → List ℕ) (ps qs : List P) where
       ∙ ne_decides order (order_from (suc level) (drop (level + 1) items)) ne
 
   -- the level at hand leaves it to the next one
-  pub order_goes_on : (level : ℕ) (items rules : List Rule) (rule : Rule) (order whole : Ordering) → items ≡ rules → level < length items → false ≡ is_ne order → order ≡ list_order (level_list (get_or items level rule) (f level) ps) (level_list (get_or items level rule) (f level) qs) → whole ≡ order_from level (drop level rules) → whole ≡ order_from (level + 1) (drop (level + 1) rules)
+  pub order_goes_on : (level : ℕ) (items rules : List Rule) (rule : Rule) (order whole : Ordering) → items ≡ rules → level < length items → false ≡ is_ne order
+      → order ≡ list_order (level_list (get_or items level rule) (f level) ps) (level_list (get_or items level rule) (f level) qs) → whole ≡ order_from level (drop level rules)
+      → whole ≡ order_from (level + 1) (drop (level + 1) rules)
   order_goes_on level items rules rule order whole same within eq passes so_far =
       so_far
       ∙ ap (λ rs. order_from level (drop level rs)) (sym same)
@@ -58,24 +62,30 @@ module _ {P : Type 0} (f : ℕ → P → List ℕ) (ps qs : List P) where
   order_undecided level items rules same past = ap (λ rs. order_from level (drop level rs)) (sym same) ∙ at_drop_all (order_from level) items level past
 
 -- the order of two texts is that of their parts
-pub order_by_parts : (ranks : RanksValue) (table : Collation) → AreRanksOf ranks table → IsWellFormed table → (text other : List ℕ) → order_of table text other ≡ order_from (part_numbers ranks.compiled) (parts_of ranks text) (parts_of ranks other) 0 table.rules
+pub order_by_parts : (ranks : RanksValue) (table : Collation) → AreRanksOf ranks table → IsWellFormed table → (text other : List ℕ)
+    → order_of table text other ≡ order_from (part_numbers ranks.compiled) (parts_of ranks text) (parts_of ranks other) 0 table.rules
 unfolding order_of
 order_by_parts ranks table are well text other =
     ap (λ lists. first_difference lists (level_lists table other)) (level_lists_by_parts ranks table are well text)
     ∙ ap (first_difference (level_lists_from table.rules 0 (part_numbers ranks.compiled) (parts_of ranks text))) (level_lists_by_parts ranks table are well other)
 
 -- the key of a text is that of parts with the numbers of its elements
-pub key_by_numbers : {P : Type 0} (table : Collation) (text : List ℕ) (f : ℕ → P → List ℕ) (parts : List P) → ((level : ℕ) → level < length table.rules → map (f level) parts ≡ map (numbers_at table level) (elements_of table text)) → key_of table text ≡ flat_map ended (level_lists_from table.rules 0 f parts)
+pub key_by_numbers : {P : Type 0} (table : Collation) (text : List ℕ) (f : ℕ → P → List ℕ) (parts : List P)
+    → ((level : ℕ) → level < length table.rules → map (f level) parts ≡ map (numbers_at table level) (elements_of table text))
+    → key_of table text ≡ flat_map ended (level_lists_from table.rules 0 f parts)
 unfolding key_of
 key_by_numbers table text f parts numbers = ap (flat_map ended) (level_lists_by_numbers table text f parts numbers)
 
 -- so it is that of its parts by the ranks of the table
-pub key_by_parts : (ranks : RanksValue) (table : Collation) → AreRanksOf ranks table → IsWellFormed table → (text : List ℕ) → key_of table text ≡ flat_map ended (level_lists_from table.rules 0 (part_numbers ranks.compiled) (parts_of ranks text))
+pub key_by_parts : (ranks : RanksValue) (table : Collation) → AreRanksOf ranks table → IsWellFormed table → (text : List ℕ)
+    → key_of table text ≡ flat_map ended (level_lists_from table.rules 0 (part_numbers ranks.compiled) (parts_of ranks text))
 key_by_parts ranks table are well text =
     key_by_numbers table text (part_numbers ranks.compiled) (parts_of ranks text) (λ level within. numbers_are ranks table are well level within text)
 
 -- a key goes on by the list of a level, and its end
-pub key_goes_on : {P : Type 0} (f : ℕ → P → List ℕ) (level : ℕ) (rules : List Rule) (ps : List P) (rule : Rule) (old grown now whole : List ℕ) → level < length rules → grown ≡ old ++ level_list (get_or rules level rule) (f level) ps → now ≡ grown ++ 0 ∷ [] → whole ≡ old ++ flat_map ended (level_lists_from (drop level rules) level f ps) → whole ≡ now ++ flat_map ended (level_lists_from (drop (level + 1) rules) (level + 1) f ps)
+pub key_goes_on : {P : Type 0} (f : ℕ → P → List ℕ) (level : ℕ) (rules : List Rule) (ps : List P) (rule : Rule) (old grown now whole : List ℕ) → level < length rules
+    → grown ≡ old ++ level_list (get_or rules level rule) (f level) ps → now ≡ grown ++ 0 ∷ [] → whole ≡ old ++ flat_map ended (level_lists_from (drop level rules) level f ps)
+    → whole ≡ now ++ flat_map ended (level_lists_from (drop (level + 1) rules) (level + 1) f ps)
 key_goes_on f level rules ps rule old grown now whole within put closed so_far =
     so_far
     ∙ ap (λ lists. old ++ lists) (at_drop_more (λ rs. flat_map ended (level_lists_from rs level f ps)) rules level rule within)
@@ -93,14 +103,17 @@ key_goes_on f level rules ps rule old grown now whole within put closed so_far =
     next = omega arith
 
 -- a key is whole where no level is left
-pub key_is_whole : {P : Type 0} (f : ℕ → P → List ℕ) (ps : List P) (level : ℕ) (rules : List Rule) (key whole : List ℕ) → length rules ≤ level → whole ≡ key ++ flat_map ended (level_lists_from (drop level rules) level f ps) → key ≡ whole
+pub key_is_whole : {P : Type 0} (f : ℕ → P → List ℕ) (ps : List P) (level : ℕ) (rules : List Rule) (key whole : List ℕ) → length rules ≤ level
+    → whole ≡ key ++ flat_map ended (level_lists_from (drop level rules) level f ps) → key ≡ whole
 key_is_whole f ps level rules key whole past so_far =
     sym (so_far
     ∙ ap (λ lists. key ++ lists) (at_drop_all (λ rs. flat_map ended (level_lists_from rs level f ps)) rules level past)
     ∙ append-nil key)
 
 -- the key of a text is that of its parts, by the weights and the rules of a table
-pub key_is_made : (ranks : RanksValue) (table : Collation) → AreRanksOf ranks table → IsWellFormed table → (text : List ℕ) (weights : WeightsValue) (rules : List Rule) (parts : List TextElement) (key : List ℕ) → weights ≡ ranks.compiled → rules ≡ table.rules → parts ≡ parts_of ranks text → key ≡ flat_map ended (level_lists_from rules 0 (part_numbers weights) parts) → key ≡ key_of table text
+pub key_is_made : (ranks : RanksValue) (table : Collation) → AreRanksOf ranks table → IsWellFormed table
+    → (text : List ℕ) (weights : WeightsValue) (rules : List Rule) (parts : List TextElement) (key : List ℕ) → weights ≡ ranks.compiled → rules ≡ table.rules → parts ≡ parts_of ranks text
+    → key ≡ flat_map ended (level_lists_from rules 0 (part_numbers weights) parts) → key ≡ key_of table text
 key_is_made ranks table are well text weights rules parts key by_weights by_rules by_parts made =
     made
     ∙ ap (λ ws. flat_map ended (level_lists_from rules 0 (part_numbers ws) parts)) by_weights

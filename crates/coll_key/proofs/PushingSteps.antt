@@ -4,7 +4,8 @@ use Rattle.coll_key.specs.LevelList.{items_of, items, directed, listed, level_li
 use Rattle.coll_key.proofs.ForwardLemmas.{none_left}
 use Rattle.coll_key.proofs.DirectionLemmas.{directed_numbers, map-directed, length-directed, items-directed}
 
-module _ (p b : Bool) (gaps : ℕ) (g : ℕ → ℕ) (ranks others old now : List ℕ) (first : ℕ) (begins : directed b ranks ≡ first ∷ directed b others) (pushed : (list : List ℕ) → old ++ position_of p gaps ++ g first ∷ list ≡ now ++ list) where
+module _ (p b : Bool) (gaps : ℕ) (g : ℕ → ℕ) (ranks others old now : List ℕ) (first : ℕ) (begins : directed b ranks ≡ first ∷ directed b others) (pushed : (list : List ℕ)
+    → old ++ position_of p gaps ++ g first ∷ list ≡ now ++ list) where
   -- the first number of a part is put behind a key
   pub part_begins : (later : List (Option ℕ)) → old ++ listed p gaps (items_of (directed b (map g ranks)) ++ later) ≡ now ++ listed p 0 (map Some (map g (directed b others)) ++ later)
   part_begins later =
@@ -39,7 +40,9 @@ module _ {P : Type 0} (b : Bool) (left later : List P) (part : P) (begins : dire
   fewer_left most few within = omega (arith, few, within, ap length begins, length-directed b left, length-directed b later)
 
   -- what is put behind a key for one part more, and what is left, is the whole
-  pub level_goes_on : (p : Bool) (f : P → List ℕ) (ns whole old now : List ℕ) → ns ≡ f part → ((rest : List (Option ℕ)) → old ++ listed p gaps (items_of (directed b ns) ++ rest) ≡ now ++ listed p after rest) → whole ≡ old ++ listed p gaps (items (directed_numbers b f) (directed b left)) → whole ≡ now ++ listed p after (items (directed_numbers b f) (directed b later))
+  pub level_goes_on : (p : Bool) (f : P → List ℕ) (ns whole old now : List ℕ) → ns ≡ f part
+      → ((rest : List (Option ℕ)) → old ++ listed p gaps (items_of (directed b ns) ++ rest) ≡ now ++ listed p after rest)
+      → whole ≡ old ++ listed p gaps (items (directed_numbers b f) (directed b left)) → whole ≡ now ++ listed p after (items (directed_numbers b f) (directed b later))
   level_goes_on p f ns whole old now numbers pushed so_far =
       so_far
       ∙ ap (λ ps. old ++ listed p gaps (items (directed_numbers b f) ps)) begins
@@ -47,7 +50,8 @@ module _ {P : Type 0} (b : Bool) (left later : List P) (part : P) (begins : dire
       ∙ pushed (items (directed_numbers b f) (directed b later))
 
 -- all parts of a level are put behind a key
-pub level_ends : {P : Type 0} (p b : Bool) (gaps : ℕ) (f : P → List ℕ) (parts left : List P) (old now : List ℕ) → old ++ listed p 0 (items (directed_numbers b f) (directed b parts)) ≡ now ++ listed p gaps (items (directed_numbers b f) (directed b left)) → directed b left ≡ [] → now ≡ old ++ level_list (record { backward = b; position = p }) f parts
+pub level_ends : {P : Type 0} (p b : Bool) (gaps : ℕ) (f : P → List ℕ) (parts left : List P) (old now : List ℕ) → old ++ listed p 0 (items (directed_numbers b f) (directed b parts))
+    ≡ now ++ listed p gaps (items (directed_numbers b f) (directed b left)) → directed b left ≡ [] → now ≡ old ++ level_list (record { backward = b; position = p }) f parts
 level_ends p b gaps f parts left old now same none =
     sym (append-nil now)
     ∙ sym (ap (λ ps. now ++ listed p gaps (items (directed_numbers b f) ps)) none)

@@ -10,7 +10,8 @@ use Rattle.coll_key.specs.WrittenKey.{behind_space, before_space, joined_by_spac
 -- words with a space behind each, and a last word
 ended_by : (words : List (List ℕ)) (last : List ℕ) → joined_by_spaces (words ++ last ∷ []) ≡ flat_map before_space words ++ last
 ended_by [] last = append-nil last
-ended_by (word ∷ words) last = ap (λ bytes. word ++ bytes) (behind words) ∙ sym (append_assoc word (space ∷ []) (flat_map before_space words ++ last)) ∙ sym (append_assoc (before_space word) (flat_map before_space words) last)
+ended_by (word ∷ words) last = ap (λ bytes. word ++ bytes) (behind words) ∙ sym (append_assoc word (space ∷ []) (flat_map before_space words ++ last))
+    ∙ sym (append_assoc (before_space word) (flat_map before_space words) last)
   where
     behind : (words : List (List ℕ)) → flat_map behind_space (words ++ last ∷ []) ≡ (space ∷ []) ++ (flat_map before_space words ++ last)
     behind [] = ap (λ bytes. space ∷ bytes) (append-nil last)
@@ -43,7 +44,8 @@ level_word true (p ∷ []) = (word_of true p, level_end ∷ [], refl)
 level_word true (p ∷ n ∷ list) = (word_of true p, word_of false n ∷ level_words true list, refl)
 
 -- words behind a level
-level_joined : (position : Bool) (list : List ℕ) (later : List (List ℕ)) → joined_by_spaces (level_words position list ++ later) ≡ joined_by_spaces (level_words position list) ++ flat_map behind_space later
+level_joined : (position : Bool) (list : List ℕ) (later : List (List ℕ)) → joined_by_spaces (level_words position list ++ later)
+    ≡ joined_by_spaces (level_words position list) ++ flat_map behind_space later
 level_joined position list later =
     let some = level_word position list in
     ap (λ words. joined_by_spaces (words ++ later)) some.2
@@ -57,7 +59,8 @@ level_behind position list =
     ap (flat_map behind_space) some.2 ∙ ap (λ words. space ∷ joined_by_spaces words) (sym some.2)
 
 -- a key is its first level, and the later ones
-pub key_parts : (rules later : List Rule) (first : Rule) (key level left : List ℕ) → rules ≡ first ∷ later → level ≡ first_level key → left ≡ later_levels key → written_key rules key ≡ joined_by_spaces (level_words first.position level) ++ flat_map behind_space (key_words later left)
+pub key_parts : (rules later : List Rule) (first : Rule) (key level left : List ℕ) → rules ≡ first ∷ later → level ≡ first_level key → left ≡ later_levels key
+    → written_key rules key ≡ joined_by_spaces (level_words first.position level) ++ flat_map behind_space (key_words later left)
 unfolding written_key
 key_parts rules later first key level left is at_level at_left =
     ap (λ rs. joined_by_spaces (key_words rs key)) is
@@ -66,7 +69,9 @@ key_parts rules later first key level left is at_level at_left =
     ∙ ap (λ l. joined_by_spaces (level_words first.position level) ++ flat_map behind_space (key_words later l)) (sym at_left)
 
 -- the levels that are left begin with one
-pub levels_left : (rules : List Rule) (i : ℕ) (none : Rule) → i < length rules → (key level later : List ℕ) → level ≡ first_level key → later ≡ later_levels key → flat_map behind_space (key_words (drop i rules) key) ≡ (space ∷ joined_by_spaces (level_words (get_or rules i none).position level)) ++ flat_map behind_space (key_words (drop (i + 1) rules) later)
+pub levels_left : (rules : List Rule) (i : ℕ) (none : Rule) → i < length rules → (key level later : List ℕ) → level ≡ first_level key → later ≡ later_levels key
+    → flat_map behind_space (key_words (drop i rules) key) ≡ (space ∷ joined_by_spaces (level_words (get_or rules i none).position level))
+    ++ flat_map behind_space (key_words (drop (i + 1) rules) later)
 levels_left rules i none within key level later at_level at_later =
     let position = (get_or rules i none).position in
     let others = key_words (drop (i + 1) rules) in
@@ -77,5 +82,6 @@ levels_left rules i none within key level later at_level at_later =
     ∙ ap (λ l. (space ∷ joined_by_spaces (level_words position level)) ++ flat_map behind_space (others l)) (sym at_later)
 
 -- the numbers that are left begin with one
-pub numbers_left : (position at_position : Bool) (numbers : List ℕ) (i : ℕ) → i < length numbers → flat_map before_space (words_of position at_position (drop i numbers)) ≡ before_space (word_of at_position (get_or numbers i 0)) ++ flat_map before_space (words_of position (position && not at_position) (drop (i + 1) numbers))
+pub numbers_left : (position at_position : Bool) (numbers : List ℕ) (i : ℕ) → i < length numbers → flat_map before_space (words_of position at_position (drop i numbers))
+    ≡ before_space (word_of at_position (get_or numbers i 0)) ++ flat_map before_space (words_of position (position && not at_position) (drop (i + 1) numbers))
 numbers_left position at_position numbers i within = at_drop_more (λ list. flat_map before_space (words_of position at_position list)) numbers i 0 within

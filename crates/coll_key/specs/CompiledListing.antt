@@ -8,9 +8,9 @@ use Rattle.coll_syntax.specs.declared.identifiers.Id.TheVariants.{Char, Named, U
 use Rattle.coll_syntax.specs.declared.rules.Rule.{Rule}
 use Rattle.coll_syntax.specs.declared.weights.Weight.{Weight}
 use Rattle.coll_syntax.specs.declared.weights.Weight.TheVariants.{Ignore, Own, Names}
-use Rattle.coll_print.specs.CanonicalText.{spelled_rule}
-use Rattle.coll_print.specs.Pieces.{words_line}
-use Rattle.coll_print.specs.PrintedParts.{char_bytes}
+use Rattle.coll_texts.specs.CanonicalText.{spelled_rule}
+use Rattle.coll_texts.specs.Pieces.{words_line}
+use Rattle.coll_texts.specs.PrintedParts.{char_bytes}
 use Rattle.coll_nodes.specs.Table.{Collation, entries_of, is_symbol, is_placed}
 use Rattle.coll_nodes.specs.declared.declarations.Declaration.{Declaration}
 use Rattle.coll_nodes.specs.declared.declarations.Declaration.TheVariants as declaration
@@ -24,7 +24,8 @@ abbrev pub string_named : List Declaration → List ℕ → List ℕ
 string_named [] name = []
 string_named (declaration.Symbol declared ∷ declarations) name = string_named declarations name
 string_named (declaration.Equivalence declared symbol ∷ declarations) name = string_named declarations name
-string_named (declaration.Element declared text ∷ declarations) name = if same_name name declared then text else string_named declarations name
+string_named (declaration.Element declared text ∷ declarations) name =
+    if same_name name declared then text else string_named declarations name
 
 -- the spelling of an identifier in a listing: a character by its code point, an element by those of its string, or UNDEFINED
 abbrev pub listed_id : List Declaration → Id → List ℕ
@@ -77,4 +78,5 @@ listing_head table = words_line (codes "compiled" ∷ codes "1" ∷ decimal (len
 -- the compiled listing of a table
 unfoldable pub compiled_listing : Collation → List ℕ
 compiled_listing table =
-    listing_head table ++ (flat_map listed_rule table.rules ++ (listed_entries table 1 (entries_of table) ++ (listed_undefined table ++ codes "end\n")))
+    listing_head table ++ (flat_map listed_rule table.rules
+    ++ (listed_entries table 1 (entries_of table) ++ (listed_undefined table ++ codes "end\n")))

@@ -36,4 +36,5 @@ level_list rule numbers parts = listed rule.position 0 (directed rule.backward (
 -- the lists of levels with these rules, from a level on
 abbrev pub level_lists_from : {P : Type 0} → List Rule → (level : ℕ) → (ℕ → P → List ℕ) → List P → List (List ℕ)
 level_lists_from [] level numbers parts = []
-level_lists_from (rule ∷ rules) level numbers parts = level_list rule (numbers level) parts ∷ level_lists_from rules (suc level) numbers parts
+level_lists_from (rule ∷ rules) level numbers parts =
+    level_list rule (numbers level) parts ∷ level_lists_from rules (suc level) numbers parts

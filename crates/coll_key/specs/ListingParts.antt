@@ -7,7 +7,7 @@ use Rattle.coll_syntax.specs.declared.identifiers.Id.{Id}
 use Rattle.coll_syntax.specs.declared.identifiers.Id.TheVariants.{Char, Named, Undefined}
 use Rattle.coll_syntax.specs.declared.weights.Weight.{Weight}
 use Rattle.coll_syntax.specs.declared.weights.Weight.TheVariants.{Ignore, Own, Names}
-use Rattle.coll_print.specs.PrintedParts.{char_bytes}
+use Rattle.coll_texts.specs.PrintedParts.{char_bytes}
 use Rattle.coll_nodes.specs.Table.{Collation, entries_of}
 use Rattle.coll_nodes.specs.Walks.{Visited, VisitedSection, VisitedEntry}
 use Rattle.coll_nodes.specs.declared.entries.Entry.{Entry}

@@ -15,4 +15,5 @@ key_of table text = flat_map ended (level_lists table text)
 
 -- keys are ordered as their texts are
 abbrev pub KeysAreOrderedAsTexts : Type 0
-KeysAreOrderedAsTexts = (table : Collation) → IsWellFormed table → (text other : List ℕ) → list_order (key_of table text) (key_of table other) ≡ order_of table text other
+KeysAreOrderedAsTexts = (table : Collation) → IsWellFormed table → (text other : List ℕ)
+    → list_order (key_of table text) (key_of table other) ≡ order_of table text other

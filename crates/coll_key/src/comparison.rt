@@ -71,7 +71,9 @@ fn level_order(
     requires level { level < ranks.now.compiled.levels }
     requires few { length (parts_of ranks.now (chars text.now)) ≤ 65_536 }
     requires few_others { length (parts_of ranks.now (chars other.now)) ≤ 65_536 }
-    ensures ok { IfOk result (λ order. order ≡ list_order (level_list rule (part_numbers ranks.now.compiled level) (parts_of ranks.now (chars text.now))) (level_list rule (part_numbers ranks.now.compiled level) (parts_of ranks.now (chars other.now)))) }
+    ensures ok { IfOk result (λ order. order
+        ≡ list_order (level_list rule (part_numbers ranks.now.compiled level) (parts_of ranks.now (chars text.now)))
+        (level_list rule (part_numbers ranks.now.compiled level) (parts_of ranks.now (chars other.now)))) }
     ensures err { IfErr result (λ fault. fault ≢ OutOfMemory → (is_too_long (chars text.now) || is_too_long (chars other.now)) ≡ true) }
     ensures memory { rule.backward ≡ false → IsOk result }
 {
@@ -94,7 +96,8 @@ fn backward_list(
 ) -> Result<Vec<u64>, KeyFault>
     requires level { level < ranks.now.compiled.levels }
     requires few { length (parts_of ranks.now (chars text.now)) ≤ 65_536 }
-    ensures ok { IfOk result (λ list. list.items ≡ level_list rule (part_numbers ranks.now.compiled level) (parts_of ranks.now (chars text.now))) }
+    ensures ok { IfOk result (λ list. list.items
+        ≡ level_list rule (part_numbers ranks.now.compiled level) (parts_of ranks.now (chars text.now))) }
     ensures err { IfErr result (λ fault. fault ≢ OutOfMemory → is_too_long (chars text.now) ≡ true) }
 {
     let rows = kept_rows(alloc, ranks, text)?;
@@ -107,7 +110,9 @@ fn forward_order(ranks: &Ranks, level: usize, position: bool, text: &str, other:
     requires level { level < ranks.now.compiled.levels }
     requires few { length (parts_of ranks.now (chars text.now)) ≤ 65_536 }
     requires few_others { length (parts_of ranks.now (chars other.now)) ≤ 65_536 }
-    ensures { result ≡ list_order (level_list (record { backward = false; position = position }) (part_numbers ranks.now.compiled level) (parts_of ranks.now (chars text.now))) (level_list (record { backward = false; position = position }) (part_numbers ranks.now.compiled level) (parts_of ranks.now (chars other.now))) }
+    ensures { result ≡ list_order (level_list (record { backward = false; position = position }) (part_numbers ranks.now.compiled level)
+        (parts_of ranks.now (chars text.now))) (level_list (record { backward = false; position = position })
+        (part_numbers ranks.now.compiled level) (parts_of ranks.now (chars other.now))) }
 {
     let (later, later_other) = ranks.past_common(text, other);
     order_along(
@@ -141,7 +146,8 @@ fn order_along(position: bool, left: ForwardNumbers<'_>, right: ForwardNumbers<'
 
 // The order of two steps: with `position` that of their positions, and then that of their numbers.
 fn step_order(position: bool, step: Step, other: Step) -> Ordering
-    ensures { (list later : List ℕ) → list_order (before position step list) (before position other later) ≡ ordering_then result (list_order list later) }
+    ensures { (list later : List ℕ) → list_order (before position step list) (before position other later)
+        ≡ ordering_then result (list_order list later) }
 {
     if position {
         step.position

@@ -39,7 +39,8 @@ impl<'a> Model for ForwardNumbers<'a> {
 
     ghost Value = { List (Option ℕ) };
 
-    ghost view = { λ n. items_left (part_numbers n.ranks.now.compiled n.level) (map (added_to n.weight.added) n.weight.ranks.now) (parts_of n.ranks.now (chars n.text.now)) };
+    ghost view = { λ n. items_left (part_numbers n.ranks.now.compiled n.level) (map (added_to n.weight.added) n.weight.ranks.now)
+        (parts_of n.ranks.now (chars n.text.now)) };
 
     ghost invariant = { λ n. (n.level < n.ranks.now.compiled.levels) × (length (parts_of n.ranks.now (chars n.text.now)) ≤ 65_536) };
 }
@@ -68,7 +69,8 @@ impl<'a> ForwardNumbers<'a> {
     /// The next number, with its position.
     #[inline(always)]
     pub(crate) fn next(&mut self) -> Option<Step>
-        ensures step { (position : Bool) → MatchOption result (listed position 0 self.old ≡ []) (λ step. listed position 0 self.old ≡ before position step (listed position 0 self.new)) }
+        ensures step { (position : Bool) → MatchOption result (listed position 0 self.old ≡ [])
+            (λ step. listed position 0 self.old ≡ before position step (listed position 0 self.new)) }
         ensures shorter { IfSome result (λ _. length self.new < length self.old) }
     {
         let mut gaps = 0;

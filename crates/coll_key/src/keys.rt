@@ -55,7 +55,8 @@ fn key_of_word(
     text: &str,
 ) -> Result<Vec<u64>, AllocError>
     requires { length text.now ≤ MOST_WORD_BYTES }
-    ensures { IfOk result (λ key. key.items ≡ flat_map ended (level_lists_from rules.now 0 (part_numbers ranks.now.compiled) (parts_of ranks.now (chars text.now)))) }
+    ensures { IfOk result (λ key. key.items
+        ≡ flat_map ended (level_lists_from rules.now 0 (part_numbers ranks.now.compiled) (parts_of ranks.now (chars text.now)))) }
 {
     let mut rows = [ElementRow { first: 0, code: 0 }; MOST_WORD_BYTES];
     let count = put_rows(&mut rows[..], ranks, text);

@@ -6,7 +6,8 @@
 //! the loop. There is room for one number of each element that is left, with its position, and an element with more numbers makes
 //! room for them first: so no number asks for room, and none may be refused.
 
-ghost use Rattle.std.specs.Prelude.{◌≡◌, ◌<◌, ◌≤◌, ◌+◌, ◌*◌, ◌^◌, ◌++◌, ◌∷◌, [], ℕ, List, Option, Some, map, length, vec_len, vec_capacity, IfOk, MatchOption};
+ghost use Rattle.std.specs.Prelude.{◌≡◌, ◌<◌, ◌≤◌, ◌+◌, ◌*◌, ◌^◌, ◌++◌, ◌∷◌, [], ℕ, List, Option, Some};
+ghost use Rattle.std.specs.Prelude.{map, length, vec_len, vec_capacity, IfOk, MatchOption};
 ghost use Rattle.coll_key.specs.LevelList.{directed, items_of, listed, level_list, position_of};
 ghost use Rattle.coll_ranks.specs.LevelWeights.{row_numbers};
 ghost use Rattle.coll_ranks.specs.Ranks.{added_to};
@@ -75,7 +76,8 @@ fn with_rows(
 ) -> Result<Vec<u64>, AllocError>
     requires few { length rows.now ≤ 65_536 }
     requires room { vec_len key + length rows.now * 2 + 1 ≤ vec_capacity key }
-    ensures list { IfOk result (λ with. with.items ≡ key.items ++ level_list (record { backward = backward; position = position }) (row_numbers weights.now level) rows.now) }
+    ensures list { IfOk result (λ with. with.items
+        ≡ key.items ++ level_list (record { backward = backward; position = position }) (row_numbers weights.now level) rows.now) }
     ensures room { IfOk result (λ with. vec_len with < vec_capacity with) }
 {
     let at_level = weights.at_level(level);
@@ -117,7 +119,9 @@ fn with_long_part(
     requires few { gaps < 65_536 }
     requires few_later { later_parts ≤ 65_536 }
     ensures few { IfOk result (λ with. with.1 ≤ gaps + 1) }
-    ensures numbers { IfOk result (λ with. (later : List (Option ℕ)) → key.items ++ listed position gaps (items_of (directed backward (map (added_to weight.entry.added) weight.entry.ranks.now)) ++ later) ≡ with.0.items ++ listed position with.1 later) }
+    ensures numbers { IfOk result (λ with. (later : List (Option ℕ))
+        → key.items ++ listed position gaps (items_of (directed backward (map (added_to weight.entry.added) weight.entry.ranks.now))
+        ++ later) ≡ with.0.items ++ listed position with.1 later) }
     ensures room { IfOk result (λ with. vec_len with.0 + later_parts * 2 + 1 ≤ vec_capacity with.0) }
 {
     let key = with_room(key, weight.ranks.len() + later_parts)?;
@@ -133,7 +137,9 @@ fn with_long_part(
 #[inline(always)]
 fn with_others(key: Vec<u64>, ranks: &[u32], added: u32, backward: bool, position: bool) -> Vec<u64>
     requires room { vec_len key + length ranks.now * 2 ≤ vec_capacity key }
-    ensures numbers { (later : List (Option ℕ)) → key.items ++ listed position 0 (map Some (map (added_to added) (directed backward ranks.now)) ++ later) ≡ result.items ++ listed position 0 later }
+    ensures numbers { (later : List (Option ℕ))
+        → key.items ++ listed position 0 (map Some (map (added_to added) (directed backward ranks.now)) ++ later)
+        ≡ result.items ++ listed position 0 later }
     ensures capacity { vec_capacity result ≡ vec_capacity key }
     ensures len { vec_len result ≤ vec_len key + length ranks.now * 2 }
 {
@@ -174,7 +180,8 @@ pub(crate) fn number_of(rank: u32, added: u32) -> u64
 
 // The first member of a list in a direction, and the others.
 fn split_towards<X: Copy>(list: &[X], backward: bool) -> Option<(X, &[X])>
-    ensures { MatchOption result (directed backward list.now ≡ []) (λ found. directed backward list.now ≡ found.0 ∷ directed backward found.1.now) }
+    ensures { MatchOption result (directed backward list.now ≡ [])
+        (λ found. directed backward list.now ≡ found.0 ∷ directed backward found.1.now) }
 {
     match (backward, list) {
         (true, [others @ .., last]) => Some((*last, others)),

@@ -12,16 +12,17 @@ ghost use Rattle.coll_nodes.specs.WalkItems.{visited_by};
 ghost use Rattle.coll_nodes.specs.Walks.{entry_visited, entries_visited};
 ghost use Rattle.coll_syntax.specs.declared.identifiers.Id.TheVariants.{Named, Undefined};
 ghost use Rattle.coll_key.specs.CompiledListing.{compiled_listing, listing_head, listed_rule, listed_undefined};
-ghost use Rattle.coll_key.specs.ListingParts.{spaced_number, weight_bytes, level_bytes, levels_ended, is_star, spelled_with, ranked_line, line_if_weighted, visited_line, ranked_lines, HasFewWeights, entries_part};
+ghost use Rattle.coll_key.specs.ListingParts.{spaced_number, weight_bytes, level_bytes, levels_ended, is_star, spelled_with, ranked_line};
+ghost use Rattle.coll_key.specs.ListingParts.{line_if_weighted, visited_line, ranked_lines, HasFewWeights, entries_part};
 ghost use Rattle.coll_ranks.specs.Ranks.{AreRanksOf};
 
 use coll_devices::{Sink, WriteStop, write_bytes};
 use coll_lex::write_char;
 use coll_nodes::{Entry, Walk, WalkItem};
-use coll_print::{Piece, write_number, write_pieces, write_text};
 use coll_ranks::Ranks;
 use coll_syntax::{Id, Rule, Weight};
 use coll_table::Table;
+use coll_texts::{Piece, write_number, write_pieces, write_text};
 
 /// Writes the compiled listing of a table: its levels, its rules, and for each entry its rank and the ranks of its weights.
 ///
@@ -39,7 +40,8 @@ pub fn write_compiled<W: Sink>(table: &Table, ranks: &Ranks, out: &mut W) -> Res
 // Writes the lines behind the first.
 fn write_body<W: Sink>(out: &mut W, table: &Table, ranks: &Ranks) -> Result<(), WriteStop>
     requires { AreRanksOf ranks.now (collation table.now) }
-    ensures sent { Sends (W.taken out.old) (W.taken out.new) (flat_map listed_rule (collation table.now).rules ++ entries_part (collation table.now)) result }
+    ensures sent { Sends (W.taken out.old) (W.taken out.new)
+        (flat_map listed_rule (collation table.now).rules ++ entries_part (collation table.now)) result }
     ensures errors { CountsErr (W.failed out.old) (W.failed out.new) result }
 {
     write_rules(out, table.rules())?;
@@ -181,6 +183,7 @@ fn write_levels<W: Sink>(
     ensures errors { CountsErr (W.failed out.old) (W.failed out.new) result }
 {
     for (level, weight) in weights.iter().enumerate() {
+        // Not `?`: behind its conversion this exit would need a lemma.
         if let Err(stop) = write_level(out, owner, weight, ranks.compiled(rank, level)) {
             return Err(stop);
         }

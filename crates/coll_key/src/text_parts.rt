@@ -70,8 +70,10 @@ fn split_rows(
     ranks: &Ranks,
     text: &str,
 ) -> Result<Option<Vec<ElementRow>>, AllocError>
-    ensures long { IfOk result (λ kept. MatchOption kept (is_too_long (chars text.now) ≡ true) (λ rows. is_too_long (chars text.now) ≡ false)) }
-    ensures rows { IfOk result (λ kept. IfSome kept (λ rows. rows.items ≡ map (row_of ranks.now.compiled) (parts_of ranks.now (chars text.now)))) }
+    ensures long { IfOk result (λ kept.
+        MatchOption kept (is_too_long (chars text.now) ≡ true) (λ rows. is_too_long (chars text.now) ≡ false)) }
+    ensures rows { IfOk result (λ kept.
+        IfSome kept (λ rows. rows.items ≡ map (row_of ranks.now.compiled) (parts_of ranks.now (chars text.now)))) }
 {
     let mut rows = Vec::with_capacity(alloc, most_parts(text.len()))?;
     let mut left = text;

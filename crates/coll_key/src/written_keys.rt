@@ -6,12 +6,13 @@ ghost use Rattle.std.specs.Prelude.{◌≡◌, ◌++◌, ◌∷◌, [], ◌&&◌
 ghost use Rattle.std.specs.List.{flat_map};
 ghost use Rattle.coll_lex.specs.Characters.{space};
 ghost use Rattle.coll_devices.specs.Devices.{CountsErr, Sends};
-ghost use Rattle.coll_key.specs.WrittenKey.{behind_space, joined_by_spaces, before_space, level_words, position_word, number_word, word_of, words_of, key_words, first_level, later_levels, written_key, has_key_form};
+ghost use Rattle.coll_key.specs.WrittenKey.{behind_space, joined_by_spaces, before_space, level_words, position_word, number_word};
+ghost use Rattle.coll_key.specs.WrittenKey.{word_of, words_of, key_words, first_level, later_levels, written_key, has_key_form};
 
 use crate::limits::RANK_STEP;
 use coll_devices::{Sink, WriteStop, write_bytes};
-use coll_print::{Piece, write_pieces};
 use coll_syntax::Rule;
+use coll_texts::{Piece, write_pieces};
 
 /// Writes a sort key, without a line feed behind it.
 ///
@@ -39,6 +40,7 @@ fn write_later_levels<W: Sink>(out: &mut W, rules: &[Rule], key: &[u64]) -> Resu
     let mut left = key;
     for rule in rules {
         let (level, later) = split_level(left);
+        // Not `?`: behind its conversion this exit would need a lemma.
         if let Err(stop) = write_level_behind(out, rule.position, level) {
             return Err(stop);
         }

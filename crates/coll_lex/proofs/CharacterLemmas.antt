@@ -38,7 +38,8 @@ marks_of_characters escape true (c ∷ cs) h =
     (parts.0, marks_of_characters escape false cs parts.1)
 marks_of_characters escape false (c ∷ cs) h =
     let parts = characters-parts c cs h in
-    cond_both (c == escape) (marks escape true cs) (Plain c ∷ marks escape false cs) AreOfCharacters (λ _. marks_of_characters escape true cs parts.1) (λ _. (parts.0, marks_of_characters escape false cs parts.1))
+    cond_both (c == escape) (marks escape true cs) (Plain c ∷ marks escape false cs) AreOfCharacters (λ _. marks_of_characters escape true cs parts.1)
+    (λ _. (parts.0, marks_of_characters escape false cs parts.1))
 
 of_characters-append : (ms ns : List Mark) → AreOfCharacters ms → AreOfCharacters ns → AreOfCharacters (ms ++ ns)
 of_characters-append [] ns h k = k
@@ -65,7 +66,8 @@ with_character_if c (Some name) h k = characters-cons c name h k
 before_close_if : (ms : List Mark) → AreOfCharacters ms → IfName (before_close ms)
 unfolding before_close
 before_close_if [] h = tt
-before_close_if (m ∷ ms) h = cond_both (is_plain greater_than m) (Some []) (with_character (character m) (before_close ms)) IfName (λ _. nothing) (λ _. with_character_if (character m) (before_close ms) h.0 (before_close_if ms h.1))
+before_close_if (m ∷ ms) h = cond_both (is_plain greater_than m) (Some []) (with_character (character m) (before_close ms)) IfName (λ _. nothing)
+    (λ _. with_character_if (character m) (before_close ms) h.0 (before_close_if ms h.1))
   where
     nothing : AreCharacters []
     nothing = refl
@@ -111,5 +113,7 @@ unfolding word_run
 word_run_if comment [] h = refl
 word_run_if comment (Bracketed name ∷ xs) h = refl
 word_run_if comment (Unclosed ∷ xs) h = refl
-word_run_if comment (Bare (Plain c) ∷ xs) h = cond_both (ends_word (kind_of comment c)) (Ok []) (with_letter c (word_run comment xs)) IfWord (λ _. refl) (λ _. with_letter_if c (word_run comment xs) h.0 (word_run_if comment xs h.1))
-word_run_if comment (Bare (Literal c) ∷ xs) h = cond_both (is_constant c) (Err CharacterConstant) (with_letter c (word_run comment xs)) IfWord (λ _. tt) (λ _. with_letter_if c (word_run comment xs) h.0 (word_run_if comment xs h.1))
+word_run_if comment (Bare (Plain c) ∷ xs) h =
+    cond_both (ends_word (kind_of comment c)) (Ok []) (with_letter c (word_run comment xs)) IfWord (λ _. refl) (λ _. with_letter_if c (word_run comment xs) h.0 (word_run_if comment xs h.1))
+word_run_if comment (Bare (Literal c) ∷ xs) h =
+    cond_both (is_constant c) (Err CharacterConstant) (with_letter c (word_run comment xs)) IfWord (λ _. tt) (λ _. with_letter_if c (word_run comment xs) h.0 (word_run_if comment xs h.1))

@@ -6,12 +6,14 @@ use Rattle.coll_lex.specs.declared.tokens.Chars.{Chars}
 use Rattle.coll_lex.specs.Directives.{operand_of, named_character, with_comment, with_escape, directive}
 
 -- a blank is passed
-pub past_blanks_blank : (line : List ℕ) (i : ℕ) → i < length line → is_blank (get_or line i 0) ≡ true → past_blanks (drop i line) ≡ past_blanks line → past_blanks (drop (i + 1) line) ≡ past_blanks line
+pub past_blanks_blank : (line : List ℕ) (i : ℕ) → i < length line → is_blank (get_or line i 0) ≡ true → past_blanks (drop i line) ≡ past_blanks line
+    → past_blanks (drop (i + 1) line) ≡ past_blanks line
 unfolding past_blanks
 past_blanks_blank line i h e same = sym (ap past_blanks (drop_more line i 0 h) ∙ rw e refl) ∙ same
 
 -- another character stays
-pub past_blanks_other : (line : List ℕ) (i : ℕ) → i < length line → is_blank (get_or line i 0) ≡ false → past_blanks (drop i line) ≡ past_blanks line → take (length line - i) (drop i line) ≡ past_blanks line
+pub past_blanks_other : (line : List ℕ) (i : ℕ) → i < length line → is_blank (get_or line i 0) ≡ false → past_blanks (drop i line) ≡ past_blanks line
+    → take (length line - i) (drop i line) ≡ past_blanks line
 unfolding past_blanks
 past_blanks_other line i h e same =
     take_rest line i ∙ (drop_more line i 0 h ∙ (sym (ap past_blanks (drop_more line i 0 h) ∙ rw e refl) ∙ same))

@@ -1,5 +1,6 @@
 -- The answer to one more physical line, by the scan of its logical line.
-use Rattle.std.proofs.Common.{Result, ◌≡◌, ◌≢◌, ℕ, ◌+◌, ◌<◌, ◌≤◌, ◌&&◌, nat_lt, Bool, true, false, if◌then◌else◌, List, [], ◌∷◌, ◌++◌, map, length, chars, IsUtf8, Option, Some, None, option_map, Ok, Err, refl, ap, sym, ◌∙◌, subst, append_assoc, arith}
+use Rattle.std.proofs.Common.{Result, ◌≡◌, ◌≢◌, ℕ, ◌+◌, ◌<◌, ◌≤◌, ◌&&◌, nat_lt, Bool, true, false, if◌then◌else◌, List, [], ◌∷◌, ◌++◌, map, length}
+use Rattle.std.proofs.Common.{chars, IsUtf8, Option, Some, None, option_map, Ok, Err, refl, ap, sym, ◌∙◌, subst, append_assoc, arith}
 use Rattle.std.specs.Option.{ForSome}
 use Rattle.std.specs.Str.{is_utf8}
 use Rattle.std.specs.declared.alloc.Global.{Global}
@@ -11,7 +12,8 @@ use Rattle.coll_devices.specs.PhysicalLines.{without_return}
 use Rattle.coll_lex.specs.Marked.{Mark, marks, is_joined, joined_marks}
 use Rattle.coll_lex.specs.Tokens.{before_close, atoms, Stop, AtFault, AtComment, AtEnd, InSymbol, InString, Reading, quoted, word_run, reading, reading_of}
 use Rattle.coll_lex.specs.Directives.{directive}
-use Rattle.coll_lex.specs.LogicalLines.{OpenLine, LexerState, dropped, line_of, continued, answer_at, answer_to, needs_memory, takes_memory, reading_in, answer_in, line_fault, fed_as, fed_text, fed, bytes_before}
+use Rattle.coll_lex.specs.LogicalLines.{OpenLine, LexerState, dropped, line_of, continued, answer_at, answer_to, needs_memory}
+use Rattle.coll_lex.specs.LogicalLines.{takes_memory, reading_in, answer_in, line_fault, fed_as, fed_text, fed, bytes_before}
 use Rattle.coll_lex.specs.Scanning.{fresh, reading_left, left_in_mode, TakesLine, RefusesLine, gathers_by, GathersLine, IsInWord, is_continued, goes_on, word_token, ending_in, ending}
 use Rattle.coll_lex.specs.Lexer.{lines_in, line_in, added, IsSoundOpen}
 use Rattle.coll_lex.specs.declared.tokens.Chars.{Chars}
@@ -56,14 +58,17 @@ fed_faulty s line bytes fault e f = rw (← e, f) refl
 
 -- the reading of the physical lines of an open line, and of one more
 
-joined_marks-push : (escape : ℕ) (lines : List (List ℕ)) (line : List ℕ) → joined_marks escape (map chars (lines ++ line ∷ [])) ≡ joined_marks escape (map chars lines) ++ marks escape false (chars line)
+joined_marks-push : (escape : ℕ) (lines : List (List ℕ)) (line : List ℕ) → joined_marks escape (map chars (lines ++ line ∷ []))
+    ≡ joined_marks escape (map chars lines) ++ marks escape false (chars line)
 unfolding joined_marks
 joined_marks-push escape [] line = append-nil (marks escape false (chars line))
-joined_marks-push escape (l ∷ ls) line = ap (λ ms. marks escape false (chars l) ++ ms) (joined_marks-push escape ls line) ∙ sym (append_assoc (marks escape false (chars l)) (joined_marks escape (map chars ls)) (marks escape false (chars line)))
+joined_marks-push escape (l ∷ ls) line = ap (λ ms. marks escape false (chars l) ++ ms) (joined_marks-push escape ls line)
+    ∙ sym (append_assoc (marks escape false (chars l)) (joined_marks escape (map chars ls)) (marks escape false (chars line)))
 
 -- the marked text of one more physical line, and what follows it
 marks_more : (special : Chars) (o : Open) (line : List ℕ) (ms : List Mark) → IsSoundOpen special o
-    → reading_of special.comment (joined_marks special.escape (map chars (lines_in o.lines.items ++ line ∷ [])) ++ ms) ≡ reading_left special.comment o.scan (marks special.escape false (chars line) ++ ms)
+    → reading_of special.comment (joined_marks special.escape (map chars (lines_in o.lines.items ++ line ∷ [])) ++ ms)
+    ≡ reading_left special.comment o.scan (marks special.escape false (chars line) ++ ms)
 marks_more special o line ms h =
     rw (joined_marks-push special.escape (lines_in o.lines.items) line, append_assoc (joined_marks special.escape (map chars (lines_in o.lines.items))) (marks special.escape false (chars line)) ms)
     (h.reads (marks special.escape false (chars line) ++ ms))
@@ -87,7 +92,8 @@ text_refused next o line bytes fault h t =
 -- lack of memory
 
 -- a reading that has a token or is cut short
-gathered : (next : LexerState) (o : OpenLine) (joined : Bool) (tokens : List Token) (stop : Stop) → gathers_by tokens stop ≡ true → stop_among stop ≡ true → needs_memory (answer_at next o joined tokens stop) ≡ true
+gathered : (next : LexerState) (o : OpenLine) (joined : Bool) (tokens : List Token) (stop : Stop) → gathers_by tokens stop ≡ true → stop_among stop ≡ true
+    → needs_memory (answer_at next o joined tokens stop) ≡ true
 gathered next o joined tokens (AtFault fault) e f = f
 gathered next o joined [] AtComment e f = cc
 gathered next o joined (t ∷ ts) AtComment e f = refl
@@ -105,7 +111,8 @@ pub text_starved : (next : LexerState) (o : Open) (line : List ℕ) (bytes : ℕ
 text_starved next o line bytes h t =
     let lines = lines_in o.lines.items ++ line ∷ [] in
     let r = reading_in next.special lines in
-    gathered next (added (line_in o) line bytes) (is_joined next.special.escape (chars line)) r.tokens r.stop (rw (reading_more next.special o line h) (t.reads [])) (reading_in_faults next.special lines)
+    gathered next (added (line_in o) line bytes) (is_joined next.special.escape (chars line)) r.tokens r.stop (rw (reading_more next.special o line h) (t.reads []))
+    (reading_in_faults next.special lines)
 
 -- the end of the physical line
 
@@ -278,7 +285,8 @@ passed_first s line o e g f =
 
 -- bytes that are no text
 
-pub fed_next_no_text : (s : LexerState) (line : List ℕ) (o : Open) → Some (line_in o) ≡ s.line → line_fault s.count (o.bytes + length line) ≡ None → (IsUtf8 (without_return line) → ⊥) → fed s line ≡ Err NotUtf8
+pub fed_next_no_text : (s : LexerState) (line : List ℕ) (o : Open) → Some (line_in o) ≡ s.line → line_fault s.count (o.bytes + length line) ≡ None → (IsUtf8 (without_return line) → ⊥)
+    → fed s line ≡ Err NotUtf8
 fed_next_no_text s line o e f wrong = passed_next s line o e f ∙ rw (not_text (is_utf8 (without_return line)) (without_return line) refl wrong) refl
 
 pub fed_first_no_text : (s : LexerState) (line : List ℕ) (o : Open) → None ≡ s.line → line_in o ≡ record { number = s.count + 1; lines = []; bytes = 0 } → line_fault s.count (0 + length line) ≡ None
@@ -296,6 +304,7 @@ pub fed_next : (s : LexerState) (line : List ℕ) (o : Open) → Some (line_in o
     → fed s line ≡ answer_in (dropped s) (added (line_in o) (without_return line) (length line)) (without_return line)
 fed_next s line o e f text = passed_next s line o e f ∙ rw (is_utf8-from_IsUtf8 (without_return line) text) refl
 
-pub fed_first : (s : LexerState) (line : List ℕ) (o : Open) → None ≡ s.line → line_in o ≡ record { number = s.count + 1; lines = []; bytes = 0 } → line_fault s.count (0 + length line) ≡ None → IsUtf8 (without_return line)
+pub fed_first : (s : LexerState) (line : List ℕ) (o : Open) → None ≡ s.line → line_in o ≡ record { number = s.count + 1; lines = []; bytes = 0 } → line_fault s.count (0 + length line) ≡ None
+    → IsUtf8 (without_return line)
     → fed s line ≡ fed_as (dropped s) (added (line_in o) (without_return line) (length line)) (without_return line) (directive s.special (without_return line))
 fed_first s line o e g f text = passed_first s line o e g f ∙ rw (is_utf8-from_IsUtf8 (without_return line) text) refl

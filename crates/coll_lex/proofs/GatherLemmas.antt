@@ -1,7 +1,8 @@
 -- Where a scan needs memory: from there on the reading has a token, or is cut short by a fault, a symbol or a string.
 use Rattle.std.proofs.Common.{◌≡◌, ℕ, zero, suc, ◌<◌, ◌==◌, Bool, true, false, if◌then◌else◌, List, [], ◌∷◌, ◌++◌, length, Option, Some, None, Result, Ok, Err, IfErr, OnErr, refl, arith}
 use Rattle.coll_lex.specs.Marked.{Mark, Plain, Literal}
-use Rattle.coll_lex.specs.Tokens.{is_constant, symbol_of, Atom, Bracketed, Unclosed, Bare, before_close, symbol_then, atoms, AtFault, Reading, after_symbol, Quoted, Closed, Stops, with_piece, with_symbol, quoted, word_run, after_word, after_string, reading}
+use Rattle.coll_lex.specs.Tokens.{is_constant, symbol_of, Atom, Bracketed, Unclosed, Bare, before_close, symbol_then, atoms, AtFault, Reading}
+use Rattle.coll_lex.specs.Tokens.{after_symbol, Quoted, Closed, Stops, with_piece, with_symbol, quoted, word_run, after_word, after_string, reading}
 use Rattle.coll_lex.specs.Scanning.{prefixed, symbol_rest, word_rest, word_left, string_rest, reading_left, is_cut_short, gathers, Gathers}
 use Rattle.coll_lex.specs.declared.tokens.Token.{Token}
 use Rattle.coll_lex.specs.declared.tokens.Piece.{Piece}
@@ -73,7 +74,8 @@ quoted_is_cut [] = refl
 quoted_is_cut (Bracketed name ∷ xs) = with_symbol_cut (symbol_of name) (quoted xs) (quoted_is_cut xs)
 quoted_is_cut (Unclosed ∷ xs) = refl
 quoted_is_cut (Bare (Plain c) ∷ xs) = one_or_other (c == 34) (Closed []) (with_piece (piece.Char c) (quoted xs)) refl (with_piece_cut (piece.Char c) (quoted xs) (quoted_is_cut xs))
-quoted_is_cut (Bare (Literal c) ∷ xs) = one_or_other (is_constant c) (Stops (AtFault CharacterConstant)) (with_piece (piece.Char c) (quoted xs)) refl (with_piece_cut (piece.Char c) (quoted xs) (quoted_is_cut xs))
+quoted_is_cut (Bare (Literal c) ∷ xs) =
+    one_or_other (is_constant c) (Stops (AtFault CharacterConstant)) (with_piece (piece.Char c) (quoted xs)) refl (with_piece_cut (piece.Char c) (quoted xs) (quoted_is_cut xs))
 
 string_gathers : (pieces : List Piece) (q : Quoted) (rest : ℕ → Reading) → quoted_cut q ≡ true → gathers (string_rest pieces q rest) ≡ true
 string_gathers pieces (Closed more) rest e = refl

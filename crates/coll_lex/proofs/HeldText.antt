@@ -8,7 +8,8 @@ use Rattle.coll_devices.specs.PhysicalLines.{without_return}
 use Rattle.coll_lex.specs.Marked.{is_joined}
 use Rattle.coll_lex.specs.Tokens.{Stop, AtFault, AtComment, AtEnd, InSymbol, InString}
 use Rattle.coll_lex.specs.Directives.{directive}
-use Rattle.coll_lex.specs.LogicalLines.{OpenLine, LexerState, first_state, lines_before, extended, dropped, whole, answer_at, reading_in, directive_where, fed_as, line_fault, fed_text, unless_fault, fed, outside, state_by}
+use Rattle.coll_lex.specs.LogicalLines.{OpenLine, LexerState, first_state, lines_before, extended, dropped, whole, answer_at, reading_in}
+use Rattle.coll_lex.specs.LogicalLines.{directive_where, fed_as, line_fault, fed_text, unless_fault, fed, outside, state_by}
 use Rattle.coll_lex.specs.Lexer.{lines_in, line_in}
 use Rattle.coll_lex.specs.Names.{HoldsText, LexersHoldText}
 use Rattle.coll_lex.specs.declared.tokens.Chars.{Chars}

@@ -122,7 +122,8 @@ no_answer (Some fault) answer o h e = cc
 pub fed-room : (s : LexerState) (line : List ℕ) (answer : Option Line) (after : LexerState) → fed s line ≡ Ok (answer, after) → s.count ≡ most_lines → ⊥
 unfolding fed
 fed-room s line answer after e full =
-    no_answer (line_fault s.count (extended s line).bytes) _ (answer, after) (fault_when_full (nat_lt most_line_bytes (extended s line).bytes) (s.count == most_lines) (eq-eqb s.count most_lines full)) e
+    no_answer (line_fault s.count (extended s line).bytes) _ (answer, after) (fault_when_full (nat_lt most_line_bytes (extended s line).bytes) (s.count == most_lines) (eq-eqb s.count most_lines full))
+    e
 
 -- one physical line more was handed to the lexer, which takes no more than the most lines of a text
 abbrev pub CountsOne : LexerState → LexerState → Type 0

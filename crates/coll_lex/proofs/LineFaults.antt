@@ -10,9 +10,11 @@ use Rattle.coll_lex.specs.Kinds as kind
 use Rattle.coll_lex.specs.Faults.{lex_fault_number}
 use Rattle.coll_devices.specs.PhysicalLines.{without_return}
 use Rattle.coll_lex.specs.Marked.{Plain, Literal, is_joined, joined_marks}
-use Rattle.coll_lex.specs.Tokens.{Atom, Bracketed, Unclosed, Bare, Stop, AtFault, AtComment, AtEnd, InSymbol, InString, Reading, Quoted, Closed, Stops, is_constant, is_name, code_point_of, symbol_by, symbol_of, after_symbol, with_piece, with_symbol, quoted, after_string, with_letter, word_run, after_word, after_plain, atoms, reading, stopped}
+use Rattle.coll_lex.specs.Tokens.{Atom, Bracketed, Unclosed, Bare, Stop, AtFault, AtComment, AtEnd, InSymbol, InString, Reading, Quoted, Closed, Stops, is_constant, is_name, code_point_of}
+use Rattle.coll_lex.specs.Tokens.{symbol_by, symbol_of, after_symbol, with_piece, with_symbol, quoted, after_string, with_letter, word_run, after_word, after_plain, atoms, reading, stopped}
 use Rattle.coll_lex.specs.Directives.{with_comment, with_escape, asked, directive}
-use Rattle.coll_lex.specs.LogicalLines.{OpenLine, LexerState, extended, dropped, whole, answer_at, answer_in, reading_in, directive_where, fed_as, line_fault, fed_text, unless_fault, is_among_tokens, fed}
+use Rattle.coll_lex.specs.LogicalLines.{OpenLine, LexerState, extended, dropped, whole, answer_at, answer_in, reading_in}
+use Rattle.coll_lex.specs.LogicalLines.{directive_where, fed_as, line_fault, fed_text, unless_fault, is_among_tokens, fed}
 use Rattle.coll_lex.specs.declared.tokens.Chars.{Chars}
 use Rattle.coll_lex.specs.declared.tokens.Line.{Line}
 use Rattle.coll_lex.specs.declared.tokens.Piece.{Piece}
@@ -21,7 +23,8 @@ use Rattle.coll_lex.specs.declared.tokens.Token.{Token}
 use Rattle.coll_devices.specs.Limits.{most_line_bytes}
 use Rattle.coll_lex.specs.Limits.{most_lines}
 use Rattle.coll_lex.specs.declared.faults.LexFault.{LexFault}
-use Rattle.coll_lex.specs.declared.faults.LexFault.TheVariants.{NotUtf8, OpenSymbol, EmptySymbol, BadName, BadCodePoint, OpenString, CharacterConstant, DanglingEscape, LineTooLong, BadCharDirective, TooManyLines, OutOfMemory}
+use Rattle.coll_lex.specs.declared.faults.LexFault.TheVariants.{NotUtf8, OpenSymbol, EmptySymbol, BadName, BadCodePoint, OpenString, CharacterConstant}
+use Rattle.coll_lex.specs.declared.faults.LexFault.TheVariants.{DanglingEscape, LineTooLong, BadCharDirective, TooManyLines, OutOfMemory}
 
 -- an answer to some tokens has a fault that is met among tokens, or none
 abbrev answer_among : {A : Type 0} → Result A LexFault → Bool
@@ -71,8 +74,10 @@ unfolding quoted
 quoted_faults [] = refl
 quoted_faults (Bracketed name ∷ xs) = with_symbol_faults (symbol_of name) (quoted xs) (symbol_faults name) (quoted_faults xs)
 quoted_faults (Unclosed ∷ xs) = refl
-quoted_faults (Bare (Plain c) ∷ xs) = chosen quoted_among (c == quotation_mark) (Closed []) (with_piece (piece.Char c) (quoted xs)) refl (with_piece_faults (piece.Char c) (quoted xs) (quoted_faults xs))
-quoted_faults (Bare (Literal c) ∷ xs) = chosen quoted_among (is_constant c) (Stops (AtFault CharacterConstant)) (with_piece (piece.Char c) (quoted xs)) refl (with_piece_faults (piece.Char c) (quoted xs) (quoted_faults xs))
+quoted_faults (Bare (Plain c) ∷ xs) =
+    chosen quoted_among (c == quotation_mark) (Closed []) (with_piece (piece.Char c) (quoted xs)) refl (with_piece_faults (piece.Char c) (quoted xs) (quoted_faults xs))
+quoted_faults (Bare (Literal c) ∷ xs) =
+    chosen quoted_among (is_constant c) (Stops (AtFault CharacterConstant)) (with_piece (piece.Char c) (quoted xs)) refl (with_piece_faults (piece.Char c) (quoted xs) (quoted_faults xs))
 
 with_letter_faults : (c : ℕ) (r : Result (List ℕ) LexFault) → answer_among r ≡ true → answer_among (with_letter c r) ≡ true
 with_letter_faults c (Ok word) e = refl
@@ -83,8 +88,10 @@ unfolding word_run
 word_faults comment [] = refl
 word_faults comment (Bracketed name ∷ xs) = refl
 word_faults comment (Unclosed ∷ xs) = refl
-word_faults comment (Bare (Plain c) ∷ xs) = chosen answer_among (ends_word (kind_of comment c)) (Ok []) (with_letter c (word_run comment xs)) refl (with_letter_faults c (word_run comment xs) (word_faults comment xs))
-word_faults comment (Bare (Literal c) ∷ xs) = chosen answer_among (is_constant c) (Err CharacterConstant) (with_letter c (word_run comment xs)) refl (with_letter_faults c (word_run comment xs) (word_faults comment xs))
+word_faults comment (Bare (Plain c) ∷ xs) =
+    chosen answer_among (ends_word (kind_of comment c)) (Ok []) (with_letter c (word_run comment xs)) refl (with_letter_faults c (word_run comment xs) (word_faults comment xs))
+word_faults comment (Bare (Literal c) ∷ xs) =
+    chosen answer_among (is_constant c) (Err CharacterConstant) (with_letter c (word_run comment xs)) refl (with_letter_faults c (word_run comment xs) (word_faults comment xs))
 
 -- the same of a reading
 abbrev reading_among : Reading → Bool
@@ -197,7 +204,8 @@ abbrev fault_dangles : Option LexFault → Bool
 fault_dangles None = false
 fault_dangles (Some fault) = is_no_line_fault fault
 
-unless_faults : (fault : Option LexFault) (answer : Result (Option Line × LexerState) LexFault) → fault_dangles fault ≡ false → answer_dangles answer ≡ false → answer_dangles (unless_fault fault answer) ≡ false
+unless_faults : (fault : Option LexFault) (answer : Result (Option Line × LexerState) LexFault) → fault_dangles fault ≡ false → answer_dangles answer ≡ false
+    → answer_dangles (unless_fault fault answer) ≡ false
 unless_faults None answer f e = e
 unless_faults (Some fault) answer f e = f
 

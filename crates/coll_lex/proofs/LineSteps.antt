@@ -4,7 +4,8 @@ use Rattle.std.proofs.Common.{◌≡◌, ℕ, Bool, true, false, if◌then◌els
 use Rattle.std.specs.Str.{is_utf8}
 use Rattle.coll_devices.specs.PhysicalLines.{without_return}
 use Rattle.coll_lex.specs.Directives.{directive}
-use Rattle.coll_lex.specs.LogicalLines.{OpenLine, LexerState, number_of, lines_before, extended, directive_where, answer_at, fed_as, line_fault, unless_fault, first_of, first_line, dropped, fed, served, line_left_open, first_choice, later_choices, takes_memory, logical_lines}
+use Rattle.coll_lex.specs.LogicalLines.{OpenLine, LexerState, number_of, lines_before, extended, directive_where, answer_at, fed_as, line_fault, unless_fault}
+use Rattle.coll_lex.specs.LogicalLines.{first_of, first_line, dropped, fed, served, line_left_open, first_choice, later_choices, takes_memory, logical_lines}
 use Rattle.coll_lex.specs.Tokens.{Stop, AtFault, AtComment, AtEnd, InSymbol, InString}
 use Rattle.coll_lex.specs.declared.tokens.Line.{Line}
 use Rattle.coll_lex.specs.declared.tokens.Token.{Token}
@@ -82,7 +83,8 @@ leaves_none s line answer e = record { leaves = inl e }
 leaves_some : (s : LexerState) (line : List ℕ) (answer : Result (Option Line × LexerState) LexFault) → line_left answer ≡ Some (extended s line) → LeavesOpen s line answer
 leaves_some s line answer e = record { leaves = inr e }
 
-joined_left : (s : LexerState) (line : List ℕ) (joined : Bool) (go stay : Result (Option Line × LexerState) LexFault) → LeavesOpen s line go → LeavesOpen s line stay → LeavesOpen s line (if joined then go else stay)
+joined_left : (s : LexerState) (line : List ℕ) (joined : Bool) (go stay : Result (Option Line × LexerState) LexFault) → LeavesOpen s line go → LeavesOpen s line stay
+    → LeavesOpen s line (if joined then go else stay)
 joined_left s line true go stay h k = h
 joined_left s line false go stay h k = k
 
@@ -100,11 +102,13 @@ directive_left s line (Some (Ok special)) = leaves_none _ _ _ refl
 directive_left s line (Some (Err fault)) = leaves_none _ _ _ refl
 directive_left s line None = answer_left s line _ _ _
 
-text_left : (s : LexerState) (line : List ℕ) (is_text : Bool) (answer : Result (Option Line × LexerState) LexFault) → LeavesOpen s line answer → LeavesOpen s line (if is_text then answer else Err NotUtf8)
+text_left : (s : LexerState) (line : List ℕ) (is_text : Bool) (answer : Result (Option Line × LexerState) LexFault) → LeavesOpen s line answer
+    → LeavesOpen s line (if is_text then answer else Err NotUtf8)
 unfolding line_left
 text_left s line is_text answer h = joined_left s line is_text answer (Err NotUtf8) h (leaves_none _ _ _ refl)
 
-unless_left : (s : LexerState) (line : List ℕ) (fault : Option LexFault) (answer : Result (Option Line × LexerState) LexFault) → LeavesOpen s line answer → LeavesOpen s line (unless_fault fault answer)
+unless_left : (s : LexerState) (line : List ℕ) (fault : Option LexFault) (answer : Result (Option Line × LexerState) LexFault) → LeavesOpen s line answer
+    → LeavesOpen s line (unless_fault fault answer)
 unfolding line_left
 unless_left s line None answer h = h
 unless_left s line (Some fault) answer h = leaves_none _ _ _ refl

@@ -8,7 +8,8 @@ use Rattle.coll_lex.specs.Kinds.{Kind, kind_of}
 use Rattle.coll_lex.specs.Kinds as kind
 use Rattle.coll_devices.specs.PhysicalLines.{without_return}
 use Rattle.coll_lex.specs.Marked.{Plain, Literal, is_joined, joined_marks}
-use Rattle.coll_lex.specs.Tokens.{Atom, Bracketed, Unclosed, Bare, atoms, Stop, AtFault, AtComment, AtEnd, InSymbol, InString, Reading, Quoted, Closed, Stops, is_constant, is_name, code_point_of, symbol_by, symbol_of, with_token, after_symbol, with_piece, with_symbol, quoted, after_string, word_run, after_word, after_plain, reading, stopped}
+use Rattle.coll_lex.specs.Tokens.{Atom, Bracketed, Unclosed, Bare, atoms, Stop, AtFault, AtComment, AtEnd, InSymbol, InString, Reading, Quoted, Closed, Stops, is_constant, is_name, code_point_of}
+use Rattle.coll_lex.specs.Tokens.{symbol_by, symbol_of, with_token, after_symbol, with_piece, with_symbol, quoted, after_string, word_run, after_word, after_plain, reading, stopped}
 use Rattle.coll_lex.specs.LogicalLines.{OpenLine, LexerState, extended, dropped, whole, answer_at, answer_in, reading_in, fed_as, fed}
 use Rattle.coll_lex.specs.Names.{AreCharacters, IsPiece, IsToken, AreTokens, HoldsText}
 use Rattle.coll_lex.specs.declared.tokens.Chars.{Chars}
@@ -72,8 +73,10 @@ unfolding quoted
 quoted_pieces [] h = tt
 quoted_pieces (Bracketed name ∷ xs) h = with_symbol_pieces (symbol_of name) (quoted xs) (symbol_makes_piece name h.0) (quoted_pieces xs h.1)
 quoted_pieces (Unclosed ∷ xs) h = tt
-quoted_pieces (Bare (Plain c) ∷ xs) h = cond_both (c == 34) (Closed []) (with_piece (piece.Char c) (quoted xs)) HasPieces (λ _. All-nil IsPiece) (λ _. with_piece_pieces (piece.Char c) (quoted xs) h.0 (quoted_pieces xs h.1))
-quoted_pieces (Bare (Literal c) ∷ xs) h = cond_both (is_constant c) (Stops (AtFault CharacterConstant)) (with_piece (piece.Char c) (quoted xs)) HasPieces (λ _. tt) (λ _. with_piece_pieces (piece.Char c) (quoted xs) h.0 (quoted_pieces xs h.1))
+quoted_pieces (Bare (Plain c) ∷ xs) h =
+    cond_both (c == 34) (Closed []) (with_piece (piece.Char c) (quoted xs)) HasPieces (λ _. All-nil IsPiece) (λ _. with_piece_pieces (piece.Char c) (quoted xs) h.0 (quoted_pieces xs h.1))
+quoted_pieces (Bare (Literal c) ∷ xs) h = cond_both (is_constant c) (Stops (AtFault CharacterConstant)) (with_piece (piece.Char c) (quoted xs)) HasPieces (λ _. tt)
+    (λ _. with_piece_pieces (piece.Char c) (quoted xs) h.0 (quoted_pieces xs h.1))
 
 -- readings
 
@@ -119,7 +122,8 @@ reading_tokens comment (suc skip) (Bare m ∷ xs) h = reading_tokens comment ski
 reading_tokens comment zero (Bracketed name ∷ xs) h = after_symbol_tokens (symbol_of name) (reading comment zero xs) (symbol_makes_piece name h.0) (reading_tokens comment zero xs h.1)
 reading_tokens comment zero (Unclosed ∷ xs) h = All-nil IsToken
 reading_tokens comment zero (Bare (Plain c) ∷ xs) h =
-    after_plain_tokens (kind_of comment c) c (quoted xs) (word_run comment xs) (λ skip. reading comment skip xs) h.0 (quoted_pieces xs h.1) (word_run_if comment xs h.1) (λ skip. reading_tokens comment skip xs h.1)
+    after_plain_tokens (kind_of comment c) c (quoted xs) (word_run comment xs) (λ skip. reading comment skip xs) h.0 (quoted_pieces xs h.1) (word_run_if comment xs h.1)
+    (λ skip. reading_tokens comment skip xs h.1)
 reading_tokens comment zero (Bare (Literal c) ∷ xs) h =
     cond_both (is_constant c) (stopped (AtFault CharacterConstant)) (after_word c (word_run comment xs) (λ skip. reading comment skip xs)) HasTokens (λ _. All-nil IsToken)
     (λ _. after_word_tokens c (word_run comment xs) (λ skip. reading comment skip xs) h.0 (word_run_if comment xs h.1) (λ skip. reading_tokens comment skip xs h.1))
@@ -172,6 +176,7 @@ given_tokens s after line None h e = tt
 given_tokens s after line (Some given) h e = fed-tokens s after line given h e
 
 -- the same of an answer that may be a fault
-pub answered_tokens : (s after : LexerState) (line : List ℕ) (r : Result (Option Line) LexFault) → HoldsText s → IfOk r (λ answer. fed s line ≡ Ok (answer, after)) → IfOk r (λ answer. IfSome answer (λ given. AreTokens given.tokens))
+pub answered_tokens : (s after : LexerState) (line : List ℕ) (r : Result (Option Line) LexFault) → HoldsText s → IfOk r (λ answer. fed s line ≡ Ok (answer, after))
+    → IfOk r (λ answer. IfSome answer (λ given. AreTokens given.tokens))
 answered_tokens s after line (Ok answer) h e = given_tokens s after line answer h e
 answered_tokens s after line (Err fault) h e = tt

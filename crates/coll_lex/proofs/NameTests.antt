@@ -37,6 +37,7 @@ unfolding symbol_of
 code_is_no_name f cs e = ap (λ b. b && all_scalars cs) (by_code f (code_point_of cs) cs e)
 
 -- all else is a name by its characters
-pub name_by_characters : (f : ℕ → ℕ) (text : List ℕ) → IsUtf8 text → false ≡ (length text == 0) → false ≡ is_some (option_map f (code_point_of (chars text))) → is_name (chars text) ≡ is_proper_name (chars text)
+pub name_by_characters : (f : ℕ → ℕ) (text : List ℕ) → IsUtf8 text → false ≡ (length text == 0) → false ≡ is_some (option_map f (code_point_of (chars text)))
+    → is_name (chars text) ≡ is_proper_name (chars text)
 unfolding symbol_of
 name_by_characters f text u some e = by_name f (code_point_of (chars text)) (chars text) (some ∙ none_chars text u) e ∙ with_characters (gives_name (symbol_of (chars text))) text u

@@ -29,12 +29,14 @@ abbrev Holds : LexerState → Answer → Type 0
 Holds s (Ok answer) = IsSkipped s answer.1
 Holds s (Err fault) = (lex_fault_number fault == 70) ≡ false
 
-by_directive : (s : LexerState) (special : Chars) (text : List ℕ) (asked : Option (Result Chars LexFault)) → (s.count == most_lines) ≡ false → directive special text ≡ asked → Holds s (outside_as (dropped s) text asked)
+by_directive : (s : LexerState) (special : Chars) (text : List ℕ) (asked : Option (Result Chars LexFault)) → (s.count == most_lines) ≡ false → directive special text ≡ asked
+    → Holds s (outside_as (dropped s) text asked)
 by_directive s special text (Some (Ok chars)) room e = record { room = room; counted = refl; closed = refl }
 by_directive s special text (Some (Err fault)) room e = directive-not_starved special text fault e
 by_directive s special text None room e = record { room = room; counted = refl; closed = refl }
 
-by_limits : (s : LexerState) (long full : Bool) (answer : Answer) → (full ≡ false → Holds s answer) → Holds s (unless_fault (if long then Some LineTooLong else (if full then Some TooManyLines else None)) answer)
+by_limits : (s : LexerState) (long full : Bool) (answer : Answer) → (full ≡ false → Holds s answer)
+    → Holds s (unless_fault (if long then Some LineTooLong else (if full then Some TooManyLines else None)) answer)
 by_limits s true full answer h = refl
 by_limits s false true answer h = refl
 by_limits s false false answer h = h refl
@@ -43,7 +45,8 @@ holds : (s : LexerState) (line : List ℕ) → Holds s (outside s line)
 unfolding outside
 holds s line =
     let text = without_return line in
-    by_limits s (nat_lt most_line_bytes (length line)) (s.count == most_lines) (outside_as (dropped s) text (directive s.special text)) (λ room. by_directive s s.special text (directive s.special text) room refl)
+    by_limits s (nat_lt most_line_bytes (length line)) (s.count == most_lines) (outside_as (dropped s) text (directive s.special text))
+    (λ room. by_directive s s.special text (directive s.special text) room refl)
 
 skipped : (s after : LexerState) (line : List ℕ) (begins : Bool) → outside s line ≡ Ok (begins, after) → IsSkipped s after
 skipped s after line begins e = subst (Holds s) e (holds s line)

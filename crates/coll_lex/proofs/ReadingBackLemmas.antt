@@ -1,5 +1,6 @@
 -- That spellings are read back.
-use Rattle.std.proofs.Common.{◌≡◌, ℕ, zero, suc, ◌+◌, ◌*◌, ◌/◌, ◌%◌, ◌^◌, ◌<◌, ◌==◌, ◌&&◌, ◌||◌, Bool, true, false, if◌then◌else◌, nat_le, List, [], ◌∷◌, ◌++◌, All, map, length, ◌⊎◌, Some, Ok, refl, sym, ap, ◌∙◌, subst, inl, inr, ⊎_elim, arith}
+use Rattle.std.proofs.Common.{◌≡◌, ℕ, zero, suc, ◌+◌, ◌*◌, ◌/◌, ◌%◌, ◌^◌, ◌<◌, ◌==◌, ◌&&◌, ◌||◌, Bool, true, false, if◌then◌else◌, nat_le, List}
+use Rattle.std.proofs.Common.{[], ◌∷◌, ◌++◌, All, map, length, ◌⊎◌, Some, Ok, refl, sym, ap, ◌∙◌, subst, inl, inr, ⊎_elim, arith}
 use Rattle.std.specs.Char.{digit_value}
 use Rattle.std.specs.List.{list_all}
 use lib.Utf8.{scalar, scalar_fits}
@@ -11,7 +12,8 @@ use Rattle.coll_lex.specs.declared.tokens.Token.TheVariants as token
 use Rattle.coll_lex.specs.declared.tokens.Piece.{Piece}
 use Rattle.coll_lex.specs.declared.tokens.Piece.TheVariants as piece
 use Rattle.coll_lex.specs.Marked.{Mark, Plain, Literal, marks}
-use Rattle.coll_lex.specs.Tokens.{symbol_of, Bracketed, atoms, before_close, character, is_plain, reading, reading_of, with_token, after_symbol, token_of, quoted, with_piece, with_symbol, is_hex_digit, are_digits, hex_number, symbol_then}
+use Rattle.coll_lex.specs.Tokens.{symbol_of, Bracketed, atoms, before_close, character, is_plain, reading, reading_of, with_token, after_symbol}
+use Rattle.coll_lex.specs.Tokens.{token_of, quoted, with_piece, with_symbol, is_hex_digit, are_digits, hex_number, symbol_then}
 use Rattle.coll_lex.specs.Spelling.{is_escaped, spelled_char, spelled_name, spelled_symbol, spelled_code, hex_digit, hex_digits, digit_count}
 use Rattle.coll_lex.proofs.SpellingLemmas.{spelled_name-nil, spelled_name-cons, spelled_name-run, hex_digits-zero, hex_digits-suc, hex_digits-all}
 
@@ -140,7 +142,8 @@ hex_number-hex_digits (suc count) n small =
 -- four or eight digits of a code point spell it
 are_digits-count : (count c : ℕ) → (count ≡ 4) ⊎ (count ≡ 8) → are_digits (hex_digits count c) ≡ true
 are_digits-count count c either =
-    let all : list_all is_hex_digit (hex_digits count c) ≡ true = list_all-from_AllPass is_hex_digit (hex_digits count c) (hex_digits-all (λ b. is_hex_digit b ≡ true) is_hex_digit-hex_digit count c) in
+    let all : list_all is_hex_digit (hex_digits count c) ≡ true =
+    list_all-from_AllPass is_hex_digit (hex_digits count c) (hex_digits-all (λ b. is_hex_digit b ≡ true) is_hex_digit-hex_digit count c) in
     let test : ℕ → Bool → Bool = λ n b. nat_le 4 n && nat_le n 8 && b in
     let long : test count true ≡ true = ⊎_elim (λ four. ap (λ n. test n true) four) (λ eight. ap (λ n. test n true) eight) either in
     ap (test (length (hex_digits count c))) all ∙ ap (λ n. test n true) (length-hex_digits count c) ∙ long

@@ -17,7 +17,8 @@ literal_taken special old new c e t = record {
   ends = λ cs. rw (e, t.same_escape) refl;
 }
 
-pub literal_refused : (special : Chars) (old : Scan) (c : ℕ) (fault : LexFault) → old.escaped ≡ true → Refuses special.comment (record old { escaped = false }) (Literal c) fault → RefusesCharacter special old c fault
+pub literal_refused : (special : Chars) (old : Scan) (c : ℕ) (fault : LexFault) → old.escaped ≡ true → Refuses special.comment (record old { escaped = false }) (Literal c) fault
+    → RefusesCharacter special old c fault
 unfolding reading_left marks
 literal_refused special old c fault e t = record { stops = λ cs ms. rw e (t.stops (marks special.escape false cs ++ ms)) }
 
@@ -38,7 +39,8 @@ plain_taken special old new c e f t =
     let stays : new.escaped ≡ false = t.same_escape ∙ e in
     record { reads = λ cs ms. rw (e, not, stays) (t.reads (marks special.escape false cs ++ ms)); ends = λ cs. rw (e, not, stays) refl }
 
-pub plain_refused : (special : Chars) (old : Scan) (c : ℕ) (fault : LexFault) → old.escaped ≡ false → c ≢ special.escape → Refuses special.comment old (Plain c) fault → RefusesCharacter special old c fault
+pub plain_refused : (special : Chars) (old : Scan) (c : ℕ) (fault : LexFault) → old.escaped ≡ false → c ≢ special.escape → Refuses special.comment old (Plain c) fault
+    → RefusesCharacter special old c fault
 unfolding reading_left marks
 plain_refused special old c fault e f t =
     let not : (c == special.escape) ≡ false = differs c special.escape f in
@@ -62,18 +64,21 @@ prefix_none special s line e = record { reads = λ ms. rw e refl; ends = rw e re
 at_prefix : (line : List ℕ) (n c : ℕ) → (n < length line) × (c ≡ get_or line n c) → drop n line ≡ c ∷ drop (n + 1) line
 at_prefix line n c h = drop_more line n c h.0 ∙ ap (λ x. x ∷ drop (n + 1) line) (sym h.1)
 
-pub prefix_more : (special : Chars) (old mid new : Scan) (line : List ℕ) (n c : ℕ) → TakesPrefix special old line n mid → (n < length line) × (c ≡ get_or line n c) → TakesCharacter special mid c new → TakesPrefix special old line (n + 1) new
+pub prefix_more : (special : Chars) (old mid new : Scan) (line : List ℕ) (n c : ℕ) → TakesPrefix special old line n mid → (n < length line) × (c ≡ get_or line n c) → TakesCharacter special mid c new
+    → TakesPrefix special old line (n + 1) new
 prefix_more special old mid new line n c f h t = record {
   reads = λ ms. f.reads ms ∙ (rw (at_prefix line n c h) (t.reads (drop (n + 1) line) ms));
   ends = f.ends ∙ (rw (at_prefix line n c h) (t.ends (drop (n + 1) line)));
 }
 
-pub prefix_refused : (special : Chars) (old mid : Scan) (line : List ℕ) (n c : ℕ) (fault : LexFault) → TakesPrefix special old line n mid → (n < length line) × (c ≡ get_or line n c) → RefusesCharacter special mid c fault → RefusesLine special old line fault
+pub prefix_refused : (special : Chars) (old mid : Scan) (line : List ℕ) (n c : ℕ) (fault : LexFault) → TakesPrefix special old line n mid → (n < length line) × (c ≡ get_or line n c)
+    → RefusesCharacter special mid c fault → RefusesLine special old line fault
 prefix_refused special old mid line n c fault f h t = record {
   stops = λ ms. rw (f.reads ms, at_prefix line n c h) (t.stops (drop (n + 1) line) ms);
 }
 
-pub prefix_gathers : (special : Chars) (old mid : Scan) (line : List ℕ) (n c : ℕ) → TakesPrefix special old line n mid → (n < length line) × (c ≡ get_or line n c) → GathersCharacter special mid c → GathersLine special old line
+pub prefix_gathers : (special : Chars) (old mid : Scan) (line : List ℕ) (n c : ℕ) → TakesPrefix special old line n mid → (n < length line) × (c ≡ get_or line n c) → GathersCharacter special mid c
+    → GathersLine special old line
 prefix_gathers special old mid line n c f h t = record {
   reads = λ ms. rw (f.reads ms, at_prefix line n c h) (t.reads (drop (n + 1) line) ms);
 }

@@ -4,7 +4,8 @@ use Rattle.std.proofs.lemmas.List.{append-nil}
 use Rattle.std.proofs.lemmas.Bool.Decides.{nat_tests}
 use Rattle.coll_lex.specs.Blanks.{is_blank}
 use Rattle.coll_lex.specs.Marked.{Mark, Plain, Literal}
-use Rattle.coll_lex.specs.Tokens.{is_constant, symbol_of, token_of, Atom, Bracketed, Bare, character, is_plain, with_character, before_close, symbol_then, atoms, AtFault, AtComment, Reading, stopped, with_token, Quoted, Closed, Stops, with_piece, quoted, with_letter, word_run, after_word, after_string, reading}
+use Rattle.coll_lex.specs.Tokens.{is_constant, symbol_of, token_of, Atom, Bracketed, Bare, character, is_plain, with_character, before_close, symbol_then, atoms, AtFault, AtComment}
+use Rattle.coll_lex.specs.Tokens.{Reading, stopped, with_token, Quoted, Closed, Stops, with_piece, quoted, with_letter, word_run, after_word, after_string, reading}
 use Rattle.coll_lex.specs.Scanning.{prefixed, symbol_rest, atoms_in, word_rest, word_left, string_rest, string_left, reading_left, TakesMark, Refuses, word_token}
 use Rattle.coll_lex.specs.declared.tokens.Token.{Token}
 use Rattle.coll_lex.specs.declared.tokens.Token.TheVariants as token
@@ -69,7 +70,8 @@ text_symbol_grows comment s m e f = record {
 }
 
 -- the end of a symbol that stands for a piece
-pub symbol_ends : (comment : ℕ) (s : Scan) (p : Piece) → s.mode ≡ mode.Symbol → symbol_of s.partial ≡ Ok p → TakesMark comment s (Plain 62) (record s { mode = mode.Plain; partial = []; tokens = s.tokens ++ token_of p ∷ [] })
+pub symbol_ends : (comment : ℕ) (s : Scan) (p : Piece) → s.mode ≡ mode.Symbol → symbol_of s.partial ≡ Ok p
+    → TakesMark comment s (Plain 62) (record s { mode = mode.Plain; partial = []; tokens = s.tokens ++ token_of p ∷ [] })
 unfolding reading_left reading
 symbol_ends comment s p e f = record {
   reads = λ ms. rw (e, atoms_in_close s.partial ms, f) (prefixed_push s.tokens (token_of p) (reading comment zero (atoms zero ms)));
@@ -89,7 +91,8 @@ piece_more comment pieces p (Closed more) a xs = ap (λ ps. with_token (token.Te
 piece_more comment pieces p (Stops stop) a xs = refl
 
 -- the end of a symbol in a string that stands for a piece
-pub text_symbol_ends : (comment : ℕ) (s : Scan) (p : Piece) → s.mode ≡ mode.SymbolInText → symbol_of s.partial ≡ Ok p → TakesMark comment s (Plain 62) (record s { mode = mode.Text; partial = []; pieces = s.pieces ++ p ∷ [] })
+pub text_symbol_ends : (comment : ℕ) (s : Scan) (p : Piece) → s.mode ≡ mode.SymbolInText → symbol_of s.partial ≡ Ok p
+    → TakesMark comment s (Plain 62) (record s { mode = mode.Text; partial = []; pieces = s.pieces ++ p ∷ [] })
 unfolding reading_left quoted
 text_symbol_ends comment s p e f = record {
   reads = λ ms. rw (e, atoms_in_close s.partial ms, f) (ap (prefixed s.tokens) (piece_more comment s.pieces p (quoted (atoms zero ms)) (Bracketed s.partial) (atoms zero ms)));
@@ -112,7 +115,8 @@ text_symbol_begins comment s e = record {
 }
 
 -- the `"` that closes a string
-pub text_ends : (comment : ℕ) (s : Scan) → s.mode ≡ mode.Text → TakesMark comment s (Plain 34) (record s { mode = mode.Plain; partial = []; pieces = []; tokens = s.tokens ++ token.Text s.pieces ∷ [] })
+pub text_ends : (comment : ℕ) (s : Scan) → s.mode ≡ mode.Text
+    → TakesMark comment s (Plain 34) (record s { mode = mode.Plain; partial = []; pieces = []; tokens = s.tokens ++ token.Text s.pieces ∷ [] })
 unfolding reading_left atoms quoted reading
 text_ends comment s e = record {
   reads = λ ms. rw (e, append-nil s.pieces) (prefixed_push s.tokens (token.Text s.pieces) (reading comment zero (atoms zero ms)));
@@ -163,12 +167,14 @@ symbol_ends_word comment (Some name) rest = refl
 pub symbol_begins_outside : (comment : ℕ) (s : Scan) → s.mode ≡ mode.Plain → TakesMark comment s (Plain 60) (record s { mode = mode.Symbol; partial = []; tokens = s.tokens ++ word_token s.partial })
 unfolding reading_left atoms
 symbol_begins_outside comment s e = record {
-  reads = λ ms. rw e (word_ends_after comment s.tokens s.partial (symbol_then (before_close ms) (λ skip. atoms skip ms)) (reading comment zero (atoms_in [] ms)) (symbol_ends_word comment (before_close ms) (λ skip. atoms skip ms)) (ap (reading comment zero) (symbol_begins (before_close ms) (λ skip. atoms skip ms))));
+  reads = λ ms. rw e (word_ends_after comment s.tokens s.partial (symbol_then (before_close ms) (λ skip. atoms skip ms)) (reading comment zero (atoms_in [] ms))
+      (symbol_ends_word comment (before_close ms) (λ skip. atoms skip ms)) (ap (reading comment zero) (symbol_begins (before_close ms) (λ skip. atoms skip ms))));
   same_escape = refl;
 }
 
 -- a blank, which is no `<`
-pub blank_outside : (comment : ℕ) (s : Scan) (c : ℕ) → s.mode ≡ mode.Plain → c ≢ 60 → is_blank c ≡ true → TakesMark comment s (Plain c) (record s { partial = []; tokens = s.tokens ++ word_token s.partial })
+pub blank_outside : (comment : ℕ) (s : Scan) (c : ℕ) → s.mode ≡ mode.Plain → c ≢ 60 → is_blank c ≡ true
+    → TakesMark comment s (Plain c) (record s { partial = []; tokens = s.tokens ++ word_token s.partial })
 unfolding reading_left atoms word_run reading
 blank_outside comment s c e f g = record {
   reads = λ ms. rw (e, differs c 60 f) (word_ends_after comment s.tokens s.partial (Bare (Plain c) ∷ atoms zero ms) (reading comment zero (atoms zero ms)) (rw g refl) (rw g refl));
@@ -178,14 +184,16 @@ blank_outside comment s c e f g = record {
 pub semicolon_outside : (comment : ℕ) (s : Scan) → s.mode ≡ mode.Plain → TakesMark comment s (Plain 59) (record s { partial = []; tokens = (s.tokens ++ word_token s.partial) ++ token.Semicolon ∷ [] })
 unfolding reading_left atoms word_run reading
 semicolon_outside comment s e = record {
-  reads = λ ms. rw e (word_ends_after comment s.tokens s.partial (Bare (Plain 59) ∷ atoms zero ms) (with_token token.Semicolon (reading comment zero (atoms zero ms))) refl refl ∙ prefixed_push (s.tokens ++ word_token s.partial) token.Semicolon (reading comment zero (atoms zero ms)));
+  reads = λ ms. rw e (word_ends_after comment s.tokens s.partial (Bare (Plain 59) ∷ atoms zero ms) (with_token token.Semicolon (reading comment zero (atoms zero ms))) refl refl
+      ∙ prefixed_push (s.tokens ++ word_token s.partial) token.Semicolon (reading comment zero (atoms zero ms)));
   same_escape = refl;
 }
 
 pub comma_outside : (comment : ℕ) (s : Scan) → s.mode ≡ mode.Plain → TakesMark comment s (Plain 44) (record s { partial = []; tokens = (s.tokens ++ word_token s.partial) ++ token.Comma ∷ [] })
 unfolding reading_left atoms word_run reading
 comma_outside comment s e = record {
-  reads = λ ms. rw e (word_ends_after comment s.tokens s.partial (Bare (Plain 44) ∷ atoms zero ms) (with_token token.Comma (reading comment zero (atoms zero ms))) refl refl ∙ prefixed_push (s.tokens ++ word_token s.partial) token.Comma (reading comment zero (atoms zero ms)));
+  reads = λ ms. rw e (word_ends_after comment s.tokens s.partial (Bare (Plain 44) ∷ atoms zero ms) (with_token token.Comma (reading comment zero (atoms zero ms))) refl refl
+      ∙ prefixed_push (s.tokens ++ word_token s.partial) token.Comma (reading comment zero (atoms zero ms)));
   same_escape = refl;
 }
 
@@ -205,12 +213,14 @@ no_separator c bracket blank semicolon comma = record {
 }
 
 -- the comment character
-pub comment_outside : (comment : ℕ) (s : Scan) (c : ℕ) → s.mode ≡ mode.Plain → c ≡ comment → IsNoSeparator c → TakesMark comment s (Plain c) (record s { mode = mode.Comment; partial = []; tokens = s.tokens ++ word_token s.partial })
+pub comment_outside : (comment : ℕ) (s : Scan) (c : ℕ) → s.mode ≡ mode.Plain → c ≡ comment → IsNoSeparator c
+    → TakesMark comment s (Plain c) (record s { mode = mode.Comment; partial = []; tokens = s.tokens ++ word_token s.partial })
 unfolding reading_left atoms word_run reading
 comment_outside comment s c e same n =
     let is : (c == comment) ≡ true = equals c comment same in
     record {
-      reads = λ ms. rw (e, n.no_bracket) (word_ends_after comment s.tokens s.partial (Bare (Plain c) ∷ atoms zero ms) (stopped AtComment) (rw (n.no_blank, n.no_semicolon, n.no_comma, is) refl) (rw (n.no_blank, n.no_semicolon, n.no_comma, is) refl));
+      reads = λ ms. rw (e, n.no_bracket) (word_ends_after comment s.tokens s.partial (Bare (Plain c) ∷ atoms zero ms) (stopped AtComment) (rw (n.no_blank, n.no_semicolon, n.no_comma, is) refl)
+          (rw (n.no_blank, n.no_semicolon, n.no_comma, is) refl));
       same_escape = refl;
     }
 
@@ -219,10 +229,12 @@ text_starts (Closed pieces) rest = refl
 text_starts (Stops stop) rest = refl
 
 -- the `"` that begins a string
-pub text_begins : (comment : ℕ) (s : Scan) → s.mode ≡ mode.Plain → (34 == comment) ≡ false → TakesMark comment s (Plain 34) (record s { mode = mode.Text; partial = []; pieces = []; tokens = s.tokens ++ word_token s.partial })
+pub text_begins : (comment : ℕ) (s : Scan) → s.mode ≡ mode.Plain → (34 == comment) ≡ false
+    → TakesMark comment s (Plain 34) (record s { mode = mode.Text; partial = []; pieces = []; tokens = s.tokens ++ word_token s.partial })
 unfolding reading_left atoms word_run reading
 text_begins comment s e f = record {
-  reads = λ ms. rw e (word_ends_after comment s.tokens s.partial (Bare (Plain 34) ∷ atoms zero ms) (string_left comment [] (atoms zero ms)) (rw f refl) (rw f (text_starts (quoted (atoms zero ms)) (λ skip. reading comment skip (atoms zero ms)))));
+  reads = λ ms. rw e (word_ends_after comment s.tokens s.partial (Bare (Plain 34) ∷ atoms zero ms) (string_left comment [] (atoms zero ms)) (rw f refl)
+      (rw f (text_starts (quoted (atoms zero ms)) (λ skip. reading comment skip (atoms zero ms)))));
   same_escape = refl;
 }
 
@@ -244,10 +256,13 @@ word_left_more comment [] c a xs e f = f ∙ word_starts c (word_run comment xs)
 word_left_more comment (d ∷ ds) c a xs e f = rw e (word_more comment (d ∷ ds) c (word_run comment xs) a xs)
 
 -- one more character of a word
-pub word_grows : (comment : ℕ) (s : Scan) (c : ℕ) → s.mode ≡ mode.Plain → IsNoSeparator c → (c == comment) ≡ false → (c == 34) ≡ false → TakesMark comment s (Plain c) (record s { partial = s.partial ++ c ∷ [] })
+pub word_grows : (comment : ℕ) (s : Scan) (c : ℕ) → s.mode ≡ mode.Plain → IsNoSeparator c → (c == comment) ≡ false → (c == 34) ≡ false
+    → TakesMark comment s (Plain c) (record s { partial = s.partial ++ c ∷ [] })
 unfolding reading_left atoms word_run reading
 word_grows comment s c e n f g = record {
-  reads = λ ms. rw (e, n.no_bracket) (ap (prefixed s.tokens) (word_left_more comment s.partial c (Bare (Plain c)) (atoms zero ms) (rw (n.no_blank, n.no_semicolon, n.no_comma, f, g) refl) (rw (n.no_blank, n.no_semicolon, n.no_comma, f, g) refl)));
+  reads = λ ms. rw (e, n.no_bracket)
+      (ap (prefixed s.tokens) (word_left_more comment s.partial c (Bare (Plain c)) (atoms zero ms) (rw (n.no_blank, n.no_semicolon, n.no_comma, f, g) refl)
+      (rw (n.no_blank, n.no_semicolon, n.no_comma, f, g) refl)));
   same_escape = refl;
 }
 

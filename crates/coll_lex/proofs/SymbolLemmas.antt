@@ -1,5 +1,6 @@
 -- What a symbol stands for, by its bytes and by its characters.
-use Rattle.std.proofs.Common.{◌≡◌, ◌≢◌, ℕ, ◌<◌, ◌≤◌, min, zero, suc, ◌==◌, ◌&&◌, ◌||◌, not, nat_le, Bool, true, false, if◌then◌else◌, List, [], ◌∷◌, length, get_or, chars, IsUtf8, IsAscii, encode_utf8_all, Option, Some, None, option_map, Ok, Err, refl, ap, sym, ◌∙◌, arith, inl, inr}
+use Rattle.std.proofs.Common.{◌≡◌, ◌≢◌, ℕ, ◌<◌, ◌≤◌, min, zero, suc, ◌==◌, ◌&&◌, ◌||◌, not, nat_le, Bool, true, false, if◌then◌else◌, List, [], ◌∷◌, length, get_or}
+use Rattle.std.proofs.Common.{chars, IsUtf8, IsAscii, encode_utf8_all, Option, Some, None, option_map, Ok, Err, refl, ap, sym, ◌∙◌, arith, inl, inr}
 use Rattle.std.specs.List.{list_all}
 use lib.Utf8.{scalar}
 use Rattle.std.proofs.lemmas.Bool.{and_parts}
@@ -85,7 +86,8 @@ read_if : (b : Bool) (n : ℕ) → (if b then Some (min n PAST_CODE_POINTS) else
 read_if true n = refl
 read_if false n = refl
 
-pub code_in_digits : (bs : List ℕ) (d : ℕ) (ds : List ℕ) → IsUtf8 bs → bs ≡ d ∷ ds → d ≡ 85 → 4 ≤ length ds → length ds ≤ 8 → (if list_all is_hex_digit ds then Some (min (hex_number ds) PAST_CODE_POINTS) else None) ≡ code_read (chars bs)
+pub code_in_digits : (bs : List ℕ) (d : ℕ) (ds : List ℕ) → IsUtf8 bs → bs ≡ d ∷ ds → d ≡ 85 → 4 ≤ length ds → length ds ≤ 8
+    → (if list_all is_hex_digit ds then Some (min (hex_number ds) PAST_CODE_POINTS) else None) ≡ code_read (chars bs)
 code_in_digits bs d ds u e f k h =
     let enough : nat_le 4 (length ds) ≡ true = grind (arith, nat_tests) in
     let within : nat_le (length ds) 8 ≡ true = grind (arith, nat_tests) in

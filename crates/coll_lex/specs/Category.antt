@@ -11,4 +11,5 @@ is_over comment (b ∷ bs) = b == comment
 -- blanks skipped, the line's first word is LC_COLLATE, with only blanks or a comment after it
 unfoldable pub begins_category : (comment : ℕ) → List ℕ → Bool
 begins_category comment line =
-    starts_with nat_eq (past_blanks line) (codes "LC_COLLATE") && is_over comment (past_blanks (drop (length (codes "LC_COLLATE")) (past_blanks line)))
+    starts_with nat_eq (past_blanks line) (codes "LC_COLLATE") && is_over comment
+    (past_blanks (drop (length (codes "LC_COLLATE")) (past_blanks line)))

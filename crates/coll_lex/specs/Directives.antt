@@ -1,5 +1,6 @@
 -- The lines `comment_char` and `escape_char`, which choose a text's two characters (POSIX.1-2017, 7.3).
-use Rattle.std.specs.Prelude.{ℕ, Bool, if◌then◌else◌, ◌==◌, ◌&&◌, nat_eq, List, [], ◌∷◌, length, drop, codes, Option, Some, None, Result, Ok, Err}
+use Rattle.std.specs.Prelude.{ℕ, Bool, if◌then◌else◌, ◌==◌, ◌&&◌, nat_eq, List, [], ◌∷◌, length}
+use Rattle.std.specs.Prelude.{drop, codes, Option, Some, None, Result, Ok, Err}
 use Rattle.std.specs.List.{list_any, starts_with}
 use Rattle.coll_lex.specs.Blanks.{past_blanks, begins_apart}
 use Rattle.coll_lex.specs.declared.tokens.Chars.{Chars}
@@ -8,7 +9,8 @@ use Rattle.coll_lex.specs.declared.faults.LexFault.TheVariants.{BadCharDirective
 
 -- what follows a word, where the line begins with it and a blank or the line's end comes after it
 unfoldable pub operand_of : (word line : List ℕ) → Option (List ℕ)
-operand_of word line = if starts_with nat_eq line word && begins_apart (drop (length word) line) then Some (drop (length word) line) else None
+operand_of word line = if starts_with nat_eq line word && begins_apart (drop (length word) line) then Some (drop (length word) line)
+    else None
 
 -- a character that may be made the comment or the escape character
 abbrev pub is_allowed : ℕ → Bool

@@ -15,7 +15,10 @@ pub data Kind : Type 0 where
 -- the kind of a character; a comment character that is a blank or a separator too is that, and one that is `"` begins a
 -- comment
 abbrev pub kind_of : (comment : ℕ) → ℕ → Kind
-kind_of comment c = if is_blank c then Blank else (if c == semicolon then Semicolon else (if c == comma then Comma else (if c == comment then CommentCharacter else (if c == quotation_mark then QuotationMark else Letter))))
+kind_of comment c = if is_blank c then Blank
+    else (if c == semicolon then Semicolon
+    else (if c == comma then Comma
+    else (if c == comment then CommentCharacter else (if c == quotation_mark then QuotationMark else Letter))))
 
 -- whether a character of this kind ends a word; a symbol does too
 abbrev pub ends_word : Kind → Bool

@@ -30,7 +30,8 @@ state_of l = record { special = l.special; count = l.count; line = option_map li
 
 -- the physical lines of an open line are text; its scan has read them, and stands at the beginning of the next one
 pub record IsSoundOpen (special : Chars) (o : Open) : Type 0 where
-  pub reads : (ms : List Mark) → reading_of special.comment (joined_marks special.escape (map chars (lines_in o.lines.items)) ++ ms) ≡ reading_left special.comment o.scan ms
+  pub reads : (ms : List Mark) → reading_of special.comment (joined_marks special.escape (map chars (lines_in o.lines.items)) ++ ms)
+      ≡ reading_left special.comment o.scan ms
   pub text : All IsUtf8 (lines_in o.lines.items)
   pub unescaped : o.scan.escaped ≡ false
   pub short : o.bytes ≤ most_line_bytes

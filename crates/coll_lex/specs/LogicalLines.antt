@@ -1,6 +1,7 @@
 -- Logical lines: what a lexer has been handed, its answer to one more physical line, and the logical lines of a
 -- list of physical lines (POSIX.1-2017, 7.3).
-use Rattle.std.specs.Prelude.{ℕ, ◌+◌, min, Bool, true, false, if◌then◌else◌, ◌==◌, nat_lt, List, [], ◌∷◌, ◌++◌, map, length, chars, Option, Some, None, is_some, option_map, unwrap_or, Result, Ok, Err}
+use Rattle.std.specs.Prelude.{ℕ, ◌+◌, min, Bool, true, false, if◌then◌else◌, ◌==◌, nat_lt, List, [], ◌∷◌, ◌++◌, map, length}
+use Rattle.std.specs.Prelude.{chars, Option, Some, None, is_some, option_map, unwrap_or, Result, Ok, Err}
 use Rattle.std.specs.Str.{is_utf8}
 use Rattle.coll_lex.specs.Characters.{number_sign, backslash}
 use Rattle.coll_devices.specs.PhysicalLines.{without_return}
@@ -14,7 +15,9 @@ use Rattle.coll_lex.specs.declared.tokens.Token.{Token}
 use Rattle.coll_devices.specs.Limits.{most_line_bytes}
 use Rattle.coll_lex.specs.Limits.{most_lines}
 use Rattle.coll_lex.specs.declared.faults.LexFault.{LexFault}
-use Rattle.coll_lex.specs.declared.faults.LexFault.TheVariants.{NotUtf8, OpenSymbol, EmptySymbol, BadName, BadCodePoint, OpenString, CharacterConstant, DanglingEscape, LineTooLong, BadCharDirective, TooManyLines, OutOfMemory}
+use Rattle.coll_lex.specs.declared.faults.LexFault.TheVariants.{NotUtf8, OpenSymbol, EmptySymbol, BadName, BadCodePoint}
+use Rattle.coll_lex.specs.declared.faults.LexFault.TheVariants.{OpenString, CharacterConstant, DanglingEscape, LineTooLong}
+use Rattle.coll_lex.specs.declared.faults.LexFault.TheVariants.{BadCharDirective, TooManyLines, OutOfMemory}
 
 -- a logical line that goes on in the next physical line: its number, its physical lines so far without their
 -- carriage returns, and the sum of the lengths handed in
@@ -105,18 +108,21 @@ directive_where None asked = asked
 directive_where (Some o) asked = None
 
 -- the answer to a line, by the directive that it is
-abbrev pub fed_as : (next : LexerState) → OpenLine → (line : List ℕ) → Option (Result Chars LexFault) → Result (Option Line × LexerState) LexFault
+abbrev pub fed_as : (next : LexerState) → OpenLine → (line : List ℕ) → Option (Result Chars LexFault)
+    → Result (Option Line × LexerState) LexFault
 fed_as next o line (Some (Ok special)) = Ok (None, record next { special = special })
 fed_as next o line (Some (Err fault)) = Err fault
 fed_as next o line None = answer_in next o line
 
 -- the answer to a line of UTF-8, or that it is none
-abbrev pub fed_text : (next : LexerState) → OpenLine → (line : List ℕ) → Option (Result Chars LexFault) → Result (Option Line × LexerState) LexFault
+abbrev pub fed_text : (next : LexerState) → OpenLine → (line : List ℕ) → Option (Result Chars LexFault)
+    → Result (Option Line × LexerState) LexFault
 fed_text next o line asked = if is_utf8 line then fed_as next o line asked else Err NotUtf8
 
 -- the fault of a line by the sum of the lengths up to it, or by the count of the lines before it
 abbrev pub line_fault : (count bytes : ℕ) → Option LexFault
-line_fault count bytes = if nat_lt most_line_bytes bytes then Some LineTooLong else (if count == most_lines then Some TooManyLines else None)
+line_fault count bytes = if nat_lt most_line_bytes bytes then Some LineTooLong
+    else (if count == most_lines then Some TooManyLines else None)
 
 -- the answer to a line, unless it is at fault
 abbrev pub unless_fault : {A : Type 0} → Option LexFault → Result A LexFault → Result A LexFault
@@ -140,7 +146,8 @@ outside_as next line None = Ok (begins_category next.special.comment line, next)
 -- belongs to no logical line, so an open one is dropped
 unfoldable pub outside : LexerState → List ℕ → Result (Bool × LexerState) LexFault
 outside s line =
-    unless_fault (line_fault s.count (length line)) (outside_as (dropped s) (without_return line) (directive s.special (without_return line)))
+    unless_fault (line_fault s.count (length line))
+    (outside_as (dropped s) (without_return line) (directive s.special (without_return line)))
 
 -- a logical line: its number, its first physical line, and its tokens or its fault
 pub record LogicalLine : Type 0 where
@@ -198,7 +205,8 @@ state_by s (Err fault) = dropped s
 -- the logical line that this answer gives
 abbrev pub lines_by : LexerState → List ℕ → Result (Option Line × LexerState) LexFault → List LogicalLine
 lines_by s line (Ok (None, _)) = []
-lines_by s line (Ok (Some whole_line, _)) = record { number = whole_line.number; first = first_line s line; tokens = Ok whole_line.tokens } ∷ []
+lines_by s line (Ok (Some whole_line, _)) =
+    record { number = whole_line.number; first = first_line s line; tokens = Ok whole_line.tokens } ∷ []
 lines_by s line (Err fault) = record { number = number_of s; first = first_line s line; tokens = Err fault } ∷ []
 
 -- a line that is open where the text ends is at fault
@@ -210,4 +218,5 @@ line_left_open (Some o) = record { number = o.number; first = first_of o.lines; 
 -- text ends with them
 unfoldable pub logical_lines : (starved : List Bool) → (ends : Bool) → LexerState → List (List ℕ) → List LogicalLine
 logical_lines starved ends s [] = if ends then line_left_open s.line else []
-logical_lines starved ends s (line ∷ lines) = lines_by s line (served (first_choice starved) s line) ++ logical_lines (later_choices starved) ends (state_by s (served (first_choice starved) s line)) lines
+logical_lines starved ends s (line ∷ lines) = lines_by s line (served (first_choice starved) s line)
+    ++ logical_lines (later_choices starved) ends (state_by s (served (first_choice starved) s line)) lines

@@ -57,12 +57,14 @@ HoldsText s = All IsUtf8 (lines_before s)
 -- whatever line is handed in wherever a lexer stands, if its open line is text, the logical line that is given has tokens
 -- as they are made
 abbrev pub LinesHaveTokens : Type 0
-LinesHaveTokens = (s after : LexerState) (line : List ℕ) (given : Line) → HoldsText s → fed s line ≡ Ok (Some given, after) → AreTokens given.tokens
+LinesHaveTokens = (s after : LexerState) (line : List ℕ) (given : Line) → HoldsText s → fed s line ≡ Ok (Some given, after)
+    → AreTokens given.tokens
 
 -- the open line of a lexer is always text: at the beginning of a text, after each line that is handed in, in the category
 -- if it was before, and after a fault
 pub record LexersHoldText : Type 0 where
   pub at_first : HoldsText first_state
-  pub after_line : (s after : LexerState) (line : List ℕ) (answer : Option Line) → HoldsText s → fed s line ≡ Ok (answer, after) → HoldsText after
+  pub after_line : (s after : LexerState) (line : List ℕ) (answer : Option Line) → HoldsText s → fed s line ≡ Ok (answer, after)
+      → HoldsText after
   pub after_outside : (s after : LexerState) (line : List ℕ) (begins : Bool) → outside s line ≡ Ok (begins, after) → HoldsText after
   pub after_fault : (s : LexerState) → HoldsText (dropped s)

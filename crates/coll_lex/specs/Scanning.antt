@@ -1,9 +1,11 @@
 -- What is left to read once a scan has come so far. The state of a scan is private: these words tie it to the
 -- definition of tokens, and only the scan's own contracts cite them.
-use Rattle.std.specs.Prelude.{◌≡◌, ℕ, zero, suc, ◌<◌, Bool, true, false, ◌&&◌, List, [], ◌∷◌, ◌++◌, length, Option, Some, None, Result, Ok, Err}
+use Rattle.std.specs.Prelude.{◌≡◌, ℕ, zero, suc, ◌<◌, Bool, true, false, ◌&&◌, List, [], ◌∷◌}
+use Rattle.std.specs.Prelude.{◌++◌, length, Option, Some, None, Result, Ok, Err}
 use Rattle.std.specs.declared.alloc.Global.{Global}
 use Rattle.coll_lex.specs.Marked.{Mark, marks, ends_escaped}
-use Rattle.coll_lex.specs.Tokens.{Atom, Bracketed, Unclosed, before_close, atoms, Stop, AtFault, AtComment, AtEnd, InSymbol, InString, Reading, stopped, with_token, Quoted, Closed, Stops, quoted, word_run, reading}
+use Rattle.coll_lex.specs.Tokens.{Atom, Bracketed, Unclosed, before_close, atoms, Stop, AtFault, AtComment, AtEnd, InSymbol}
+use Rattle.coll_lex.specs.Tokens.{InString, Reading, stopped, with_token, Quoted, Closed, Stops, quoted, word_run, reading}
 use Rattle.coll_lex.specs.declared.tokens.Token.{Token}
 use Rattle.coll_lex.specs.declared.tokens.Token.TheVariants as token
 use Rattle.coll_lex.specs.declared.tokens.Piece.{Piece}
@@ -94,20 +96,24 @@ pub record Gathers (comment : ℕ) (old : Scan) (m : Mark) : Type 0 where
 
 -- a scan takes one character off the line
 pub record TakesCharacter (special : Chars) (old : Scan) (c : ℕ) (new : Scan) : Type 0 where
-  pub reads : (cs : List ℕ) (ms : List Mark) → reading_left special.comment old (marks special.escape old.escaped (c ∷ cs) ++ ms) ≡ reading_left special.comment new (marks special.escape new.escaped cs ++ ms)
+  pub reads : (cs : List ℕ) (ms : List Mark) → reading_left special.comment old (marks special.escape old.escaped (c ∷ cs) ++ ms)
+      ≡ reading_left special.comment new (marks special.escape new.escaped cs ++ ms)
   pub ends : (cs : List ℕ) → ends_escaped special.escape old.escaped (c ∷ cs) ≡ ends_escaped special.escape new.escaped cs
 
 -- the line's reading stops at this character, which is at fault
 pub record RefusesCharacter (special : Chars) (old : Scan) (c : ℕ) (fault : LexFault) : Type 0 where
-  pub stops : (cs : List ℕ) (ms : List Mark) → (reading_left special.comment old (marks special.escape old.escaped (c ∷ cs) ++ ms)).stop ≡ AtFault fault
+  pub stops : (cs : List ℕ) (ms : List Mark) → (reading_left special.comment old (marks special.escape old.escaped (c ∷ cs) ++ ms)).stop
+      ≡ AtFault fault
 
 -- whatever follows this character, the line's reading has a token or is cut short
 pub record GathersCharacter (special : Chars) (old : Scan) (c : ℕ) : Type 0 where
-  pub reads : (cs : List ℕ) (ms : List Mark) → gathers (reading_left special.comment old (marks special.escape old.escaped (c ∷ cs) ++ ms)) ≡ true
+  pub reads : (cs : List ℕ) (ms : List Mark) → gathers (reading_left special.comment old (marks special.escape old.escaped (c ∷ cs) ++ ms))
+      ≡ true
 
 -- a scan takes a physical line
 pub record TakesLine (special : Chars) (old : Scan) (line : List ℕ) (new : Scan) : Type 0 where
-  pub reads : (ms : List Mark) → reading_left special.comment old (marks special.escape false line ++ ms) ≡ reading_left special.comment new ms
+  pub reads : (ms : List Mark) → reading_left special.comment old (marks special.escape false line ++ ms)
+      ≡ reading_left special.comment new ms
   pub ends : new.escaped ≡ ends_escaped special.escape false line
 
 -- the reading stops in this physical line

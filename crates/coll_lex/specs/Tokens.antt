@@ -2,7 +2,8 @@
 --
 -- Symbols are grouped first, alike inside and outside strings; then the text is read as strings, words,
 -- separators and a comment. A number tells how many items, already taken, are to be skipped.
-use Rattle.std.specs.Prelude.{ℕ, zero, suc, ◌+◌, ◌*◌, Bool, false, if◌then◌else◌, ◌==◌, ◌&&◌, ◌||◌, not, nat_lt, nat_le, List, [], ◌∷◌, length, fold, Option, Some, None, Result, Ok, Err}
+use Rattle.std.specs.Prelude.{ℕ, zero, suc, ◌+◌, ◌*◌, Bool, false, if◌then◌else◌, ◌==◌, ◌&&◌, ◌||◌, not, nat_lt}
+use Rattle.std.specs.Prelude.{nat_le, List, [], ◌∷◌, length, fold, Option, Some, None, Result, Ok, Err}
 use Rattle.std.specs.Char.{digit_value}
 use Rattle.std.specs.List.{list_all}
 use lib.Utf8.{scalar}
@@ -196,8 +197,10 @@ reading comment skip [] = stopped AtEnd
 reading comment (suc skip) (a ∷ xs) = reading comment skip xs
 reading comment zero (Bracketed name ∷ xs) = after_symbol (symbol_of name) (reading comment zero xs)
 reading comment zero (Unclosed ∷ xs) = stopped InSymbol
-reading comment zero (Bare (Plain c) ∷ xs) = after_plain (kind_of comment c) c (quoted xs) (word_run comment xs) (λ skip. reading comment skip xs)
-reading comment zero (Bare (Literal c) ∷ xs) = if is_constant c then stopped (AtFault CharacterConstant) else after_word c (word_run comment xs) (λ skip. reading comment skip xs)
+reading comment zero (Bare (Plain c) ∷ xs) =
+    after_plain (kind_of comment c) c (quoted xs) (word_run comment xs) (λ skip. reading comment skip xs)
+reading comment zero (Bare (Literal c) ∷ xs) =
+    if is_constant c then stopped (AtFault CharacterConstant) else after_word c (word_run comment xs) (λ skip. reading comment skip xs)
 
 -- the tokens of a marked text, up to a fault, a comment or the end
 abbrev pub reading_of : (comment : ℕ) → List Mark → Reading

@@ -121,10 +121,12 @@ impl Model for Lexer {
 }
 
 impl Lexer {
-    ghost use Rattle.std.specs.Prelude.{◌≡◌, ◌≢◌, ◌+◌, ◌<◌, ◌≤◌, ◌∷◌, [], length, chars, Ok, Err, None, Some, option_map, IsSome, IsTrue, IfSome, IfOk, IfErr, OnOk, OnErr};
+    ghost use Rattle.std.specs.Prelude.{◌≡◌, ◌≢◌, ◌+◌, ◌<◌, ◌≤◌, ◌∷◌, [], length, chars, Ok, Err, None, Some};
+    ghost use Rattle.std.specs.Prelude.{option_map, IsSome, IsTrue, IfSome, IfOk, IfErr, OnOk, OnErr};
     ghost use Rattle.coll_devices.specs.PhysicalLines.{without_return};
     ghost use Rattle.coll_lex.specs.Directives.{directive};
-    ghost use Rattle.coll_lex.specs.LogicalLines.{first_state, pending, dropped, line_fault, answer_in, fed_as, fed, needs_memory, takes_memory, outside, number_of};
+    ghost use Rattle.coll_lex.specs.LogicalLines.{first_state, pending, dropped, line_fault, answer_in, fed_as, fed};
+    ghost use Rattle.coll_lex.specs.LogicalLines.{needs_memory, takes_memory, outside, number_of};
     ghost use Rattle.coll_lex.specs.Lexer.{line_in, added, IsSoundOpen};
     ghost use Rattle.coll_lex.specs.Names.{AreTokens};
     ghost use Rattle.coll_devices.specs.Limits.{most_line_bytes};
@@ -290,12 +292,14 @@ impl Lexer {
         requires alone { self.old.line ≡ None }
         requires sound { IsSoundOpen self.old.special logical }
         requires short { logical.bytes + bytes ≤ most_line_bytes }
-        ensures ok { IfOk result (λ answer. fed_as self.old (added (line_in logical) line.now bytes) line.now (directive self.old.special line.now)
+        ensures ok { IfOk result (λ answer.
+            fed_as self.old (added (line_in logical) line.now bytes) line.now (directive self.old.special line.now)
             ≡ Ok (answer, self.new)) }
         ensures err { IfErr result (λ fault. fault ≢ OutOfMemory
             → fed_as self.old (added (line_in logical) line.now bytes) line.now (directive self.old.special line.now) ≡ Err fault) }
         ensures memory { IfErr result (λ fault. fault ≡ OutOfMemory
-            → IsTrue (needs_memory (fed_as self.old (added (line_in logical) line.now bytes) line.now (directive self.old.special line.now)))) }
+            → IsTrue (needs_memory (fed_as self.old (added (line_in logical) line.now bytes) line.now
+            (directive self.old.special line.now)))) }
         ensures kept { OnErr result (self.new ≡ self.old) }
     {
         match directive(self.special, line.as_bytes()) {

@@ -58,7 +58,8 @@ fn is_constant(c: char) -> bool
 }
 
 impl Scan {
-    ghost use Rattle.coll_lex.specs.Scanning.{fresh, goes_on, TakesMark, Refuses, TakesCharacter, RefusesCharacter, TakesLine, RefusesLine, Gathers, GathersCharacter, GathersLine, IsInWord, ending};
+    ghost use Rattle.coll_lex.specs.Scanning.{fresh, goes_on, TakesMark, Refuses, TakesCharacter, RefusesCharacter, TakesLine};
+    ghost use Rattle.coll_lex.specs.Scanning.{RefusesLine, Gathers, GathersCharacter, GathersLine, IsInWord, ending};
 
     /// The scan at the beginning of a logical line. It takes no memory.
     pub(crate) fn new(alloc: Global) -> Scan

@@ -29,16 +29,19 @@ module _ (name bytes : List ℕ) (spelled : encode_utf8_all name ≡ bytes) (rea
   pub found_name_key : (es : List (NameKey × Option NodeId)) → AreKeys IsReadBack es → is_name_key (names_lead es) name ≡ is_some (lookup (λ key. bytes_eq bytes (bytes_of key)) es)
   found_name_key es h = found_key same_name same_name_decides name_of_key IsReadBack (λ key. bytes_eq bytes (bytes_of key)) name tests_name es h
 
-  pub set_name_leads : (es : List (NameKey × Option NodeId)) (node : Option NodeId) → AreKeys IsReadBack es → is_name_key (names_lead es) name ≡ true → SetsName (names_lead es) (names_lead (set_value (λ key. bytes_eq bytes (bytes_of key)) es node)) name node
+  pub set_name_leads : (es : List (NameKey × Option NodeId)) (node : Option NodeId) → AreKeys IsReadBack es → is_name_key (names_lead es) name ≡ true
+      → SetsName (names_lead es) (names_lead (set_value (λ key. bytes_eq bytes (bytes_of key)) es node)) name node
   set_name_leads es node h there = set_leads same_name same_name_decides name_of_key IsReadBack (λ key. bytes_eq bytes (bytes_of key)) name tests_name es node h there
 
 abbrev name_inserted : List (NameKey × Option NodeId) → NameKey → Option NodeId → List (NameKey × Option NodeId)
 name_inserted es key node = insert_entry same_bytes es key node
 
-pub inserted_name_leads : (es : List (NameKey × Option NodeId)) (key : NameKey) (node : Option NodeId) → AreKeys IsReadBack es → IsReadBack key → SetsName (names_lead es) (names_lead (name_inserted es key node)) key.name node
+pub inserted_name_leads : (es : List (NameKey × Option NodeId)) (key : NameKey) (node : Option NodeId) → AreKeys IsReadBack es → IsReadBack key
+    → SetsName (names_lead es) (names_lead (name_inserted es key node)) key.name node
 inserted_name_leads es key node h g = inserted_leads same_name same_name_decides name_of_key IsReadBack _ texts_agree es key node h g
 
-pub inserted_name_keys : (es : List (NameKey × Option NodeId)) (key : NameKey) (node : Option NodeId) → AreKeys IsReadBack es → IsReadBack key → AddsNameKey (names_lead es) (names_lead (name_inserted es key node)) key.name
+pub inserted_name_keys : (es : List (NameKey × Option NodeId)) (key : NameKey) (node : Option NodeId) → AreKeys IsReadBack es → IsReadBack key
+    → AddsNameKey (names_lead es) (names_lead (name_inserted es key node)) key.name
 inserted_name_keys es key node h g = inserted_keys same_name same_name_decides name_of_key IsReadBack _ texts_agree es key node h g
 
 pub inserted_name_good : (es : List (NameKey × Option NodeId)) (key : NameKey) (node : Option NodeId) → AreKeys IsReadBack es → IsReadBack key → AreKeys IsReadBack (name_inserted es key node)

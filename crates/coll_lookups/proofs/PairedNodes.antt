@@ -1,5 +1,6 @@
 -- Keys and the nodes beside them, read as one list of pairs: what is found there, and what a write and one more pair do.
-use Rattle.std.proofs.Common.{◌≡◌, ◌+◌, ◌<◌, ℕ, suc, Bool, true, false, ◌||◌, cond, not, is_some, nat_lt, List, [], ◌∷◌, ◌++◌, Option, None, Some, length, zip, position, slice_index_or, slice_set, lt-ltb, true≢false, arith, sym, ap, ◌∙◌, refl}
+use Rattle.std.proofs.Common.{◌≡◌, ◌+◌, ◌<◌, ℕ, suc, Bool, true, false, ◌||◌, cond, not, is_some, nat_lt, List, [], ◌∷◌, ◌++◌, Option, None}
+use Rattle.std.proofs.Common.{Some, length, zip, position, slice_index_or, slice_set, lt-ltb, true≢false, arith, sym, ap, ◌∙◌, refl}
 use Rattle.std.specs.List.{list_any, position_or_len}
 use Rattle.std.proofs.lemmas.List.{get_or_default}
 use Rattle.std.proofs.lemmas.Grind.{common_steps}
@@ -21,7 +22,8 @@ module _ {K : Type 0} (test : K → Bool) where
   paired_found [] (v ∷ vs) e = absurd (omega arith)
   paired_found (k ∷ ks) [] e = absurd (omega arith)
   paired_found (k ∷ ks) (v ∷ vs) e = by (test k) (paired_found ks vs (omega arith)) where
-    by : (b : Bool) → found (lookup test (zip ks vs)) ≡ slice_index_or vs (position_or_len test ks) None → found (cond b (Some v) (lookup test (zip ks vs))) ≡ slice_index_or (v ∷ vs) (cond (not b) (1 + position_or_len test ks) 0) None
+    by : (b : Bool) → found (lookup test (zip ks vs)) ≡ slice_index_or vs (position_or_len test ks) None → found (cond b (Some v) (lookup test (zip ks vs)))
+        ≡ slice_index_or (v ∷ vs) (cond (not b) (1 + position_or_len test ks) 0) None
     by true later = refl
     by false later = later ∙ sym (ap (λ n. slice_index_or (v ∷ vs) n None) (onward (position_or_len test ks)))
 
@@ -39,7 +41,8 @@ module _ {K : Type 0} (test : K → Bool) where
   paired_set [] vs v e = refl
   paired_set (k ∷ ks) [] v e = absurd (omega arith)
   paired_set (k ∷ ks) (w ∷ ws) v e = by (test k) (paired_set ks ws v (omega arith)) where
-    by : (b : Bool) → zip ks (slice_set ws (position_or_len test ks) v) ≡ set_value test (zip ks ws) v → zip (k ∷ ks) (slice_set (w ∷ ws) (cond (not b) (1 + position_or_len test ks) 0) v) ≡ cond b ((k, v) ∷ zip ks ws) ((k, w) ∷ set_value test (zip ks ws) v)
+    by : (b : Bool) → zip ks (slice_set ws (position_or_len test ks) v) ≡ set_value test (zip ks ws) v → zip (k ∷ ks) (slice_set (w ∷ ws) (cond (not b) (1 + position_or_len test ks) 0) v)
+        ≡ cond b ((k, v) ∷ zip ks ws) ((k, w) ∷ set_value test (zip ks ws) v)
     by true later = refl
     by false later = ap (λ n. zip (k ∷ ks) (slice_set (w ∷ ws) n v)) (onward (position_or_len test ks)) ∙ ap (λ es. (k, w) ∷ es) later
 
@@ -51,7 +54,8 @@ module _ {K : Type 0} (test : K → Bool) where
       (first, within)
 
   -- the node there is what is found
-  pub paired_node : (ks : List K) (vs : List (Option NodeId)) (place : ℕ) (node : Option NodeId) → length ks ≡ length vs → position test ks ≡ Some place → node ≡ slice_index_or vs place node → node ≡ found (lookup test (zip ks vs))
+  pub paired_node : (ks : List K) (vs : List (Option NodeId)) (place : ℕ) (node : Option NodeId) → length ks ≡ length vs → position test ks ≡ Some place → node ≡ slice_index_or vs place node
+      → node ≡ found (lookup test (zip ks vs))
   paired_node ks vs place node e at is =
       let first : position_or_len test ks ≡ place = (at_place ks place at).0 in
       let within : place < length ks = (at_place ks place at).1 in
@@ -66,7 +70,8 @@ module _ {K : Type 0} (test : K → Bool) where
   paired_none ks vs e none = none_found (lookup test (zip ks vs)) (paired_key ks vs e ∙ none)
 
   -- a write there is one to the first key that passes
-  pub paired_set_at : (ks : List K) (vs : List (Option NodeId)) (place : ℕ) (v : Option NodeId) → length ks ≡ length vs → position test ks ≡ Some place → zip ks (slice_set vs place v) ≡ set_value test (zip ks vs) v
+  pub paired_set_at : (ks : List K) (vs : List (Option NodeId)) (place : ℕ) (v : Option NodeId) → length ks ≡ length vs → position test ks ≡ Some place
+      → zip ks (slice_set vs place v) ≡ set_value test (zip ks vs) v
   paired_set_at ks vs place v e at = ap (λ n. zip ks (slice_set vs n v)) (sym (at_place ks place at).0) ∙ paired_set ks vs v e
 
 module _ {K : Type 0} (eq : K → K → Bool) (k : K) (v : Option NodeId) where
@@ -96,7 +101,8 @@ module _ {K : Type 0} (eq : K → K → Bool) (k : K) (v : Option NodeId) where
   paired_put [] (w ∷ ws) e = absurd (omega arith)
   paired_put (x ∷ ks) [] e = absurd (omega arith)
   paired_put (x ∷ ks) (w ∷ ws) e = by (eq k x) (paired_put ks ws (omega arith)) where
-    by : (b : Bool) → zip (insert_key eq ks k) (node_put ws (position_or_len (eq k) ks) v) ≡ insert_entry eq (zip ks ws) k v → zip (cond (b || list_any (eq k) ks) (x ∷ ks) (x ∷ (ks ++ k ∷ []))) (node_put (w ∷ ws) (cond (not b) (1 + position_or_len (eq k) ks) 0) v) ≡ cond b ((x, v) ∷ zip ks ws) ((x, w) ∷ insert_entry eq (zip ks ws) k v)
+    by : (b : Bool) → zip (insert_key eq ks k) (node_put ws (position_or_len (eq k) ks) v) ≡ insert_entry eq (zip ks ws) k v → zip (cond (b || list_any (eq k) ks) (x ∷ ks) (x ∷ (ks ++ k ∷ [])))
+        (node_put (w ∷ ws) (cond (not b) (1 + position_or_len (eq k) ks) 0) v) ≡ cond b ((x, v) ∷ zip ks ws) ((x, w) ∷ insert_entry eq (zip ks ws) k v)
     by true later = ap (zip (x ∷ ks)) (node_first w ws)
     by false later =
         (λ i. zip (key_behind (list_any (eq k) ks) x ks i) (node_behind w ws (position_or_len (eq k) ks) i)) ∙ ap (λ es. (x, w) ∷ es) later
@@ -107,6 +113,7 @@ module _ {K : Type 0} (eq : K → K → Bool) (k : K) (v : Option NodeId) where
   paired_length [] (w ∷ ws) e = absurd (omega arith)
   paired_length (x ∷ ks) [] e = absurd (omega arith)
   paired_length (x ∷ ks) (w ∷ ws) e = by (eq k x) (paired_length ks ws (omega arith)) where
-    by : (b : Bool) → length (insert_key eq ks k) ≡ length (node_put ws (position_or_len (eq k) ks) v) → length (cond (b || list_any (eq k) ks) (x ∷ ks) (x ∷ (ks ++ k ∷ []))) ≡ length (node_put (w ∷ ws) (cond (not b) (1 + position_or_len (eq k) ks) 0) v)
+    by : (b : Bool) → length (insert_key eq ks k) ≡ length (node_put ws (position_or_len (eq k) ks) v) → length (cond (b || list_any (eq k) ks) (x ∷ ks) (x ∷ (ks ++ k ∷ [])))
+        ≡ length (node_put (w ∷ ws) (cond (not b) (1 + position_or_len (eq k) ks) 0) v)
     by true later = e ∙ sym (ap length (node_first w ws))
     by false later = ap length (key_behind (list_any (eq k) ks) x ks) ∙ (ap suc later ∙ sym (ap length (node_behind w ws (position_or_len (eq k) ks))))

@@ -56,7 +56,8 @@ impl EntryNumbers {
     /// store of nodes, where the node's slot is behind all that there is room for. Where memory is refused, nothing is said of
     /// the numbers.
     pub fn set(&mut self, node: NodeId, number: u32) -> Result<(), AllocError>
-        ensures { OnOk result ((other : NodeId) → number_at self.new other ≡ (if same_node other node then number else number_at self.old other)) }
+        ensures { OnOk result ((other : NodeId)
+            → number_at self.new other ≡ (if same_node other node then number else number_at self.old other)) }
     {
         let place = node.number();
         make_room(&mut self.numbers, place)?;

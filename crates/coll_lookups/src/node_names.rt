@@ -39,7 +39,8 @@ impl Model for NodeNames {
 
     ghost view = { λ n. names_lead (zip n.names.value.keys n.nodes.items) };
 
-    ghost invariant = { λ n. (length n.names.value.keys ≡ length n.nodes.items) × AreKeys IsReadBack (zip n.names.value.keys n.nodes.items) };
+    ghost invariant = { λ n. (length n.names.value.keys ≡ length n.nodes.items)
+        × AreKeys IsReadBack (zip n.names.value.keys n.nodes.items) };
 }
 
 impl NodeNames {

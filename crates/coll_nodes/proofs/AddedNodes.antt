@@ -29,7 +29,8 @@ use Rattle.coll_lookups.proofs.Sameness.{same_name_decides, same_id_decides}
 use Rattle.coll_order.proofs.RingLemmas.{is_in_push}
 
 -- a key that isn't read of the nodes that may have it is that of none
-unread : {Key : Type 0} (layout : TableLayout) (same : Key → Key → Bool) (keys : Content → List Key) (nodes : List NodeId) → ((key : Key) (node : NodeId) → has_key same keys layout key node ≡ true → has_node nodes node ≡ true)
+unread : {Key : Type 0} (layout : TableLayout) (same : Key → Key → Bool) (keys : Content → List Key) (nodes : List NodeId)
+    → ((key : Key) (node : NodeId) → has_key same keys layout key node ≡ true → has_node nodes node ≡ true)
     → (key : Key) → list_any (same key) (flat_map (read_at keys layout) nodes) ≡ false → (other : NodeId) → has_key same keys layout key other ≡ false
 unread layout same keys nodes covers key absent other = by_test (λ b. has_key same keys layout key other ≡ b → b ≡ false) (has_key same keys layout key other)
     (λ on has. not_both (any_to (same key) (read_at keys layout) nodes other (covers key other has) (both_true _ _ has).1) absent) (λ off _. refl) refl
@@ -45,25 +46,31 @@ none_new layout same keys it none key other has = not_both (sym (ap (list_any (s
 
 module _ (layout : TableLayout) (shaped : IsShaped layout) where
   -- a name that isn't declared
-  name_new : (name : List ℕ) → is_declared (declared_at layout) name ≡ false → (key : List ℕ) (other : NodeId) → list_any (same_name key) (name ∷ []) ≡ true → has_key same_name names_in layout key other ≡ false
+  name_new : (name : List ℕ) → is_declared (declared_at layout) name ≡ false → (key : List ℕ) (other : NodeId) → list_any (same_name key) (name ∷ []) ≡ true
+      → has_key same_name names_in layout key other ≡ false
   name_new name absent key other is =
       let same : key ≡ name = (same_name_decides key name).0 (one (same_name key name) is) in
       ap (λ k. has_key same_name names_in layout k other) same
-      ∙ unread layout same_name names_in (ring_at layout 0) (declared_covers layout same_name names_in shaped (λ _ _. refl) (λ _. refl)) name (sym (ap (λ names. has_name names name) (names_read layout)) ∙ absent) other
+      ∙ unread layout same_name names_in (ring_at layout 0) (declared_covers layout same_name names_in shaped (λ _ _. refl) (λ _. refl)) name
+      (sym (ap (λ names. has_name names name) (names_read layout)) ∙ absent) other
 
   -- a string that no element has
-  text_new : (text : List ℕ) → has_name (texts_of (declared_at layout)) text ≡ false → (key : List ℕ) (other : NodeId) → list_any (same_name key) (text ∷ []) ≡ true → has_key same_name texts_in layout key other ≡ false
+  text_new : (text : List ℕ) → has_name (texts_of (declared_at layout)) text ≡ false → (key : List ℕ) (other : NodeId) → list_any (same_name key) (text ∷ []) ≡ true
+      → has_key same_name texts_in layout key other ≡ false
   text_new text absent key other is =
       let same : key ≡ text = (same_name_decides key text).0 (one (same_name key text) is) in
       ap (λ k. has_key same_name texts_in layout k other) same
-      ∙ unread layout same_name texts_in (ring_at layout 0) (declared_covers layout same_name texts_in shaped (λ _ _. refl) (λ _. refl)) text (sym (ap (λ texts. has_name texts text) (texts_read layout)) ∙ absent) other
+      ∙ unread layout same_name texts_in (ring_at layout 0) (declared_covers layout same_name texts_in shaped (λ _ _. refl) (λ _. refl)) text
+      (sym (ap (λ texts. has_name texts text) (texts_read layout)) ∙ absent) other
 
   -- a name that no section has
-  section_new : (name : List ℕ) → has_name (section_names (sections_at layout)) name ≡ false → (key : List ℕ) (other : NodeId) → list_any (same_name key) (name ∷ []) ≡ true → has_key same_name section_names_in layout key other ≡ false
+  section_new : (name : List ℕ) → has_name (section_names (sections_at layout)) name ≡ false → (key : List ℕ) (other : NodeId) → list_any (same_name key) (name ∷ []) ≡ true
+      → has_key same_name section_names_in layout key other ≡ false
   section_new name absent key other is =
       let same : key ≡ name = (same_name_decides key name).0 (one (same_name key name) is) in
       ap (λ k. has_key same_name section_names_in layout k other) same
-      ∙ unread layout same_name section_names_in (ring_at layout 1) (begun_covers layout same_name section_names_in shaped (λ _. refl) (λ _. refl)) name (sym (ap (λ names. has_name names name) (section_names_read layout)) ∙ absent) other
+      ∙ unread layout same_name section_names_in (ring_at layout 1) (begun_covers layout same_name section_names_in shaped (λ _. refl) (λ _. refl)) name
+      (sym (ap (λ names. has_name names name) (section_names_read layout)) ∙ absent) other
 
   -- an identifier that isn't placed
   id_new : (id : Id) → is_placed_in (sections_at layout) id ≡ false → (key : Id) (other : NodeId) → list_any (same_id key) (id ∷ []) ≡ true → has_key same_id ids_in layout key other ≡ false
@@ -105,7 +112,8 @@ module _ (layout : TableLayout) (shaped : IsShaped layout) where
   }
 
   -- nor one of a section with a ring that is made
-  begun_apart : (name : Option (List ℕ)) (own : RingId) → own.index ≡ length layout.rings → AreNew same_name section_names_in layout (content.Begun name own) → IsApart (with_empty_ring layout) (content.Begun name own)
+  begun_apart : (name : Option (List ℕ)) (own : RingId) → own.index ≡ length layout.rings → AreNew same_name section_names_in layout (content.Begun name own)
+      → IsApart (with_empty_ring layout) (content.Begun name own)
   begun_apart name own last free = record {
     names = none_new (with_empty_ring layout) same_name names_in (content.Begun name own) refl;
     texts = none_new (with_empty_ring layout) same_name texts_in (content.Begun name own) refl;
@@ -120,15 +128,20 @@ module _ (layout : TableLayout) (shaped : IsShaped layout) where
   }
 
   -- a section that is made may be put among the sections
-  section_suits : (mid : TableLayout) (node : NodeId) (name : Option (List ℕ)) (own : RingId) (place : Place) → Makes layout mid node (content.Begun name own) → is_in layout.rings node ≡ false → mid.rings ≡ layout.rings ++ [] ∷ []
+  section_suits : (mid : TableLayout) (node : NodeId) (name : Option (List ℕ)) (own : RingId) (place : Place) → Makes layout mid node (content.Begun name own) → is_in layout.rings node ≡ false
+      → mid.rings ≡ layout.rings ++ [] ∷ []
       → own.index ≡ length layout.rings → IsPlaceIn layout 1 place → AreNew same_name section_names_in layout (content.Begun name own) → Suits mid node (Some place)
   section_suits mid node name own place makes apart rings last at free =
-      made_suits (with_empty_ring layout) mid node (content.Begun name own) (section_makes layout mid node (content.Begun name own) makes) (is_in_push layout.rings node ∙ apart) rings place (place_push layout 1 place at) (begun_apart name own last free)
+      made_suits (with_empty_ring layout) mid node (content.Begun name own) (section_makes layout mid node (content.Begun name own) makes) (is_in_push layout.rings node ∙ apart) rings place
+      (place_push layout 1 place at) (begun_apart name own last free)
 
-  pub named_suits : (mid : TableLayout) (node : NodeId) (name : List ℕ) (own : RingId) (place : Place) → Makes layout mid node (content.Begun (Some name) own) → is_in layout.rings node ≡ false → mid.rings ≡ layout.rings ++ [] ∷ []
+  pub named_suits : (mid : TableLayout) (node : NodeId) (name : List ℕ) (own : RingId) (place : Place) → Makes layout mid node (content.Begun (Some name) own) → is_in layout.rings node ≡ false
+      → mid.rings ≡ layout.rings ++ [] ∷ []
       → own.index ≡ length layout.rings → IsPlaceIn layout 1 place → has_name (section_names (sections_at layout)) name ≡ false → Suits mid node (Some place)
   named_suits mid node name own place makes apart rings last at absent = section_suits mid node (Some name) own place makes apart rings last at (section_new name absent)
 
-  pub unnamed_suits : (mid : TableLayout) (node : NodeId) (own : RingId) (place : Place) → Makes layout mid node (content.Begun None own) → is_in layout.rings node ≡ false → mid.rings ≡ layout.rings ++ [] ∷ []
+  pub unnamed_suits : (mid : TableLayout) (node : NodeId) (own : RingId) (place : Place) → Makes layout mid node (content.Begun None own) → is_in layout.rings node ≡ false
+      → mid.rings ≡ layout.rings ++ [] ∷ []
       → own.index ≡ length layout.rings → IsPlaceIn layout 1 place → Suits mid node (Some place)
-  unnamed_suits mid node own place makes apart rings last at = section_suits mid node None own place makes apart rings last at (none_new layout same_name section_names_in (content.Begun None own) refl)
+  unnamed_suits mid node own place makes apart rings last at =
+      section_suits mid node None own place makes apart rings last at (none_new layout same_name section_names_in (content.Begun None own) refl)

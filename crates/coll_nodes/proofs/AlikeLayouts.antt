@@ -77,7 +77,8 @@ declarations_stay (Some w) (content.Begun name ring) = refl
 declarations_stay (Some w) (content.Placed entry) = refl
 
 -- the same is read of a node
-read_stays : {X : Type 0} (keys : Content → List X) → IgnoresWeights keys → (weights : Option (List Weight)) (found : Option Content) → flat_map keys (if_any (reweighed weights found)) ≡ flat_map keys (if_any found)
+read_stays : {X : Type 0} (keys : Content → List X) → IgnoresWeights keys → (weights : Option (List Weight)) (found : Option Content) → flat_map keys (if_any (reweighed weights found))
+    ≡ flat_map keys (if_any found)
 read_stays keys ignores weights None = refl
 read_stays keys ignores weights (Some it) = ap (λ xs. flat_map (λ (ys : List _). ys) (xs ∷ [])) (ignores weights it)
 
@@ -128,8 +129,10 @@ module _ (old : TableLayout) (nodes : List MadeNode) (alike : AreAlike old nodes
   read_alike keys ignores node linked = let is = alike node linked in ap (λ found. flat_map keys (if_any found)) is.1 ∙ read_stays keys ignores is.0 (content_of old node)
 
   -- each node has the keys that it had
-  pub key_alike : {Key : Type 0} (same : Key → Key → Bool) (keys : Content → List Key) → IgnoresWeights keys → (key : Key) (node : NodeId) → has_key same keys new key node ≡ has_key same keys old key node
-  key_alike same keys ignores key node = by_test (λ b. is_in old.rings node ≡ b → (b && list_any (same key) (read_at keys new node)) ≡ (b && list_any (same key) (read_at keys old node))) (is_in old.rings node)
+  pub key_alike : {Key : Type 0} (same : Key → Key → Bool) (keys : Content → List Key) → IgnoresWeights keys → (key : Key) (node : NodeId)
+      → has_key same keys new key node ≡ has_key same keys old key node
+  key_alike same keys ignores key node =
+      by_test (λ b. is_in old.rings node ≡ b → (b && list_any (same key) (read_at keys new node)) ≡ (b && list_any (same key) (read_at keys old node))) (is_in old.rings node)
       (λ on linked. ap (list_any (same key)) (read_alike keys ignores node linked)) (λ off _. refl) refl
 
   -- what is found is found
@@ -155,8 +158,10 @@ module _ (old : TableLayout) (nodes : List MadeNode) (alike : AreAlike old nodes
   pub shaped_alike : IsShaped old → IsShaped new
   shaped_alike shaped = record {
     two = shaped.two;
-    declared = λ node there. let is = alike node (in_rings old 0 node there) in subst (λ found. IsDeclaration found) (sym is.1) (declaration_stays is.0 (content_of old node) (shaped.declared node there));
-    begun = λ node there. let is = alike node (in_rings old 1 node there) in subst (λ found. IsSection (length old.rings) found) (sym is.1) (section_stays (length old.rings) is.0 (content_of old node) (shaped.begun node there));
+    declared = λ node there. let is =
+        alike node (in_rings old 0 node there) in subst (λ found. IsDeclaration found) (sym is.1) (declaration_stays is.0 (content_of old node) (shaped.declared node there));
+    begun = λ node there. let is = alike node (in_rings old 1 node there) in subst (λ found. IsSection (length old.rings) found) (sym is.1)
+        (section_stays (length old.rings) is.0 (content_of old node) (shaped.begun node there));
     placed = λ index node there.
         let is = alike node (in_rings old (suc (suc index)) node there) in
         let was = shaped.placed index node there in
@@ -166,7 +171,9 @@ module _ (old : TableLayout) (nodes : List MadeNode) (alike : AreAlike old nodes
 
   -- the same is declared
   pub declared_alike : declared_at new ≡ declared_at old
-  declared_alike = declared_read new ∙ (same_read (read_at declaration_in old) (read_at declaration_in new) (ring_at old 0) (λ node there. read_alike declaration_in declarations_stay node (in_rings old 0 node there)) ∙ sym (declared_read old))
+  declared_alike = declared_read new
+      ∙ (same_read (read_at declaration_in old) (read_at declaration_in new) (ring_at old 0) (λ node there. read_alike declaration_in declarations_stay node (in_rings old 0 node there))
+      ∙ sym (declared_read old))
 
   -- a ring has as many entries
   entries_alike : (ring : RingId) → length (entries_in new ring) ≡ length (entries_in old ring)
@@ -195,7 +202,8 @@ module _ (old : TableLayout) (nodes : List MadeNode) (alike : AreAlike old nodes
       (ap (λ (xs : List Section). length xs) (sections_read new)
       ∙ (same_length (read_at (section_in old) old) (read_at (section_in new) new) (ring_at old 1) (λ node there.
       let is = section_known shaped node there in
-      ap (λ (xs : List Section). length xs) (read_known (section_in new) new node (content.Begun is.0 is.1) is.3) ∙ sym (ap (λ (xs : List Section). length xs) (read_known (section_in old) old node (content.Begun is.0 is.1) is.2)))
+      ap (λ (xs : List Section). length xs) (read_known (section_in new) new node (content.Begun is.0 is.1) is.3)
+      ∙ sym (ap (λ (xs : List Section). length xs) (read_known (section_in old) old node (content.Begun is.0 is.1) is.2)))
       ∙ ap (λ (xs : List Section). length xs) (sym (sections_read old))))
       (ap (λ (xs : List Entry). length xs) (joined_read new)
       ∙ (same_length (joined_at old) (joined_at new) (ring_at old 1) (λ node there.

@@ -23,7 +23,8 @@ use Rattle.coll_nodes.specs.declared.contents.Content.{Content}
 use Rattle.coll_nodes.specs.declared.contents.Content.TheVariants as content
 use Rattle.coll_nodes.specs.declared.declarations.Declaration.{Declaration}
 use Rattle.coll_nodes.specs.declared.entries.Entry.{Entry}
-use Rattle.coll_nodes.proofs.LayoutReads.{read_known, both_true, and_true, in_rings, names_read, texts_read, section_names_read, declared_read, declared_covers, begun_covers, found_in, joined_at, joined_read, joined_known, entries_read, section_at, placed_from, placed_to}
+use Rattle.coll_nodes.proofs.LayoutReads.{read_known, both_true, and_true, in_rings, names_read, texts_read, section_names_read, declared_read, declared_covers}
+use Rattle.coll_nodes.proofs.LayoutReads.{begun_covers, found_in, joined_at, joined_read, joined_known, entries_read, section_at, placed_from, placed_to}
 use Rattle.coll_nodes.proofs.OwnNames.{declaration_is}
 use Rattle.coll_lookups.proofs.Sameness.{same_name_decides}
 use Rattle.coll_nodes.proofs.NodeLists.{any_map, any_from}
@@ -47,7 +48,8 @@ names_once layout laid once = subst (are.AreDistinct same_name) (sym (names_read
   with_names (Some (content.Begun section ring)) rest apart distinct = distinct
   with_names (Some (content.Placed entry)) rest apart distinct = distinct
 
-  each : (nodes : List NodeId) → AreDistinct nodes → ((node : NodeId) → has_node nodes node ≡ true → is_in layout.rings node ≡ true) → are.AreDistinct same_name (flat_map (read_at names_in layout) nodes)
+  each : (nodes : List NodeId) → AreDistinct nodes → ((node : NodeId) → has_node nodes node ≡ true → is_in layout.rings node ≡ true)
+      → are.AreDistinct same_name (flat_map (read_at names_in layout) nodes)
   each [] distinct linked = tt
   each (node ∷ nodes) distinct linked =
       with_names (content_of layout node) (flat_map (read_at names_in layout) nodes)
@@ -85,7 +87,8 @@ module _ (layout : TableLayout) (shaped : IsShaped layout) where
   pub id_found : (find : Id → Option NodeId) (id : Id) → Finds same_id ids_in layout find → is_placed_in (sections_at layout) id ≡ is_some (find id)
   id_found find id sound =
       let test : Entry → Bool = λ entry. same_id id entry.id in
-      let among : has_id (ids_of (joined_entries (sections_at layout))) id ≡ list_any test (joined_entries (sections_at layout)) = any_map (same_id id) (λ (entry : Entry). entry.id) (joined_entries (sections_at layout)) in
+      let among : has_id (ids_of (joined_entries (sections_at layout))) id ≡ list_any test (joined_entries (sections_at layout)) =
+      any_map (same_id id) (λ (entry : Entry). entry.id) (joined_entries (sections_at layout)) in
       among ∙ elim (find id) as (λ found. find id ≡ found → list_any test (joined_entries (sections_at layout)) ≡ is_some found) [
         | None ↦ λ none. by_test (λ b. list_any test (joined_entries (sections_at layout)) ≡ b → b ≡ false) (list_any test (joined_entries (sections_at layout)))
             (λ on e. let at = placed_from layout shaped test e in
@@ -102,7 +105,8 @@ module _ (layout : TableLayout) (shaped : IsShaped layout) where
   -- the declaration of a name in two lists
   declaration_append : (xs ys : List Declaration) (name : List ℕ) → declaration_of (xs ++ ys) name ≡ cond (is_declared xs name) (declaration_of xs name) (declaration_of ys name)
   declaration_append [] ys name = refl
-  declaration_append (x ∷ xs) ys name = by_test (λ b. cond b (Some x) (declaration_of (xs ++ ys) name) ≡ cond (b || is_declared xs name) (cond b (Some x) (declaration_of xs name)) (declaration_of ys name)) (same_name name (name_of x))
+  declaration_append (x ∷ xs) ys name = by_test (λ b. cond b (Some x) (declaration_of (xs ++ ys) name)
+      ≡ cond (b || is_declared xs name) (cond b (Some x) (declaration_of xs name)) (declaration_of ys name)) (same_name name (name_of x))
       (λ on. refl) (λ off. declaration_append xs ys name)
 
   -- the declaration of a name is read of one of the nodes
@@ -110,13 +114,15 @@ module _ (layout : TableLayout) (shaped : IsShaped layout) where
       → (node : NodeId) × (has_node nodes node ≡ true) × (declaration_of (f node) name ≡ Some found)
   declaration_from f [] name found there = cc
   declaration_from f (node ∷ nodes) name found there =
-      by_test (λ b. cond b (declaration_of (f node) name) (declaration_of (flat_map f nodes) name) ≡ Some found → (n : NodeId) × (has_node (node ∷ nodes) n ≡ true) × (declaration_of (f n) name ≡ Some found)) (is_declared (f node) name)
+      by_test (λ b. cond b (declaration_of (f node) name) (declaration_of (flat_map f nodes) name) ≡ Some found → (n : NodeId) × (has_node (node ∷ nodes) n ≡ true)
+      × (declaration_of (f n) name ≡ Some found)) (is_declared (f node) name)
       (λ on e. (node, or_first (same_node node node) _ (same_node_itself node), e))
       (λ off e. let later = declaration_from f nodes name found e in (later.0, or_second (same_node later.0 node) _ later.1, later.2))
       (sym (declaration_append (f node) (flat_map f nodes) name) ∙ there)
 
   -- a node that declares a name has it as its key
-  declares_the_name : (name : List ℕ) (node : Option Content) (found : Declaration) → declaration_of (flat_map declaration_in (if_any node)) name ≡ Some found → list_any (same_name name) (flat_map names_in (if_any node)) ≡ true
+  declares_the_name : (name : List ℕ) (node : Option Content) (found : Declaration) → declaration_of (flat_map declaration_in (if_any node)) name ≡ Some found
+      → list_any (same_name name) (flat_map names_in (if_any node)) ≡ true
   declares_the_name name None found e = cc
   declares_the_name name (Some (content.Declared declaration)) found e = sym (declaration_is (declaration ∷ []) name) ∙ ap is_some e
   declares_the_name name (Some (content.Begun section ring)) found e = cc
@@ -135,16 +141,19 @@ module _ (layout : TableLayout) (shaped : IsShaped layout) where
     by_answer (Some found) is =
         let at = declaration_from (read_at declaration_in layout) (ring_at layout 0) name found (sym (ap (λ all. declaration_of all name) (declared_read layout)) ∙ is) in
         let leads = sound.finds name at.0 (and_true (in_rings layout 0 at.0 at.1) (declares_the_name name (content_of layout at.0) found at.2)) in
-        sym (ap (λ nodes. declaration_of (flat_map (read_at declaration_in layout) (if_any nodes)) name) leads ∙ (ap (λ all. declaration_of all name) (append-nil (read_at declaration_in layout at.0)) ∙ at.2))
+        sym (ap (λ nodes. declaration_of (flat_map (read_at declaration_in layout) (if_any nodes)) name) leads
+        ∙ (ap (λ all. declaration_of all name) (append-nil (read_at declaration_in layout at.0)) ∙ at.2))
 
   -- a node that is found by a name is its declaration
   pub declaration_known : (find : List ℕ → Option NodeId) (name : List ℕ) (node : NodeId) (known : Content) → Finds same_name names_in layout find
       → find name ≡ Some node → content_of layout node ≡ Some known → declaration_if known ≡ declaration_of (declared_at layout) name
   declaration_known find name node known sound found is =
       sym (declaration_found find name sound ∙ (ap (λ nodes. declaration_of (flat_map (read_at declaration_in layout) (if_any nodes)) name) found
-      ∙ (ap (λ all. declaration_of all name) (append-nil (read_at declaration_in layout node) ∙ read_known declaration_in layout node known is) ∙ by_kind known (has_the_name find name node known sound found is)))) where
+      ∙ (ap (λ all. declaration_of all name) (append-nil (read_at declaration_in layout node) ∙ read_known declaration_in layout node known is)
+      ∙ by_kind known (has_the_name find name node known sound found is)))) where
         by_kind : (known : Content) → list_any (same_name name) (names_in known) ≡ true → declaration_of (declaration_in known) name ≡ declaration_if known
-        by_kind (content.Declared declaration) has = by_test (λ b. (b || false) ≡ true → cond b (Some declaration) None ≡ Some declaration) (same_name name (name_of declaration)) (λ on e. refl) (λ off e. not_both e refl) has
+        by_kind (content.Declared declaration) has =
+            by_test (λ b. (b || false) ≡ true → cond b (Some declaration) None ≡ Some declaration) (same_name name (name_of declaration)) (λ on e. refl) (λ off e. not_both e refl) has
         by_kind (content.Begun section ring) has = not_both has refl
         by_kind (content.Placed entry) has = not_both has refl
 
@@ -155,26 +164,31 @@ module _ (layout : TableLayout) (shaped : IsShaped layout) where
   -- the entry of an identifier in two lists
   entry_append : (xs ys : List Entry) (id : Id) → entry_at (xs ++ ys) id ≡ cond (list_any (λ (entry : Entry). same_id id entry.id) xs) (entry_at xs id) (entry_at ys id)
   entry_append [] ys id = refl
-  entry_append (x ∷ xs) ys id = by_test (λ b. cond b (Some x) (entry_at (xs ++ ys) id) ≡ cond (b || list_any (λ (entry : Entry). same_id id entry.id) xs) (cond b (Some x) (entry_at xs id)) (entry_at ys id)) (same_id id x.id)
+  entry_append (x ∷ xs) ys id = by_test (λ b. cond b (Some x) (entry_at (xs ++ ys) id)
+      ≡ cond (b || list_any (λ (entry : Entry). same_id id entry.id) xs) (cond b (Some x) (entry_at xs id)) (entry_at ys id)) (same_id id x.id)
       (λ on. refl) (λ off. entry_append xs ys id)
 
   -- an identifier has an entry in a list where one is there
   pub entry_any : (es : List Entry) (id : Id) → is_some (entry_at es id) ≡ list_any (λ (entry : Entry). same_id id entry.id) es
   entry_any [] id = refl
-  entry_any (e ∷ es) id = by_test (λ b. is_some (cond b (Some e) (entry_at es id)) ≡ (b || list_any (λ (entry : Entry). same_id id entry.id) es)) (same_id id e.id) (λ on. refl) (λ off. entry_any es id)
+  entry_any (e ∷ es) id = by_test (λ b. is_some (cond b (Some e) (entry_at es id)) ≡ (b || list_any (λ (entry : Entry). same_id id entry.id) es)) (same_id id e.id) (λ on. refl)
+      (λ off. entry_any es id)
 
   -- the entry of an identifier is read of one of the nodes
-  entry_from : (f : NodeId → List Entry) (nodes : List NodeId) (id : Id) (entry : Entry) → entry_at (flat_map f nodes) id ≡ Some entry → (node : NodeId) × (has_node nodes node ≡ true) × (entry_at (f node) id ≡ Some entry)
+  entry_from : (f : NodeId → List Entry) (nodes : List NodeId) (id : Id) (entry : Entry) → entry_at (flat_map f nodes) id ≡ Some entry → (node : NodeId) × (has_node nodes node ≡ true)
+      × (entry_at (f node) id ≡ Some entry)
   entry_from f [] id entry there = cc
   entry_from f (node ∷ nodes) id entry there =
       let test : Entry → Bool = λ entry. same_id id entry.id in
-      by_test (λ b. cond b (entry_at (f node) id) (entry_at (flat_map f nodes) id) ≡ Some entry → (n : NodeId) × (has_node (node ∷ nodes) n ≡ true) × (entry_at (f n) id ≡ Some entry)) (list_any test (f node))
+      by_test (λ b. cond b (entry_at (f node) id) (entry_at (flat_map f nodes) id) ≡ Some entry → (n : NodeId) × (has_node (node ∷ nodes) n ≡ true) × (entry_at (f n) id ≡ Some entry))
+      (list_any test (f node))
       (λ on e. (node, or_first (same_node node node) _ (same_node_itself node), e))
       (λ off e. let later = entry_from f nodes id entry e in (later.0, or_second (same_node later.0 node) _ later.1, later.2))
       (sym (entry_append (f node) (flat_map f nodes) id) ∙ there)
 
   -- a node that stands in a ring and is the entry of an identifier is found
-  entry_by : (find : Id → Option NodeId) (id : Id) (node : NodeId) (entry : Entry) → Finds same_id ids_in layout find → is_in layout.rings node ≡ true → entry_at (read_at entry_in layout node) id ≡ Some entry
+  entry_by : (find : Id → Option NodeId) (id : Id) (node : NodeId) (entry : Entry) → Finds same_id ids_in layout find → is_in layout.rings node ≡ true → entry_at (read_at entry_in layout node) id
+      ≡ Some entry
       → Some entry ≡ entry_at (flat_map (read_at entry_in layout) (if_any (find id))) id
   entry_by find id node entry sound linked is =
       let has : list_any (same_id id) (read_at ids_in layout node) ≡ true = ids_of_node id (content_of layout node) ∙ (sym (entry_any (read_at entry_in layout node) id) ∙ ap is_some is) in
@@ -198,7 +212,8 @@ module _ (layout : TableLayout) (shaped : IsShaped layout) where
         | Some entry ↦ λ is.
             let section = entry_from (joined_at layout) (ring_at layout 1) id entry (sym (ap (λ es. entry_at es id) (joined_read layout)) ∙ is) in
             let known = section_at layout shaped section.0 section.1 in
-            let at = entry_from (read_at entry_in layout) (ring_at layout known.1.index) id entry (sym (ap (λ es. entry_at es id) (joined_known layout section.0 known.0 known.1 known.2 ∙ entries_read layout known.1)) ∙ section.2) in
+            let at = entry_from (read_at entry_in layout) (ring_at layout known.1.index) id entry
+            (sym (ap (λ es. entry_at es id) (joined_known layout section.0 known.0 known.1 known.2 ∙ entries_read layout known.1)) ∙ section.2) in
             entry_by find id at.0 entry sound (in_rings layout known.1.index at.0 at.1) at.2
       ] refl
 

@@ -61,5 +61,6 @@ nothing_sound declarations sections first second = record {
   none_with (Named name) = refl
   none_with Undefined = refl
 
-  none_found : {Key : Type 0} (same : Key → Key → Bool) (keys : Content → List Key) (find : Key → Option NodeId) → ((key : Key) → find key ≡ None) → Finds same keys (record { rings = [] ∷ [] ∷ []; nodes = [] }) find
+  none_found : {Key : Type 0} (same : Key → Key → Bool) (keys : Content → List Key) (find : Key → Option NodeId) → ((key : Key) → find key ≡ None)
+      → Finds same keys (record { rings = [] ∷ [] ∷ []; nodes = [] }) find
   none_found same keys find none = record { leads = λ key node. λ e. let empty = none key in cc; finds = λ key node. λ has. not_both has refl }

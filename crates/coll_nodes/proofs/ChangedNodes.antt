@@ -25,7 +25,8 @@ content_dropped node other (first ∷ later) =
     (λ off.
     let apart : same_node other first.node ≡ false = ap (same_node other) (same_node_is first.node node on) ∙ off in
     sym (ap (λ b. cond b (Some first.content) (content_among later other)) apart)))
-    (λ off. by_test (λ b. cond b (Some first.content) (content_among rest other) ≡ cond (same_node other node) None (cond b (Some first.content) (content_among later other))) (same_node other first.node)
+    (λ off. by_test (λ b. cond b (Some first.content) (content_among rest other) ≡ cond (same_node other node) None (cond b (Some first.content) (content_among later other)))
+    (same_node other first.node)
     (λ is.
     let apart : same_node other node ≡ false = ap (λ n. same_node n node) (same_node_is other first.node is) ∙ off in
     sym (ap (λ b. cond b None (Some first.content)) apart))
@@ -72,7 +73,8 @@ bare_alike layout node apart other linked =
     (None, content_dropped node other layout.nodes ∙ (ap (λ b. cond b None (content_of layout other)) differ ∙ kept_weights (content_of layout other)))
 
 -- a node that stands is one that was added to the layout without it
-pub adds_bare : (layout : TableLayout) (rings : List (List NodeId)) (node : NodeId) (it : Content) (place : Place) → content_of layout node ≡ Some it → is_in rings node ≡ false → layout.rings ≡ rings_with place node 0 rings
+pub adds_bare : (layout : TableLayout) (rings : List (List NodeId)) (node : NodeId) (it : Content) (place : Place) → content_of layout node ≡ Some it → is_in rings node ≡ false
+    → layout.rings ≡ rings_with place node 0 rings
     → Adds (record { rings = rings; nodes = nodes_without (node ∷ []) layout.nodes }) layout node it place
 adds_bare layout rings node it place is apart put = record {
   makes = record {

@@ -130,7 +130,8 @@ module _ (node : NodeId) where
       → made_from new es ≡ weighed_nodes node weights (made_from old es)
   weighed_from weights old new [] sorted mine others = refl
   weighed_from weights old new (e ∷ es) sorted mine others =
-      let later = weighed_from weights old new es (later_sorted e es sorted) (λ key tag at. mine key tag (found_later e es sorted key tag at)) (λ key tag at. others key tag (found_later e es sorted key tag at)) in
+      let later = weighed_from weights old new es (later_sorted e es sorted) (λ key tag at. mine key tag (found_later e es sorted key tag at))
+      (λ key tag at. others key tag (found_later e es sorted key tag at)) in
       let first = found_first e es in
       ap (λ xs. xs ++ made_from new es) (weighed_with weights e.0 (slot_of old e.1) (slot_of new e.1) (mine e.0 e.1 first) (others e.0 e.1 first))
       ∙ (ap (λ xs. weighed_nodes node weights (made_with e.0 (slot_of old e.1)) ++ xs) later
@@ -195,5 +196,6 @@ module _ (layout : Layout) (old : List (Option Content)) (node : NodeId) (tag : 
           (own.0, tag_without_node layout node (record { key = own.0 }) ∙ (ap (λ b. cond b None (finmap.get layout.tags own.0)) apart ∙ own.1));
     } where
       had : (key other : ℕ) → finmap.get (without_node layout node).tags key ≡ Some other → (key ≡ node.key → ⊥) × (finmap.get layout.tags key ≡ Some other)
-      had key other is = by_test (λ b. eqb key node.key ≡ b → cond b None (finmap.get layout.tags key) ≡ Some other → (key ≡ node.key → ⊥) × (finmap.get layout.tags key ≡ Some other)) (eqb key node.key)
+      had key other is = by_test (λ b. eqb key node.key ≡ b → cond b None (finmap.get layout.tags key) ≡ Some other → (key ≡ node.key → ⊥) × (finmap.get layout.tags key ≡ Some other))
+          (eqb key node.key)
           (λ on t e. cc) (λ off t e. (differs key node.key t, e)) refl (sym (tag_without_node layout node (record { key = key })) ∙ is)

@@ -50,7 +50,8 @@ module _ (layout : TableLayout) (text : List ℕ) where
         by in_later (Some its) e = sym e ∙ (ap named_at (only first its (or_first (same_node first first) _ (same_node_itself first)) e) ∙ is)
 
   -- and in none of them where none declares it
-  not_among : (nodes : List NodeId) → ((other : NodeId) (its : List ℕ) → has_node nodes other ≡ true → named_at other ≡ Some its → ⊥) → element_name (flat_map (read_at declaration_in layout) nodes) text ≡ None
+  not_among : (nodes : List NodeId) → ((other : NodeId) (its : List ℕ) → has_node nodes other ≡ true → named_at other ≡ Some its → ⊥)
+      → element_name (flat_map (read_at declaration_in layout) nodes) text ≡ None
   not_among [] none = refl
   not_among (first ∷ nodes) none =
       element_append (read_at declaration_in layout first) (flat_map (read_at declaration_in layout) nodes) text

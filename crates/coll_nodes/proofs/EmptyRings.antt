@@ -40,7 +40,8 @@ module _ (layout : TableLayout) where
   one_ring_more = length-append layout.rings ([] ∷ [])
 
   -- the nodes have the keys that they had
-  pub key_push : {Key : Type 0} (same : Key → Key → Bool) (keys : Content → List Key) (key : Key) (node : NodeId) → has_key same keys (with_empty_ring layout) key node ≡ has_key same keys layout key node
+  pub key_push : {Key : Type 0} (same : Key → Key → Bool) (keys : Content → List Key) (key : Key) (node : NodeId) → has_key same keys (with_empty_ring layout) key node
+      ≡ has_key same keys layout key node
   key_push same keys key node = ap (λ b. b && list_any (same key) (read_at keys layout node)) (is_in_push layout.rings node)
 
   -- what is found is found
@@ -55,7 +56,8 @@ module _ (layout : TableLayout) where
   shaped_push shaped = record {
     two = let more = one_ring_more in let two = shaped.two in omega (arith, more, two);
     declared = λ node. λ there. shaped.declared node (sym (ap (λ nodes. has_node nodes node) (get_push layout.rings 0)) ∙ there);
-    begun = λ node. λ there. more_rings (length layout.rings) (length (with_empty_ring layout).rings) (content_of layout node) (let more = one_ring_more in omega (arith, more)) (shaped.begun node (sym (ap (λ nodes. has_node nodes node) (get_push layout.rings 1)) ∙ there));
+    begun = λ node. λ there. more_rings (length layout.rings) (length (with_empty_ring layout).rings) (content_of layout node) (let more = one_ring_more in omega (arith, more))
+        (shaped.begun node (sym (ap (λ nodes. has_node nodes node) (get_push layout.rings 1)) ∙ there));
     placed = λ index node. λ there.
         let had = shaped.placed index node (sym (ap (λ nodes. has_node nodes node) (get_push layout.rings (suc (suc index)))) ∙ there) in
         (had.0, (had.1.0, key_push same_ring rings_in (record { index = suc (suc index) }) had.1.0 ∙ had.1.1));
@@ -80,7 +82,8 @@ module _ (layout : TableLayout) where
   -- it has the same sections
   pub sections_push : sections_at (with_empty_ring layout) ≡ sections_at layout
   sections_push = sections_read (with_empty_ring layout) ∙ (ap (flat_map (read_at (section_in (with_empty_ring layout)) (with_empty_ring layout))) (get_push layout.rings 1)
-      ∙ (same_read (read_at (section_in layout) layout) (read_at (section_in (with_empty_ring layout)) (with_empty_ring layout)) (ring_at layout 1) (λ node there. section_push (content_of layout node)) ∙ sym (sections_read layout)))
+      ∙ (same_read (read_at (section_in layout) layout) (read_at (section_in (with_empty_ring layout)) (with_empty_ring layout)) (ring_at layout 1)
+      (λ node there. section_push (content_of layout node)) ∙ sym (sections_read layout)))
 
   -- a place of a ring is one still
   pub place_push : (index : ℕ) (place : Place) → IsPlaceIn layout index place → IsPlaceIn (with_empty_ring layout) index place

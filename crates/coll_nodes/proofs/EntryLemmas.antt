@@ -36,7 +36,8 @@ taken_out (entry ∷ entries) id = by_test (λ b. has_id (ids_of (cond (not b) (
 -- others are there as before
 pub others_without : (entries : List Entry) (id other : Id) → same_id id other ≡ false → has_id (ids_of (entries_without entries id)) other ≡ has_id (ids_of entries) other
 others_without [] id other apart = refl
-others_without (entry ∷ entries) id other apart = by_test (λ b. has_id (ids_of (cond (not b) (entry ∷ entries_without entries id) (entries_without entries id))) other ≡ (same_id other entry.id || has_id (ids_of entries) other)) (same_id id entry.id)
+others_without (entry ∷ entries) id other apart = by_test (λ b. has_id (ids_of (cond (not b) (entry ∷ entries_without entries id) (entries_without entries id))) other
+    ≡ (same_id other entry.id || has_id (ids_of entries) other)) (same_id id entry.id)
     (λ e. let it : id ≡ entry.id = (same_id_decides id entry.id).0 e in
     let off : same_id other entry.id ≡ false = ap (same_id other) (sym it) ∙ (same_id_symmetric other id ∙ apart) in
     others_without entries id other apart ∙ ap (λ b. b || has_id (ids_of entries) other) (sym off))
@@ -66,13 +67,15 @@ none_without (entry ∷ entries) id e =
 -- of an identifier that is there, one entry is taken out
 pub length_without : (entries : List Entry) (id : Id) → AreDistinct same_id (ids_of entries) → has_id (ids_of entries) id ≡ true → suc (length (entries_without entries id)) ≡ length entries
 length_without [] id d p = absurd (false≢true p)
-length_without (entry ∷ entries) id d p = by_test (λ b. same_id id entry.id ≡ b → suc (length (cond (not b) (entry ∷ entries_without entries id) (entries_without entries id))) ≡ suc (length entries)) (same_id id entry.id)
+length_without (entry ∷ entries) id d p =
+    by_test (λ b. same_id id entry.id ≡ b → suc (length (cond (not b) (entry ∷ entries_without entries id) (entries_without entries id))) ≡ suc (length entries)) (same_id id entry.id)
     (λ e _. let it : id ≡ entry.id = (same_id_decides id entry.id).0 e in
     ap (λ es. suc (length es)) (none_without entries id (ap (has_id (ids_of entries)) it ∙ d.0)))
     (λ e _. ap suc (length_without entries id d.1 (ap (λ b. b || has_id (ids_of entries) id) (sym e) ∙ p))) refl
 
 -- what is apart from all entries and from the new one stays apart when that is put in
-pub absent_after : (entries : List Entry) (target : Id) (entry : Entry) (other : Id) → has_id (ids_of entries) other ≡ false → same_id other entry.id ≡ false → has_id (ids_of (entries_after entries target entry)) other ≡ false
+pub absent_after : (entries : List Entry) (target : Id) (entry : Entry) (other : Id) → has_id (ids_of entries) other ≡ false → same_id other entry.id ≡ false
+    → has_id (ids_of (entries_after entries target entry)) other ≡ false
 absent_after [] target entry other e apart = refl
 absent_after (first ∷ entries) target entry other e apart =
     let h = neither _ _ e in
@@ -81,7 +84,8 @@ absent_after (first ∷ entries) target entry other e apart =
     (λ _. nor _ _ h.0 (absent_after entries target entry other h.1 apart))
 
 -- each stands once, where the new one wasn't there
-pub distinct_after : (entries : List Entry) (target : Id) (entry : Entry) → AreDistinct same_id (ids_of entries) → has_id (ids_of entries) entry.id ≡ false → AreDistinct same_id (ids_of (entries_after entries target entry))
+pub distinct_after : (entries : List Entry) (target : Id) (entry : Entry) → AreDistinct same_id (ids_of entries) → has_id (ids_of entries) entry.id ≡ false
+    → AreDistinct same_id (ids_of (entries_after entries target entry))
 distinct_after [] target entry d e = tt
 distinct_after (first ∷ entries) target entry d e =
     let h = neither _ _ e in
@@ -103,14 +107,17 @@ all_after P (first ∷ entries) target entry h p =
 -- one entry more is put in, where the target is there
 pub length_after : (entries : List Entry) (target : Id) (entry : Entry) → has_id (ids_of entries) target ≡ true → length (entries_after entries target entry) ≡ suc (length entries)
 length_after [] target entry p = absurd (false≢true p)
-length_after (first ∷ entries) target entry p = by_test (λ b. same_id target first.id ≡ b → length (cond b (first ∷ entry ∷ entries) (first ∷ entries_after entries target entry)) ≡ suc (suc (length entries))) (same_id target first.id)
+length_after (first ∷ entries) target entry p =
+    by_test (λ b. same_id target first.id ≡ b → length (cond b (first ∷ entry ∷ entries) (first ∷ entries_after entries target entry)) ≡ suc (suc (length entries))) (same_id target first.id)
     (λ e _. refl)
     (λ e _. ap suc (length_after entries target entry (ap (λ b. b || has_id (ids_of entries) target) (sym e) ∙ p))) refl
 
 -- the new entry is there, and the others as before
-pub has_after : (entries : List Entry) (target : Id) (entry : Entry) (other : Id) → has_id (ids_of entries) target ≡ true → has_id (ids_of (entries_after entries target entry)) other ≡ (same_id other entry.id || has_id (ids_of entries) other)
+pub has_after : (entries : List Entry) (target : Id) (entry : Entry) (other : Id) → has_id (ids_of entries) target ≡ true → has_id (ids_of (entries_after entries target entry)) other
+    ≡ (same_id other entry.id || has_id (ids_of entries) other)
 has_after [] target entry other p = absurd (false≢true p)
-has_after (first ∷ entries) target entry other p = by_test (λ b. same_id target first.id ≡ b → has_id (ids_of (cond b (first ∷ entry ∷ entries) (first ∷ entries_after entries target entry))) other ≡ (same_id other entry.id || (same_id other first.id || has_id (ids_of entries) other))) (same_id target first.id)
+has_after (first ∷ entries) target entry other p = by_test (λ b. same_id target first.id ≡ b → has_id (ids_of (cond b (first ∷ entry ∷ entries) (first ∷ entries_after entries target entry))) other
+    ≡ (same_id other entry.id || (same_id other first.id || has_id (ids_of entries) other))) (same_id target first.id)
     (λ e _. turned (same_id other first.id) (same_id other entry.id) _)
     (λ e _. ap (λ b. same_id other first.id || b) (has_after entries target entry other (ap (λ b. b || has_id (ids_of entries) target) (sym e) ∙ p))
     ∙ turned (same_id other first.id) (same_id other entry.id) _) refl
@@ -118,7 +125,8 @@ has_after (first ∷ entries) target entry other p = by_test (λ b. same_id targ
 -- an identifier has an entry where it is there
 pub entry_there : (entries : List Entry) (id : Id) → has_id (ids_of entries) id ≡ is_some (entry_at entries id)
 entry_there [] id = refl
-entry_there (entry ∷ entries) id = by_test (λ b. (b || has_id (ids_of entries) id) ≡ is_some (cond b (Some entry) (entry_at entries id))) (same_id id entry.id) (λ _. refl) (λ _. entry_there entries id)
+entry_there (entry ∷ entries) id =
+    by_test (λ b. (b || has_id (ids_of entries) id) ≡ is_some (cond b (Some entry) (entry_at entries id))) (same_id id entry.id) (λ _. refl) (λ _. entry_there entries id)
 
 -- what holds of each entry, and is asked with its identifier, holds of the one that is found
 pub entry_found : (P : Entry → Type 0) (entries : List Entry) (id : Id) (found : Entry) → All P entries → entry_at entries id ≡ Some found → P found × (found.id ≡ id)

@@ -48,7 +48,8 @@ put_read f g target after node entry new start (first ∷ nodes) apart same tell
     ap (λ b. flat_map g (cond b (node ∷ first ∷ nodes) (first ∷ put_after (After after) node (After first) nodes))) apart
     ∙ by_test (λ b. same_node after first ≡ b → g first ++ flat_map g (put_after (After after) node (After first) nodes) ≡ entries_after (f first ++ rest) target entry) (same_node after first)
     (λ on _. let it = told.0.here on in
-    let put : put_after (After after) node (After first) nodes ≡ node ∷ nodes = ap (λ n. put_after (After n) node (After first) nodes) (same_node_is after first on) ∙ put_first (After first) node nodes in
+    let put : put_after (After after) node (After first) nodes ≡ node ∷ nodes =
+    ap (λ n. put_after (After n) node (After first) nodes) (same_node_is after first on) ∙ put_first (After first) node nodes in
     ap (λ ns. g first ++ flat_map g ns) put
     ∙ (ap (λ es. es ++ (g node ++ flat_map g nodes)) (read.0 ∙ it.1)
     ∙ (ap (λ es. it.0 ∷ (es ++ flat_map g nodes)) new

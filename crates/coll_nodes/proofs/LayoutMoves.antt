@@ -64,7 +64,8 @@ sections_changed old new change shaped ring same entries =
     ∙ sym (ap (map altered) (sections_read old) ∙ map_read altered (read_at (section_in old) old) (ring_at old 1))))
 
 -- where the same nodes are declarations, the same is declared
-pub declared_stays : (old new : TableLayout) → ring_at new 0 ≡ ring_at old 0 → ((other : NodeId) → has_node (ring_at old 0) other ≡ true → content_of new other ≡ content_of old other) → declared_at new ≡ declared_at old
+pub declared_stays : (old new : TableLayout) → ring_at new 0 ≡ ring_at old 0 → ((other : NodeId) → has_node (ring_at old 0) other ≡ true → content_of new other ≡ content_of old other)
+    → declared_at new ≡ declared_at old
 declared_stays old new ring same =
     declared_read new ∙ (ap (flat_map (read_at declaration_in new)) ring
     ∙ (same_read (read_at declaration_in old) (read_at declaration_in new) (ring_at old 0) (λ other there. ap (λ found. flat_map declaration_in (if_any found)) (same other there))

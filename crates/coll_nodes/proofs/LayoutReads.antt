@@ -50,7 +50,8 @@ pub and_true : {a b : Bool} → a ≡ true → b ≡ true → (a && b) ≡ true
 and_true p q = rw p q
 
 -- what is read of a node that one knows
-pub read_known : {X : Type 0} (keys : Content → List X) (layout : TableLayout) (node : NodeId) (node_content : Content) → content_of layout node ≡ Some node_content → read_at keys layout node ≡ keys node_content
+pub read_known : {X : Type 0} (keys : Content → List X) (layout : TableLayout) (node : NodeId) (node_content : Content) → content_of layout node ≡ Some node_content
+    → read_at keys layout node ≡ keys node_content
 read_known keys layout node node_content is = ap (λ found. flat_map keys (if_any found)) is ∙ append-nil (keys node_content)
 
 module _ (layout : TableLayout) where
@@ -78,17 +79,20 @@ module _ (layout : TableLayout) where
 
   -- those of a node that one knows
   pub joined_known : (node : NodeId) (name : Option (List ℕ)) (ring : RingId) → content_of layout node ≡ Some (content.Begun name ring) → joined_at node ≡ entries_in layout ring
-  joined_known node name ring is = ap (λ sections. flat_map (λ (section : Section). section.entries) sections) (read_known (section_in layout) layout node (content.Begun name ring) is) ∙ append-nil (entries_in layout ring)
+  joined_known node name ring is = ap (λ sections. flat_map (λ (section : Section). section.entries) sections) (read_known (section_in layout) layout node (content.Begun name ring) is)
+      ∙ append-nil (entries_in layout ring)
 
   -- the names that are declared
   pub names_read : names_of (declared_at layout) ≡ flat_map (read_at names_in layout) (ring_at layout 0)
   names_read = ap names_of declared_read ∙ (map_read name_of (read_at declaration_in layout) (ring_at layout 0)
-      ∙ same_read (read_at names_in layout) (λ node. map name_of (read_at declaration_in layout node)) (ring_at layout 0) (λ node there. map_read name_of declaration_in (if_any (content_of layout node))))
+      ∙ same_read (read_at names_in layout) (λ node. map name_of (read_at declaration_in layout node)) (ring_at layout 0)
+      (λ node there. map_read name_of declaration_in (if_any (content_of layout node))))
 
   -- the strings of the collating elements
   pub texts_read : texts_of (declared_at layout) ≡ flat_map (read_at texts_in layout) (ring_at layout 0)
   texts_read = ap texts_of declared_read ∙ (read_twice text_of (read_at declaration_in layout) (ring_at layout 0)
-      ∙ same_read (read_at texts_in layout) (λ node. flat_map text_of (read_at declaration_in layout node)) (ring_at layout 0) (λ node there. read_twice text_of declaration_in (if_any (content_of layout node))))
+      ∙ same_read (read_at texts_in layout) (λ node. flat_map text_of (read_at declaration_in layout node)) (ring_at layout 0)
+      (λ node there. read_twice text_of declaration_in (if_any (content_of layout node))))
 
   -- the names of the sections
   pub section_names_read : section_names (sections_at layout) ≡ flat_map (read_at section_names_in layout) (ring_at layout 1)
@@ -105,7 +109,8 @@ module _ (layout : TableLayout) where
   in_rings index node there = is_in_ring layout.rings index node there
 
   -- nothing is read of a node that has none
-  nothing_read : {Key : Type 0} (p : Key → Bool) (keys : Content → List Key) (node : NodeId) (node_content : Content) {X : Type 0} → content_of layout node ≡ Some node_content → keys node_content ≡ [] → list_any p (read_at keys layout node) ≡ true → X
+  nothing_read : {Key : Type 0} (p : Key → Bool) (keys : Content → List Key) (node : NodeId) (node_content : Content) {X : Type 0} → content_of layout node ≡ Some node_content → keys node_content ≡ []
+      → list_any p (read_at keys layout node) ≡ true → X
   nothing_read p keys node node_content is none there = not_both (sym (ap (list_any p) (read_known keys layout node node_content is ∙ none)) ∙ there) refl
 
   module _ {Key : Type 0} (same : Key → Key → Bool) (keys : Content → List Key) where
@@ -118,7 +123,8 @@ module _ (layout : TableLayout) where
         go at.0 at.1 parts.1 where
           go : (index : ℕ) → has_node (ring_at layout index) node ≡ true → list_any (same key) (read_at keys layout node) ≡ true → has_node (ring_at layout 0) node ≡ true
           go zero at has = at
-          go (suc zero) at has = let is = section_is (length layout.rings) (content_of layout node) (shaped.begun node at) in nothing_read (same key) keys node (content.Begun is.0 is.1) is.2 (begun is.0 is.1) has
+          go (suc zero) at has = let is =
+              section_is (length layout.rings) (content_of layout node) (shaped.begun node at) in nothing_read (same key) keys node (content.Begun is.0 is.1) is.2 (begun is.0 is.1) has
           go (suc (suc index)) at has = let is = entry_is (content_of layout node) (shaped.placed index node at).0 in nothing_read (same key) keys node (content.Placed is.0) is.1 (placed is.0) has
 
     -- one that only sections have is that of a node of theirs
@@ -153,7 +159,8 @@ module _ (layout : TableLayout) where
     section_at node there = section_is (length layout.rings) (content_of layout node) (shaped.begun node there)
 
     -- an entry stands in a section where a node is one
-    pub placed_from : (p : Entry → Bool) → list_any p (joined_entries (sections_at layout)) ≡ true → (node : NodeId) × (is_in layout.rings node ≡ true) × (list_any p (read_at entry_in layout node) ≡ true)
+    pub placed_from : (p : Entry → Bool) → list_any p (joined_entries (sections_at layout)) ≡ true → (node : NodeId) × (is_in layout.rings node ≡ true)
+        × (list_any p (read_at entry_in layout node) ≡ true)
     placed_from p there =
         let section = any_from p joined_at (ring_at layout 1) (sym (ap (list_any p) joined_read) ∙ there) in
         let is = section_at section.0 section.1 in
@@ -162,11 +169,13 @@ module _ (layout : TableLayout) where
 
     -- a section has the ring of an entry's node
     pub owner_at : (index : ℕ) → (section : NodeId) → has_key same_ring rings_in layout (record { index = index }) section ≡ true
-        → (has_node (ring_at layout 1) section ≡ true) × ((name : Option (List ℕ)) × (ring : RingId) × (content_of layout section ≡ Some (content.Begun name ring)) × (ring.index ≡ index) × (2 ≤ ring.index) × (ring.index < length layout.rings))
+        → (has_node (ring_at layout 1) section ≡ true) × ((name : Option (List ℕ)) × (ring : RingId) × (content_of layout section ≡ Some (content.Begun name ring)) × (ring.index ≡ index)
+        × (2 ≤ ring.index) × (ring.index < length layout.rings))
     owner_at index section has =
         let there = begun_covers same_ring rings_in shaped (λ declaration. refl) (λ entry. refl) (record { index = index }) section has in
         let is = section_at section there in
-        let one : list_any (same_ring (record { index = index })) (is.1 ∷ []) ≡ true = sym (ap (list_any (same_ring (record { index = index }))) (read_known rings_in layout section (content.Begun is.0 is.1) is.2)) ∙ (both_true _ _ has).1 in
+        let one : list_any (same_ring (record { index = index })) (is.1 ∷ []) ≡ true =
+        sym (ap (list_any (same_ring (record { index = index }))) (read_known rings_in layout section (content.Begun is.0 is.1) is.2)) ∙ (both_true _ _ has).1 in
         (there, (is.0, is.1, is.2, sym ((Decides-eqb index is.1.index).0 (only _ one)), is.3, is.4)) where
           only : (b : Bool) → (b || false) ≡ true → b ≡ true
           only true e = refl

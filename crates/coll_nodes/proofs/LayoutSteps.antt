@@ -1,5 +1,6 @@
 -- A node more in a layout: what the look-ups find then, and that the layout is one of a table still.
-use Rattle.std.proofs.Common.{◌≡◌, ℕ, zero, suc, ◌<◌, ◌≤◌, Bool, true, false, ◌&&◌, cond, List, [], ◌∷◌, Option, Some, None, length, eqb, flat_map, slice_index_or, ◌+◌, sym, ap, subst, ◌∙◌, refl, arith}
+use Rattle.std.proofs.Common.{◌≡◌, ℕ, zero, suc, ◌<◌, ◌≤◌, Bool, true, false, ◌&&◌, cond, List, [], ◌∷◌, Option, Some, None}
+use Rattle.std.proofs.Common.{length, eqb, flat_map, slice_index_or, ◌+◌, sym, ap, subst, ◌∙◌, refl, arith}
 use Rattle.std.specs.List.{list_any}
 use Rattle.std.proofs.lemmas.Bool.Decides.{Decides-eqb}
 use Rattle.coll_order.specs.Layout.{head_of, is_in}
@@ -22,14 +23,16 @@ pub from_zero : (index : ℕ) → 0 + index ≡ index
 from_zero index = omega arith
 
 -- a place that is in a ring is in the rings
-place_in_rings : (place : Place) (first index : ℕ) (rings : List (List NodeId)) → index < length rings → is_place_of place (head_of (first + index)) (slice_index_or rings index []) ≡ true → is_among place first rings ≡ true
+place_in_rings : (place : Place) (first index : ℕ) (rings : List (List NodeId)) → index < length rings → is_place_of place (head_of (first + index)) (slice_index_or rings index []) ≡ true
+    → is_among place first rings ≡ true
 place_in_rings place first index [] below on = absurd (omega arith)
 place_in_rings place first zero (nodes ∷ rings) below on =
     let same : first + zero ≡ first = omega arith in
     or_first (is_place_of place (head_of first) nodes) _ (ap (λ k. is_place_of place (head_of k) nodes) (sym same) ∙ on)
 place_in_rings place first (suc index) (nodes ∷ rings) below on =
     let same : suc first + index ≡ first + suc index = omega arith in
-    or_second (is_place_of place (head_of first) nodes) _ (place_in_rings place (suc first) index rings (omega arith) (ap (λ k. is_place_of place (head_of k) (slice_index_or rings index [])) same ∙ on))
+    or_second (is_place_of place (head_of first) nodes) _
+    (place_in_rings place (suc first) index rings (omega arith) (ap (λ k. is_place_of place (head_of k) (slice_index_or rings index [])) same ∙ on))
 
 -- a node that is in a list isn't one that is not
 pub member_differs : (nodes : List NodeId) (other node : NodeId) → has_node nodes other ≡ true → has_node nodes node ≡ false → same_node other node ≡ false
@@ -48,7 +51,8 @@ module _ (old new : TableLayout) (node : NodeId) (node_content : Content) (place
 
   -- the node stands in the rings
   pub in_itself : is_in new.rings node ≡ true
-  in_itself = ap (λ rings. is_in rings node) adds.rings ∙ is_in_put_itself place node 0 old.rings (place_in_rings place 0 index old.rings at.ring (ap (λ k. is_place_of place (head_of k) (ring_at old index)) (from_zero index) ∙ at.on))
+  in_itself = ap (λ rings. is_in rings node) adds.rings
+      ∙ is_in_put_itself place node 0 old.rings (place_in_rings place 0 index old.rings at.ring (ap (λ k. is_place_of place (head_of k) (ring_at old index)) (from_zero index) ∙ at.on))
 
   -- the others stand where they stood
   pub in_other : (other : NodeId) → same_node other node ≡ false → is_in new.rings other ≡ is_in old.rings other
@@ -64,7 +68,8 @@ module _ (old new : TableLayout) (node : NodeId) (node_content : Content) (place
 
   -- the other rings are as they were
   pub ring_other : (other : ℕ) → (index ≡ other → ⊥) → ring_at new other ≡ ring_at old other
-  ring_other other differ = ap (λ rings. slice_index_or rings other []) adds.rings ∙ get_put_other place node 0 other old.rings (ap (λ k. is_place_of place (head_of k) (ring_at old other)) (from_zero other) ∙ place_off old.rings place index other once at.on differ)
+  ring_other other differ = ap (λ rings. slice_index_or rings other []) adds.rings
+      ∙ get_put_other place node 0 other old.rings (ap (λ k. is_place_of place (head_of k) (ring_at old other)) (from_zero other) ∙ place_off old.rings place index other once at.on differ)
 
   -- the node stood in no ring
   pub absent : (other : ℕ) → has_node (ring_at old other) node ≡ false
@@ -73,7 +78,8 @@ module _ (old new : TableLayout) (node : NodeId) (node_content : Content) (place
   -- each ring has the others that it had
   pub has_other : (ring : ℕ) (other : NodeId) → same_node other node ≡ false → has_node (ring_at new ring) other ≡ has_node (ring_at old ring) other
   has_other ring other differ = by_test (λ b. eqb index ring ≡ b → has_node (ring_at new ring) other ≡ has_node (ring_at old ring) other) (eqb index ring)
-      (λ on e. subst (λ k. has_node (ring_at new k) other ≡ has_node (ring_at old k) other) ((Decides-eqb index ring).0 e) (ap (λ nodes. has_node nodes other) ring_put ∙ has_put place (head_of index) node other (ring_at old index) differ))
+      (λ on e. subst (λ k. has_node (ring_at new k) other ≡ has_node (ring_at old k) other) ((Decides-eqb index ring).0 e)
+      (ap (λ nodes. has_node nodes other) ring_put ∙ has_put place (head_of index) node other (ring_at old index) differ))
       (λ off e. ap (λ nodes. has_node nodes other) (ring_other ring (λ same. not_both ((Decides-eqb index ring).1 same) e))) refl
 
   -- the node stands in the ring of the place alone
@@ -93,7 +99,8 @@ module _ (old new : TableLayout) (node : NodeId) (node_content : Content) (place
   module _ {Key : Type 0} (same : Key → Key → Bool) (keys : Content → List Key) where
     -- the others have the keys that they had
     pub key_other : (key : Key) (other : NodeId) → same_node other node ≡ false → has_key same keys new key other ≡ has_key same keys old key other
-    key_other key other differ = ap (λ b. b && list_any (same key) (read_at keys new other)) (in_other other differ) ∙ ap (λ xs. is_in old.rings other && list_any (same key) xs) (read_other keys other differ)
+    key_other key other differ = ap (λ b. b && list_any (same key) (read_at keys new other)) (in_other other differ)
+        ∙ ap (λ xs. is_in old.rings other && list_any (same key) xs) (read_other keys other differ)
 
     -- the node has its own
     pub key_itself : (key : Key) → has_key same keys new key node ≡ list_any (same key) (keys node_content)
@@ -109,7 +116,8 @@ module _ (old new : TableLayout) (node : NodeId) (node_content : Content) (place
         → ((key : Key) → find_new key ≡ cond (list_any (same key) (keys node_content)) (Some node) (find key))
         → ((key : Key) → list_any (same key) (keys node_content) ≡ true → find key ≡ None) → Finds same keys new find_new
     finds_more find find_new sound sets fresh = record {
-      leads = λ key other. λ e. by_test (λ b. list_any (same key) (keys node_content) ≡ b → cond b (Some node) (find key) ≡ Some other → has_key same keys new key other ≡ true) (list_any (same key) (keys node_content))
+      leads = λ key other. λ e. by_test (λ b. list_any (same key) (keys node_content) ≡ b → cond b (Some node) (find key) ≡ Some other → has_key same keys new key other ≡ true)
+          (list_any (same key) (keys node_content))
           (λ on t e. let it : node ≡ other = cc in subst (λ n. has_key same keys new key n ≡ true) it (key_itself key ∙ t))
           (λ off t e. let had = sound.leads key other e in key_other key other (had_differs key other had) ∙ had) refl (sym (sets key) ∙ e);
       finds = λ key other. λ has. by_test (λ b. same_node other node ≡ b → find_new key ≡ Some other) (same_node other node)
@@ -140,8 +148,10 @@ module _ (old new : TableLayout) (node : NodeId) (node_content : Content) (place
         (λ off t. subst (λ found. IsDeclaration found) (sym (content_other other t)) (shaped.declared other (sym (has_other 0 other t) ∙ there))) refl;
     begun = λ other. λ there. by_test (λ b. same_node other node ≡ b → IsSection (length new.rings) (content_of new other)) (same_node other node)
         (λ on t. let it : other ≡ node = same_node_is other node t in
-        subst (λ n. IsSection n (content_of new other)) (sym as_many) (subst (λ found. IsSection (length old.rings) found) (sym (ap (content_of new) it ∙ content_itself)) (begins (stands_in 1 (subst (λ n. has_node (ring_at new 1) n ≡ true) it there)))))
-        (λ off t. subst (λ n. IsSection n (content_of new other)) (sym as_many) (subst (λ found. IsSection (length old.rings) found) (sym (content_other other t)) (shaped.begun other (sym (has_other 1 other t) ∙ there)))) refl;
+        subst (λ n. IsSection n (content_of new other)) (sym as_many)
+        (subst (λ found. IsSection (length old.rings) found) (sym (ap (content_of new) it ∙ content_itself)) (begins (stands_in 1 (subst (λ n. has_node (ring_at new 1) n ≡ true) it there)))))
+        (λ off t. subst (λ n. IsSection n (content_of new other)) (sym as_many)
+        (subst (λ found. IsSection (length old.rings) found) (sym (content_other other t)) (shaped.begun other (sym (has_other 1 other t) ∙ there)))) refl;
     placed = λ ring other. λ there. by_test (λ b. same_node other node ≡ b → IsEntry (content_of new other) × IsOwned new (suc (suc ring))) (same_node other node)
         (λ on t. let it : other ≡ node = same_node_is other node t in
         let fits = places ring (stands_in (suc (suc ring)) (subst (λ n. has_node (ring_at new (suc (suc ring))) n ≡ true) it there)) in
@@ -151,8 +161,10 @@ module _ (old new : TableLayout) (node : NodeId) (node_content : Content) (place
     own = λ ring a b. λ p q. by_test (λ s. same_node a node ≡ s → a ≡ b) (same_node a node)
         (λ on t. by_test (λ s. same_node b node ≡ s → a ≡ b) (same_node b node)
         (λ on2 t2. same_node_is a node t ∙ sym (same_node_is b node t2))
-        (λ off2 t2. absurd (apart ring b (sym (key_itself same_ring rings_in ring) ∙ subst (λ n. has_key same_ring rings_in new ring n ≡ true) (same_node_is a node t) p) (sym (key_other same_ring rings_in ring b t2) ∙ q))) refl)
+        (λ off2 t2. absurd (apart ring b (sym (key_itself same_ring rings_in ring) ∙ subst (λ n. has_key same_ring rings_in new ring n ≡ true) (same_node_is a node t) p)
+        (sym (key_other same_ring rings_in ring b t2) ∙ q))) refl)
         (λ off t. by_test (λ s. same_node b node ≡ s → a ≡ b) (same_node b node)
-        (λ on2 t2. absurd (apart ring a (sym (key_itself same_ring rings_in ring) ∙ subst (λ n. has_key same_ring rings_in new ring n ≡ true) (same_node_is b node t2) q) (sym (key_other same_ring rings_in ring a t) ∙ p)))
+        (λ on2 t2. absurd (apart ring a (sym (key_itself same_ring rings_in ring) ∙ subst (λ n. has_key same_ring rings_in new ring n ≡ true) (same_node_is b node t2) q)
+        (sym (key_other same_ring rings_in ring a t) ∙ p)))
         (λ off2 t2. shaped.own ring a b (sym (key_other same_ring rings_in ring a t) ∙ p) (sym (key_other same_ring rings_in ring b t2) ∙ q)) refl) refl;
   }

@@ -44,7 +44,8 @@ none_there [] none = refl
 none_there (first ∷ rest) none = absurd (none first (or_first (same_node first first) _ (same_node_itself first)))
 
 -- a node of a section's ring is an entry, and the ring is a section's
-pub placed_in : (layout : TableLayout) → IsShaped layout → (index : ℕ) → 2 ≤ index → (node : NodeId) → has_node (ring_at layout index) node ≡ true → IsEntry (content_of layout node) × IsOwned layout index
+pub placed_in : (layout : TableLayout) → IsShaped layout → (index : ℕ) → 2 ≤ index → (node : NodeId) → has_node (ring_at layout index) node ≡ true → IsEntry (content_of layout node)
+    × IsOwned layout index
 placed_in layout shaped zero high node there = absurd (omega (arith, high))
 placed_in layout shaped (suc zero) high node there = absurd (omega (arith, high))
 placed_in layout shaped (suc (suc index)) high node there = shaped.placed index node there
@@ -115,7 +116,8 @@ ring_for layout place (content.Begun name ring) fits = (1, fits)
 ring_for layout place (content.Placed entry) fits = (fits.0, fits.1)
 
 -- a key that no node has is not found
-fresh_key : {Key : Type 0} (layout : TableLayout) (it : Content) (same : Key → Key → Bool) (keys : Content → List Key) (find : Key → Option NodeId) → Finds same keys layout find → AreNew same keys layout it
+fresh_key : {Key : Type 0} (layout : TableLayout) (it : Content) (same : Key → Key → Bool) (keys : Content → List Key) (find : Key → Option NodeId) → Finds same keys layout find
+    → AreNew same keys layout it
     → (key : Key) → list_any (same key) (keys it) ≡ true → find key ≡ None
 fresh_key layout it same keys find sound free key has = elim (find key) as (λ found. find key ≡ found → found ≡ None) [
   | None ↦ λ e. refl
@@ -123,13 +125,18 @@ fresh_key layout it same keys find sound free key has = elim (find key) as (λ f
 ] refl
 
 -- the look-ups find a node that was put in, where its keys lead to it
-pub found_put : (old new : TableLayout) (node : NodeId) (it : Content) (place : Place) (index : ℕ) (keys keys_new : NodeKeys) → Adds old new node it place → IsPlaceIn old index place → StandOnce old.rings → IsApart old it
+pub found_put : (old new : TableLayout) (node : NodeId) (it : Content) (place : Place) (index : ℕ) (keys keys_new : NodeKeys) → Adds old new node it place → IsPlaceIn old index place
+    → StandOnce old.rings → IsApart old it
     → FindsAll old keys → SetsKeys keys keys_new it (Some node) → FindsAll new keys_new
 found_put old new node it place index keys keys_new adds at once apart found sets = record {
-  names = finds_more old new node it place index adds at once same_name names_in (node_named keys.names) (node_named keys_new.names) found.names sets.names (fresh_key old it same_name names_in _ found.names apart.names);
-  texts = finds_more old new node it place index adds at once same_name texts_in (node_named keys.texts) (node_named keys_new.texts) found.texts sets.texts (fresh_key old it same_name texts_in _ found.texts apart.texts);
-  sections = finds_more old new node it place index adds at once same_name section_names_in (node_named keys.sections) (node_named keys_new.sections) found.sections sets.sections (fresh_key old it same_name section_names_in _ found.sections apart.sections);
-  ids = finds_more old new node it place index adds at once same_id ids_in (node_with keys.placed) (node_with keys_new.placed) found.ids sets.ids (fresh_key old it same_id ids_in _ found.ids apart.ids);
+  names = finds_more old new node it place index adds at once same_name names_in (node_named keys.names) (node_named keys_new.names) found.names sets.names
+      (fresh_key old it same_name names_in _ found.names apart.names);
+  texts = finds_more old new node it place index adds at once same_name texts_in (node_named keys.texts) (node_named keys_new.texts) found.texts sets.texts
+      (fresh_key old it same_name texts_in _ found.texts apart.texts);
+  sections = finds_more old new node it place index adds at once same_name section_names_in (node_named keys.sections) (node_named keys_new.sections) found.sections sets.sections
+      (fresh_key old it same_name section_names_in _ found.sections apart.sections);
+  ids = finds_more old new node it place index adds at once same_id ids_in (node_with keys.placed) (node_with keys_new.placed) found.ids sets.ids
+      (fresh_key old it same_id ids_in _ found.ids apart.ids);
 }
 
 module _ (layout : TableLayout) (nodes : List MadeNode) (alike : AreAlike layout nodes) where
@@ -153,7 +160,8 @@ module _ (layout : TableLayout) (nodes : List MadeNode) (alike : AreAlike layout
   }
 
 -- what is reserved stays so where nodes are linked otherwise
-pub reserved_linked : (layout : TableLayout) (rings : List (List NodeId)) (keys keys_new : NodeKeys) → length rings ≡ length layout.rings → KeepsKeys keys keys_new → IsReserved layout keys → IsReserved (record layout { rings = rings }) keys_new
+pub reserved_linked : (layout : TableLayout) (rings : List (List NodeId)) (keys keys_new : NodeKeys) → length rings ≡ length layout.rings → KeepsKeys keys keys_new → IsReserved layout keys
+    → IsReserved (record layout { rings = rings }) keys_new
 reserved_linked layout rings keys keys_new same kept reserved = record {
   keys_of = λ node it is. keys_stay keys keys_new it kept (reserved.keys_of node it is);
   ring_of = λ node it is. subst (λ n. HasItsRing n it) (sym same) (reserved.ring_of node it is);
@@ -194,7 +202,8 @@ reserved_kept layout keys keys_new kept reserved = record {
 
 -- the body is sound
 pub put_sound : (layout : TableLayout) (node : NodeId) (it : Content) (place : Place) (declarations sections : RingId) (keys keys_new : NodeKeys) (counts counts_new : Counts)
-    → IsSoundBody layout declarations sections keys counts → StandOnce layout.rings → content_of layout node ≡ Some it → is_in layout.rings node ≡ false → IsPlaceFor layout place it → IsApart layout it
+    → IsSoundBody layout declarations sections keys counts → StandOnce layout.rings → content_of layout node ≡ Some it → is_in layout.rings node ≡ false → IsPlaceFor layout place it
+    → IsApart layout it
     → SetsKeys keys keys_new it (Some node) → KeepsKeys keys keys_new → counts_new ≡ counts_with it counts
     → IsSoundBody (with_link layout node place) declarations sections keys_new counts_new
 put_sound layout node it place declarations sections keys keys_new counts counts_new sound once is loose fits apart sets kept counted =

@@ -34,7 +34,8 @@ use Rattle.coll_nodes.proofs.NodeCounts.{has_room}
 use Rattle.coll_nodes.proofs.TakenBodies.{loose_ringless}
 
 -- keys that lead alike find alike
-finds_led : {Key : Type 0} (same : Key → Key → Bool) (keys : Content → List Key) (layout : TableLayout) (find find_new : Key → Option NodeId) → ((key : Key) → find_new key ≡ find key) → Finds same keys layout find → Finds same keys layout find_new
+finds_led : {Key : Type 0} (same : Key → Key → Bool) (keys : Content → List Key) (layout : TableLayout) (find find_new : Key → Option NodeId) → ((key : Key) → find_new key ≡ find key)
+    → Finds same keys layout find → Finds same keys layout find_new
 finds_led same keys layout find find_new alike sound = record {
   leads = λ key node. λ e. sound.leads key node (sym (alike key) ∙ e);
   finds = λ key node. λ has. alike key ∙ sound.finds key node has;
@@ -59,7 +60,8 @@ module _ (declarations sections : RingId) (counts : Counts) where
   }
 
   -- with other nodes beside those that stand, or with other weights
-  pub alike_sound : (layout : TableLayout) (nodes : List MadeNode) (keys : NodeKeys) → IsSoundBody layout declarations sections keys counts → AreAlike layout nodes → IsReserved (record layout { nodes = nodes }) keys
+  pub alike_sound : (layout : TableLayout) (nodes : List MadeNode) (keys : NodeKeys) → IsSoundBody layout declarations sections keys counts → AreAlike layout nodes
+      → IsReserved (record layout { nodes = nodes }) keys
       → IsSoundBody (record layout { nodes = nodes }) declarations sections keys counts
   alike_sound layout nodes keys sound alike reserved = record {
     declarations = sound.declarations;
@@ -78,14 +80,16 @@ module _ (declarations sections : RingId) (counts : Counts) where
     ring_of = λ other it is. sound.reserved.ring_of other it (was other it is);
   }) where
     was : (other : NodeId) (it : Content) → content_of (bare layout node) other ≡ Some it → content_of layout other ≡ Some it
-    was other it is = by_test (λ b. cond b None (content_of layout other) ≡ Some it → content_of layout other ≡ Some it) (same_node other node) (λ on e. cc) (λ off e. e) (sym (content_dropped node other layout.nodes) ∙ is)
+    was other it is = by_test (λ b. cond b None (content_of layout other) ≡ Some it → content_of layout other ≡ Some it) (same_node other node) (λ on e. cc) (λ off e. e)
+        (sym (content_dropped node other layout.nodes) ∙ is)
 
   -- with other weights of an entry
   pub weighed_sound : (layout : TableLayout) (node : NodeId) (weights : Option (List Weight)) (keys : NodeKeys) → IsSoundBody layout declarations sections keys counts
       → IsSoundBody (record layout { nodes = weighed_nodes node weights layout.nodes }) declarations sections keys counts
   weighed_sound layout node weights keys sound = alike_sound layout (weighed_nodes node weights layout.nodes) keys sound (weighed_alike layout node weights) (record {
     keys_of = λ other it is. by_known other it is (λ known. HasKeysOf keys known) (λ w known has. same_keys w known has) (λ known e. sound.reserved.keys_of other known e);
-    ring_of = λ other it is. by_known other it is (λ known. HasItsRing (length layout.rings) known) (λ w known has ring own. has ring (sym (ap (list_any (same_ring ring)) (rings_stay w known)) ∙ own)) (λ known e. sound.reserved.ring_of other known e);
+    ring_of = λ other it is. by_known other it is (λ known. HasItsRing (length layout.rings) known) (λ w known has ring own. has ring (sym (ap (list_any (same_ring ring)) (rings_stay w known)) ∙ own))
+        (λ known e. sound.reserved.ring_of other known e);
   }) where
     same_keys : (w : Option (List Weight)) (known : Content) → HasKeysOf keys known → HasKeysOf keys (weighed w known)
     same_keys w known has = record {
@@ -157,7 +161,8 @@ module _ (old mid : TableLayout) (node : NodeId) (it : Content) (makes : Makes o
       (alike_sound declarations sections counts old mid.nodes keys sound made_alike (reserved_made keys sound.reserved has its))
 
   -- and so is the body with the node put in, where its keys lead to it at once
-  pub put_new_sound : (place : Place) (declarations sections : RingId) (keys keys_new : NodeKeys) (counts counts_new : Counts) → IsSoundBody old declarations sections keys counts → StandOnce old.rings → IsPlaceFor old place it → IsApart old it
+  pub put_new_sound : (place : Place) (declarations sections : RingId) (keys keys_new : NodeKeys) (counts counts_new : Counts) → IsSoundBody old declarations sections keys counts → StandOnce old.rings
+      → IsPlaceFor old place it → IsApart old it
       → HasItsRing (length old.rings) it → SetsKeys keys keys_new it (Some node) → HasKeysOf keys_new it → KeepsKeys keys keys_new → counts_new ≡ counts_with it counts
       → IsSoundBody (with_link mid node place) declarations sections keys_new counts_new
   put_new_sound place declarations sections keys keys_new counts counts_new sound once fits free its sets has kept counted =
@@ -176,7 +181,8 @@ pub no_ring : (it : Content) (rings : ℕ) → MayBeLoose it → HasItsRing ring
 no_ring it rings may ring own = not_both (sym (ap (list_any (same_ring ring)) (loose_ringless it may)) ∙ own) refl
 
 -- with a ring more that has no nodes
-pub pushed_sound : (layout : TableLayout) (declarations sections : RingId) (counts : Counts) (keys : NodeKeys) → IsSoundBody layout declarations sections keys counts → IsSoundBody (with_empty_ring layout) declarations sections keys counts
+pub pushed_sound : (layout : TableLayout) (declarations sections : RingId) (counts : Counts) (keys : NodeKeys) → IsSoundBody layout declarations sections keys counts
+    → IsSoundBody (with_empty_ring layout) declarations sections keys counts
 pushed_sound layout declarations sections counts keys sound = record {
   declarations = sound.declarations;
   begun = sound.begun;
@@ -203,7 +209,8 @@ pub section_makes : (old mid : TableLayout) (node : NodeId) (it : Content) → M
 section_makes old mid node it makes = record { fresh = makes.fresh; contents = makes.contents }
 
 -- the ring that is made for a section is its own
-pub section_ring : (layout : TableLayout) (name : Option (List ℕ)) (own : RingId) → 2 ≤ length layout.rings → own.index ≡ length layout.rings → HasItsRing (length (with_empty_ring layout).rings) (content.Begun name own)
+pub section_ring : (layout : TableLayout) (name : Option (List ℕ)) (own : RingId) → 2 ≤ length layout.rings → own.index ≡ length layout.rings
+    → HasItsRing (length (with_empty_ring layout).rings) (content.Begun name own)
 section_ring layout name own two last ring mine =
     let is : ring.index ≡ own.index = (Decides-eqb ring.index own.index).0 (only _ mine) in
     let more = one_ring_more layout in
@@ -213,7 +220,8 @@ section_ring layout name own two last ring mine =
       only false e = e
 
 -- the body with a section made is sound
-pub section_sound : (old mid : TableLayout) (node : NodeId) (name : Option (List ℕ)) (own : RingId) (declarations sections : RingId) (counts : Counts) (keys : NodeKeys) → IsSoundBody old declarations sections keys counts
+pub section_sound : (old mid : TableLayout) (node : NodeId) (name : Option (List ℕ)) (own : RingId) (declarations sections : RingId) (counts : Counts) (keys : NodeKeys)
+    → IsSoundBody old declarations sections keys counts
     → Makes old mid node (content.Begun name own) → is_in old.rings node ≡ false → mid.rings ≡ old.rings ++ [] ∷ [] → own.index ≡ length old.rings → HasKeyOfSection keys name
     → IsSoundBody mid declarations sections keys counts
 section_sound old mid node name own declarations sections counts keys sound makes apart rings last has =
@@ -221,12 +229,15 @@ section_sound old mid node name own declarations sections counts keys sound make
     declarations sections counts keys (pushed_sound old declarations sections counts keys sound) (section_keys keys name own has) (section_ring old name own sound.shaped.two last)
 
 -- the body is sound, whether a node was made or not
-pub made_sound_if : {X : Type 0} (result : Result NodeId X) (old new : BodyValue) (it : Content) (declarations sections : RingId) (counts : Counts) (keys : NodeKeys) → IsSoundBody old.layout declarations sections keys counts
-    → IfOk result (λ node. Makes old.layout new.layout node it) → IfOk result (λ node. is_in old.layout.rings node ≡ false) → new.layout.rings ≡ old.layout.rings → OnErr result (new ≡ old) → HasKeysOf keys it → MayBeLoose it
+pub made_sound_if : {X : Type 0} (result : Result NodeId X) (old new : BodyValue) (it : Content) (declarations sections : RingId) (counts : Counts) (keys : NodeKeys)
+    → IsSoundBody old.layout declarations sections keys counts
+    → IfOk result (λ node. Makes old.layout new.layout node it) → IfOk result (λ node. is_in old.layout.rings node ≡ false) → new.layout.rings ≡ old.layout.rings → OnErr result (new ≡ old)
+    → HasKeysOf keys it → MayBeLoose it
     → IsSoundBody new.layout declarations sections keys counts
 made_sound_if (Ok node) old new it declarations sections counts keys sound makes apart rings same has may =
     made_sound old.layout new.layout node it makes apart rings declarations sections counts keys sound has (no_ring it (length old.layout.rings) may)
-made_sound_if (Err e) old new it declarations sections counts keys sound makes apart rings same has may = subst (λ (body : BodyValue). IsSoundBody body.layout declarations sections keys counts) (sym same) sound
+made_sound_if (Err e) old new it declarations sections counts keys sound makes apart rings same has may =
+    subst (λ (body : BodyValue). IsSoundBody body.layout declarations sections keys counts) (sym same) sound
 
 -- so with a section
 pub section_sound_if : {X : Type 0} (result : Result (NodeId × RingId) X) (old new : BodyValue) (name : Option (List ℕ)) (declarations sections : RingId) (counts : Counts) (keys : NodeKeys)

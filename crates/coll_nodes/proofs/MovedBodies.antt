@@ -44,7 +44,8 @@ length_put f place start node [] on =
     by_test (λ b. (b || false) ≡ true → length (flat_map f (cond b (node ∷ []) [])) ≡ length (f node) + 0) (same_place place start)
     (λ here e. length-append (f node) []) (λ off e. not_both e refl) on
 length_put f place start node (first ∷ rest) on =
-    by_test (λ b. (b || is_place_of place (After first) rest) ≡ true → length (flat_map f (cond b (node ∷ first ∷ rest) (first ∷ put_after place node (After first) rest))) ≡ length (f node) + length (flat_map f (first ∷ rest))) (same_place place start)
+    by_test (λ b. (b || is_place_of place (After first) rest) ≡ true → length (flat_map f (cond b (node ∷ first ∷ rest) (first ∷ put_after place node (After first) rest)))
+    ≡ length (f node) + length (flat_map f (first ∷ rest))) (same_place place start)
     (λ here e. length-append (f node) (flat_map f (first ∷ rest)))
     (λ off e.
     let later = length_put f place (After first) node rest e in
@@ -124,7 +125,8 @@ pub record IsMoved (old new : TableLayout) : Type 0 where
   pub counted : counts_at new ≡ counts_at old
 
 -- a section that is moved
-module _ (old : TableLayout) (node : NodeId) (name : Option (List ℕ)) (own : RingId) (from place : Place) (known : content_of old node ≡ Some (content.Begun name own)) (at : place_from 0 old.rings node ≡ Some from) (once : StandOnce old.rings)
+module _ (old : TableLayout) (node : NodeId) (name : Option (List ℕ)) (own : RingId) (from place : Place) (known : content_of old node ≡ Some (content.Begun name own))
+    (at : place_from 0 old.rings node ≡ Some from) (once : StandOnce old.rings)
     (linked : is_in old.rings node ≡ true) (fits : IsPlaceIn (without_link old node) 1 place) (shaped : IsShaped old) where
   abbrev it : Content
   it = content.Begun name own
@@ -205,7 +207,8 @@ module _ (old : TableLayout) (node : NodeId) (name : Option (List ℕ)) (own : R
       ∙ (as_long (read_at (section_in moved) moved)
       ∙ (same_length (read_at (section_in old) old) (read_at (section_in moved) moved) (ring_at old 1) (λ other there.
       let is = section_at old shaped other there in
-      ap (λ (xs : List Section). length xs) (read_known (section_in moved) moved other (content.Begun is.0 is.1) is.2) ∙ sym (ap (λ (xs : List Section). length xs) (read_known (section_in old) old other (content.Begun is.0 is.1) is.2)))
+      ap (λ (xs : List Section). length xs) (read_known (section_in moved) moved other (content.Begun is.0 is.1) is.2)
+      ∙ sym (ap (λ (xs : List Section). length xs) (read_known (section_in old) old other (content.Begun is.0 is.1) is.2)))
       ∙ ap (λ (xs : List Section). length xs) (sym (sections_read old)))))
       (ap (λ (xs : List Entry). length xs) (joined_read moved)
       ∙ (as_long (joined_at moved)
@@ -218,24 +221,28 @@ module _ (old : TableLayout) (node : NodeId) (name : Option (List ℕ)) (own : R
   begun_moved = record { shaped = begun_shaped; counted = begun_counted }
 
 -- a node of any kind that is moved
-pub moved_any : (old : TableLayout) (node : NodeId) (it : Content) (from place : Place) (known : content_of old node ≡ Some it) (at : place_from 0 old.rings node ≡ Some from) (once : StandOnce old.rings)
+pub moved_any : (old : TableLayout) (node : NodeId) (it : Content) (from place : Place) (known : content_of old node ≡ Some it) (at : place_from 0 old.rings node ≡ Some from)
+    (once : StandOnce old.rings)
     → (linked : is_in old.rings node ≡ true) → (fits : IsPlaceFor (without_link old node) place it) → IsShaped old → IsMoved old (with_link (without_link old node) node place)
 moved_any old node (content.Declared declaration) from place known at once linked fits shaped =
     let it : Content = content.Declared declaration in
-    let put = put_declared (bare (without_link old node) node) (with_link (without_link old node) node place) node place (once_small old node it from place known at once linked fits) (shaped_bare old node it known refl shaped) declaration
+    let put = put_declared (bare (without_link old node) node) (with_link (without_link old node) node place) node place (once_small old node it from place known at once linked fits)
+    (shaped_bare old node it known refl shaped) declaration
     (adds old node it from place known at once linked fits) (fits_small old node it from place known at once linked fits) in
     record { shaped = put.shaped; counted = put.counted ∙ sym (put_back old node it from known at once shaped linked tt).counted }
 moved_any old node (content.Begun name ring) from place known at once linked fits shaped = begun_moved old node name ring from place known at once linked fits shaped
 moved_any old node (content.Placed entry) from place known at once linked fits shaped =
     let it : Content = content.Placed entry in
     let fits_rest = fits_small old node it from place known at once linked fits in
-    let put = put_placed (bare (without_link old node) node) (with_link (without_link old node) node place) node place (once_small old node it from place known at once linked fits) (shaped_bare old node it known refl shaped) entry
+    let put = put_placed (bare (without_link old node) node) (with_link (without_link old node) node place) node place (once_small old node it from place known at once linked fits)
+    (shaped_bare old node it known refl shaped) entry
     (adds old node it from place known at once linked fits) fits_rest.0 fits_rest.1 fits_rest.2 in
     record { shaped = put.shaped; counted = put.counted ∙ sym (put_back old node it from known at once shaped linked tt).counted }
 
 -- the body is sound, with the look-ups and counts that it had
 pub moved_sound : (old : TableLayout) (node : NodeId) (it : Content) (from place : Place) (declarations sections : RingId) (keys : NodeKeys) (counts : Counts)
-    → IsSoundBody old declarations sections keys counts → StandOnce old.rings → content_of old node ≡ Some it → place_from 0 old.rings node ≡ Some from → is_in old.rings node ≡ true → IsPlaceFor (without_link old node) place it
+    → IsSoundBody old declarations sections keys counts → StandOnce old.rings → content_of old node ≡ Some it → place_from 0 old.rings node ≡ Some from → is_in old.rings node ≡ true
+    → IsPlaceFor (without_link old node) place it
     → IsSoundBody (with_link (without_link old node) node place) declarations sections keys counts
 moved_sound old node it from place declarations sections keys counts sound once known at linked fits =
     let moved = moved_any old node it from place known at once linked fits sound.shaped in

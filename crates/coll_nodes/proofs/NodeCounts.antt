@@ -25,7 +25,8 @@ use Rattle.coll_nodes.proofs.NodeLists.{any_from}
 use Rattle.coll_nodes.proofs.RingPlaces.{in_one}
 
 -- lists that are no longer than others are not longer together
-no_longer : {X Y : Type 0} (f : NodeId → List X) (g : NodeId → List Y) (nodes : List NodeId) → ((node : NodeId) → has_node nodes node ≡ true → length (f node) ≤ length (g node)) → length (flat_map f nodes) ≤ length (flat_map g nodes)
+no_longer : {X Y : Type 0} (f : NodeId → List X) (g : NodeId → List Y) (nodes : List NodeId) → ((node : NodeId) → has_node nodes node ≡ true → length (f node) ≤ length (g node))
+    → length (flat_map f nodes) ≤ length (flat_map g nodes)
 no_longer f g [] each = omega arith
 no_longer f g (node ∷ nodes) each =
     let here = each node (or_first (same_node node node) _ (same_node_itself node)) in
@@ -89,7 +90,8 @@ module _ (layout : TableLayout) (node : NodeId) (laid : IsLaidOut layout) (shape
   room : (nodes : List NodeId) → AreDistinct nodes → ((other : NodeId) → has_node nodes other ≡ true → is_in layout.rings other ≡ true) → length nodes + 1 < 2 ^ 64
   room nodes distinct stand =
       let absent : has_node nodes node ≡ false = by_test (λ b. has_node nodes node ≡ b → b ≡ false) (has_node nodes node) (λ on there. not_both (stand node there) loose.apart) (λ off _. refl) refl in
-      let all = few (node ∷ nodes) (absent, distinct) (λ other there. by_test (λ b. same_node other node ≡ b → (b || has_node nodes other) ≡ true → IsSome (content_of layout other)) (same_node other node)
+      let all = few (node ∷ nodes) (absent, distinct)
+      (λ other there. by_test (λ b. same_node other node ≡ b → (b || has_node nodes other) ≡ true → IsSome (content_of layout other)) (same_node other node)
       (λ on t e. subst (λ n. IsSome (content_of layout n)) (sym (same_node_is other node t)) loose.made) (λ off t e. laid.made other (stand other e)) refl there) in
       omega (arith, all)
 
@@ -108,7 +110,8 @@ module _ (layout : TableLayout) (node : NodeId) (laid : IsLaidOut layout) (shape
   abbrev nodes_at : NodeId → List NodeId
   nodes_at section = ring_in (content_of layout section)
 
-  nodes_known : (section : NodeId) → has_node (ring_at layout 1) section ≡ true → (name : Option (List ℕ)) × (ring : RingId) × (content_of layout section ≡ Some (content.Begun name ring)) × (nodes_at section ≡ ring_at layout ring.index)
+  nodes_known : (section : NodeId) → has_node (ring_at layout 1) section ≡ true → (name : Option (List ℕ)) × (ring : RingId) × (content_of layout section ≡ Some (content.Begun name ring))
+      × (nodes_at section ≡ ring_at layout ring.index)
   nodes_known section there = let is = section_at layout shaped section there in (is.0, is.1, is.2, ap ring_in is.2)
 
   -- no node is one of two sections

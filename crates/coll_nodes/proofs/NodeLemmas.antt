@@ -71,7 +71,8 @@ among_from slots (e ∷ es) node sorted lead =
     let first = found_first e es in
     let later : (key tag : ℕ) → finmap.find nat_cmp key es ≡ Some tag → IsSome (slot_of slots tag) = λ key tag at. lead key tag (found_later e es sorted key tag at) in
     let rest = among_from slots es node (later_sorted e es sorted) later in
-    elim (slot_of slots e.1) as (λ slot. slot_of slots e.1 ≡ slot → content_among (made_with e.0 slot ++ made_from slots es) node ≡ option_and_then (slot_of slots) (finmap.find nat_cmp node.key (e ∷ es))) [
+    elim (slot_of slots e.1) as (λ slot. slot_of slots e.1 ≡ slot → content_among (made_with e.0 slot ++ made_from slots es) node
+    ≡ option_and_then (slot_of slots) (finmap.find nat_cmp node.key (e ∷ es))) [
       | None ↦ λ none. some_not_none (slot_of slots e.1) (lead e.0 e.1 first) none
       | Some content ↦ λ is.
           by_test (λ b. cond b (Some content) (content_among (made_from slots es) node) ≡ option_and_then (slot_of slots) (cond b (Some e.1) (finmap.find nat_cmp node.key es))) (eqb node.key e.0)
@@ -104,7 +105,8 @@ made_tagged layout slots node made there =
     ] found
 
 -- the content of a tag is that of its node
-pub content_at : (layout : Layout) (slots : List (Option Content)) (node : NodeId) (tag : ℕ) → AreMade layout.tags slots → tag_of layout node ≡ Some tag → content_of (layout_with layout slots) node ≡ slot_of slots tag
+pub content_at : (layout : Layout) (slots : List (Option Content)) (node : NodeId) (tag : ℕ) → AreMade layout.tags slots → tag_of layout node ≡ Some tag → content_of (layout_with layout slots) node
+    ≡ slot_of slots tag
 content_at layout slots node tag made at = content_found layout slots node made ∙ ap (option_and_then (slot_of slots)) at
 
 -- layouts in which nodes are told by their tags
@@ -147,7 +149,8 @@ module _ (layout : Layout) (old new : List (Option Content)) (node : NodeId) (ta
         let was : slot_of new at ≡ slot_of old at = others at (λ same. not_both ((Decides-eqb at tag).1 same) t) in
         let own = made.owned at (subst (λ (found : Option Content). IsSome found) was there) in
         let differ : eqb own.0 node.key ≡ false = by_test (λ b. eqb own.0 node.key ≡ b → b ≡ false) (eqb own.0 node.key)
-        (λ is e. let none : finmap.get layout.tags own.0 ≡ None = ap (finmap.get layout.tags) ((Decides-eqb own.0 node.key).0 e) ∙ fresh in some_not_none (finmap.get layout.tags own.0) (ap is_some own.1) none) (λ isnt e. refl) refl in
+        (λ is e. let none : finmap.get layout.tags own.0 ≡ None = ap (finmap.get layout.tags) ((Decides-eqb own.0 node.key).0 e)
+        ∙ fresh in some_not_none (finmap.get layout.tags own.0) (ap is_some own.1) none) (λ isnt e. refl) refl in
         (own.0, tag_with_node layout node (record { key = own.0 }) tag ∙ (ap (λ b. cond b (Some tag) (finmap.get layout.tags own.0)) differ ∙ own.1))) refl;
   }
 

@@ -68,12 +68,14 @@ module _ {X : Type 0} where
       let same : node ≡ first = same_node_is node first t in
       let here : length (g first) ≡ suc (length (f first)) = subst (λ n. length (g n) ≡ suc (length (f n))) same more in
       let later : flat_map g rest ≡ flat_map f rest = same_read f g rest (λ other is. others other (or_second (same_node other first) _ is)
-      (by_test (λ b. same_node other node ≡ b → b ≡ false) (same_node other node) (λ on e. not_both (subst (λ n. has_node rest n ≡ true) (same_node_is other node e ∙ same) is) distinct.0) (λ off e. refl) refl)) in
+      (by_test (λ b. same_node other node ≡ b → b ≡ false) (same_node other node) (λ on e. not_both (subst (λ n. has_node rest n ≡ true) (same_node_is other node e ∙ same) is) distinct.0)
+      (λ off e. refl) refl)) in
       let sum = length-append (f first) (flat_map f rest) in
       let rest_length : length (flat_map g rest) ≡ length (flat_map f rest) = ap (λ xs. length xs) later in
       length-append (g first) (flat_map g rest) ∙ omega (arith, here, rest_length, sum))
       (λ off t e.
-      let first_differs : same_node first node ≡ false = by_test (λ b. same_node first node ≡ b → b ≡ false) (same_node first node) (λ on e. not_both (subst (λ n. same_node node n ≡ true) (sym (same_node_is first node e)) (same_node_itself node)) t) (λ off e. refl) refl in
+      let first_differs : same_node first node ≡ false = by_test (λ b. same_node first node ≡ b → b ≡ false) (same_node first node)
+      (λ on e. not_both (subst (λ n. same_node node n ≡ true) (sym (same_node_is first node e)) (same_node_itself node)) t) (λ off e. refl) refl in
       let here : g first ≡ f first = others first (or_first (same_node first first) _ (same_node_itself first)) first_differs in
       let later = longer f g node rest distinct.1 e more (λ other is differ. others other (or_second (same_node other first) _ is) differ) in
       ap (λ xs. length (xs ++ flat_map g rest)) here ∙ (length-append (f first) (flat_map g rest) ∙ (let sum = length-append (f first) (flat_map f rest) in omega arith))) refl there
@@ -86,13 +88,15 @@ module _ {X : Type 0} where
       (λ here e. length-append (g node) [] ∙ (omega (arith, one))) (λ off e. not_both e refl) on
   longer_put f g place start node (first ∷ rest) on one others =
       let here : g first ≡ f first = others first (or_first (same_node first first) _ (same_node_itself first)) in
-      by_test (λ b. (b || is_place_of place (After first) rest) ≡ true → length (flat_map g (cond b (node ∷ first ∷ rest) (first ∷ put_after place node (After first) rest))) ≡ suc (length (flat_map f (first ∷ rest)))) (same_place place start)
+      by_test (λ b. (b || is_place_of place (After first) rest) ≡ true → length (flat_map g (cond b (node ∷ first ∷ rest) (first ∷ put_after place node (After first) rest)))
+      ≡ suc (length (flat_map f (first ∷ rest)))) (same_place place start)
       (λ now e.
       let rest_length : length (flat_map g (first ∷ rest)) ≡ length (flat_map f (first ∷ rest)) = ap (λ xs. length xs) (same_read f g (first ∷ rest) others) in
       length-append (g node) (flat_map g (first ∷ rest)) ∙ omega (arith, one, rest_length))
       (λ off e.
       let later = longer_put f g place (After first) node rest e one (λ other there. others other (or_second (same_node other first) _ there)) in
-      ap (λ xs. length (xs ++ flat_map g (put_after place node (After first) rest))) here ∙ (length-append (f first) (flat_map g (put_after place node (After first) rest)) ∙ (let sum = length-append (f first) (flat_map f rest) in omega arith))) on
+      ap (λ xs. length (xs ++ flat_map g (put_after place node (After first) rest))) here
+      ∙ (length-append (f first) (flat_map g (put_after place node (After first) rest)) ∙ (let sum = length-append (f first) (flat_map f rest) in omega arith))) on
 
   -- where a node is put in of which nothing is read, a list reads the same
   pub same_put : (f g : NodeId → List X) (place start : Place) (node : NodeId) (nodes : List NodeId) → g node ≡ []
@@ -105,7 +109,8 @@ module _ {X : Type 0} where
       ∙ ap (λ xs. f first ++ xs) (same_put f g place (After first) node rest none (λ other there. others other (or_second (same_node other first) _ there))))
 
   -- readings that are as long of each node of a list are as long
-  pub same_length : (f g : NodeId → List X) (nodes : List NodeId) → ((node : NodeId) → has_node nodes node ≡ true → length (g node) ≡ length (f node)) → length (flat_map g nodes) ≡ length (flat_map f nodes)
+  pub same_length : (f g : NodeId → List X) (nodes : List NodeId) → ((node : NodeId) → has_node nodes node ≡ true → length (g node) ≡ length (f node))
+      → length (flat_map g nodes) ≡ length (flat_map f nodes)
   same_length f g [] same = refl
   same_length f g (node ∷ nodes) same =
       let here = same node (or_first (same_node node node) _ (same_node_itself node)) in

@@ -48,7 +48,8 @@ module _ (layout : Layout) (slots : List (Option Content)) (made : AreMade layou
   rest_tagged first rest all node there = all node (or_second (same_node node first) _ there)
 
   -- another node has another tag
-  other_tags : (node : NodeId) (nodes : List NodeId) → has_node nodes node ≡ false → tag_of layout node ≡ Some (number node) → AreTagged nodes → AllByRecursion (λ tag. eqb (number node) tag ≡ false) (map number nodes)
+  other_tags : (node : NodeId) (nodes : List NodeId) → has_node nodes node ≡ false → tag_of layout node ≡ Some (number node) → AreTagged nodes
+      → AllByRecursion (λ tag. eqb (number node) tag ≡ false) (map number nodes)
   other_tags node [] absent is all = tt
   other_tags node (first ∷ rest) absent is all =
       let apart = neither (same_node node first) (has_node rest node) absent in (

@@ -51,7 +51,8 @@ no_place (entry ∷ entries) id h =
 
 module _ (layout : TableLayout) (shaped : IsShaped layout) where
   -- the nodes of a section's entries are those of its ring
-  nodes_known : (section : NodeId) (name : Option (List ℕ)) (ring : RingId) → content_of layout section ≡ Some (content.Begun name ring) → read_at (entry_nodes_in layout) layout section ≡ nodes_in layout ring
+  nodes_known : (section : NodeId) (name : Option (List ℕ)) (ring : RingId) → content_of layout section ≡ Some (content.Begun name ring) → read_at (entry_nodes_in layout) layout section
+      ≡ nodes_in layout ring
   nodes_known section name ring is = read_known (entry_nodes_in layout) layout section (content.Begun name ring) is
 
   -- the entries of all sections are those of the nodes
@@ -78,7 +79,8 @@ module _ (layout : TableLayout) (shaped : IsShaped layout) where
   -- nodes that are entries are as many as their entries
   pub as_many : length (entry_nodes layout) ≡ length (joined_entries (sections_at layout))
   as_many = each (entry_nodes layout) (λ node there. (entry_at_node node there).0) ∙ sym (ap length entries_of_nodes) where
-    each : (nodes : List NodeId) → ((node : NodeId) → has_node nodes node ≡ true → (entry : Entry) × (content_of layout node ≡ Some (content.Placed entry))) → length nodes ≡ length (flat_map (read_at entry_in layout) nodes)
+    each : (nodes : List NodeId) → ((node : NodeId) → has_node nodes node ≡ true → (entry : Entry) × (content_of layout node ≡ Some (content.Placed entry)))
+        → length nodes ≡ length (flat_map (read_at entry_in layout) nodes)
     each [] entries = refl
     each (node ∷ nodes) entries =
         let here = entries node (or_first (same_node node node) _ (same_node_itself node)) in
@@ -90,7 +92,8 @@ module _ (layout : TableLayout) (shaped : IsShaped layout) where
     same_entry : (other : NodeId) (entry : Entry) → content_of layout other ≡ Some (content.Placed entry) → is_in layout.rings other ≡ true → same_node node other ≡ same_id id entry.id
     same_entry other entry is linked =
         by_test (λ b. same_id id entry.id ≡ b → same_node node other ≡ b) (same_id id entry.id)
-        (λ on same. let key : has_key same_id ids_in layout id other ≡ true = and_true linked (ap (list_any (same_id id)) (read_known ids_in layout other (content.Placed entry) is) ∙ or_first _ false same) in
+        (λ on same. let key : has_key same_id ids_in layout id other
+        ≡ true = and_true linked (ap (list_any (same_id id)) (read_known ids_in layout other (content.Placed entry) is) ∙ or_first _ false same) in
         ap (same_node node) (sym (once id node other has key)) ∙ same_node_itself node)
         (λ off other_id. by_test (λ b. same_node node other ≡ b → b ≡ false) (same_node node other)
         (λ on same. let here = same_node_is node other same in
@@ -99,7 +102,8 @@ module _ (layout : TableLayout) (shaped : IsShaped layout) where
         (λ off same. refl) refl) refl
 
     -- the last number of a node is the place of its identifier
-    last_is_place : (before : ℕ) (nodes : List NodeId) → ((other : NodeId) → has_node nodes other ≡ true → ((entry : Entry) × (content_of layout other ≡ Some (content.Placed entry))) × (is_in layout.rings other ≡ true))
+    last_is_place : (before : ℕ) (nodes : List NodeId)
+        → ((other : NodeId) → has_node nodes other ≡ true → ((entry : Entry) × (content_of layout other ≡ Some (content.Placed entry))) × (is_in layout.rings other ≡ true))
         → are.AreDistinct same_id (ids_of (flat_map (read_at entry_in layout) nodes)) → last_number before nodes node ≡ behind before (place_among (flat_map (read_at entry_in layout) nodes) id)
     last_is_place before [] entries distinct = refl
     last_is_place before (first ∷ nodes) entries distinct =
@@ -108,8 +112,10 @@ module _ (layout : TableLayout) (shaped : IsShaped layout) where
         let later = flat_map (read_at entry_in layout) nodes in
         let whole : flat_map (read_at entry_in layout) (first ∷ nodes) ≡ entry ∷ later = ap (λ es. es ++ later) (read_known entry_in layout first (content.Placed entry) here.0.1) in
         let apart : are.AreDistinct same_id (ids_of (entry ∷ later)) = subst (λ es. are.AreDistinct same_id (ids_of es)) whole distinct in
-        ap₂ (λ (p : Option ℕ) (b : Bool). option_or p (cond b (Some (suc before)) None)) (last_is_place (suc before) nodes (λ other there. entries other (or_second (same_node other first) _ there)) apart.1) (same_entry first entry here.0.1 here.1)
-        ∙ (by_test (λ b. same_id id entry.id ≡ b → option_or (behind (suc before) (place_among later id)) (cond b (Some (suc before)) None) ≡ behind before (cond b (Some 1) (option_map (λ n. suc n) (place_among later id)))) (same_id id entry.id)
+        ap₂ (λ (p : Option ℕ) (b : Bool). option_or p (cond b (Some (suc before)) None))
+        (last_is_place (suc before) nodes (λ other there. entries other (or_second (same_node other first) _ there)) apart.1) (same_entry first entry here.0.1 here.1)
+        ∙ (by_test (λ b. same_id id entry.id ≡ b → option_or (behind (suc before) (place_among later id)) (cond b (Some (suc before)) None)
+        ≡ behind before (cond b (Some 1) (option_map (λ n. suc n) (place_among later id)))) (same_id id entry.id)
         (λ on same.
         let none : place_among later id ≡ None = no_place later id (ap (λ i. list_any (same_id i) (ids_of later)) ((same_id_decides id entry.id).0 same) ∙ apart.0) in
         ap (λ p. option_or (behind (suc before) p) (Some (suc before))) none ∙ ap Some (let one : suc before ≡ before + 1 = omega arith in one))
@@ -128,13 +134,15 @@ place_none (entry ∷ entries) id none =
       by (Some n) e = cc
 
 -- the identifier of a node that is an entry is there
-placed_at : (layout : TableLayout) → IsShaped layout → (id : Id) (node : NodeId) → has_key same_id ids_in layout id node ≡ true → list_any (λ (entry : Entry). same_id id entry.id) (joined_entries (sections_at layout)) ≡ true
+placed_at : (layout : TableLayout) → IsShaped layout → (id : Id) (node : NodeId) → has_key same_id ids_in layout id node ≡ true
+    → list_any (λ (entry : Entry). same_id id entry.id) (joined_entries (sections_at layout)) ≡ true
 placed_at layout shaped id node has =
     let both = both_true _ _ has in
     placed_to layout shaped (λ (entry : Entry). same_id id entry.id) node both.0 (sym (ids_of_node layout shaped id (content_of layout node)) ∙ both.1)
 
 -- the number of the node that is found is the place of its identifier
-pub found_place : (layout : TableLayout) (numbers : List ℕ) (find : Id → Option NodeId) (id : Id) → IsShaped layout → Finds same_id ids_in layout find → AreNumbersOf numbers layout → option_map (number_at numbers) (find id) ≡ place_among (joined_entries (sections_at layout)) id
+pub found_place : (layout : TableLayout) (numbers : List ℕ) (find : Id → Option NodeId) (id : Id) → IsShaped layout → Finds same_id ids_in layout find → AreNumbersOf numbers layout
+    → option_map (number_at numbers) (find id) ≡ place_among (joined_entries (sections_at layout)) id
 found_place layout numbers find id shaped sound numbered = by (find id) refl where
   by : (node : Option NodeId) → find id ≡ node → option_map (number_at numbers) node ≡ place_among (joined_entries (sections_at layout)) id
   by None none = sym (no_place (joined_entries (sections_at layout)) id (id_found layout shaped find id sound ∙ ap is_some none))
@@ -146,7 +154,8 @@ pub are_numbers : (layout : TableLayout) (old new : List ℕ) → IsSoundLayout 
 are_numbers layout old new sound distinct given id node has = by (place_among (joined_entries (sections_at layout)) id) refl where
   numbered : last_number 0 (entry_nodes layout) node ≡ behind 0 (place_among (joined_entries (sections_at layout)) id)
   numbered =
-      last_is_place layout sound.shaped sound.ids id node has 0 (entry_nodes layout) (entry_at_node layout sound.shaped) (subst (λ es. are.AreDistinct same_id (ids_of es)) (entries_of_nodes layout sound.shaped) distinct)
+      last_is_place layout sound.shaped sound.ids id node has 0 (entry_nodes layout) (entry_at_node layout sound.shaped)
+      (subst (λ es. are.AreDistinct same_id (ids_of es)) (entries_of_nodes layout sound.shaped) distinct)
       ∙ ap (λ es. behind 0 (place_among es id)) (sym (entries_of_nodes layout sound.shaped))
 
   by : (place : Option ℕ) → place_among (joined_entries (sections_at layout)) id ≡ place → place ≡ Some (number_at new node)
@@ -168,10 +177,12 @@ one_numbered left later first last next old new is one given node =
       by (Some n) b = refl
 
 -- the last numbers of two lists, one behind the other
-last_of_both : (before : ℕ) (here later : List NodeId) (node : NodeId) → last_number before (here ++ later) node ≡ option_or (last_number (before + length here) later node) (last_number before here node)
+last_of_both : (before : ℕ) (here later : List NodeId) (node : NodeId) → last_number before (here ++ later) node
+    ≡ option_or (last_number (before + length here) later node) (last_number before here node)
 last_of_both before [] later node = ap (λ n. last_number n later node) (let same : before ≡ before + 0 = omega arith in same) ∙ sym (or_none (last_number (before + 0) later node))
 last_of_both before (first ∷ here) later node =
-    ap (λ p. option_or p (cond (same_node node first) (Some (suc before)) None)) (last_of_both (suc before) here later node ∙ ap (λ n. option_or (last_number n later node) (last_number (suc before) here node)) (let one : suc before + length here ≡ before + suc (length here) = omega arith in one))
+    ap (λ p. option_or p (cond (same_node node first) (Some (suc before)) None)) (last_of_both (suc before) here later node
+    ∙ ap (λ n. option_or (last_number n later node) (last_number (suc before) here node)) (let one : suc before + length here ≡ before + suc (length here) = omega arith in one))
     ∙ assoc (last_number (before + suc (length here)) later node) (last_number (suc before) here node) (cond (same_node node first) (Some (suc before)) None) where
       assoc : {X : Type 0} (a b c : Option X) → option_or (option_or a b) c ≡ option_or a (option_or b c)
       assoc None b c = refl
@@ -183,7 +194,8 @@ pub section_numbered : (left here later : List NodeId) (last next : ℕ) (old ne
     → (node : NodeId) → unwrap_or (last_number next later node) (number_at new node) ≡ unwrap_or (last_number last left node) (number_at old node)
 section_numbered left here later last next old new is more given node =
     ap₂ (λ (n : ℕ) (x : ℕ). unwrap_or (last_number n later node) x) more (given node)
-    ∙ (by (last_number (last + length here) later node) (last_number last here node) ∙ ap (λ p. unwrap_or p (number_at old node)) (sym (ap (λ nodes. last_number last nodes node) is ∙ last_of_both last here later node))) where
+    ∙ (by (last_number (last + length here) later node) (last_number last here node)
+    ∙ ap (λ p. unwrap_or p (number_at old node)) (sym (ap (λ nodes. last_number last nodes node) is ∙ last_of_both last here later node))) where
       by : (p q : Option ℕ) → unwrap_or p (unwrap_or q (number_at old node)) ≡ unwrap_or (option_or p q) (number_at old node)
       by None q = refl
       by (Some n) q = refl

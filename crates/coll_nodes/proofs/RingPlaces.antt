@@ -43,7 +43,8 @@ pub place_off : (rings : List (List NodeId)) (place : Place) (i j : ℕ) → Sta
 place_off rings (Head ring) i j once on differ =
     let here : eqb ring.index i ≡ true = by_test (λ b. (b || list_any (λ node. same_place (Head ring) (After node)) (get_or rings i [])) ≡ true → b ≡ true) (eqb ring.index i)
     (λ t e. refl) (λ f e. not_both e (head_after ring.index (get_or rings i []))) on in
-    nor _ _ (by_test (λ b. eqb ring.index j ≡ b → b ≡ false) (eqb ring.index j) (λ t e. absurd (differ (sym ((Decides-eqb ring.index i).0 here) ∙ (Decides-eqb ring.index j).0 e))) (λ f e. refl) refl) (head_after ring.index (get_or rings j []))
+    nor _ _ (by_test (λ b. eqb ring.index j ≡ b → b ≡ false) (eqb ring.index j) (λ t e. absurd (differ (sym ((Decides-eqb ring.index i).0 here) ∙ (Decides-eqb ring.index j).0 e))) (λ f e. refl) refl)
+    (head_after ring.index (get_or rings j []))
 place_off rings (After node) i j once on differ =
     by_test (λ b. has_node (get_or rings j []) node ≡ b → b ≡ false) (has_node (get_or rings j []) node) (λ t e. absurd (differ (in_one rings i j node once on e))) (λ f e. refl) refl
 

@@ -55,15 +55,18 @@ apart_right (x ∷ xs) ys id d p =
     (λ _. λ e. apart_right xs ys id d.1 (ap (λ b. b || has_id (ids_of xs) id) (sym e) ∙ p)) refl
 
 -- placed in each section, or in all entries joined
-pub joined_after : (sections : List Section) (target : Id) (entry : Entry) → AreDistinct same_id (ids_of (joined_entries sections)) → joined_entries (placed_after sections target entry) ≡ entries_after (joined_entries sections) target entry
+pub joined_after : (sections : List Section) (target : Id) (entry : Entry) → AreDistinct same_id (ids_of (joined_entries sections)) → joined_entries (placed_after sections target entry)
+    ≡ entries_after (joined_entries sections) target entry
 joined_after [] target entry d = refl
 joined_after (section ∷ sections) target entry d =
     let entries = section.entries in
     let rest = joined_entries sections in
     let later = joined_after sections target entry (distinct_right entries rest d) in
-    by_test (λ b. has_id (ids_of entries) target ≡ b → entries_after entries target entry ++ joined_entries (placed_after sections target entry) ≡ entries_after (entries ++ rest) target entry) (has_id (ids_of entries) target)
+    by_test (λ b. has_id (ids_of entries) target ≡ b → entries_after entries target entry ++ joined_entries (placed_after sections target entry) ≡ entries_after (entries ++ rest) target entry)
+    (has_id (ids_of entries) target)
     (λ _. λ p. ap (λ es. entries_after entries target entry ++ es) (later ∙ after_none rest target entry (apart_right entries rest target d p)) ∙ sym (after_left entries rest target entry p))
-    (λ _. λ p. ap (λ es. es ++ joined_entries (placed_after sections target entry)) (after_none entries target entry p) ∙ (ap (λ es. entries ++ es) later ∙ sym (after_right entries rest target entry p))) refl
+    (λ _. λ p. ap (λ es. es ++ joined_entries (placed_after sections target entry)) (after_none entries target entry p)
+    ∙ (ap (λ es. entries ++ es) later ∙ sym (after_right entries rest target entry p))) refl
 
 -- taken out of each section, or of all entries joined
 pub joined_without : (sections : List Section) (id : Id) → joined_entries (without sections id) ≡ entries_without (joined_entries sections) id
@@ -73,7 +76,8 @@ joined_without (section ∷ sections) id =
     ∙ sym (filter-append (λ (entry : Entry). not (same_id id entry.id)) section.entries (joined_entries sections))
 
 -- moved in each section, or in all entries joined
-pub joined_moved : (sections : List Section) (id target : Id) (entry : Entry) → AreDistinct same_id (ids_of (joined_entries sections)) → joined_entries (placed_after (without sections id) target entry) ≡ entries_after (entries_without (joined_entries sections) id) target entry
+pub joined_moved : (sections : List Section) (id target : Id) (entry : Entry) → AreDistinct same_id (ids_of (joined_entries sections))
+    → joined_entries (placed_after (without sections id) target entry) ≡ entries_after (entries_without (joined_entries sections) id) target entry
 joined_moved sections id target entry d =
     let taken = joined_without sections id in
     let distinct : AreDistinct same_id (ids_of (joined_entries (without sections id))) = subst (λ es. AreDistinct same_id (ids_of es)) (sym taken) (distinct_without (joined_entries sections) id d) in

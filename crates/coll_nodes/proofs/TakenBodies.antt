@@ -16,7 +16,8 @@ use Rattle.coll_nodes.specs.BodyInvariant.{IsSoundBody}
 use Rattle.coll_nodes.specs.Counting.{counts_at, counts_with, HasOneOf}
 use Rattle.coll_nodes.specs.KeyedNodes.{FindsAll, KeepsKeys, SetsKeys}
 use Rattle.coll_lookups.specs.NodeLookUps.{node_named, node_with}
-use Rattle.coll_nodes.specs.SoundBodies.{read_at, ring_at, has_key, names_in, texts_in, section_names_in, rings_in, ids_in, same_ring, is_place_of, IsDeclaration, IsSection, IsEntry, IsOwned, IsPlaceIn, IsShaped, Finds, Adds}
+use Rattle.coll_nodes.specs.SoundBodies.{read_at, ring_at, has_key, names_in, texts_in, section_names_in, rings_in, ids_in, same_ring}
+use Rattle.coll_nodes.specs.SoundBodies.{is_place_of, IsDeclaration, IsSection, IsEntry, IsOwned, IsPlaceIn, IsShaped, Finds, Adds}
 use Rattle.coll_nodes.specs.TableLayout.{TableLayout, content_of}
 use Rattle.coll_nodes.specs.Moving.{MayBeLoose, Suits}
 use Rattle.coll_nodes.specs.declared.contents.Content.{Content}
@@ -62,14 +63,16 @@ module _ (old : TableLayout) (node : NodeId) (it : Content) (known : content_of 
   mid = without_link old node
 
   -- who has a key still is another, and had it
-  pub key_had : {Key : Type 0} (same : Key → Key → Bool) (keys : Content → List Key) (key : Key) (other : NodeId) → has_key same keys mid key other ≡ true → (same_node other node ≡ false) × (has_key same keys old key other ≡ true)
+  pub key_had : {Key : Type 0} (same : Key → Key → Bool) (keys : Content → List Key) (key : Key) (other : NodeId) → has_key same keys mid key other ≡ true → (same_node other node ≡ false)
+      × (has_key same keys old key other ≡ true)
   key_had same keys key other has =
       let parts = both_true _ _ has in
       let was = stood_in node other old.rings parts.0 in
       (was.0, and_true was.1 parts.1)
 
   -- another has the keys that it had
-  pub key_kept : {Key : Type 0} (same : Key → Key → Bool) (keys : Content → List Key) (key : Key) (other : NodeId) → same_node other node ≡ false → has_key same keys old key other ≡ true → has_key same keys mid key other ≡ true
+  pub key_kept : {Key : Type 0} (same : Key → Key → Bool) (keys : Content → List Key) (key : Key) (other : NodeId) → same_node other node ≡ false → has_key same keys old key other ≡ true
+      → has_key same keys mid key other ≡ true
   key_kept same keys key other differ has = let parts = both_true _ _ has in and_true (is_in_without node other old.rings differ ∙ parts.0) parts.1
 
   -- a look-up in which the node's keys lead nowhere, and that is else as it was, finds what stands there
@@ -81,7 +84,8 @@ module _ (old : TableLayout) (node : NodeId) (it : Content) (known : content_of 
         (λ off t e.
         let has = sound.leads key other e in
         let differ : same_node other node ≡ false = by_test (λ b. same_node other node ≡ b → b ≡ false) (same_node other node)
-        (λ is _. not_both (sym (ap (list_any (same key)) (ap (read_at keys old) (same_node_is other node is) ∙ read_known keys old node it known)) ∙ (both_true _ _ has).1) off) (λ apart _. refl) refl in
+        (λ is _. not_both (sym (ap (list_any (same key)) (ap (read_at keys old) (same_node_is other node is) ∙ read_known keys old node it known)) ∙ (both_true _ _ has).1) off) (λ apart _. refl)
+        refl in
         key_kept same keys key other differ has) refl (sym (sets key) ∙ e);
     finds = λ key other. λ has.
         let had = key_had same keys key other has in
@@ -112,7 +116,8 @@ module _ (old : TableLayout) (node : NodeId) (it : Content) (known : content_of 
     owned_taken index owned =
         let ring : RingId = record { index = index } in
         let differ : same_node owned.0 node ≡ false = by_test (λ b. same_node owned.0 node ≡ b → b ≡ false) (same_node owned.0 node)
-        (λ on _. not_both (sym (ap (list_any (same_ring ring)) (ap (read_at rings_in old) (same_node_is owned.0 node on) ∙ (read_known rings_in old node it known ∙ ringless))) ∙ (both_true _ _ owned.1).1) refl) (λ off _. refl) refl in
+        (λ on _. not_both (sym (ap (list_any (same_ring ring)) (ap (read_at rings_in old) (same_node_is owned.0 node on) ∙ (read_known rings_in old node it known ∙ ringless)))
+        ∙ (both_true _ _ owned.1).1) refl) (λ off _. refl) refl in
         (owned.0, key_kept same_ring rings_in ring owned.0 differ owned.1)
 
     -- the layout is one of a table still
@@ -145,36 +150,42 @@ module _ (old : TableLayout) (node : NodeId) (it : Content) (known : content_of 
       on = by_test (λ b. is_place_of place (head_of index) (ring_at mid index) ≡ b → b ≡ true) (is_place_of place (head_of index) (ring_at mid index))
           (λ on _. refl)
           (λ off _.
-          let stays : ring_at old index ≡ ring_at mid index = ap (λ rings. get_or rings index []) back ∙ get_put_other place node 0 index (rings_without node old.rings) (ap (λ k. is_place_of place (head_of k) (ring_at mid index)) (from_zero index) ∙ off) in
+          let stays : ring_at old index ≡ ring_at mid index = ap (λ rings. get_or rings index []) back
+          ∙ get_put_other place node 0 index (rings_without node old.rings) (ap (λ k. is_place_of place (head_of k) (ring_at mid index)) (from_zero index) ∙ off) in
           not_both (sym (ap (λ nodes. has_node nodes node) (stays ∙ get_without node old.rings index)) ∙ there) (has_without_itself node (ring_at old index))) refl;
     }
 
 -- a declaration stands in the ring of the declarations
-pub declared_ring : (layout : TableLayout) (node : NodeId) (declaration : Declaration) → IsShaped layout → content_of layout node ≡ Some (content.Declared declaration) → (index : ℕ) → has_node (ring_at layout index) node ≡ true → index ≡ 0
+pub declared_ring : (layout : TableLayout) (node : NodeId) (declaration : Declaration) → IsShaped layout → content_of layout node ≡ Some (content.Declared declaration) → (index : ℕ)
+    → has_node (ring_at layout index) node ≡ true → index ≡ 0
 declared_ring layout node declaration shaped is zero there = refl
 declared_ring layout node declaration shaped is (suc zero) there = absurd (subst (λ found. IsSection (length layout.rings) found) is (shaped.begun node there))
 declared_ring layout node declaration shaped is (suc (suc index)) there = absurd (subst (λ found. IsEntry found) is (shaped.placed index node there).0)
 
 -- a section in that of the sections
-pub begun_ring : (layout : TableLayout) (node : NodeId) (name : Option (List ℕ)) (ring : RingId) → IsShaped layout → content_of layout node ≡ Some (content.Begun name ring) → (index : ℕ) → has_node (ring_at layout index) node ≡ true → index ≡ 1
+pub begun_ring : (layout : TableLayout) (node : NodeId) (name : Option (List ℕ)) (ring : RingId) → IsShaped layout → content_of layout node ≡ Some (content.Begun name ring) → (index : ℕ)
+    → has_node (ring_at layout index) node ≡ true → index ≡ 1
 begun_ring layout node name ring shaped is zero there = absurd (subst (λ found. IsDeclaration found) is (shaped.declared node there))
 begun_ring layout node name ring shaped is (suc zero) there = refl
 begun_ring layout node name ring shaped is (suc (suc index)) there = absurd (subst (λ found. IsEntry found) is (shaped.placed index node there).0)
 
 -- an entry in that of a section
-pub placed_ring : (layout : TableLayout) (node : NodeId) (entry : Entry) → IsShaped layout → content_of layout node ≡ Some (content.Placed entry) → (index : ℕ) → has_node (ring_at layout index) node ≡ true → IsOwned layout index
+pub placed_ring : (layout : TableLayout) (node : NodeId) (entry : Entry) → IsShaped layout → content_of layout node ≡ Some (content.Placed entry) → (index : ℕ)
+    → has_node (ring_at layout index) node ≡ true → IsOwned layout index
 placed_ring layout node entry shaped is zero there = absurd (subst (λ found. IsDeclaration found) is (shaped.declared node there))
 placed_ring layout node entry shaped is (suc zero) there = absurd (subst (λ found. IsSection (length layout.rings) found) is (shaped.begun node there))
 placed_ring layout node entry shaped is (suc (suc index)) there = (shaped.placed index node there).1
 
 -- the layout with a node has one more than that without it
-pub put_back : (old : TableLayout) (node : NodeId) (it : Content) (place : Place) → content_of old node ≡ Some it → place_from 0 old.rings node ≡ Some place → StandOnce old.rings → IsShaped old → is_in old.rings node ≡ true → MayBeLoose it
+pub put_back : (old : TableLayout) (node : NodeId) (it : Content) (place : Place) → content_of old node ≡ Some it → place_from 0 old.rings node ≡ Some place → StandOnce old.rings → IsShaped old
+    → is_in old.rings node ≡ true → MayBeLoose it
     → IsPut (bare (without_link old node) node) old it
 put_back old node (content.Declared declaration) place known at once shaped linked may =
     let stands = in_some old.rings node linked in
     let it : Content = content.Declared declaration in
     put_declared (bare (without_link old node) node) old node place (once_without node old.rings once) (shaped_bare old node it known refl shaped) declaration (added old node it known place at once)
-    (subst (λ k. IsPlaceIn (bare (without_link old node) node) k place) (declared_ring old node declaration shaped known stands.0 stands.1) (place_at old node it known place at once stands.0 stands.1))
+    (subst (λ k. IsPlaceIn (bare (without_link old node) node) k place) (declared_ring old node declaration shaped known stands.0 stands.1)
+    (place_at old node it known place at once stands.0 stands.1))
 put_back old node (content.Begun name ring) place known at once shaped linked may = absurd may
 put_back old node (content.Placed entry) place known at once shaped linked may =
     let stands = in_some old.rings node linked in
@@ -186,7 +197,8 @@ put_back old node (content.Placed entry) place known at once shaped linked may =
     stands.0 (place_at old node it known place at once stands.0 stands.1) (owned_alike mid (bare mid node).nodes alike stands.0 owned)
 
 -- the counts without a node are as many as those with it, but for that one
-pub counts_taken : (old : TableLayout) (node : NodeId) (it : Content) (place : Place) → content_of old node ≡ Some it → place_from 0 old.rings node ≡ Some place → StandOnce old.rings → IsShaped old → is_in old.rings node ≡ true → MayBeLoose it
+pub counts_taken : (old : TableLayout) (node : NodeId) (it : Content) (place : Place) → content_of old node ≡ Some it → place_from 0 old.rings node ≡ Some place → StandOnce old.rings → IsShaped old
+    → is_in old.rings node ≡ true → MayBeLoose it
     → counts_at old ≡ counts_with it (counts_at (without_link old node))
 counts_taken old node it place known at once shaped linked may =
     let mid = without_link old node in

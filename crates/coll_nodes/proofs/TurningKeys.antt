@@ -9,7 +9,8 @@ use Rattle.coll_order.specs.declared.places.Place.{Place}
 use Rattle.coll_order.proofs.Sameness.{by_test}
 use Rattle.coll_syntax.specs.Identifier.{same_name, same_id}
 use Rattle.coll_nodes.proofs.LayoutReads.{in_rings}
-use Rattle.coll_nodes.specs.SoundBodies.{read_at, ring_at, has_key, names_in, texts_in, section_names_in, rings_in, ids_in, same_ring, is_place_of, IsPlaceIn, IsDeclaration, IsSection, IsEntry, IsOwned, IsShaped}
+use Rattle.coll_nodes.specs.SoundBodies.{read_at, ring_at, has_key, names_in, texts_in, section_names_in, rings_in, ids_in, same_ring}
+use Rattle.coll_nodes.specs.SoundBodies.{is_place_of, IsPlaceIn, IsDeclaration, IsSection, IsEntry, IsOwned, IsShaped}
 use Rattle.coll_nodes.specs.SoundLayouts.{AreOnce}
 use Rattle.coll_nodes.specs.TableLayout.{TableLayout, content_of, if_any}
 use Rattle.coll_nodes.specs.Moving.{AreNew, IsPlaceFor, MayBeLoose, MayStand}

@@ -61,7 +61,8 @@ content_weighed node weights (first ∷ later) other =
       turned : (a b : NodeId) → same_node a b ≡ same_node b a
       turned a b = by_test (λ t. same_node a b ≡ t → t ≡ same_node b a) (same_node a b)
           (λ on e. sym (ap (same_node b) (same_node_is a b e) ∙ same_node_itself b))
-          (λ off e. by_test (λ t. same_node b a ≡ t → false ≡ t) (same_node b a) (λ on f. not_both (ap (λ n. same_node n b) (sym (same_node_is b a f)) ∙ same_node_itself b) e) (λ off f. refl) refl) refl
+          (λ off e. by_test (λ t. same_node b a ≡ t → false ≡ t) (same_node b a) (λ on f. not_both (ap (λ n. same_node n b) (sym (same_node_is b a f)) ∙ same_node_itself b) e) (λ off f. refl) refl)
+          refl
 
 -- the names of nodes
 abbrev pub named_in : List MadeNode → List NodeId
@@ -91,7 +92,8 @@ own_back weights (content.Placed entry) = refl
 pub weighed_none : (node : NodeId) (nodes : List MadeNode) → weighed_nodes node None nodes ≡ nodes
 weighed_none node [] = refl
 weighed_none node (first ∷ later) =
-    by_test (λ b. cond b (record first { content = first.content }) first ∷ weighed_nodes node None later ≡ first ∷ weighed_nodes node None later) (same_node node first.node) (λ on. refl) (λ off. refl)
+    by_test (λ b. cond b (record first { content = first.content }) first ∷ weighed_nodes node None later ≡ first ∷ weighed_nodes node None later) (same_node node first.node) (λ on. refl)
+    (λ off. refl)
     ∙ ap (λ nodes. first ∷ nodes) (weighed_none node later)
 
 -- a node that gives its weights in exchange, and gets them back, is what it was
@@ -103,7 +105,8 @@ weighed_back node (Some weights) nodes distinct = back nodes distinct where
   back [] distinct = refl
   back (first ∷ later) distinct =
       by_test (λ b. same_node node first.node ≡ b →
-      weighed_nodes node (Some (weights_or weights (cond b (Some first.content) (content_among later node)))) (cond b (record first { content = weighed (Some weights) first.content }) first ∷ weighed_nodes node (Some weights) later) ≡ first ∷ later) (same_node node first.node)
+      weighed_nodes node (Some (weights_or weights (cond b (Some first.content) (content_among later node))))
+      (cond b (record first { content = weighed (Some weights) first.content }) first ∷ weighed_nodes node (Some weights) later) ≡ first ∷ later) (same_node node first.node)
       (λ on e.
       let own = Some (weights_or weights (Some first.content)) in
       let absent : has_node (named_in later) node ≡ false = ap (has_node (named_in later)) (same_node_is node first.node e) ∙ distinct.0 in
@@ -112,14 +115,16 @@ weighed_back node (Some weights) nodes distinct = back nodes distinct where
       ∙ (ap (λ b. cond b (record first { content = weighed own (weighed (Some weights) first.content) }) (record first { content = weighed (Some weights) first.content }) ∷ later) e
       ∙ ap (λ (it : Content). record first { content = it } ∷ later) (own_back weights first.content))))
       (λ off e.
-      ap (λ b. cond b (record first { content = weighed (Some (weights_or weights (content_among later node))) first.content }) first ∷ weighed_nodes node (Some (weights_or weights (content_among later node))) (weighed_nodes node (Some weights) later)) e
+      ap (λ b. cond b (record first { content = weighed (Some (weights_or weights (content_among later node))) first.content }) first ∷ weighed_nodes node
+      (Some (weights_or weights (content_among later node))) (weighed_nodes node (Some weights) later)) e
       ∙ ap (λ nodes. first ∷ nodes) (back later distinct.1)) refl
 
 -- the nodes that are made of tags are those of their keys
 key_found : (slots : List (Option Content)) (tags : List (ℕ × ℕ)) (node : NodeId) → finmap.find nat_cmp node.key tags ≡ None → has_node (named_in (made_from slots tags)) node ≡ false
 key_found slots [] node none = refl
 key_found slots (tag ∷ tags) node none =
-    by_test (λ b. eq_by_cmp nat_cmp node.key tag.0 ≡ b → cond b (Some tag.1) (finmap.find nat_cmp node.key tags) ≡ None → has_node (named_in (made_from slots (tag ∷ tags))) node ≡ false) (eq_by_cmp nat_cmp node.key tag.0)
+    by_test (λ b. eq_by_cmp nat_cmp node.key tag.0 ≡ b → cond b (Some tag.1) (finmap.find nat_cmp node.key tags) ≡ None → has_node (named_in (made_from slots (tag ∷ tags))) node ≡ false)
+    (eq_by_cmp nat_cmp node.key tag.0)
     (λ on e none. cc)
     (λ off e none.
     let differ : eqb node.key tag.0 ≡ false = sym (unsigned_tied node.key tag.0) ∙ e in

@@ -14,7 +14,8 @@ use Rattle.coll_order.proofs.RingLemmas.{distinct_ring, is_in_ring}
 use Rattle.coll_nodes.specs.Bodies.{IsLaidOut}
 use Rattle.coll_nodes.specs.TableLayout.{TableLayout, content_of, nodes_in, entries_in, sections_ring, declarations_ring, sections_at, declared_at, entry_in, section_in, declaration_in, if_any}
 use Rattle.coll_nodes.specs.Walks.{VisitedSection, VisitedEntry, visited}
-use Rattle.coll_nodes.specs.WalkStates.{ComesNext, from_node, left_of, StandsIfAny, AreDeclared, ArePlaced, AreNamed, AreSections, IsSectionNode, HasSections, HasDeclarations, contents_of, visited_left, IsOnWay, declared_left, IsOnWayDeclared}
+use Rattle.coll_nodes.specs.WalkStates.{ComesNext, from_node, left_of, StandsIfAny, AreDeclared, ArePlaced, AreNamed, AreSections, IsSectionNode}
+use Rattle.coll_nodes.specs.WalkStates.{HasSections, HasDeclarations, contents_of, visited_left, IsOnWay, declared_left, IsOnWayDeclared}
 use Rattle.coll_nodes.specs.declared.declarations.Declaration.{Declaration}
 use Rattle.coll_nodes.specs.declared.entries.Entry.{Entry}
 use Rattle.coll_nodes.specs.declared.contents.Content.TheVariants.{Declared, Begun, Placed}
@@ -23,7 +24,8 @@ use Rattle.coll_nodes.specs.declared.contents.Content.TheVariants.{Declared, Beg
 pub cut_at : (nodes : List NodeId) (node : NodeId) → has_node nodes node ≡ true → (prefix : List NodeId) × (rest : List NodeId) × (nodes ≡ prefix ++ node ∷ rest) × (from_node nodes node ≡ node ∷ rest)
 cut_at [] node there = not_both there refl
 cut_at (first ∷ nodes) node there =
-    by_test (λ b. same_node node first ≡ b → (prefix : List NodeId) × (rest : List NodeId) × (first ∷ nodes ≡ prefix ++ node ∷ rest) × (cond b (first ∷ nodes) (from_node nodes node) ≡ node ∷ rest)) (same_node node first)
+    by_test (λ b. same_node node first ≡ b → (prefix : List NodeId) × (rest : List NodeId) × (first ∷ nodes ≡ prefix ++ node ∷ rest) × (cond b (first ∷ nodes) (from_node nodes node) ≡ node ∷ rest))
+    (same_node node first)
     (λ on e. let same = ap (λ n. n ∷ nodes) (sym (same_node_is node first on)) in ([], nodes, same, same))
     (λ off e. let later = cut_at nodes node (sym (ap (λ b. b || has_node nodes node) off) ∙ there) in
     (first ∷ later.0, later.1, ap (λ ns. first ∷ ns) later.2, later.3)) refl
@@ -62,7 +64,8 @@ stands_first layout ring = whole (nodes_in layout ring) where
 pub stands_linked : (layout : TableLayout) (ring : RingId) (node : NodeId) → has_node (nodes_in layout ring) node ≡ true → is_in layout.rings node ≡ true
 stands_linked layout ring node there = is_in_ring layout.rings ring.index node there
 
-module _ (layout : TableLayout) (ring : RingId) (node : NodeId) (next : Option NodeId) (laid : IsLaidOut layout) (there : has_node (nodes_in layout ring) node ≡ true) (comes : ComesNext layout.rings node next) where
+module _ (layout : TableLayout) (ring : RingId) (node : NodeId) (next : Option NodeId) (laid : IsLaidOut layout) (there : has_node (nodes_in layout ring) node ≡ true)
+    (comes : ComesNext layout.rings node next) where
   -- what is left from a node on is the node, and what is left from the next on
   pub left_next : left_of layout ring (Some node) ≡ node ∷ left_of layout ring next
   left_next =
@@ -147,7 +150,8 @@ module _ (layout : TableLayout) (ring : RingId) (node : NodeId) (on : IsOnWay la
       visited_section =
           ap (λ nodes. visited (flat_map (section_in layout) (contents_of layout nodes))) (left_next layout sections_ring node next on.laid on.section_there comes)
           ∙ (ap visited (section_visited layout node (left_of layout sections_ring next) (Some name) entries is)
-          ∙ ap (λ nodes. VisitedSection name ∷ (map VisitedEntry (flat_map entry_in (contents_of layout nodes)) ++ visited (flat_map (section_in layout) (contents_of layout (left_of layout sections_ring next)))))
+          ∙ ap (λ nodes. VisitedSection name
+          ∷ (map VisitedEntry (flat_map entry_in (contents_of layout nodes)) ++ visited (flat_map (section_in layout) (contents_of layout (left_of layout sections_ring next)))))
           (sym (ap (left_of layout entries) begins ∙ left_first layout entries)))
 
 module _ (layout : TableLayout) (laid : IsLaidOut layout) (has : HasSections layout) (node : NodeId) (stands : first_in (nodes_in layout sections_ring) ≡ Some node) where
@@ -158,7 +162,8 @@ module _ (layout : TableLayout) (laid : IsLaidOut layout) (has : HasSections lay
   first_left : left_of layout sections_ring (Some node) ≡ nodes_in layout sections_ring
   first_left = sym (ap (left_of layout sections_ring) stands) ∙ left_first layout sections_ring
 
-  module _ (entries : RingId) (is : content_of layout node ≡ Some (Begun None entries)) (next : Option NodeId) (comes : ComesNext layout.rings node next) (first : Option NodeId) (begins : first ≡ first_in (nodes_in layout entries)) where
+  module _ (entries : RingId) (is : content_of layout node ≡ Some (Begun None entries)) (next : Option NodeId) (comes : ComesNext layout.rings node next) (first : Option NodeId)
+      (begins : first ≡ first_in (nodes_in layout entries)) where
     -- all sections: the first, and those behind it
     all_sections : nodes_in layout sections_ring ≡ node ∷ left_of layout sections_ring next
     all_sections = sym first_left ∙ left_next layout sections_ring node next laid first_there comes
@@ -180,8 +185,10 @@ module _ (layout : TableLayout) (laid : IsLaidOut layout) (has : HasSections lay
     pub visited_first : visited_left layout entries first next ≡ visited (sections_at layout)
     unfolding sections_at
     visited_first =
-        ap (λ nodes. map VisitedEntry (flat_map entry_in (contents_of layout nodes)) ++ visited (flat_map (section_in layout) (contents_of layout (left_of layout sections_ring next)))) (ap (left_of layout entries) begins ∙ left_first layout entries)
-        ∙ sym (ap (λ nodes. visited (flat_map (section_in layout) (contents_of layout nodes))) all_sections ∙ ap visited (section_visited layout node (left_of layout sections_ring next) None entries is))
+        ap (λ nodes. map VisitedEntry (flat_map entry_in (contents_of layout nodes)) ++ visited (flat_map (section_in layout) (contents_of layout (left_of layout sections_ring next))))
+        (ap (left_of layout entries) begins ∙ left_first layout entries)
+        ∙ sym (ap (λ nodes. visited (flat_map (section_in layout) (contents_of layout nodes))) all_sections
+        ∙ ap visited (section_visited layout node (left_of layout sections_ring next) None entries is))
 
 module _ (layout : TableLayout) (node : NodeId) (on : IsOnWayDeclared layout (Some node)) where
   -- the next declaration is one
@@ -222,7 +229,8 @@ goes_on r s t x e = let shorter = ap length e in record { on = λ _. (tt, tt, om
 pub at_entry : (layout : TableLayout) (ring : RingId) (entry section : Option NodeId) (node : NodeId) → entry ≡ Some node → IsOnWay layout ring entry section → IsOnWay layout ring (Some node) section
 at_entry layout ring entry section node e on = subst (λ entry. IsOnWay layout ring entry section) e on
 
-pub at_section : (layout : TableLayout) (ring : RingId) (entry section : Option NodeId) (node : NodeId) → entry ≡ None → section ≡ Some node → IsOnWay layout ring entry section → IsOnWay layout ring None (Some node)
+pub at_section : (layout : TableLayout) (ring : RingId) (entry section : Option NodeId) (node : NodeId) → entry ≡ None → section ≡ Some node → IsOnWay layout ring entry section
+    → IsOnWay layout ring None (Some node)
 at_section layout ring entry section node e f on = subst (λ section. IsOnWay layout ring None section) f (subst (λ entry. IsOnWay layout ring entry section) e on)
 
 pub at_declaration : (layout : TableLayout) (next : Option NodeId) (node : NodeId) → next ≡ Some node → IsOnWayDeclared layout next → IsOnWayDeclared layout (Some node)

@@ -16,7 +16,8 @@ use Rattle.coll_nodes.specs.declared.contents.Content.TheVariants.{Begun}
 use Rattle.coll_nodes.proofs.LayoutReads.{declaration_is, entry_is, section_is}
 
 -- each node of a list, one after another
-pub members : {P : NodeId → Type 0} (node : NodeId) (nodes : List NodeId) → ((other : NodeId) → has_node (node ∷ nodes) other ≡ true → P other) → P node × ((other : NodeId) → has_node nodes other ≡ true → P other)
+pub members : {P : NodeId → Type 0} (node : NodeId) (nodes : List NodeId) → ((other : NodeId) → has_node (node ∷ nodes) other ≡ true → P other)
+    → P node × ((other : NodeId) → has_node nodes other ≡ true → P other)
 members node nodes each = (each node (or_first _ _ (same_node_itself node)), λ other there. each other (or_second _ _ there))
 
 -- names that are proper are names

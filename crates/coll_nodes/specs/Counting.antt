@@ -15,7 +15,11 @@ no_counts = record { declarations = 0; sections = 0; entries = 0 }
 
 -- the lengths of the lists of a layout
 abbrev pub counts_at : TableLayout → Counts
-counts_at layout = record { declarations = length (declared_at layout); sections = length (sections_at layout); entries = length (joined_entries (sections_at layout)) }
+counts_at layout = record {
+  declarations = length (declared_at layout);
+  sections = length (sections_at layout);
+  entries = length (joined_entries (sections_at layout));
+}
 
 -- with one more node that is this
 abbrev pub counts_with : Content → Counts → Counts

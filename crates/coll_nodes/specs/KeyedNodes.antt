@@ -51,10 +51,12 @@ pub record LeadsAlike (old new : NodeKeys) : Type 0 where
 pub record SetsKeys (old new : NodeKeys) (it : Content) (node : Option NodeId) : Type 0 where
   pub names : (key : List ℕ) → node_named new.names key ≡ cond (list_any (same_name key) (names_in it)) node (node_named old.names key)
   pub texts : (key : List ℕ) → node_named new.texts key ≡ cond (list_any (same_name key) (texts_in it)) node (node_named old.texts key)
-  pub sections : (key : List ℕ) → node_named new.sections key ≡ cond (list_any (same_name key) (section_names_in it)) node (node_named old.sections key)
+  pub sections : (key : List ℕ) → node_named new.sections key
+      ≡ cond (list_any (same_name key) (section_names_in it)) node (node_named old.sections key)
   pub ids : (key : Id) → node_with new.placed key ≡ cond (list_any (same_id key) (ids_in it)) node (node_with old.placed key)
 
 -- the name of a section leads to this now, if it has one, and each other key to where it led
 pub record SetsSection (old new : NodeKeys) (name : Option (List ℕ)) (node : Option NodeId) : Type 0 where
-  pub section : (key : List ℕ) → node_named new.sections key ≡ cond (list_any (same_name key) (named name)) node (node_named old.sections key)
+  pub section : (key : List ℕ) → node_named new.sections key
+      ≡ cond (list_any (same_name key) (named name)) node (node_named old.sections key)
   pub others : new ≡ record old { sections = new.sections }

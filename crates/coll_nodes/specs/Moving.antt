@@ -8,7 +8,8 @@ use Rattle.coll_order.specs.declared.places.Place.{Place}
 use Rattle.coll_syntax.specs.Identifier.{same_name, same_id}
 use Rattle.coll_syntax.specs.declared.weights.Weight.{Weight}
 use Rattle.coll_nodes.specs.Bodies.{IsLooseNode, without_link}
-use Rattle.coll_nodes.specs.SoundBodies.{IsPlaceIn, IsEntryPlace, has_key, names_in, texts_in, section_names_in, rings_in, ids_in, same_ring}
+use Rattle.coll_nodes.specs.SoundBodies.{IsPlaceIn, IsEntryPlace, has_key, names_in, texts_in}
+use Rattle.coll_nodes.specs.SoundBodies.{section_names_in, rings_in, ids_in, same_ring}
 use Rattle.coll_nodes.specs.TableLayout.{TableLayout, MadeNode, content_of}
 use Rattle.coll_nodes.specs.declared.contents.Content.{Content}
 use Rattle.coll_nodes.specs.declared.contents.Content.TheVariants as content
@@ -36,7 +37,8 @@ weighed (Some weights) (content.Placed entry) = content.Placed (record entry { w
 
 -- the nodes, with other weights for one of them
 abbrev pub weighed_nodes : NodeId → Option (List Weight) → List MadeNode → List MadeNode
-weighed_nodes node weights nodes = map (λ (made : MadeNode). if same_node node made.node then record made { content = weighed weights made.content } else made) nodes
+weighed_nodes node weights nodes =
+    map (λ (made : MadeNode). if same_node node made.node then record made { content = weighed weights made.content } else made) nodes
 
 -- the weights of a node that is an entry, and else those that were to go to it
 abbrev pub weights_or : List Weight → Option Content → List Weight
@@ -59,7 +61,8 @@ IsAt layout node (Some place) = place_from 0 layout.rings node ≡ Some place
 
 -- none of these keys is that of a node that stands in a ring
 abbrev pub AreNew : {Key : Type 0} → (Key → Key → Bool) → (Content → List Key) → TableLayout → Content → Type 0
-AreNew {Key} same keys layout node = (key : Key) (other : NodeId) → list_any (same key) (keys node) ≡ true → has_key same keys layout key other ≡ false
+AreNew {Key} same keys layout node = (key : Key) (other : NodeId) → list_any (same key) (keys node) ≡ true
+    → has_key same keys layout key other ≡ false
 
 -- nothing that stands in a ring has a key of this node
 pub record IsApart (layout : TableLayout) (node : Content) : Type 0 where

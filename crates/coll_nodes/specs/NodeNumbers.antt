@@ -34,13 +34,15 @@ entry_nodes layout = entry_nodes_of layout (nodes_in layout sections_ring)
 -- the number of a node, if these get numbers one after another, behind so many others
 abbrev pub last_number : (before : ℕ) → List NodeId → NodeId → Option ℕ
 last_number before [] node = None
-last_number before (first ∷ later) node = option_or (last_number (suc before) later node) (if same_node node first then Some (suc before) else None)
+last_number before (first ∷ later) node =
+    option_or (last_number (suc before) later node) (if same_node node first then Some (suc before) else None)
 
 -- numbers are those of a layout: the node of each identifier that stands in it has the place of the identifier among all entries,
 -- from 1; of other nodes they say nothing
 abbrev pub AreNumbersOf : List ℕ → TableLayout → Type 0
 AreNumbersOf numbers layout =
-    (id : Id) (node : NodeId) → has_key same_id ids_in layout id node ≡ true → place_among (joined_entries (sections_at layout)) id ≡ Some (number_at numbers node)
+    (id : Id) (node : NodeId) → has_key same_id ids_in layout id node ≡ true → place_among (joined_entries (sections_at layout)) id
+    ≡ Some (number_at numbers node)
 
 -- each name that has an entry has the place of that among all, from 1, and no other name has one
 abbrev pub ArePlacesOf : NamePlacesValue → TableLayout → Type 0

@@ -34,11 +34,13 @@ entries_after (first ∷ entries) target entry =
 
 -- an entry directly after that of the target, in the section that has the target
 abbrev pub placed_after : List Section → Id → Entry → List Section
-placed_after sections target entry = map (λ (section : Section). record section { entries = entries_after section.entries target entry }) sections
+placed_after sections target entry =
+    map (λ (section : Section). record section { entries = entries_after section.entries target entry }) sections
 
 -- the sections with the entry of an identifier replaced, where it stands
 abbrev pub with_entry : List Section → Entry → List Section
-with_entry sections entry = map (λ (section : Section). record section { entries = map (λ (old : Entry). if same_id entry.id old.id then entry else old) section.entries }) sections
+with_entry sections entry = map (λ (section : Section).
+    record section { entries = map (λ (old : Entry). if same_id entry.id old.id then entry else old) section.entries }) sections
 
 -- a section has this name
 abbrev pub has_section_name : List ℕ → Option (List ℕ) → Bool
@@ -55,7 +57,8 @@ sections_without sections name = filter (λ (section : Section). not (has_sectio
 
 -- the sections with some more directly after that of a name
 abbrev pub sections_after : List Section → List ℕ → List Section → List Section
-sections_after sections after more = flat_map (λ (section : Section). section ∷ (if has_section_name after section.name then more else [])) sections
+sections_after sections after more =
+    flat_map (λ (section : Section). section ∷ (if has_section_name after section.name then more else [])) sections
 
 -- the sections with that of a name taken out, whole, and put directly after another
 abbrev pub section_moved : List Section → (name after : List ℕ) → List Section

@@ -1,5 +1,6 @@
 -- What holds of the body of a table: what stands in which ring, and what the look-ups find.
-use Rattle.std.specs.Prelude.{◌≡◌, ◌==◌, ℕ, suc, ◌≤◌, ◌<◌, Bool, true, false, ◌&&◌, ◌||◌, List, [], ◌∷◌, ◌++◌, Option, Some, None, map, length, slice_index_or}
+use Rattle.std.specs.Prelude.{◌≡◌, ◌==◌, ℕ, suc, ◌≤◌, ◌<◌, Bool, true, false, ◌&&◌, ◌||◌, List, []}
+use Rattle.std.specs.Prelude.{◌∷◌, ◌++◌, Option, Some, None, map, length, slice_index_or}
 use Rattle.std.specs.List.{flat_map, list_any}
 use Rattle.coll_order.specs.Layout.{head_of, is_in, rings_with}
 use Rattle.coll_order.specs.Lists.{same_place, has_node, end_of}
@@ -65,7 +66,8 @@ abbrev pub has_key : {Key : Type 0} → (Key → Key → Bool) → (Content → 
 has_key same keys layout key node = is_in layout.rings node && list_any (same key) (read_at keys layout node)
 
 -- a look-up finds the nodes that stand in a ring, each by its key, and nothing else
-pub record Finds {Key : Type 0} (same : Key → Key → Bool) (keys : Content → List Key) (layout : TableLayout) (find : Key → Option NodeId) : Type 0 where
+pub record Finds {Key : Type 0} (same : Key → Key → Bool) (keys : Content → List Key) (layout : TableLayout) (find : Key
+    → Option NodeId) : Type 0 where
   pub leads : (key : Key) (node : NodeId) → find key ≡ Some node → has_key same keys layout key node ≡ true
   pub finds : (key : Key) (node : NodeId) → has_key same keys layout key node ≡ true → find key ≡ Some node
 
@@ -103,8 +105,10 @@ pub record IsShaped (layout : TableLayout) : Type 0 where
   pub two : 2 ≤ length layout.rings
   pub declared : (node : NodeId) → has_node (ring_at layout 0) node ≡ true → IsDeclaration (content_of layout node)
   pub begun : (node : NodeId) → has_node (ring_at layout 1) node ≡ true → IsSection (length layout.rings) (content_of layout node)
-  pub placed : (index : ℕ) (node : NodeId) → has_node (ring_at layout (suc (suc index))) node ≡ true → IsEntry (content_of layout node) × IsOwned layout (suc (suc index))
-  pub own : (ring : RingId) (a b : NodeId) → has_key same_ring rings_in layout ring a ≡ true → has_key same_ring rings_in layout ring b ≡ true → a ≡ b
+  pub placed : (index : ℕ) (node : NodeId) → has_node (ring_at layout (suc (suc index))) node ≡ true → IsEntry (content_of layout node)
+      × IsOwned layout (suc (suc index))
+  pub own : (ring : RingId) (a b : NodeId) → has_key same_ring rings_in layout ring a ≡ true → has_key same_ring rings_in layout ring b
+      ≡ true → a ≡ b
 
 -- a place is in a list that begins after another: it is the beginning, or after one of the nodes
 abbrev pub is_place_of : Place → Place → List NodeId → Bool
@@ -140,7 +144,8 @@ pub record IsLastSection (layout : TableLayout) (section : NodeId) (name : Optio
 
 -- the place behind the last entry of the last section
 abbrev pub IsLastEnd : TableLayout → Place → Type 0
-IsLastEnd layout place = (section : NodeId) × (name : Option (List ℕ)) × (ring : RingId) × IsLastSection layout section name ring × (place ≡ end_in layout ring.index)
+IsLastEnd layout place = (section : NodeId) × (name : Option (List ℕ)) × (ring : RingId) × IsLastSection layout section name ring
+    × (place ≡ end_in layout ring.index)
 
 -- each of these sections has a name
 abbrev pub HaveNames : List Section → Type 0

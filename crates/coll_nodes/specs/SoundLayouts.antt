@@ -11,7 +11,8 @@ use Rattle.coll_nodes.specs.declared.contents.Content.{Content}
 
 -- no two nodes that stand in rings have one key
 abbrev pub AreOnce : {Key : Type 0} → (Key → Key → Bool) → (Content → List Key) → TableLayout → Type 0
-AreOnce {Key} same keys layout = (key : Key) (a b : NodeId) → has_key same keys layout key a ≡ true → has_key same keys layout key b ≡ true → a ≡ b
+AreOnce {Key} same keys layout = (key : Key) (a b : NodeId) → has_key same keys layout key a ≡ true → has_key same keys layout key b ≡ true
+    → a ≡ b
 
 -- no node stands twice, each that stands is there, and none has two contents; each ring has nodes of its kind; and no two nodes
 -- that stand in rings declare one name or one string, are sections of one name, or entries of one identifier

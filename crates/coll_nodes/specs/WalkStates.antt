@@ -5,7 +5,8 @@ use Rattle.coll_order.specs.Lists.{same_node, has_node, first_in}
 use Rattle.coll_order.specs.declared.places.NodeId.{NodeId}
 use Rattle.coll_order.specs.declared.places.RingId.{RingId}
 use Rattle.coll_nodes.specs.Bodies.{IsLaidOut}
-use Rattle.coll_nodes.specs.TableLayout.{TableLayout, content_of, nodes_in, if_any, declarations_ring, sections_ring, declaration_in, entry_in, section_in}
+use Rattle.coll_nodes.specs.TableLayout.{TableLayout, content_of, nodes_in, if_any, declarations_ring}
+use Rattle.coll_nodes.specs.TableLayout.{sections_ring, declaration_in, entry_in, section_in}
 use Rattle.coll_nodes.specs.Walks.{Visited, VisitedEntry, visited}
 use Rattle.coll_nodes.specs.declared.declarations.Declaration.{Declaration}
 use Rattle.coll_nodes.specs.declared.entries.Entry.{Entry}
@@ -35,7 +36,8 @@ StandsIfAny layout ring (Some node) = has_node (nodes_in layout ring) node ≡ t
 -- each of these nodes is a declaration
 abbrev pub AreDeclared : TableLayout → List NodeId → Type 0
 AreDeclared layout [] = Unit {0}
-AreDeclared layout (node ∷ nodes) = ((declaration : Declaration) × (content_of layout node ≡ Some (Declared declaration))) × AreDeclared layout nodes
+AreDeclared layout (node ∷ nodes) = ((declaration : Declaration) × (content_of layout node ≡ Some (Declared declaration)))
+    × AreDeclared layout nodes
 
 -- each of these nodes is an entry
 abbrev pub ArePlaced : TableLayout → List NodeId → Type 0
@@ -45,7 +47,8 @@ ArePlaced layout (node ∷ nodes) = ((entry : Entry) × (content_of layout node 
 -- a node is a section of this name, with a ring of entries
 abbrev pub IsSectionNode : TableLayout → NodeId → Option (List ℕ) → Type 0
 IsSectionNode layout node name =
-    (ring : RingId) × (content_of layout node ≡ Some (Begun name ring)) × (ring.index < length layout.rings) × ArePlaced layout (nodes_in layout ring)
+    (ring : RingId) × (content_of layout node ≡ Some (Begun name ring)) × (ring.index < length layout.rings)
+    × ArePlaced layout (nodes_in layout ring)
 
 -- each of these nodes is a section with a name
 abbrev pub AreNamed : TableLayout → List NodeId → Type 0
@@ -74,7 +77,8 @@ pub record HasDeclarations (layout : TableLayout) : Type 0 where
 -- what is visited of these entries, and then of these sections
 abbrev pub visited_at : TableLayout → (entries sections : List NodeId) → List Visited
 visited_at layout entries sections =
-    map VisitedEntry (flat_map entry_in (contents_of layout entries)) ++ visited (flat_map (section_in layout) (contents_of layout sections))
+    map VisitedEntry (flat_map entry_in (contents_of layout entries))
+    ++ visited (flat_map (section_in layout) (contents_of layout sections))
 
 -- what is left of a walk, by the next entry of a ring and the next section
 abbrev pub visited_left : TableLayout → RingId → (entry section : Option NodeId) → List Visited

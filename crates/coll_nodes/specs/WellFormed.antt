@@ -8,7 +8,8 @@ use Rattle.coll_syntax.specs.declared.identifiers.Id.{Id}
 use Rattle.coll_syntax.specs.declared.weights.Weight.{Weight}
 use Rattle.coll_nodes.specs.declared.declarations.Declaration.{Declaration}
 use Rattle.coll_nodes.specs.declared.entries.Entry.{Entry}
-use Rattle.coll_nodes.specs.Table.{Collation, Section, names_of, texts_of, entries_of, ids_of, section_names, is_known, is_symbol, is_placed}
+use Rattle.coll_nodes.specs.Table.{Collation, Section, names_of, texts_of, entries_of, ids_of}
+use Rattle.coll_nodes.specs.Table.{section_names, is_known, is_symbol, is_placed}
 use Rattle.coll_nodes.specs.Entries.{names_only, ids_named}
 use Rattle.coll_nodes.specs.OwnNames.{MeanSymbols}
 use Rattle.coll_nodes.specs.Limits.{most_entries, most_declarations, most_sections}

@@ -68,7 +68,8 @@ impl Body {
     ghost use Rattle.coll_nodes.specs.Placement.{entry_at};
     ghost use Rattle.coll_nodes.specs.SoundLayouts.{IsSoundLayout};
     ghost use Rattle.coll_nodes.specs.SoundBodies.{IsShaped, IsPlaceIn, IsEntryPlace, Adds, with_empty_ring};
-    ghost use Rattle.coll_nodes.specs.Table.{name_of, names_of, text_of, texts_of, is_declared, is_known, is_symbol, is_placed_in, section_names, joined_entries};
+    ghost use Rattle.coll_nodes.specs.Table.{name_of, names_of, text_of, texts_of, is_declared, is_known};
+    ghost use Rattle.coll_nodes.specs.Table.{is_symbol, is_placed_in, section_names, joined_entries};
     ghost use Rattle.coll_nodes.specs.TableLayout.{declared_at, sections_at, declarations_ring, sections_ring};
     ghost use Rattle.coll_nodes.specs.WellFormed.{AreDistinct};
     ghost use Rattle.coll_nodes.specs.declared.contents.Content.TheVariants as content;
@@ -258,7 +259,8 @@ impl Body {
     /// Begins a section without a name directly after a place, and answers its node and its ring.
     pub fn begin_unnamed(&mut self, place: Place) -> Result<(NodeId, RingId), AllocError>
         requires place { IsPlaceIn self.old.layout 1 place }
-        ensures ok { IfOk result (λ begun. Adds (with_empty_ring self.old.layout) self.new.layout begun.0 (content.Begun None begun.1) place) }
+        ensures ok { IfOk result (λ begun.
+            Adds (with_empty_ring self.old.layout) self.new.layout begun.0 (content.Begun None begun.1) place) }
         ensures ring { IfOk result (λ begun. begun.1.index ≡ length self.old.layout.rings) }
         ensures steps { OnOk result (self.new.steps ≡ one_step_more self.old.steps) }
         ensures err { OnErr result (self.new ≡ self.old) }
@@ -273,7 +275,8 @@ impl Body {
     pub fn begin(&mut self, name: TextBuf, place: Place) -> Result<(NodeId, RingId), AllocError>
         requires name { has_name (section_names (sections_at self.old.layout)) name ≡ false }
         requires place { IsPlaceIn self.old.layout 1 place }
-        ensures ok { IfOk result (λ begun. Adds (with_empty_ring self.old.layout) self.new.layout begun.0 (content.Begun (Some name) begun.1) place) }
+        ensures ok { IfOk result (λ begun.
+            Adds (with_empty_ring self.old.layout) self.new.layout begun.0 (content.Begun (Some name) begun.1) place) }
         ensures ring { IfOk result (λ begun. begun.1.index ≡ length self.old.layout.rings) }
         ensures steps { OnOk result (self.new.steps ≡ one_step_more self.old.steps) }
         ensures err { OnErr result (self.new ≡ self.old) }

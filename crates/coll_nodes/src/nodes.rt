@@ -54,7 +54,8 @@ fn new_node_and_ring(rings: &mut Rings, tag: usize) -> Result<(NodeId, RingId), 
 }
 
 impl Nodes {
-    ghost use Rattle.coll_nodes.specs.Bodies.{empty_body, Makes, MakesSection, IsLooseNode, IsPlaceAmong, IsLaidOut, with_link, without_link};
+    ghost use Rattle.coll_nodes.specs.Bodies.{empty_body, Makes, MakesSection, IsLooseNode};
+    ghost use Rattle.coll_nodes.specs.Bodies.{IsPlaceAmong, IsLaidOut, with_link, without_link};
     ghost use Rattle.coll_order.specs.Sound.{AreDistinct};
     ghost use Rattle.coll_nodes.specs.TableLayout.{MadeNode, content_of, nodes_in};
     ghost use Rattle.coll_nodes.specs.Counting.{AreFew};
@@ -75,7 +76,8 @@ impl Nodes {
     /// Makes a ring of no nodes.
     pub(crate) fn new_ring(&mut self) -> Result<RingId, AllocError>
         ensures ring { IfOk result (λ ring. ring.index ≡ length self.old.layout.rings) }
-        ensures ok { OnOk result (self.new ≡ record self.old { layout = record self.old.layout { rings = self.old.layout.rings ++ [] ∷ [] } }) }
+        ensures ok { OnOk result (self.new
+            ≡ record self.old { layout = record self.old.layout { rings = self.old.layout.rings ++ [] ∷ [] } }) }
         ensures err { OnErr result (self.new ≡ self.old) }
     {
         let ring = self.rings.new_ring()?;

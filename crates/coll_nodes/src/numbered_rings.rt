@@ -26,7 +26,8 @@ fn number_ring(
     requires ring { ring.index < length nodes.now.layout.rings }
     requires few { before + length (nodes_in nodes.now.layout ring) < 1_000_000 }
     ensures count { IfOk result (λ last. last ≡ before + length (nodes_in nodes.now.layout ring)) }
-    ensures numbers { OnOk result ((node : NodeId) → number_at numbers.new node ≡ unwrap_or (last_number before (nodes_in nodes.now.layout ring) node) (number_at numbers.old node)) }
+    ensures numbers { OnOk result ((node : NodeId)
+        → number_at numbers.new node ≡ unwrap_or (last_number before (nodes_in nodes.now.layout ring) node) (number_at numbers.old node)) }
 {
     nodes.lemma_layout();
     let mut left = nodes.first(ring);
@@ -49,7 +50,9 @@ fn number_section(
     requires section { IsSection (length nodes.now.layout.rings) (content_of nodes.now.layout section) }
     requires few { before + length (read_at (entry_nodes_in nodes.now.layout) nodes.now.layout section) < 1_000_000 }
     ensures count { IfOk result (λ last. last ≡ before + length (read_at (entry_nodes_in nodes.now.layout) nodes.now.layout section)) }
-    ensures numbers { OnOk result ((node : NodeId) → number_at numbers.new node ≡ unwrap_or (last_number before (read_at (entry_nodes_in nodes.now.layout) nodes.now.layout section) node) (number_at numbers.old node)) }
+    ensures numbers { OnOk result ((node : NodeId)
+        → number_at numbers.new node ≡ unwrap_or
+        (last_number before (read_at (entry_nodes_in nodes.now.layout) nodes.now.layout section) node) (number_at numbers.old node)) }
 {
     match nodes.content(section) {
         Content::Begun { ring, .. } => number_ring(nodes, *ring, before, numbers),
@@ -66,7 +69,8 @@ pub(crate) fn number_sections(
     requires ring { sections ≡ sections_ring }
     requires shaped { IsShaped nodes.now.layout }
     requires few { length (entry_nodes nodes.now.layout) < 1_000_000 }
-    ensures { OnOk result ((node : NodeId) → number_at numbers.new node ≡ unwrap_or (last_number 0 (entry_nodes nodes.now.layout) node) (number_at numbers.old node)) }
+    ensures { OnOk result ((node : NodeId)
+        → number_at numbers.new node ≡ unwrap_or (last_number 0 (entry_nodes nodes.now.layout) node) (number_at numbers.old node)) }
 {
     nodes.lemma_layout();
     let mut left = nodes.first(sections);

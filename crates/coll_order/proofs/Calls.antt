@@ -1,5 +1,6 @@
 -- What each call of a store makes of its links, and so of its layout.
-use Rattle.std.proofs.Common.{◌≡◌, ℕ, zero, suc, ◌<◌, ◌+◌, ◌++◌, true, false, Bool, not, get_or, is_some, IsTrue, List, [], ◌∷◌, Option, Some, None, IsSome, length, sym, ap, subst, ◌∙◌, refl, arith, length-append}
+use Rattle.std.proofs.Common.{◌≡◌, ℕ, zero, suc, ◌<◌, ◌+◌, ◌++◌, true, false, Bool, not, get_or, is_some, IsTrue, List, [], ◌∷◌}
+use Rattle.std.proofs.Common.{Option, Some, None, IsSome, length, sym, ap, subst, ◌∙◌, refl, arith, length-append}
 use Rattle.std.specs.Option.{option_map, option_and_then}
 use Rattle.std.proofs.lemmas.List.{get_or_past}
 use Rattle.std.specs.FinMap as finmap
@@ -8,7 +9,8 @@ use Rattle.coll_order.specs.Laid.{tags_from, walks, rings_at, layout_at, IsRun, 
 use Rattle.coll_order.specs.Layout.{Layout, head_of, is_in, place_of, rings_with, rings_without, tag_of, first_of, end_of_ring, IsLinked, IsLoose, IsNode, IsPlace, IsRing}
 use Rattle.coll_order.specs.Lists.{same_node, same_place}
 use Rattle.coll_order.specs.Sound.{IsSound}
-use Rattle.coll_order.specs.Store.{Links, slot_at, next_at, before_at, tag_at, own_ring, ring_of, last_at, IsStored, IsStoredIfAny, HasPlace, KeepsNodes, Joins, Detaches, SetsRing, MovesEnd, Inserts, Removes}
+use Rattle.coll_order.specs.Store.{Links, slot_at, next_at, before_at, tag_at, own_ring, ring_of, last_at, IsStored}
+use Rattle.coll_order.specs.Store.{IsStoredIfAny, HasPlace, KeepsNodes, Joins, Detaches, SetsRing, MovesEnd, Inserts, Removes}
 use Rattle.coll_order.specs.declared.places.NodeId.{NodeId}
 use Rattle.coll_order.specs.declared.places.RingId.{RingId}
 use Rattle.coll_order.specs.declared.places.Place.{Place}
@@ -167,7 +169,8 @@ moved_ring : (old new : Links) → new.slots ≡ old.slots → (node : NodeId) �
 moved_ring old new slots node = ap (λ (s : List (Option Node)). option_map (λ (n : Node). n.ring) (get_or s node.key None)) slots
 
 -- unlinking takes the node out of the layout
-pub unlink_done : (old between apart new : Links) (node : NodeId) (found : Node) (place : Place) → IsKept old → slot_at old node ≡ Some found → found.before ≡ Some place → Joins old between place found.after
+pub unlink_done : (old between apart new : Links) (node : NodeId) (found : Node) (place : Place) → IsKept old → slot_at old node ≡ Some found → found.before ≡ Some place
+    → Joins old between place found.after
     → Detaches between apart node → MovesEnd apart new found.ring (After node) place → IsUnlinked old new node place
 unlink_done old between apart new node found place is read stands joined second moved =
     let holds = is.held in
@@ -179,7 +182,8 @@ unlink_done old between apart new node found place is read stands joined second 
     let keeps = keeps_both old between apart first.keeps second.keeps in
     let out = unlinked_holds old apart rings node place holds step keeps.heads in
     let then = moved_holds apart new (rings_without node rings) out moved.heads moved.slots in
-    let tags : (other : NodeId) → tag_at new other ≡ tag_at old other = λ other. ap (λ (s : List (Option Node)). option_map (λ (n : Node). n.tag) (get_or s other.key None)) moved.slots ∙ keeps.tags other in
+    let tags : (other : NodeId) → tag_at new other ≡ tag_at old other = λ other. ap (λ (s : List (Option Node)). option_map (λ (n : Node). n.tag) (get_or s other.key None)) moved.slots
+    ∙ keeps.tags other in
     let same = laid old new (rings_without node rings) then tags in
     let stood : place_of (layout_at old) node ≡ Some place = place_is old rings holds node ∙ at in
     let once = stand_once old holds.back 0 rings holds.runs in
@@ -201,7 +205,8 @@ pub record IsLinkedIn (old new : Links) (node : NodeId) (place : Place) : Type 0
   pub there : IsLinked (layout_at new) node
 
 -- linking puts the node into the layout
-pub link_done : (old between joined marked new : Links) (node : NodeId) (place : Place) (ring : RingId) (found : Option NodeId) → IsKept old → IsLoose (layout_at old) node → IsPlace (layout_at old) place
+pub link_done : (old between joined marked new : Links) (node : NodeId) (place : Place) (ring : RingId) (found : Option NodeId) → IsKept old → IsLoose (layout_at old) node
+    → IsPlace (layout_at old) place
     → ring_of old place ≡ Some ring → found ≡ next_at old place → Joins old between place (Some node) → Joins between joined (After node) found → SetsRing joined marked node ring
     → MovesEnd marked new ring place (After node) → IsLinkedIn old new node place
 link_done old between joined marked new node place ring found is loose there at read first last marks moved =
@@ -235,7 +240,8 @@ link_done old between joined marked new node place ring found is loose there at 
       marked_ring_of (After other) off = marks.others other off ∙ (last.keeps.rings other ∙ first.keeps.rings other)
 
 -- a slot that is written decides what its node knows
-slot_next : (old new : Links) (node : NodeId) → next_at old (After node) ≡ None → next_at new (After node) ≡ None → ((other : NodeId) → same_node other node ≡ false → slot_at new other ≡ slot_at old other)
+slot_next : (old new : Links) (node : NodeId) → next_at old (After node) ≡ None → next_at new (After node) ≡ None
+    → ((other : NodeId) → same_node other node ≡ false → slot_at new other ≡ slot_at old other)
     → new.heads ≡ old.heads → (place : Place) → next_at new place ≡ next_at old place
 slot_next old new node was now others heads (Head ring) = ap (λ h. get_or h ring.index None) heads
 slot_next old new node was now others heads (After other) =
@@ -253,7 +259,8 @@ slot_before old new node was now others other =
     (λ off. ap (option_and_then (λ (n : Node). n.before)) (others other off))
 
 -- the ends stay known where a slot is written of a node that stands nowhere
-slot_ends : (old new : Links) (rings : List (List NodeId)) (node : NodeId) → KnowsEnds old rings → is_in rings node ≡ false → ((other : NodeId) → same_node other node ≡ false → slot_at new other ≡ slot_at old other)
+slot_ends : (old new : Links) (rings : List (List NodeId)) (node : NodeId) → KnowsEnds old rings → is_in rings node ≡ false
+    → ((other : NodeId) → same_node other node ≡ false → slot_at new other ≡ slot_at old other)
     → new.lasts ≡ old.lasts → KnowsEnds new rings
 slot_ends old new rings node known absent others lasts = same_ends old new rings known
     (λ other there. ap (option_map (λ (n : Node). n.ring)) (others other (other_node other node (λ same. not_both there (ap (is_in rings) same ∙ absent))))) lasts
@@ -267,7 +274,8 @@ insert_done old new node value is step bare last =
     let now_next : next_at new (After node) ≡ None = ap (option_and_then (λ (n : Node). n.after)) step.is ∙ last in
     let was_before : before_at old node ≡ None = ap (option_and_then (λ (n : Node). n.before)) step.was in
     let now_before : before_at new node ≡ None = ap (option_and_then (λ (n : Node). n.before)) step.is ∙ bare in
-    let then = same_holds old new (rings_at old) holds (ap length step.heads) (slot_next old new node was_next now_next step.others step.heads) (slot_before old new node was_before now_before step.others) in
+    let then = same_holds old new (rings_at old) holds (ap length step.heads) (slot_next old new node was_next now_next step.others step.heads)
+    (slot_before old new node was_before now_before step.others) in
     let rings = rings_are new (rings_at old) then in
     let tags = inserted_tags old new node value step in
     let ends = slot_ends old new (rings_at old) node is.ends (apart_is old (rings_at old) holds node was_before) step.others step.lasts in
@@ -287,7 +295,8 @@ remove_done old new node is loose step =
     let was_next = holds.loose node was_before in
     let now_next : next_at new (After node) ≡ None = ap (option_and_then (λ (n : Node). n.after)) step.is in
     let now_before : before_at new node ≡ None = ap (option_and_then (λ (n : Node). n.before)) step.is in
-    let then = same_holds old new (rings_at old) holds (ap length step.heads) (slot_next old new node was_next now_next step.others step.heads) (slot_before old new node was_before now_before step.others) in
+    let then = same_holds old new (rings_at old) holds (ap length step.heads) (slot_next old new node was_next now_next step.others step.heads)
+    (slot_before old new node was_before now_before step.others) in
     let rings = rings_are new (rings_at old) then in
     let tags = removed_tags old new node step in
     let ends = slot_ends old new (rings_at old) node is.ends loose.apart step.others step.lasts in
@@ -309,7 +318,8 @@ runs_push links first (nodes ∷ rings) runs none =
     (runs.0, runs_push links (suc first) rings runs.1 (ap (λ i. next_at links (head_of i)) same ∙ none))
 
 -- one head more, which leads nowhere, is one ring more
-pub ring_done : (old new : Links) → IsKept old → new ≡ record old { heads = old.heads ++ None ∷ []; lasts = old.lasts ++ head_of (length old.heads) ∷ [] } → IsKept new × (layout_at new ≡ with_ring (layout_at old))
+pub ring_done : (old new : Links) → IsKept old → new ≡ record old { heads = old.heads ++ None ∷ []; lasts = old.lasts ++ head_of (length old.heads) ∷ [] }
+    → IsKept new × (layout_at new ≡ with_ring (layout_at old))
 ring_done old new is pushed =
     let holds = is.held in
     let next : (place : Place) → next_at new place ≡ next_at old place = λ place. ap (λ (links : Links). next_at links place) pushed ∙ next_same place in

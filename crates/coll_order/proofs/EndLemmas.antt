@@ -85,11 +85,13 @@ end_skipped start first node (second ∷ rest) is distinct =
     sym (ap (λ b. cond b start end) (end_elsewhere (After second) rest node off absent))
 
 -- a list with a node taken out
-end_taken : (start place : Place) (node : NodeId) (nodes : List NodeId) → AreDistinct nodes → place_in start nodes node ≡ Some place → end_of start (without node nodes) ≡ end_moved (end_of start nodes) (After node) place
+end_taken : (start place : Place) (node : NodeId) (nodes : List NodeId) → AreDistinct nodes → place_in start nodes node ≡ Some place
+    → end_of start (without node nodes) ≡ end_moved (end_of start nodes) (After node) place
 end_taken start place node [] distinct at = cc
 end_taken start place node (first ∷ rest) distinct at =
     let end = end_of (After first) rest in
-    by_test (λ b. same_node node first ≡ b → cond b (Some start) (place_in (After first) rest node) ≡ Some place → end_of start (cond b (without node rest) (first ∷ without node rest)) ≡ end_moved end (After node) place) (same_node node first)
+    by_test (λ b. same_node node first ≡ b → cond b (Some start) (place_in (After first) rest node) ≡ Some place → end_of start (cond b (without node rest) (first ∷ without node rest))
+    ≡ end_moved end (After node) place) (same_node node first)
     (λ on t e.
     let is : node ≡ first = same_node_is node first on in
     let it : start ≡ place = cc in
@@ -129,7 +131,8 @@ end_unlinked first (suc index) (nodes ∷ rings) node place once at =
     (elim (place_in (head_of first) nodes node) as (λ found. place_in (head_of first) nodes node ≡ found → option_or found (place_from (suc first) rings node) ≡ Some place
     → end_of (head_of (suc first + index)) (get_or (rings_without node rings) index []) ≡ end_moved (end_of (head_of (suc first + index)) (get_or rings index [])) (After node) place) [
       | Some p ↦ λ here e.
-          let there : has_node nodes node ≡ true = by_test (λ b. has_node nodes node ≡ b → b ≡ true) (has_node nodes node) (λ on t. refl) (λ off t. let none = place_absent (head_of first) nodes node off in cc) refl in
+          let there : has_node nodes node ≡ true =
+          by_test (λ b. has_node nodes node ≡ b → b ≡ true) (has_node nodes node) (λ on t. refl) (λ off t. let none = place_absent (head_of first) nodes node off in cc) refl in
           let apart : is_in rings node ≡ false = once.1 node there in
           let absent : has_node (get_or rings index []) node ≡ false = by_test (λ b. has_node (get_or rings index []) node ≡ b → b ≡ false) (has_node (get_or rings index []) node)
           (λ on t. not_both (is_in_ring rings index node on) apart) (λ off t. refl) refl in

@@ -26,7 +26,8 @@ on_ring links ring nodes stands (Head other) on =
 on_ring links ring nodes stands (After node) on = stands node on
 
 -- so has its end
-end_ring : (links : Links) (ring : RingId) (nodes : List NodeId) → ((node : NodeId) → has_node nodes node ≡ true → own_ring links node ≡ Some ring) → ring_of links (end_of (Head ring) nodes) ≡ Some ring
+end_ring : (links : Links) (ring : RingId) (nodes : List NodeId) → ((node : NodeId) → has_node nodes node ≡ true → own_ring links node ≡ Some ring) → ring_of links (end_of (Head ring) nodes)
+    ≡ Some ring
 end_ring links ring nodes stands = on_ring links ring nodes stands (end_of (Head ring) nodes) (end_on (Head ring) nodes)
 
 -- rings of one number are one
@@ -48,7 +49,8 @@ ends_apart links rings known place ring other at differ = other_place _ place (�
     not_both ((Decides-eqb other.index ring.index).1 (ap (λ (r : RingId). r.index) is)) differ)
 
 -- a node in rings has one of them stored
-pub own_ring_is : (links : Links) (rings : List (List NodeId)) → KnowsEnds links rings → (node : NodeId) (ring : RingId) → is_in rings node ≡ true → own_ring links node ≡ Some ring → ring.index < length rings
+pub own_ring_is : (links : Links) (rings : List (List NodeId)) → KnowsEnds links rings → (node : NodeId) (ring : RingId) → is_in rings node ≡ true → own_ring links node ≡ Some ring
+    → ring.index < length rings
 own_ring_is links rings known node ring there own =
     let at = in_some rings node there in
     let is = one_ring (own_ring links node) (record { index = at.0 }) ring (known.stands (record { index = at.0 }) node at.1) own in
@@ -76,9 +78,11 @@ same_ends old new rings known own lasts = record {
 }
 
 -- the ends are known once a node is put in, its ring is stored, and the ring that ended where it was put ends behind it
-pub linked_ends : (old new : Links) (rings : List (List NodeId)) (node : NodeId) (place : Place) (ring : RingId) → KnowsEnds old rings → StandOnce rings → is_in rings node ≡ false → ring_of old place ≡ Some ring
+pub linked_ends : (old new : Links) (rings : List (List NodeId)) (node : NodeId) (place : Place) (ring : RingId) → KnowsEnds old rings → StandOnce rings → is_in rings node ≡ false
+    → ring_of old place ≡ Some ring
     → own_ring new node ≡ Some ring → ((other : NodeId) → same_node other node ≡ false → own_ring new other ≡ own_ring old other) → length new.lasts ≡ length old.lasts
-    → ((other : RingId) → other.index < length rings → last_at new other ≡ end_moved (end_of (Head other) (get_or rings other.index [])) place (After node)) → KnowsEnds new (rings_with place node 0 rings)
+    → ((other : RingId) → other.index < length rings → last_at new other ≡ end_moved (end_of (Head other) (get_or rings other.index [])) place (After node))
+    → KnowsEnds new (rings_with place node 0 rings)
 linked_ends old new rings node place ring known once absent at own others count ends = record {
   count = count ∙ (known.count ∙ sym (length_rings_with place node 0 rings));
   stands = stands;
@@ -99,7 +103,8 @@ linked_ends old new rings node place ring known once absent at own others count 
       let it : x ≡ node = same_node_is x node on in
       ap (own_ring new) it ∙ (own ∙ (sym at ∙ by_test (λ b. is_on place (Head other) nodes ≡ b → ring_of old place ≡ Some other) (is_on place (Head other) nodes)
       (λ here t. on_ring old other nodes (known.stands other) place here)
-      (λ off t. not_both (is_in_ring rings other.index node (subst (λ ns. has_node ns node ≡ true) (put_nowhere place (Head other) node nodes off) (subst (λ n. has_node (put_after place node (Head other) nodes) n ≡ true) it there))) absent) refl)))
+      (λ off t. not_both (is_in_ring rings other.index node
+      (subst (λ ns. has_node ns node ≡ true) (put_nowhere place (Head other) node nodes off) (subst (λ n. has_node (put_after place node (Head other) nodes) n ≡ true) it there))) absent) refl)))
       (λ off e. others x off ∙ known.stands other x (sym (has_put place (Head other) node x nodes off) ∙ there)) refl
 
 -- the ends are known once a node is taken out, and the ring that ended behind it ends where it stood
@@ -127,7 +132,8 @@ unlinked_ends old new rings node place known once at own count ends = record {
 pub pushed_ends : (old new : Links) (rings : List (List NodeId)) (count : ℕ) → KnowsEnds old rings → count ≡ length rings → new.lasts ≡ old.lasts ++ head_of count ∷ []
     → ((node : NodeId) → own_ring new node ≡ own_ring old node) → KnowsEnds new (rings ++ [] ∷ [])
 pushed_ends old new rings count known counted lasts own = record {
-  count = let was = known.count in let longer = length-append rings ([] ∷ []) in ap (λ (ls : List Place). length ls) lasts ∙ (length-append old.lasts (head_of count ∷ []) ∙ (ap (λ n. n + 1) was ∙ sym longer));
+  count = let was = known.count in let longer =
+      length-append rings ([] ∷ []) in ap (λ (ls : List Place). length ls) lasts ∙ (length-append old.lasts (head_of count ∷ []) ∙ (ap (λ n. n + 1) was ∙ sym longer));
   stands = λ ring node there. own node ∙ known.stands ring node (subst (λ ns. has_node ns node ≡ true) (get_push rings ring.index) there);
   ends = λ ring below. ap (λ (ls : List Place). get_or ls ring.index (Head ring)) lasts ∙ pushed ring below;
 } where

@@ -16,7 +16,8 @@ use Rattle.coll_order.specs.declared.places.Place.{Place}
 use Rattle.coll_order.specs.declared.places.Place.TheVariants.{Head, After}
 use Rattle.coll_order.proofs.ListLemmas.{is_among, is_in_without_itself, is_in_without, or_first, or_second, next_absent, next_among_absent, or_none}
 use Rattle.coll_order.proofs.Tags.{get_inserted, get_removed}
-use Rattle.coll_order.proofs.RingLemmas.{length_rings_without, place_of_rings, place_from_other, is_in_push, is_in_put, not_apart, among_after, among_head, rings_without_put, place_from_put, rings_put_back, is_in_put_itself, is_in_ring}
+use Rattle.coll_order.proofs.RingLemmas.{length_rings_without, place_of_rings, place_from_other, is_in_push, is_in_put, not_apart, among_after}
+use Rattle.coll_order.proofs.RingLemmas.{among_head, rings_without_put, place_from_put, rings_put_back, is_in_put_itself, is_in_ring}
 
 -- a place where a node may be put is in the rings
 pub place_among : (layout : Layout) (place : Place) → IsPlace layout place → is_among place 0 layout.rings ≡ true
@@ -74,7 +75,8 @@ tag_without_node layout node other = get_removed layout.tags node.key other.key
 -- a node that is made and dropped gives back the layout
 pub made_and_dropped : (layout : Layout) (node : NodeId) (tag : ℕ) → tag_of layout node ≡ None → without_node (with_node layout node tag) node ≡ layout
 made_and_dropped layout node tag fresh = ap (λ tags. record layout { tags = tags }) (finmap.same_map nat_cmp_total finmap.nat_cmp-IsAntisymmetric _ _ (λ key.
-    get_removed (finmap.insert layout.tags node.key tag) node.key key ∙ by_test (λ b. eqb key node.key ≡ b → cond b None (finmap.get (finmap.insert layout.tags node.key tag) key) ≡ finmap.get layout.tags key) (eqb key node.key)
+    get_removed (finmap.insert layout.tags node.key tag) node.key key
+    ∙ by_test (λ b. eqb key node.key ≡ b → cond b None (finmap.get (finmap.insert layout.tags node.key tag) key) ≡ finmap.get layout.tags key) (eqb key node.key)
     (λ on e. let same : key ≡ node.key = (Decides-eqb key node.key).0 on in sym (ap (finmap.get layout.tags) same ∙ fresh))
     (λ off e. get_inserted layout.tags node.key tag key ∙ ap (λ b. cond b (Some tag) (finmap.get layout.tags key)) off) refl))
 
@@ -91,7 +93,8 @@ next_between (first ∷ prefix) rest node distinct =
     ap (λ b. cond b (first_in (prefix ++ node ∷ rest)) (next_in (prefix ++ node ∷ rest) node)) differ ∙ next_between prefix rest node distinct.1
 
 -- directly after a node stands the next of its ring
-next_among_between : (rings : List (List NodeId)) (index : ℕ) (prefix rest : List NodeId) (node : NodeId) → StandOnce rings → get_or rings index [] ≡ prefix ++ node ∷ rest → next_among rings node ≡ first_in rest
+next_among_between : (rings : List (List NodeId)) (index : ℕ) (prefix rest : List NodeId) (node : NodeId) → StandOnce rings → get_or rings index [] ≡ prefix ++ node ∷ rest
+    → next_among rings node ≡ first_in rest
 next_among_between [] index prefix rest node once at =
     not_both (subst (λ nodes. has_node nodes node ≡ true) (sym at) (has_between prefix rest node)) refl
 next_among_between (nodes ∷ rings) zero prefix rest node once at =
@@ -107,5 +110,6 @@ pub linked_between : (layout : Layout) (ring : RingId) (prefix rest : List NodeI
 linked_between layout ring prefix rest node at = is_in_ring layout.rings ring.index node (subst (λ nodes. has_node nodes node ≡ true) (sym at) (has_between prefix rest node))
 
 -- directly after a node in the list of a ring stands the next of the list
-pub next_of_between : (layout : Layout) (ring : RingId) (prefix rest : List NodeId) (node : NodeId) → IsSound layout → nodes_of layout ring ≡ prefix ++ node ∷ rest → next_of layout node ≡ first_in rest
+pub next_of_between : (layout : Layout) (ring : RingId) (prefix rest : List NodeId) (node : NodeId) → IsSound layout → nodes_of layout ring ≡ prefix ++ node ∷ rest
+    → next_of layout node ≡ first_in rest
 next_of_between layout ring prefix rest node sound at = next_among_between layout.rings ring.index prefix rest node sound.once at

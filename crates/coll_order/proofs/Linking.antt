@@ -54,7 +54,8 @@ kept_run old new node place start (first ∷ rest) step run differ fresh absent 
     let elsewhere = neither (same_node node first) (has_node rest node) absent in
     let not_first : place ≡ After first → ⊥ = λ same. not_both (or_first (same_node first first) (has_node rest first) (same_node_itself first)) (fresh first same) in (
       step.others start apart (other_place start place (λ same. differ (sym same))) ∙ run.0,
-      kept_run old new node place (After first) rest step run.1 not_first (λ y same. (neither (same_node y first) (has_node rest y) (fresh y same)).1) elsewhere.1 (other_node_turned node first elsewhere.0),
+      kept_run old new node place (After first) rest step run.1 not_first (λ y same. (neither (same_node y first) (has_node rest y) (fresh y same)).1) elsewhere.1
+          (other_node_turned node first elsewhere.0),
     )
 
 -- a run with the node put in is a run
@@ -85,7 +86,8 @@ put_run old new node place start (first ∷ rest) step run distinct fresh absent
     ))
 
 -- so are the rings with it
-put_runs : (old new : Links) (node : NodeId) (place : Place) (first : ℕ) (rings : List (List NodeId)) → LinksIn old new node place → AreRuns old first rings → StandOnce rings → is_in rings node ≡ false
+put_runs : (old new : Links) (node : NodeId) (place : Place) (first : ℕ) (rings : List (List NodeId)) → LinksIn old new node place → AreRuns old first rings → StandOnce rings
+    → is_in rings node ≡ false
     → AreRuns new first (rings_with place node first rings)
 unfolding AreRuns
 put_runs old new node place first [] step runs once absent = tt

@@ -123,7 +123,8 @@ without_put place start node (first ∷ rest) absent =
     ∙ ap (λ nodes. first ∷ nodes) (without_put place (After first) node rest apart.1))
 
 -- the place of a node that was put after a place is that place
-pub place_put : (place start : Place) (node : NodeId) (nodes : List NodeId) → has_node nodes node ≡ false → is_on place start nodes ≡ true → place_in start (put_after place node start nodes) node ≡ Some place
+pub place_put : (place start : Place) (node : NodeId) (nodes : List NodeId) → has_node nodes node ≡ false → is_on place start nodes ≡ true → place_in start (put_after place node start nodes) node
+    ≡ Some place
 place_put place start node [] absent on =
     by_test (λ b. same_place place start ≡ b → place_in start (cond b (node ∷ []) []) node ≡ Some place) (same_place place start)
     (λ here e. ap (λ b. cond b (Some start) None) (same_node_itself node) ∙ ap Some (sym (same_place_is place start here)))

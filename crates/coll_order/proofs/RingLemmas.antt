@@ -9,7 +9,8 @@ use Rattle.coll_order.specs.declared.places.NodeId.{NodeId}
 use Rattle.coll_order.specs.declared.places.Place.{Place}
 use Rattle.coll_order.specs.declared.places.Place.TheVariants.{Head, After}
 use Rattle.coll_order.proofs.Sameness.{by_test, not_both, same_node_is, same_node_itself, other_place}
-use Rattle.coll_order.proofs.ListLemmas.{neither, nor, or_first, or_second, is_on, is_among, without_absent, rings_without_absent, put_nowhere, put_first, has_put_itself, has_put, without_put, place_put, place_absent, absent_place}
+use Rattle.coll_order.proofs.ListLemmas.{neither, nor, or_first, or_second, is_on, is_among, without_absent, rings_without_absent, put_nowhere}
+use Rattle.coll_order.proofs.ListLemmas.{put_first, has_put_itself, has_put, without_put, place_put, place_absent, absent_place}
 
 -- there are as many rings with a node put in
 pub length_rings_with : (place : Place) (node : NodeId) (first : ℕ) (rings : List (List NodeId)) → length (rings_with place node first rings) ≡ length rings
@@ -85,7 +86,8 @@ is_in_put place node other first (nodes ∷ rings) differ =
     ∙ ap (λ b. has_node nodes other || b) (is_in_put place node other (suc first) rings differ)
 
 -- the place of a node that was put after a place is that place
-pub place_from_put : (place : Place) (node : NodeId) (first : ℕ) (rings : List (List NodeId)) → is_in rings node ≡ false → is_among place first rings ≡ true → place_from first (rings_with place node first rings) node ≡ Some place
+pub place_from_put : (place : Place) (node : NodeId) (first : ℕ) (rings : List (List NodeId)) → is_in rings node ≡ false → is_among place first rings ≡ true
+    → place_from first (rings_with place node first rings) node ≡ Some place
 place_from_put place node first [] absent on = not_both on refl
 place_from_put place node first (nodes ∷ rings) absent on =
     let apart = neither (has_node nodes node) (is_in rings node) absent in
@@ -119,7 +121,8 @@ place_of_list : (start : Place) (nodes : List NodeId) (node : NodeId) (place : P
     → (place ≡ start) ⊎ ((y : NodeId) × (place ≡ After y) × (has_node nodes y ≡ true))
 place_of_list start [] node place e = cc
 place_of_list start (first ∷ rest) node place e =
-    by_test (λ b. cond b (Some start) (place_in (After first) rest node) ≡ Some place → (place ≡ start) ⊎ ((y : NodeId) × (place ≡ After y) × (has_node (first ∷ rest) y ≡ true))) (same_node node first)
+    by_test (λ b. cond b (Some start) (place_in (After first) rest node) ≡ Some place → (place ≡ start) ⊎ ((y : NodeId) × (place ≡ After y) × (has_node (first ∷ rest) y ≡ true)))
+    (same_node node first)
     (λ on e. inl (cc)) (λ off e. inr (place_after first rest node place e)) e
 
 -- a node that was taken out goes back to its place
@@ -127,7 +130,8 @@ pub put_back : (place start : Place) (node : NodeId) (nodes : List NodeId) → p
     → ((y : NodeId) → start ≡ After y → has_node nodes y ≡ false) → put_after place node start (without node nodes) ≡ nodes
 put_back place start node [] e distinct fresh = cc
 put_back place start node (first ∷ rest) e distinct fresh =
-    by_test (λ b. same_node node first ≡ b → cond b (Some start) (place_in (After first) rest node) ≡ Some place → put_after place node start (cond b (without node rest) (first ∷ without node rest)) ≡ first ∷ rest) (same_node node first)
+    by_test (λ b. same_node node first ≡ b → cond b (Some start) (place_in (After first) rest node) ≡ Some place → put_after place node start (cond b (without node rest) (first ∷ without node rest))
+    ≡ first ∷ rest) (same_node node first)
     (λ on t e.
     let same : node ≡ first = same_node_is node first on in
     let here : place ≡ start = cc in
@@ -171,7 +175,8 @@ rings_put_back place node first (nodes ∷ rings) e once =
     → put_after place node (head_of first) (without node nodes) ∷ rings_with place node (suc first) (rings_without node rings) ≡ nodes ∷ rings) [
       | Some p ↦ λ here e.
           let at : place_in (head_of first) nodes node ≡ Some place = here ∙ e in
-          let there : has_node nodes node ≡ true = by_test (λ b. has_node nodes node ≡ b → b ≡ true) (has_node nodes node) (λ on t. refl) (λ off t. let none = place_absent (head_of first) nodes node off in cc) refl in
+          let there : has_node nodes node ≡ true =
+          by_test (λ b. has_node nodes node ≡ b → b ≡ true) (has_node nodes node) (λ on t. refl) (λ off t. let none = place_absent (head_of first) nodes node off in cc) refl in
           let nowhere : is_among place (suc first) rings ≡ false = elim (place_of_list (head_of first) nodes node place at) [
             | inl same ↦ ap (λ p. is_among p (suc first) rings) same ∙ among_earlier first (suc first) rings (omega arith)
             | inr same ↦ ap (λ p. is_among p (suc first) rings) same.1 ∙ (among_after same.0 (suc first) rings ∙ once.1 same.0 same.2)
@@ -180,10 +185,12 @@ rings_put_back place node first (nodes ∷ rings) e once =
           ∙ ap (λ rest. nodes ∷ rest) (ap (rings_with place node (suc first)) (rings_without_absent node rings (once.1 node there)) ∙ rings_put_nowhere place node (suc first) rings nowhere)
       | None ↦ λ here e.
           let off : is_on place (head_of first) nodes ≡ false = elim (place_of_rings (suc first) rings node place e) [
-            | inl same ↦ ap (λ p. is_on p (head_of first) nodes) same.1 ∙ head_off same.0 nodes (head_of first) (other_place (head_of same.0) (head_of first) (λ e. heads_differ first same.0 same.2 (sym e)))
+            | inl same ↦ ap (λ p. is_on p (head_of first) nodes) same.1
+                ∙ head_off same.0 nodes (head_of first) (other_place (head_of same.0) (head_of first) (λ e. heads_differ first same.0 same.2 (sym e)))
             | inr same ↦ ap (λ p. is_on p (head_of first) nodes) same.1 ∙ not_apart nodes rings same.0 once.1 same.2
           ] in
-          ap (λ list. put_after place node (head_of first) list ∷ rings_with place node (suc first) (rings_without node rings)) (without_absent node nodes (absent_place (head_of first) nodes node here))
+          ap (λ list. put_after place node (head_of first) list ∷ rings_with place node (suc first) (rings_without node rings))
+          (without_absent node nodes (absent_place (head_of first) nodes node here))
           ∙ (ap (λ list. list ∷ rings_with place node (suc first) (rings_without node rings)) (put_nowhere place (head_of first) node nodes off)
           ∙ ap (λ rest. nodes ∷ rest) (rings_put_back place node (suc first) rings e once.2))
     ] refl e

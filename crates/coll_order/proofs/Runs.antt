@@ -35,7 +35,8 @@ pub run_place : (links : Links) (start : Place) (nodes : List NodeId) (node : No
 unfolding IsRun
 run_place links start [] node run there = not_both there refl
 run_place links start (first ∷ rest) node run there =
-    by_test (λ b. same_node node first ≡ b → (b || has_node rest node) ≡ true → (next_at links start ≡ Some node) ⊎ ((y : NodeId) × (has_node (first ∷ rest) y ≡ true) × (next_at links (After y) ≡ Some node))) (same_node node first)
+    by_test (λ b. same_node node first ≡ b → (b || has_node rest node) ≡ true → (next_at links start ≡ Some node)
+    ⊎ ((y : NodeId) × (has_node (first ∷ rest) y ≡ true) × (next_at links (After y) ≡ Some node))) (same_node node first)
     (λ on e t. inl (run.0 ∙ ap Some (sym (same_node_is node first on))))
     (λ off e t. elim (run_place links (After first) rest node run.1 t) [
       | inl at ↦ inr (first, or_first (same_node first first) _ (same_node_itself first), at)
@@ -182,11 +183,13 @@ place_leads links start (first ∷ rest) node place run e =
     (λ off t e. place_leads links (After first) rest node place run.1 e) refl e
 
 -- so does a place in rings that they run through
-places_lead : (links : Links) (first : ℕ) (rings : List (List NodeId)) (node : NodeId) (place : Place) → AreRuns links first rings → place_from first rings node ≡ Some place → next_at links place ≡ Some node
+places_lead : (links : Links) (first : ℕ) (rings : List (List NodeId)) (node : NodeId) (place : Place) → AreRuns links first rings → place_from first rings node ≡ Some place
+    → next_at links place ≡ Some node
 unfolding AreRuns
 places_lead links first [] node place runs e = cc
 places_lead links first (nodes ∷ rings) node place runs e =
-    elim (place_in (head_of first) nodes node) as (λ found. place_in (head_of first) nodes node ≡ found → option_or found (place_from (suc first) rings node) ≡ Some place → next_at links place ≡ Some node) [
+    elim (place_in (head_of first) nodes node) as (λ found. place_in (head_of first) nodes node ≡ found → option_or found (place_from (suc first) rings node) ≡ Some place
+    → next_at links place ≡ Some node) [
       | Some p ↦ λ here e. place_leads links (head_of first) nodes node place runs.0 (here ∙ e)
       | None ↦ λ here e. places_lead links (suc first) rings node place runs.1 e
     ] refl e
@@ -195,7 +198,8 @@ places_lead links first (nodes ∷ rings) node place runs e =
 no_place : (first : ℕ) (rings : List (List NodeId)) (node : NodeId) → place_from first rings node ≡ None → is_in rings node ≡ false
 no_place first [] node none = refl
 no_place first (nodes ∷ rings) node none =
-    elim (place_in (head_of first) nodes node) as (λ found. place_in (head_of first) nodes node ≡ found → option_or found (place_from (suc first) rings node) ≡ None → (has_node nodes node || is_in rings node) ≡ false) [
+    elim (place_in (head_of first) nodes node) as (λ found. place_in (head_of first) nodes node ≡ found → option_or found (place_from (suc first) rings node) ≡ None
+    → (has_node nodes node || is_in rings node) ≡ false) [
       | Some p ↦ λ here e. cc
       | None ↦ λ here e. nor (has_node nodes node) _ (absent_place (head_of first) nodes node here) (no_place (suc first) rings node e)
     ] refl none
@@ -233,7 +237,8 @@ next_leads links start (first ∷ rest) node run there =
     (λ off e t. next_leads links (After first) rest node run.1 t) refl there
 
 -- the node after one in rings that links run through is where its link leads
-next_among_leads : (links : Links) (first : ℕ) (rings : List (List NodeId)) (node : NodeId) → AreRuns links first rings → StandOnce rings → is_in rings node ≡ true → next_among rings node ≡ next_at links (After node)
+next_among_leads : (links : Links) (first : ℕ) (rings : List (List NodeId)) (node : NodeId) → AreRuns links first rings → StandOnce rings → is_in rings node ≡ true
+    → next_among rings node ≡ next_at links (After node)
 unfolding AreRuns
 next_among_leads links first [] node runs once there = not_both there refl
 next_among_leads links first (nodes ∷ rings) node runs once there =
@@ -248,7 +253,8 @@ pub next_is : (links : Links) (rings : List (List NodeId)) → Holds links rings
 next_is links rings holds node there = next_among_leads links 0 rings node holds.runs (stand_once links holds.back 0 rings holds.runs) there
 
 -- the first node of a ring is where its head leads
-pub first_leads_in : (links : Links) (first : ℕ) (rings : List (List NodeId)) (index : ℕ) → AreRuns links first rings → index < length rings → first_in (get_or rings index []) ≡ next_at links (head_of (first + index))
+pub first_leads_in : (links : Links) (first : ℕ) (rings : List (List NodeId)) (index : ℕ) → AreRuns links first rings → index < length rings
+    → first_in (get_or rings index []) ≡ next_at links (head_of (first + index))
 unfolding AreRuns
 first_leads_in links first [] index runs below = absurd (omega arith)
 first_leads_in links first (nodes ∷ rings) zero runs below =

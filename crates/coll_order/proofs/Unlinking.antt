@@ -39,7 +39,8 @@ pub is_node_of : (found : Option NodeId) (node : NodeId) → found ≡ Some node
 is_node_of found node e = subst (λ f. is_node f node ≡ true) (sym e) (same_node_itself node)
 
 -- a run after which a node stands that is in it has the node twice
-not_after_itself : (links : Links) (start : Place) (nodes : List NodeId) (node : NodeId) → IsRun links start nodes → AreDistinct nodes → has_node nodes node ≡ true → next_at links (After node) ≡ Some node → ⊥
+not_after_itself : (links : Links) (start : Place) (nodes : List NodeId) (node : NodeId) → IsRun links start nodes → AreDistinct nodes → has_node nodes node ≡ true
+    → next_at links (After node) ≡ Some node → ⊥
 unfolding IsRun
 not_after_itself links start [] node run distinct there own = not_both there refl
 not_after_itself links start (first ∷ []) node run distinct there own =
@@ -56,7 +57,8 @@ not_after_itself links start (first ∷ second ∷ rest) node run distinct there
     (λ off e t. not_after_itself links (After first) (second ∷ rest) node run.1 distinct.1 t own) refl there
 
 -- nor in rings
-not_after_itself_in : (links : Links) (first : ℕ) (rings : List (List NodeId)) (node : NodeId) → AreRuns links first rings → StandOnce rings → is_in rings node ≡ true → next_at links (After node) ≡ Some node → ⊥
+not_after_itself_in : (links : Links) (first : ℕ) (rings : List (List NodeId)) (node : NodeId) → AreRuns links first rings → StandOnce rings → is_in rings node ≡ true
+    → next_at links (After node) ≡ Some node → ⊥
 unfolding AreRuns
 not_after_itself_in links first [] node runs once there own = not_both there refl
 not_after_itself_in links first (nodes ∷ rings) node runs once there own =

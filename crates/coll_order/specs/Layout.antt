@@ -38,7 +38,8 @@ layout_code =
 -- so is a store
 abbrev pub ring_store_code : Coded RingStore
 ring_store_code =
-    code_by (Layout × ℕ) (coded× layout_code coded_ℕ) (λ store. (store.layout, store.steps)) (λ parts. record { layout = parts.0; steps = parts.1 }) (λ _. refl)
+    code_by (Layout × ℕ) (coded× layout_code coded_ℕ) (λ store. (store.layout, store.steps))
+    (λ parts. record { layout = parts.0; steps = parts.1 }) (λ _. refl)
 
 -- the head of the ring with a number
 abbrev pub head_of : ℕ → Place

@@ -6,7 +6,8 @@
 //! adds a field to `Node` has to say in each of these contracts that it stays.
 
 ghost use Rattle.std.specs.Prelude.{◌≡◌, ◌∷◌, [], ◌++◌, ◌<◌, length, nat_lt, Some, None, IfOk, OnOk, OnErr};
-ghost use Rattle.coll_order.specs.Store.{slot_at, next_at, ring_of, last_at, IsStored, IsStoredIfAny, HasPlace, SetsNext, SetsBefore, Joins, Detaches, SetsRing, MovesEnd, Inserts, Removes};
+ghost use Rattle.coll_order.specs.Store.{slot_at, next_at, ring_of, last_at, IsStored, IsStoredIfAny, HasPlace, SetsNext};
+ghost use Rattle.coll_order.specs.Store.{SetsBefore, Joins, Detaches, SetsRing, MovesEnd, Inserts, Removes};
 ghost use Rattle.coll_order.specs.declared.places.Place.TheVariants.{Head};
 
 use crate::places::{NodeId, Place, RingId};
@@ -73,7 +74,10 @@ impl Store {
     /// Makes a ring of no nodes.
     pub(crate) fn add_ring(&mut self) -> Result<RingId, AllocError>
         ensures ring { IfOk result (λ ring. ring.index ≡ length self.old.heads.items) }
-        ensures ok { OnOk result (links_of self.new ≡ record (links_of self.old) { heads = self.old.heads.items ++ None ∷ []; lasts = self.old.lasts.items ++ Head (record { index = length self.old.heads.items }) ∷ [] }) }
+        ensures ok { OnOk result (links_of self.new ≡ record (links_of self.old) {
+          heads = self.old.heads.items ++ None ∷ [];
+          lasts = self.old.lasts.items ++ Head (record { index = length self.old.heads.items }) ∷ [];
+        }) }
         ensures err { OnErr result (links_of self.new ≡ links_of self.old) }
     {
         let ring = RingId {

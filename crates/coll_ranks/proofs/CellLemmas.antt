@@ -34,7 +34,8 @@ pub cell_put : (count : ℕ) (cell : WeightCell) (cells now : List WeightCell) �
 cell_put count cell cells now are is put = subst (AreCells count) (sym put) (cells_more count count cell cells (omega arith) are is)
 
 -- and so is that of a long list
-pub long_cell_put : (long grown : List (List ℕ)) (list : List ℕ) (place : ℕ) (cells now : List WeightCell) → AreCells (length long) cells → grown ≡ long ++ list ∷ [] → place ≡ length long → now ≡ cells ++ Long place ∷ [] → AreCells (length grown) now
+pub long_cell_put : (long grown : List (List ℕ)) (list : List ℕ) (place : ℕ) (cells now : List WeightCell) → AreCells (length long) cells → grown ≡ long ++ list ∷ [] → place ≡ length long
+    → now ≡ cells ++ Long place ∷ [] → AreCells (length grown) now
 long_cell_put long grown list place cells now are put is cell =
     let one_more : length grown ≡ length long + 1 = ap length put ∙ length-append long (list ∷ []) in
     subst (AreCells (length grown)) (sym cell) (cells_more (length long) (length grown) (Long place) cells (omega (arith, one_more)) are (omega (arith, one_more, is)))
@@ -44,7 +45,8 @@ pub list_more : (long : List (List ℕ)) (cell : WeightCell) (cells : List Weigh
 list_more long cell cells = map-append (cell_list long) cells (cell ∷ [])
 
 -- and so is a long list with its cell
-pub long_more : (long grown : List (List ℕ)) (list : List ℕ) (place : ℕ) (cells now : List WeightCell) → AreCells (length long) cells → grown ≡ long ++ list ∷ [] → place ≡ length long → now ≡ cells ++ Long place ∷ [] → map (cell_list grown) now ≡ map (cell_list long) cells ++ list ∷ []
+pub long_more : (long grown : List (List ℕ)) (list : List ℕ) (place : ℕ) (cells now : List WeightCell) → AreCells (length long) cells → grown ≡ long ++ list ∷ [] → place ≡ length long
+    → now ≡ cells ++ Long place ∷ [] → map (cell_list grown) now ≡ map (cell_list long) cells ++ list ∷ []
 long_more long grown list place cells now are put is cell =
     ap₂ (λ (ls : List (List ℕ)) (cs : List WeightCell). map (cell_list ls) cs) put cell
     ∙ (list_more (long ++ list ∷ []) (Long place) cells

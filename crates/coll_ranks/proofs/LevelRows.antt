@@ -39,7 +39,8 @@ times_added true times code once = ap (λ n. n * code) once ∙ omega arith
 times_added false times code never = ap (λ n. n * code) never ∙ omega arith
 
 -- the weights of one level give the numbers of rows there
-pub level_of_weights : (weights : WeightsValue) (level : ℕ) (lists : List (List ℕ)) (times : ℕ) → lists ≡ drop level weights.lists → times ≡ (if slice_index_or weights.own level false then 1 else 0) → (row : ElementRow) → map (added_to (times * row.code)) (slice_index_or lists row.first []) ≡ row_numbers weights level row
+pub level_of_weights : (weights : WeightsValue) (level : ℕ) (lists : List (List ℕ)) (times : ℕ) → lists ≡ drop level weights.lists → times ≡ (if slice_index_or weights.own level false then 1 else 0)
+    → (row : ElementRow) → map (added_to (times * row.code)) (slice_index_or lists row.first []) ≡ row_numbers weights level row
 level_of_weights weights level lists times later count row =
     ap (λ ls. map (added_to (times * row.code)) (slice_index_or ls row.first [])) later
     ∙ ap (map (added_to (times * row.code))) (behind level row.first weights.lists [])

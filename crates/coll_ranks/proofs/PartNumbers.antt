@@ -1,5 +1,6 @@
 -- What the look-ups find for a text is what the table says of its elements.
-use Rattle.std.proofs.Common.{◌≡◌, ◌<◌, ℕ, zero, suc, ◌+◌, ◌*◌, Bool, true, false, cond, List, [], ◌∷◌, ◌++◌, length, map, get_or, chars, Option, Some, None, is_some, sym, ap, ap₂, ◌∙◌, refl, arith, length-append}
+use Rattle.std.proofs.Common.{◌≡◌, ◌<◌, ℕ, zero, suc, ◌+◌, ◌*◌, Bool, true, false, cond, List, [], ◌∷◌, ◌++◌, length, map, get_or}
+use Rattle.std.proofs.Common.{chars, Option, Some, None, is_some, sym, ap, ap₂, ◌∙◌, refl, arith, length-append}
 use Rattle.std.specs.Prelude.{nat_lt}
 use Rattle.std.specs.List.{flat_map}
 use Rattle.std.specs.Option.{option_or, option_map, unwrap_or}
@@ -20,7 +21,8 @@ use Rattle.coll_elements.specs.NamedElements.{Finds}
 use Rattle.coll_ranks.specs.WeightNumbers.{numbers_at, weight_at, undefined_weights}
 use Rattle.coll_elements.specs.Rank.{known_rank}
 use Rattle.coll_elements.specs.RankedElements.{RankedElement, ranked_text, ranked_in}
-use Rattle.coll_ranks.specs.Ranks.{RanksValue, AreRanksOf, parts_of, parts_behind, part_with, part_numbers, character_part, compiled_weight, compiled_by, compiled_entry, compiled_row_by, compiled_weights}
+use Rattle.coll_ranks.specs.Ranks.{RanksValue, AreRanksOf, parts_of, parts_behind, part_with, part_numbers, character_part}
+use Rattle.coll_ranks.specs.Ranks.{compiled_weight, compiled_by, compiled_entry, compiled_row_by, compiled_weights}
 use Rattle.coll_ranks.specs.AlikePrefixes.{BeginAlike}
 use Rattle.coll_ranks.specs.declared.parts.TextElement.{TextElement}
 use Rattle.coll_ranks.specs.declared.parts.TextElement.TheVariants.{Placed}
@@ -33,12 +35,14 @@ use Rattle.coll_elements.proofs.Tests.{by_test}
 -- The parts of a text, one after another.
 
 -- the part of a placed element, and what is behind it
-pub part_of_element : (ranks : RanksValue) (ranked : RankedElement) (text rest : List ℕ) → longest ranked_text ranks.elements text ≡ Some ranked → text ≡ ranked_text ranked ++ rest → 0 < length (ranked_text ranked) → parts_of ranks text ≡ part_with ranks.ids (Some ranked) 0 ∷ parts_of ranks rest
+pub part_of_element : (ranks : RanksValue) (ranked : RankedElement) (text rest : List ℕ) → longest ranked_text ranks.elements text ≡ Some ranked → text ≡ ranked_text ranked ++ rest
+    → 0 < length (ranked_text ranked) → parts_of ranks text ≡ part_with ranks.ids (Some ranked) 0 ∷ parts_of ranks rest
 unfolding parts_of
 part_of_element ranks ranked text rest found goes_on some = split_found ranked_text ranks.elements (part_with ranks.ids) ranked (Placed ranked.rank) text rest found (λ c. refl) goes_on some
 
 -- the part of a character, and what is behind it
-pub part_of_character : (ranks : RanksValue) (c : ℕ) (rest : List ℕ) → longest ranked_text ranks.elements (c ∷ rest) ≡ None → parts_of ranks (c ∷ rest) ≡ part_with ranks.ids None c ∷ parts_of ranks rest
+pub part_of_character : (ranks : RanksValue) (c : ℕ) (rest : List ℕ) → longest ranked_text ranks.elements (c ∷ rest) ≡ None
+    → parts_of ranks (c ∷ rest) ≡ part_with ranks.ids None c ∷ parts_of ranks rest
 unfolding parts_of
 part_of_character ranks c rest none = ap (λ l. part_with ranks.ids l c ∷ parts_behind ranks (beyond_first ranked_text l) rest) none
 
@@ -47,7 +51,8 @@ unfolding parts_of
 no_parts ranks = refl
 
 -- a text that begins with an element has its part first
-pub element_first : (ranks : RanksValue) (text : List ℕ) (found : FoundElement) → Finds (longest ranked_text ranks.elements text) text (Some found) → parts_of ranks text ≡ Placed found.rank ∷ parts_of ranks (chars found.rest.now)
+pub element_first : (ranks : RanksValue) (text : List ℕ) (found : FoundElement) → Finds (longest ranked_text ranks.elements text) text (Some found)
+    → parts_of ranks text ≡ Placed found.rank ∷ parts_of ranks (chars found.rest.now)
 element_first ranks text found h = by (longest ranked_text ranks.elements text) refl h where
   by : (l : Option RankedElement) → longest ranked_text ranks.elements text ≡ l → Finds l text (Some found) → parts_of ranks text ≡ Placed found.rank ∷ parts_of ranks (chars found.rest.now)
   by None e h = absurd (let no : Some found ≡ None = h in cc)
@@ -64,17 +69,23 @@ pub some_characters : (longest : Option RankedElement) (text : List ℕ) (found 
 some_characters None text found h = absurd (let no : Some found ≡ None = h in cc)
 some_characters (Some ranked) text found h = omega (arith, h.some, h.length_is)
 
+-- a character that begins no element there stands alone
+pub alone_first : (ranks : RanksValue) (text rest behind : List ℕ) (first : ℕ) (part : TextElement) → text ≡ first ∷ rest → longest ranked_text ranks.elements (first ∷ rest) ≡ None
+    → part ≡ part_with ranks.ids None first → behind ≡ rest → parts_of ranks text ≡ part ∷ parts_of ranks behind
+alone_first ranks text rest behind first part is none same left =
+    ap (parts_of ranks) is ∙ (part_of_character ranks first rest none ∙ ap₂ (λ (p : TextElement) (later : List ℕ). p ∷ parts_of ranks later) (sym same) (sym left))
+
 -- a text that begins with none has that of its first character first
-pub character_first : (ranks : RanksValue) (text rest behind : List ℕ) (first : ℕ) (part : TextElement) → text ≡ first ∷ rest → Finds (longest ranked_text ranks.elements text) text None → part ≡ part_with ranks.ids None first → behind ≡ rest → parts_of ranks text ≡ part ∷ parts_of ranks behind
+pub character_first : (ranks : RanksValue) (text rest behind : List ℕ) (first : ℕ) (part : TextElement) → text ≡ first ∷ rest → Finds (longest ranked_text ranks.elements text) text None
+    → part ≡ part_with ranks.ids None first → behind ≡ rest → parts_of ranks text ≡ part ∷ parts_of ranks behind
 character_first ranks text rest behind first part is h same left = by (longest ranked_text ranks.elements text) refl h where
   by : (l : Option RankedElement) → longest ranked_text ranks.elements text ≡ l → Finds l text None → parts_of ranks text ≡ part ∷ parts_of ranks behind
-  by None e h =
-      ap (parts_of ranks) is
-      ∙ (part_of_character ranks first rest (ap (longest ranked_text ranks.elements) (sym is) ∙ e) ∙ ap₂ (λ (p : TextElement) (later : List ℕ). p ∷ parts_of ranks later) (sym same) (sym left))
+  by None e h = alone_first ranks text rest behind first part is (ap (longest ranked_text ranks.elements) (sym is) ∙ e) same left
   by (Some ranked) e h = absurd h
 
 -- texts begin alike with a character that begins no element
-pub same_first : (ranks : RanksValue) (text other rest later : List ℕ) (first second : ℕ) → text ≡ first ∷ rest → other ≡ second ∷ later → second ≡ first → ((behind : List ℕ) → longest ranked_text ranks.elements (first ∷ behind) ≡ None) → BeginAlike (parts_of ranks text) (parts_of ranks other) (parts_of ranks rest) (parts_of ranks later)
+pub same_first : (ranks : RanksValue) (text other rest later : List ℕ) (first second : ℕ) → text ≡ first ∷ rest → other ≡ second ∷ later → second ≡ first
+    → ((behind : List ℕ) → longest ranked_text ranks.elements (first ∷ behind) ≡ None) → BeginAlike (parts_of ranks text) (parts_of ranks other) (parts_of ranks rest) (parts_of ranks later)
 same_first ranks text other rest later first second is also same none = (
   part_with ranks.ids None first ∷ [],
   ap (parts_of ranks) is ∙ part_of_character ranks first rest (none rest),
@@ -89,18 +100,24 @@ found_weight rank level None = []
 found_weight rank level (Some entry) = compiled_by rank entry.id (get_or entry.weights level Ignore)
 
 -- an entry's row stands as many rows behind as its place says
-row_of_place : (rank : Id → ℕ) (levels level : ℕ) (row : List (List ℕ)) (entries : List Entry) (id : Id) (place : ℕ) → length row ≡ levels → level < levels → place_among entries id ≡ Some place → get_or (row ++ flat_map (compiled_entry rank levels) entries) (place * levels + level) [] ≡ found_weight rank level (entry_at entries id)
+row_of_place : (rank : Id → ℕ) (levels level : ℕ) (row : List (List ℕ)) (entries : List Entry) (id : Id) (place : ℕ) → length row ≡ levels → level < levels → place_among entries id ≡ Some place
+    → get_or (row ++ flat_map (compiled_entry rank levels) entries) (place * levels + level) [] ≡ found_weight rank level (entry_at entries id)
 row_of_place rank levels level row [] id place counted within is = absurd (cc)
 row_of_place rank levels level row (entry ∷ entries) id place counted within is =
-    by_test (λ b. cond b (Some 1) (option_map (λ place. suc place) (place_among entries id)) ≡ Some place → get_or (row ++ rows) (place * levels + level) [] ≡ found_weight rank level (cond b (Some entry) (entry_at entries id))) (same_id id entry.id)
+    by_test (λ b. cond b (Some 1) (option_map (λ place. suc place) (place_among entries id)) ≡ Some place → get_or (row ++ rows) (place * levels + level) []
+    ≡ found_weight rank level (cond b (Some entry) (entry_at entries id))) (same_id id entry.id)
     (λ same first.
     let one : 1 ≡ place = (let h = first in cc) in
-    row_behind rank levels level (place * levels + level) row (flat_map (compiled_entry rank levels) entries) entry.id entry.weights within (let at : place * levels + level ≡ length row + level = omega (arith, one, counted, ap (λ n. n * levels) one) in at))
-    (λ other later. by (λ before e. row_of_place rank levels level (compiled_entry rank levels entry) entries id before (filled_length levels (map (compiled_by rank entry.id) entry.weights)) within e) (place_among entries id) refl later) is where
+    row_behind rank levels level (place * levels + level) row (flat_map (compiled_entry rank levels) entries) entry.id entry.weights within (let at : place * levels + level ≡ length row + level =
+    omega (arith, one, counted, ap (λ n. n * levels) one) in at))
+    (λ other later. by (λ before e. row_of_place rank levels level (compiled_entry rank levels entry) entries id before (filled_length levels (map (compiled_by rank entry.id) entry.weights)) within e)
+    (place_among entries id) refl later) is where
       rows : List (List ℕ)
       rows = compiled_entry rank levels entry ++ flat_map (compiled_entry rank levels) entries
 
-      by : ((before : ℕ) → place_among entries id ≡ Some before → get_or (compiled_entry rank levels entry ++ flat_map (compiled_entry rank levels) entries) (before * levels + level) [] ≡ found_weight rank level (entry_at entries id)) → (p : Option ℕ) → place_among entries id ≡ p → option_map (λ place. suc place) p ≡ Some place → get_or (row ++ rows) (place * levels + level) [] ≡ found_weight rank level (entry_at entries id)
+      by : ((before : ℕ) → place_among entries id ≡ Some before → get_or (compiled_entry rank levels entry ++ flat_map (compiled_entry rank levels) entries) (before * levels + level) []
+          ≡ found_weight rank level (entry_at entries id)) → (p : Option ℕ) → place_among entries id ≡ p → option_map (λ place. suc place) p ≡ Some place
+          → get_or (row ++ rows) (place * levels + level) [] ≡ found_weight rank level (entry_at entries id)
       by behind None e none = absurd (cc)
       by behind (Some before) e next =
           let one : suc before ≡ place = (let h = next in cc) in
@@ -141,23 +158,27 @@ module _ (ranks : RanksValue) (table : Collation) (are : AreRanksOf ranks table)
   placed_numbers id place is =
       let there : HasEntry (entries_of table) id = has_entry (entries_of table) id place is in
       entry_numbers ranks.compiled table (flat_map (compiled_entry (known_rank table) (length table.rules)) (entries_of table)) begin level within id there.entry place there.found
-      (compiled_for place ∙ (row_of_place (known_rank table) (length table.rules) level (compiled_row_by (known_rank table) (length table.rules) Undefined (undefined_weights table)) (entries_of table) id place undefined_length within is
+      (compiled_for place ∙ (row_of_place (known_rank table) (length table.rules) level (compiled_row_by (known_rank table) (length table.rules) Undefined (undefined_weights table)) (entries_of table)
+      id place undefined_length within is
       ∙ ap (found_weight (known_rank table) level) there.found))
 
   -- a character
   character_numbers : (c : ℕ) → part_numbers ranks.compiled level (part_with ranks.ids None c) ≡ numbers_at table level (Char c)
   character_numbers c = ap (λ r. part_numbers ranks.compiled level (character_part r c)) (are.identifiers (Char c)) ∙ by (place_among (entries_of table) (Char c)) refl where
     by : (p : Option ℕ) → place_among (entries_of table) (Char c) ≡ p → part_numbers ranks.compiled level (character_part (option_or p None) c) ≡ numbers_at table level (Char c)
-    by None e = character_absent ranks.compiled table (flat_map (compiled_entry (known_rank table) (length table.rules)) (entries_of table)) begin level within c (entry_of_place (entries_of table) (Char c) e)
+    by None e = character_absent ranks.compiled table (flat_map (compiled_entry (known_rank table) (length table.rules)) (entries_of table)) begin level within c
+        (entry_of_place (entries_of table) (Char c) e)
     by (Some place) e = placed_numbers (Char c) place e
 
   -- an element
   element_numbers : (element : Element) → part_numbers ranks.compiled level (Placed (known_rank table (Named element.name))) ≡ numbers_at table level (Named element.name)
   element_numbers element = by (place_among (entries_of table) (Named element.name)) refl where
-    by : (p : Option ℕ) → place_among (entries_of table) (Named element.name) ≡ p → part_numbers ranks.compiled level (Placed (known_rank table (Named element.name))) ≡ numbers_at table level (Named element.name)
+    by : (p : Option ℕ) → place_among (entries_of table) (Named element.name) ≡ p → part_numbers ranks.compiled level (Placed (known_rank table (Named element.name)))
+        ≡ numbers_at table level (Named element.name)
     by None e =
         ap (λ p. part_numbers ranks.compiled level (Placed (unwrap_or (option_or p None) 0))) e
-        ∙ absent_numbers ranks.compiled table (flat_map (compiled_entry (known_rank table) (length table.rules)) (entries_of table)) begin level within (Named element.name) 0 (entry_of_place (entries_of table) (Named element.name) e) (nothing (is_own (weight_at table level (Named element.name)))) where
+        ∙ absent_numbers ranks.compiled table (flat_map (compiled_entry (known_rank table) (length table.rules)) (entries_of table)) begin level within (Named element.name) 0
+        (entry_of_place (entries_of table) (Named element.name) e) (nothing (is_own (weight_at table level (Named element.name)))) where
           nothing : (b : Bool) → ◌≡◌ {A = ℕ} 0 (cond b 0 0)
           nothing true = refl
           nothing false = refl
@@ -178,7 +199,8 @@ module _ (ranks : RanksValue) (table : Collation) (are : AreRanksOf ranks table)
         one true other = refl
         one false other = refl
 
-        by : (b : Bool) (l : Option Element) → cond b (Some (longer ranked_text (ranked_in table element) (option_map (ranked_in table) l))) (option_map (ranked_in table) l) ≡ option_map (ranked_in table) (cond b (Some (longer element_text element l)) l)
+        by : (b : Bool) (l : Option Element) → cond b (Some (longer ranked_text (ranked_in table element) (option_map (ranked_in table) l))) (option_map (ranked_in table) l)
+            ≡ option_map (ranked_in table) (cond b (Some (longer element_text element l)) l)
         by true None = refl
         by true (Some other) = ap Some (one (nat_lt (length other.text) (length element.text)) other)
         by false l = refl
@@ -189,17 +211,21 @@ module _ (ranks : RanksValue) (table : Collation) (are : AreRanksOf ranks table)
   beyond_ranked (Some element) = refl
 
   -- the numbers of all parts
-  numbers_of_parts : (skipped : ℕ) (text : List ℕ) → map (part_numbers ranks.compiled level) (split ranked_text (map (ranked_in table) (elements_placed table)) (part_with ranks.ids) skipped text) ≡ map (numbers_at table level) (split element_text (elements_placed table) part_id skipped text)
+  numbers_of_parts : (skipped : ℕ) (text : List ℕ) → map (part_numbers ranks.compiled level) (split ranked_text (map (ranked_in table) (elements_placed table)) (part_with ranks.ids) skipped text)
+      ≡ map (numbers_at table level) (split element_text (elements_placed table) part_id skipped text)
   numbers_of_parts skipped [] = refl
   numbers_of_parts (suc skipped) (c ∷ text) = numbers_of_parts skipped text
   numbers_of_parts zero (c ∷ text) =
       let found = longest element_text (elements_placed table) (c ∷ text) in
-      ap (λ l. part_numbers ranks.compiled level (part_with ranks.ids l c) ∷ map (part_numbers ranks.compiled level) (split ranked_text (map (ranked_in table) (elements_placed table)) (part_with ranks.ids) (beyond_first ranked_text l) text)) (longest_ranked (elements_placed table) (c ∷ text))
-      ∙ (ap (λ n. part_numbers ranks.compiled level (part_with ranks.ids (option_map (ranked_in table) found) c) ∷ map (part_numbers ranks.compiled level) (split ranked_text (map (ranked_in table) (elements_placed table)) (part_with ranks.ids) n text)) (beyond_ranked found)
+      ap (λ l. part_numbers ranks.compiled level (part_with ranks.ids l c) ∷ map (part_numbers ranks.compiled level)
+      (split ranked_text (map (ranked_in table) (elements_placed table)) (part_with ranks.ids) (beyond_first ranked_text l) text)) (longest_ranked (elements_placed table) (c ∷ text))
+      ∙ (ap (λ n. part_numbers ranks.compiled level (part_with ranks.ids (option_map (ranked_in table) found) c) ∷ map (part_numbers ranks.compiled level)
+      (split ranked_text (map (ranked_in table) (elements_placed table)) (part_with ranks.ids) n text)) (beyond_ranked found)
       ∙ ap₂ (λ (n : List ℕ) (ns : List (List ℕ)). n ∷ ns) (numbers_of_part found c) (numbers_of_parts (beyond_first element_text found) text))
 
 -- the numbers of the parts of a text are those of its elements
-pub numbers_are : (ranks : RanksValue) (table : Collation) → AreRanksOf ranks table → IsWellFormed table → (level : ℕ) → level < length table.rules → (text : List ℕ) → map (part_numbers ranks.compiled level) (parts_of ranks text) ≡ map (numbers_at table level) (elements_of table text)
+pub numbers_are : (ranks : RanksValue) (table : Collation) → AreRanksOf ranks table → IsWellFormed table → (level : ℕ) → level < length table.rules → (text : List ℕ)
+    → map (part_numbers ranks.compiled level) (parts_of ranks text) ≡ map (numbers_at table level) (elements_of table text)
 unfolding parts_of elements_of
 numbers_are ranks table are well level within text =
     ap (λ es. map (part_numbers ranks.compiled level) (split ranked_text es (part_with ranks.ids) 0 text)) are.elements

@@ -1,5 +1,6 @@
 -- Lists of ranks that stand one behind another: what one more does, and where a list stands.
-use Rattle.std.proofs.Common.{◌≡◌, ◌≤◌, ◌<◌, ℕ, zero, suc, ◌+◌, ◌-◌, List, [], ◌∷◌, ◌++◌, length, get_or, take, drop, sym, ap, ap₂, subst, ◌∙◌, refl, arith, length-append, length-drop, append_assoc, map}
+use Rattle.std.proofs.Common.{◌≡◌, ◌≤◌, ◌<◌, ℕ, zero, suc, ◌+◌, ◌-◌, List, [], ◌∷◌, ◌++◌, length, get_or, take, drop, sym}
+use Rattle.std.proofs.Common.{ap, ap₂, subst, ◌∙◌, refl, arith, length-append, length-drop, append_assoc, map}
 use Rattle.std.proofs.lemmas.List.{take-append-le, drop-append-le, map-append}
 use Rattle.std.proofs.Math.Seq.{drop-append_seam, take-length, take-append_seam, take-suc}
 use Rattle.coll_ranks.specs.RankLists.{lists_from, AreEnds, IsLonger}
@@ -36,7 +37,8 @@ ends_more start ranks [] more h = (omega (arith, h, length-append ranks more), r
 ends_more start ranks (end ∷ ends) more h = (h.0, ends_more end ranks ends more h.1)
 
 -- a list stands between two ends
-pub list_at : (start : ℕ) (ranks ends : List ℕ) (place : ℕ) → place < length ends → get_or (lists_from start ranks ends) place [] ≡ take (get_or ends place 0 - get_or (start ∷ ends) place 0) (drop (get_or (start ∷ ends) place 0) ranks)
+pub list_at : (start : ℕ) (ranks ends : List ℕ) (place : ℕ) → place < length ends → get_or (lists_from start ranks ends) place []
+    ≡ take (get_or ends place 0 - get_or (start ∷ ends) place 0) (drop (get_or (start ∷ ends) place 0) ranks)
 list_at start ranks [] place h = absurd (omega arith)
 list_at start ranks (end ∷ ends) zero h = refl
 list_at start ranks (end ∷ ends) (suc place) h = list_at end ranks ends place (omega arith)
@@ -69,7 +71,8 @@ pub cut_off : (ranks now : List ℕ) → IsLonger ranks now → take (length ran
 cut_off ranks now h = ap (take (length ranks)) h.1 ∙ take-append_seam ranks h.0
 
 -- the number of one member more is put behind those of the members before it
-pub one_further : {X : Type 0} (number : X → ℕ) (old before now : List ℕ) (xs : List X) (place : ℕ) (x : X) → place < length xs → x ≡ get_or xs place x → before ≡ old ++ map number (take place xs) → now ≡ before ++ number x ∷ [] → now ≡ old ++ map number (take (place + 1) xs)
+pub one_further : {X : Type 0} (number : X → ℕ) (old before now : List ℕ) (xs : List X) (place : ℕ) (x : X) → place < length xs → x ≡ get_or xs place x → before ≡ old ++ map number (take place xs)
+    → now ≡ before ++ number x ∷ [] → now ≡ old ++ map number (take (place + 1) xs)
 one_further number old before now xs place x within is so_far put =
     let next : place + 1 ≡ suc place = omega arith in
     let taken : take (place + 1) xs ≡ take place xs ++ x ∷ [] = ap (λ n. take n xs) next ∙ (take-suc xs place x within ∙ ap (λ y. take place xs ++ y ∷ []) (sym is)) in
@@ -82,7 +85,8 @@ pub longer_still : (old more before now : List ℕ) → before ≡ old ++ more �
 longer_still old more before now so_far h = (more ++ h.0, h.1 ∙ (ap (λ ns. ns ++ h.0) so_far ∙ append_assoc old more h.0))
 
 -- a list is put behind others, and ends where the ranks do
-pub put_behind : (ranks ends more now last : List ℕ) (end : ℕ) → AreEnds 0 ranks ends → now ≡ ranks ++ more → end ≡ length now → last ≡ ends ++ end ∷ [] → lists_from 0 now last ≡ lists_from 0 ranks ends ++ more ∷ []
+pub put_behind : (ranks ends more now last : List ℕ) (end : ℕ) → AreEnds 0 ranks ends → now ≡ ranks ++ more → end ≡ length now → last ≡ ends ++ end ∷ []
+    → lists_from 0 now last ≡ lists_from 0 ranks ends ++ more ∷ []
 put_behind ranks ends more now last end h n e l =
     let is : last ≡ ends ++ length (ranks ++ more) ∷ [] = l ∙ ap (λ n. ends ++ n ∷ []) (e ∙ ap length n) in
     ap₂ (λ (now last : List ℕ). lists_from 0 now last) n is ∙ one_more 0 ranks ends more h
@@ -99,7 +103,8 @@ pub record StandsBetween (ranks ends : List ℕ) (place start end : ℕ) : Type 
   pub within : end ≤ length ranks
   pub piece : take (end - start) (drop start ranks) ≡ get_or (lists_from 0 ranks ends) place []
 
-pub stands_between : (ranks ends found others : List ℕ) (place start end : ℕ) → AreEnds 0 ranks ends → found ≡ ends → others ≡ ends → place < length found → end ≡ get_or found place 0 → start ≡ get_or (0 ∷ others) place 0 → StandsBetween ranks ends place start end
+pub stands_between : (ranks ends found others : List ℕ) (place start end : ℕ) → AreEnds 0 ranks ends → found ≡ ends → others ≡ ends → place < length found → end ≡ get_or found place 0
+    → start ≡ get_or (0 ∷ others) place 0 → StandsBetween ranks ends place start end
 stands_between ranks ends found others place start end h f o l e s =
     let there : place < length ends = subst (λ (xs : List ℕ). place < length xs) f l in
     let ends_at : end ≡ get_or ends place 0 = e ∙ ap (λ (xs : List ℕ). get_or xs place 0) f in

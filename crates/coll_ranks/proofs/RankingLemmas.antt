@@ -13,7 +13,7 @@ use Rattle.coll_nodes.specs.Table.{Collation, entries_of, ids_of}
 use Rattle.coll_nodes.specs.Walks.{Visited, VisitedSection, VisitedEntry, visited, entry_visited, entries_visited}
 use Rattle.coll_nodes.specs.WellFormed.{AreDistinct, IsWellFormed}
 use Rattle.coll_nodes.specs.declared.entries.Entry.{Entry}
-use Rattle.coll_builder.proofs.VisitedEntries.{visited_all}
+use Rattle.coll_texts.proofs.VisitedEntries.{visited_all}
 use Rattle.coll_lookups.proofs.Sameness.{same_id_decides}
 use Rattle.coll_ranks.specs.WeightNumbers.{undefined_weights}
 use Rattle.coll_elements.specs.Rank.{known_rank}
@@ -29,18 +29,23 @@ or_all None b c = refl
 or_all (Some x) b c = refl
 
 -- what is counted, and what is left
-pub counted_visited : (left later : List Visited) (item : Visited) (rank next total : ℕ) → left ≡ item ∷ later → next ≡ rank + length (entry_visited item) → rank + length (entries_visited left) ≡ total → next + length (entries_visited later) ≡ total
+pub counted_visited : (left later : List Visited) (item : Visited) (rank next total : ℕ) → left ≡ item ∷ later → next ≡ rank + length (entry_visited item)
+    → rank + length (entries_visited left) ≡ total → next + length (entries_visited later) ≡ total
 counted_visited left later item rank next total first count all =
-    let whole : length (entries_visited left) ≡ length (entry_visited item) + length (entries_visited later) = ap (λ items. length (entries_visited items)) first ∙ length-append (entry_visited item) (entries_visited later) in
+    let whole : length (entries_visited left) ≡ length (entry_visited item) + length (entries_visited later) =
+    ap (λ items. length (entries_visited items)) first ∙ length-append (entry_visited item) (entries_visited later) in
     omega arith
 
 -- the last place of an identifier is the same, whether what is visited first has been ranked or not
-last_of_visited : (item : Visited) (rank : ℕ) (entries : List Entry) (id : Id) → last_place rank (entry_visited item ++ entries) id ≡ option_or (last_place (rank + length (entry_visited item)) entries id) (last_place rank (entry_visited item) id)
+last_of_visited : (item : Visited) (rank : ℕ) (entries : List Entry) (id : Id) → last_place rank (entry_visited item ++ entries) id
+    ≡ option_or (last_place (rank + length (entry_visited item)) entries id) (last_place rank (entry_visited item) id)
 last_of_visited (VisitedSection name) rank entries id = ap (λ n. last_place n entries id) (let same : rank ≡ rank + 0 = omega arith in same) ∙ sym (or_none (last_place (rank + 0) entries id))
-last_of_visited (VisitedEntry entry) rank entries id = ap (λ n. option_or (last_place n entries id) (cond (same_id id entry.id) (Some (suc rank)) None)) (let same : suc rank ≡ rank + 1 = omega arith in same)
+last_of_visited (VisitedEntry entry) rank entries id =
+    ap (λ n. option_or (last_place n entries id) (cond (same_id id entry.id) (Some (suc rank)) None)) (let same : suc rank ≡ rank + 1 = omega arith in same)
 
 -- the last place of what has a rank, or else the one it had
-pub ranked_visited : (left later : List Visited) (item : Visited) (rank next : ℕ) (id : Id) (old new : Option ℕ) → left ≡ item ∷ later → next ≡ rank + length (entry_visited item) → new ≡ option_or (last_place rank (entry_visited item) id) old → option_or (last_place next (entries_visited later) id) new ≡ option_or (last_place rank (entries_visited left) id) old
+pub ranked_visited : (left later : List Visited) (item : Visited) (rank next : ℕ) (id : Id) (old new : Option ℕ) → left ≡ item ∷ later → next ≡ rank + length (entry_visited item)
+    → new ≡ option_or (last_place rank (entry_visited item) id) old → option_or (last_place next (entries_visited later) id) new ≡ option_or (last_place rank (entries_visited left) id) old
 ranked_visited left later item rank next id old new first count ranks =
     ap₂ (λ (n : ℕ) (r : Option ℕ). option_or (last_place n (entries_visited later) id) r) count ranks
     ∙ (sym (or_all (last_place (rank + length (entry_visited item)) (entries_visited later) id) (last_place rank (entry_visited item) id) old)
@@ -66,7 +71,8 @@ only_place : (before : ℕ) (entries : List Entry) (id : Id) → AreDistinct sam
 only_place before [] id h = refl
 only_place before (entry ∷ entries) id h =
     ap (λ p. option_or p (cond (same_id id entry.id) (Some (suc before)) None)) (only_place (suc before) entries id h.1)
-    ∙ by_test (λ b. option_or (behind (suc before) (place_among entries id)) (cond b (Some (suc before)) None) ≡ behind before (cond b (Some 1) (option_map (λ place. suc place) (place_among entries id)))) (same_id id entry.id)
+    ∙ by_test (λ b. option_or (behind (suc before) (place_among entries id)) (cond b (Some (suc before)) None)
+    ≡ behind before (cond b (Some 1) (option_map (λ place. suc place) (place_among entries id)))) (same_id id entry.id)
     (λ on.
     let same : id ≡ entry.id = (same_id_decides id entry.id).0 on in
     let none : place_among entries id ≡ None = no_place entries id (ap (λ i. list_any (same_id i) (ids_of entries)) same ∙ h.0) in
@@ -77,7 +83,8 @@ only_place before (entry ∷ entries) id h =
       moved (Some place) = ap Some (let one : suc before + place ≡ before + suc place = omega arith in one)
 
 -- what the walk gives the characters are their ranks in the table
-pub characters_of_table : (table : Collation) (characters : List ℕ) (items : List Visited) → IsWellFormed table → items ≡ visited table.sections → ((c : ℕ) → rank_of_char characters c ≡ last_place 0 (entries_visited items) (Char c)) → AreCharRanksOf characters table
+pub characters_of_table : (table : Collation) (characters : List ℕ) (items : List Visited) → IsWellFormed table → items ≡ visited table.sections
+    → ((c : ℕ) → rank_of_char characters c ≡ last_place 0 (entries_visited items) (Char c)) → AreCharRanksOf characters table
 characters_of_table table characters items well all ranks c =
     ranks c
     ∙ (ap (λ es. last_place 0 es (Char c)) (ap entries_visited all ∙ visited_all table.sections)
@@ -88,7 +95,8 @@ characters_of_table table characters items well all ranks c =
       at_first (Some n) = ap Some (let same : 0 + n ≡ n = omega arith in same)
 
 -- the places of names, the ranks of characters and that of UNDEFINED are the ranks of the table
-pub ranks_of_table : (table : Collation) (ids : RanksById) → ((name : List ℕ) → place_named ids.names name ≡ place_among (entries_of table) (Named name)) → AreCharRanksOf ids.characters table → ids.undefined ≡ known_rank table Undefined → AreIdRanksOf ids table
+pub ranks_of_table : (table : Collation) (ids : RanksById) → ((name : List ℕ) → place_named ids.names name ≡ place_among (entries_of table) (Named name)) → AreCharRanksOf ids.characters table
+    → ids.undefined ≡ known_rank table Undefined → AreIdRanksOf ids table
 ranks_of_table table ids names characters undefined (Char c) = characters c
 ranks_of_table table ids names characters undefined (Named name) = names name ∙ sym (or_none (place_among (entries_of table) (Named name)))
 ranks_of_table table ids names characters undefined Undefined = ap Some undefined ∙ known (place_among (entries_of table) Undefined) (suc (length (entries_of table))) where
@@ -105,8 +113,11 @@ few_visited table items well all =
 -- Weights.
 
 -- the compiled weights of UNDEFINED and of all entries are those of the table
-pub weights_of_table : (table ranked : Collation) (items : List Visited) (first all : List (List ℕ)) (levels : ℕ) → ranked ≡ table → items ≡ visited table.sections → levels ≡ length table.rules → first ≡ compiled_row_by (known_rank ranked) (length table.rules) Undefined (undefined_weights table) → all ≡ first ++ flat_map (compiled_entry (known_rank ranked) levels) (entries_visited items) → all ≡ compiled_weights table
+pub weights_of_table : (table ranked : Collation) (items : List Visited) (first all : List (List ℕ)) (levels : ℕ) → ranked ≡ table → items ≡ visited table.sections → levels ≡ length table.rules
+    → first ≡ compiled_row_by (known_rank ranked) (length table.rules) Undefined (undefined_weights table) → all ≡ first ++ flat_map (compiled_entry (known_rank ranked) levels) (entries_visited items)
+    → all ≡ compiled_weights table
 weights_of_table table ranked items first all levels same visited_items counted begun whole =
     whole
     ∙ (ap₂ (λ (row : List (List ℕ)) (es : List Entry). row ++ flat_map (compiled_entry (known_rank ranked) levels) es) begun (ap entries_visited visited_items ∙ visited_all table.sections)
-    ∙ ap₂ (λ (t : Collation) (n : ℕ). compiled_row_by (known_rank t) (length table.rules) Undefined (undefined_weights table) ++ flat_map (compiled_entry (known_rank t) n) (entries_of table)) same counted)
+    ∙ ap₂ (λ (t : Collation) (n : ℕ). compiled_row_by (known_rank t) (length table.rules) Undefined (undefined_weights table) ++ flat_map (compiled_entry (known_rank t) n) (entries_of table)) same
+    counted)

@@ -25,14 +25,16 @@ one_more table before (first ∷ ids) id rank follow (suc place) found is =
     one_more table (suc before) ids id behind later place found is ∙ (let e : suc before + place + 1 ≡ before + suc place + 1 = omega arith in e)
 
 -- the next entry is put behind the first ones
-pub first_more : (table : Collation) (ids now : List (Bor Id)) (id : Bor Id) (rank : ℕ) → rank ≡ length ids + 1 → now ≡ ids ++ id ∷ [] → rank ≡ known_rank table id.now → AreFirst table ids → AreFirst table now
+pub first_more : (table : Collation) (ids now : List (Bor Id)) (id : Bor Id) (rank : ℕ) → rank ≡ length ids + 1 → now ≡ ids ++ id ∷ [] → rank ≡ known_rank table id.now → AreFirst table ids
+    → AreFirst table now
 first_more table ids now id rank count put is first =
     let next : known_rank table id.now ≡ 0 + length ids + 1 = sym is ∙ (count ∙ (let e : length ids + 1 ≡ 0 + length ids + 1 = omega arith in e)) in
     let follow : FollowOn table 0 ids = (λ place found there. first place found there ∙ (let e : place + 1 ≡ 0 + place + 1 = omega arith in e)) in
     λ place found there. one_more table 0 ids id next follow place found (ap (λ (l : List (Bor Id)). slice_get l place) (sym put) ∙ there) ∙ (let e : 0 + place + 1 ≡ place + 1 = omega arith in e)
 
 -- the entry behind so many others has the rank behind theirs
-pub met_rank : (entries : List (Bor Id)) (before : ℕ) (entry : Bor Id) (id : Id) (fits : Type 0) (rank : Option ℕ) → before < length entries → entry ≡ get_or entries before entry → same_id entry.now id ≡ true → SomeIff rank fits (before + 1) → IfSome rank (λ rank. (table : Collation) → AreFirst table entries → rank ≡ known_rank table id)
+pub met_rank : (entries : List (Bor Id)) (before : ℕ) (entry : Bor Id) (id : Id) (fits : Type 0) (rank : Option ℕ) → before < length entries → entry ≡ get_or entries before entry
+    → same_id entry.now id ≡ true → SomeIff rank fits (before + 1) → IfSome rank (λ rank. (table : Collation) → AreFirst table entries → rank ≡ known_rank table id)
 met_rank entries before entry id fits None within is same added = tt
 met_rank entries before entry id fits (Some rank) within is same added = λ table first.
     added.1 ∙ (sym (first before entry (slice_get_read entries (length entries) before entry refl within is)) ∙ ap (known_rank table) ((same_id_decides entry.now id).0 same))

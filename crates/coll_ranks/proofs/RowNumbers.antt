@@ -35,11 +35,13 @@ filled_at (suc count) zero (list ∷ lists) h = refl
 filled_at (suc count) (suc level) (list ∷ lists) h = filled_at count level lists (omega arith)
 
 -- the compiled weight at a level of a row
-pub row_at : (rank : Id → ℕ) (levels level : ℕ) (id : Id) (weights : List Weight) → level < levels → get_or (compiled_row_by rank levels id weights) level [] ≡ compiled_by rank id (get_or weights level Ignore)
+pub row_at : (rank : Id → ℕ) (levels level : ℕ) (id : Id) (weights : List Weight) → level < levels → get_or (compiled_row_by rank levels id weights) level []
+    ≡ compiled_by rank id (get_or weights level Ignore)
 row_at rank levels level id weights h = filled_at levels level (map (compiled_by rank id) weights) h ∙ get_or-map (compiled_by rank id) weights level Ignore
 
 -- the same, where the row stands behind others
-pub row_behind : (rank : Id → ℕ) (levels level place : ℕ) (before later : List (List ℕ)) (id : Id) (weights : List Weight) → level < levels → place ≡ length before + level → get_or (before ++ (compiled_row_by rank levels id weights ++ later)) place [] ≡ compiled_by rank id (get_or weights level Ignore)
+pub row_behind : (rank : Id → ℕ) (levels level place : ℕ) (before later : List (List ℕ)) (id : Id) (weights : List Weight) → level < levels → place ≡ length before + level
+    → get_or (before ++ (compiled_row_by rank levels id weights ++ later)) place [] ≡ compiled_by rank id (get_or weights level Ignore)
 row_behind rank levels level place before later id weights within at =
     let row = compiled_row_by rank levels id weights in
     let fits : level < length (compiled_row_by rank levels id weights) = omega (arith, filled_length levels (map (compiled_by rank id) weights)) in
@@ -62,11 +64,13 @@ numbers_named rank (id ∷ ids) = ap (λ ns. number_of (rank id) ∷ ns) (number
 -- the numbers of an entry's weight
 numbers_placed : (table : Collation) (id : Id) (weight : Weight) → is_placed table id ≡ true → map (added_to 0) (compiled_by (known_rank table) id weight) ≡ weight_numbers table id weight
 numbers_placed table id Ignore placed = refl
-numbers_placed table id Own placed = none_added (known_rank table id ∷ []) ∙ ap (λ b. cond b (number_of (known_rank table id)) (number_of (known_rank table Undefined) + code_point id) ∷ []) (sym placed)
+numbers_placed table id Own placed =
+    none_added (known_rank table id ∷ []) ∙ ap (λ b. cond b (number_of (known_rank table id)) (number_of (known_rank table Undefined) + code_point id) ∷ []) (sym placed)
 numbers_placed table id (Names ids) placed = none_added (map (known_rank table) ids) ∙ numbers_named (known_rank table) ids
 
 -- the numbers of what has no entry, where the code point is added if UNDEFINED stands for itself
-numbers_absent : (table : Collation) (id : Id) (weight : Weight) → is_placed table id ≡ false → map (added_to (cond (is_own weight) (code_point id) 0)) (compiled_by (known_rank table) Undefined weight) ≡ weight_numbers table id weight
+numbers_absent : (table : Collation) (id : Id) (weight : Weight) → is_placed table id ≡ false
+    → map (added_to (cond (is_own weight) (code_point id) 0)) (compiled_by (known_rank table) Undefined weight) ≡ weight_numbers table id weight
 numbers_absent table id Ignore absent = refl
 numbers_absent table id Own absent = ap (λ b. cond b (number_of (known_rank table id)) (number_of (known_rank table Undefined) + code_point id) ∷ []) (sym absent)
 numbers_absent table id (Names ids) absent = none_added (map (known_rank table) ids) ∙ numbers_named (known_rank table) ids
@@ -79,7 +83,8 @@ pub record BeginWithUndefined (weights : WeightsValue) (table : Collation) (late
 
 module _ (weights : WeightsValue) (table : Collation) (later : List (List ℕ)) (begin : BeginWithUndefined weights table later) (level : ℕ) (within : level < length table.rules) where
   -- what has an entry, and its weights in this row
-  pub entry_numbers : (id : Id) (entry : Entry) (row : ℕ) → entry_at (entries_of table) id ≡ Some entry → compiled_weight weights row level ≡ compiled_by (known_rank table) entry.id (get_or entry.weights level Ignore) → part_numbers weights level (Placed row) ≡ numbers_at table level id
+  pub entry_numbers : (id : Id) (entry : Entry) (row : ℕ) → entry_at (entries_of table) id ≡ Some entry
+      → compiled_weight weights row level ≡ compiled_by (known_rank table) entry.id (get_or entry.weights level Ignore) → part_numbers weights level (Placed row) ≡ numbers_at table level id
   unfolding numbers_at
   entry_numbers id entry row found compiled =
       let placed : is_placed table id ≡ true = entry_there (entries_of table) id ∙ ap is_some found in
@@ -95,10 +100,12 @@ module _ (weights : WeightsValue) (table : Collation) (later : List (List ℕ)) 
   absent_compiled : (id : Id) → entry_at (entries_of table) id ≡ None → compiled_weight weights 0 level ≡ compiled_by (known_rank table) Undefined (weight_at table level id)
   absent_compiled id none =
       ap₂ (λ (lists : List (List ℕ)) (levels : ℕ). get_or lists (0 * levels + level) []) begin.lists begin.levels
-      ∙ (row_behind (known_rank table) (length table.rules) level (0 * length table.rules + level) [] later Undefined (undefined_weights table) within (let at : 0 * length table.rules + level ≡ 0 + level = omega arith in at)
+      ∙ (row_behind (known_rank table) (length table.rules) level (0 * length table.rules + level) [] later Undefined (undefined_weights table) within (let at : 0 * length table.rules + level
+      ≡ 0 + level = omega arith in at)
       ∙ ap (compiled_by (known_rank table) Undefined) (sym (absent_weight id none)))
 
-  pub absent_numbers : (id : Id) (added : ℕ) → entry_at (entries_of table) id ≡ None → added ≡ cond (is_own (weight_at table level id)) (code_point id) 0 → map (added_to added) (compiled_weight weights 0 level) ≡ numbers_at table level id
+  pub absent_numbers : (id : Id) (added : ℕ) → entry_at (entries_of table) id ≡ None → added ≡ cond (is_own (weight_at table level id)) (code_point id) 0
+      → map (added_to added) (compiled_weight weights 0 level) ≡ numbers_at table level id
   unfolding numbers_at
   absent_numbers id added none counted =
       let absent : is_placed table id ≡ false = entry_there (entries_of table) id ∙ ap is_some none in
@@ -107,5 +114,6 @@ module _ (weights : WeightsValue) (table : Collation) (later : List (List ℕ)) 
   -- a character without an entry
   pub character_absent : (c : ℕ) → entry_at (entries_of table) (Char c) ≡ None → part_numbers weights level (Absent c) ≡ numbers_at table level (Char c)
   character_absent c none =
-      let own : slice_index_or weights.own level false ≡ is_own (get_or (undefined_weights table) level Ignore) = ap (λ o. get_or o level false) begin.own ∙ get_or-map is_own (undefined_weights table) level Ignore in
+      let own : slice_index_or weights.own level false ≡ is_own (get_or (undefined_weights table) level Ignore) =
+      ap (λ o. get_or o level false) begin.own ∙ get_or-map is_own (undefined_weights table) level Ignore in
       absent_numbers (Char c) (added_at weights level c) none (ap (λ b. cond b c 0) (own ∙ ap is_own (sym (absent_weight (Char c) none))))

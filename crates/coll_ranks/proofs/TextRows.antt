@@ -24,14 +24,17 @@ use Rattle.coll_ranks.proofs.RowNumbers.{BeginWithUndefined, filled_length, row_
 -- Going along the elements.
 
 -- the part of one element more
-pub parts_go_on : (elements : List ElementEntry) (element : ElementEntry) (at row next : ℕ) (old new whole : List TextElement) → at < length elements → element ≡ get_or elements at element → ((later : List ElementEntry) → new ++ element_parts next later ≡ old ++ element_parts row (element ∷ later)) → old ++ element_parts row (drop at elements) ≡ whole → new ++ element_parts next (drop (at + 1) elements) ≡ whole
+pub parts_go_on : (elements : List ElementEntry) (element : ElementEntry) (at row next : ℕ) (old new whole : List TextElement) → at < length elements → element ≡ get_or elements at element
+    → ((later : List ElementEntry) → new ++ element_parts next later ≡ old ++ element_parts row (element ∷ later)) → old ++ element_parts row (drop at elements) ≡ whole
+    → new ++ element_parts next (drop (at + 1) elements) ≡ whole
 parts_go_on elements element at row next old new whole within is put so_far =
     put (drop (at + 1) elements)
     ∙ (ap (λ (e : ElementEntry). old ++ element_parts row (e ∷ drop (at + 1) elements)) is
     ∙ (sym (at_drop_more (λ (es : List ElementEntry). old ++ element_parts row es) elements at element within) ∙ so_far))
 
 -- and its row
-pub rows_go_on : {X Y : Type 0} (rows_of : X → List Y) (xs : List X) (x : X) (at : ℕ) (old new whole : List Y) → at < length xs → x ≡ get_or xs at x → new ≡ old ++ rows_of x → old ++ flat_map rows_of (drop at xs) ≡ whole → new ++ flat_map rows_of (drop (at + 1) xs) ≡ whole
+pub rows_go_on : {X Y : Type 0} (rows_of : X → List Y) (xs : List X) (x : X) (at : ℕ) (old new whole : List Y) → at < length xs → x ≡ get_or xs at x → new ≡ old ++ rows_of x
+    → old ++ flat_map rows_of (drop at xs) ≡ whole → new ++ flat_map rows_of (drop (at + 1) xs) ≡ whole
 rows_go_on rows_of xs x at old new whole within is put so_far =
     ap (λ rows. rows ++ flat_map rows_of (drop (at + 1) xs)) put
     ∙ (append_assoc old (rows_of x) (flat_map rows_of (drop (at + 1) xs))
@@ -67,14 +70,16 @@ few_elements table text elements are =
     omega (arith, elements_length table (elements_of table text) elements are, few_split element_text (elements_placed table) part_id 0 text)
 
 -- and no more parts
-pub few_parts_of : (table : Collation) (text : List ℕ) (elements : List ElementEntry) (parts : List TextElement) → AreElementsOf table (elements_of table text) elements → parts ≡ element_parts 1 elements → length parts ≤ length text
+pub few_parts_of : (table : Collation) (text : List ℕ) (elements : List ElementEntry) (parts : List TextElement) → AreElementsOf table (elements_of table text) elements
+    → parts ≡ element_parts 1 elements → length parts ≤ length text
 few_parts_of table text elements parts are made = omega (arith, few_elements table text elements are, ap length made, parts_length 1 elements)
 
 -- Numbers.
 
 module _ (weights : WeightsValue) (table : Collation) (rows : List (List ℕ)) (begin : BeginWithUndefined weights table rows) (level : ℕ) (within : level < length table.rules) where
   -- elements whose rows stand behind others have their numbers
-  numbers_of_elements : (before : List (List ℕ)) (row : ℕ) (ids : List Id) (elements : List ElementEntry) → AreElementsOf table ids elements → length before ≡ row * length table.rules → weights.lists ≡ before ++ flat_map (element_row (known_rank table) (length table.rules)) elements → map (part_numbers weights level) (element_parts row elements) ≡ map (numbers_at table level) ids
+  numbers_of_elements : (before : List (List ℕ)) (row : ℕ) (ids : List Id) (elements : List ElementEntry) → AreElementsOf table ids elements → length before ≡ row * length table.rules → weights.lists
+      ≡ before ++ flat_map (element_row (known_rank table) (length table.rules)) elements → map (part_numbers weights level) (element_parts row elements) ≡ map (numbers_at table level) ids
   numbers_of_elements before row [] [] are counted lists = refl
   numbers_of_elements before row [] (element ∷ elements) are counted lists = absurd are
   numbers_of_elements before row (id ∷ ids) [] are counted lists = absurd are
@@ -97,7 +102,11 @@ module _ (weights : WeightsValue) (table : Collation) (rows : List (List ℕ)) (
       (numbers_of_elements before row ids elements are.1 counted lists)
 
 -- the numbers of the parts of a text are those of its elements
-pub text_numbers : (table ranked : Collation) (undefined weights : WeightsValue) (text : List ℕ) (elements : List ElementEntry) (parts : List TextElement) → AreElementsOf table (elements_of table text) elements → ranked ≡ table → undefined.levels ≡ length table.rules → undefined.lists ≡ compiled_row_by (known_rank ranked) (length table.rules) Undefined (undefined_weights table) → undefined.own ≡ map is_own (undefined_weights table) → AddsRow undefined weights (flat_map (element_row (known_rank ranked) undefined.levels) elements) → parts ≡ element_parts 1 elements → (level : ℕ) → level < length table.rules → map (part_numbers weights level) parts ≡ map (numbers_at table level) (elements_of table text)
+pub text_numbers : (table ranked : Collation) (undefined weights : WeightsValue) (text : List ℕ) (elements : List ElementEntry) (parts : List TextElement)
+    → AreElementsOf table (elements_of table text) elements → ranked ≡ table → undefined.levels ≡ length table.rules
+    → undefined.lists ≡ compiled_row_by (known_rank ranked) (length table.rules) Undefined (undefined_weights table) → undefined.own ≡ map is_own (undefined_weights table)
+    → AddsRow undefined weights (flat_map (element_row (known_rank ranked) undefined.levels) elements) → parts ≡ element_parts 1 elements → (level : ℕ) → level < length table.rules
+    → map (part_numbers weights level) parts ≡ map (numbers_at table level) (elements_of table text)
 text_numbers table ranked undefined weights text elements parts are same levels lists own adds made level within =
     ap (map (part_numbers weights level)) made
     ∙ numbers_of_elements weights table rows begin level within first 1 (elements_of table text) elements are counted begin.lists where

@@ -45,7 +45,8 @@ place_of_first (first ∷ entries) later (suc rank) entry h e =
     (λ off. ap (option_map (λ place. suc place)) there)
 
 -- what a walk visits next has the next rank
-pub next_ranked : (table : Collation) (rank : ℕ) (left later : List Visited) (item : Visited) → AreDistinct same_id (ids_of (entries_of table)) → left ≡ item ∷ later → entries_visited left ≡ drop rank (entries_of table) → HasNextRank table rank item
+pub next_ranked : (table : Collation) (rank : ℕ) (left later : List Visited) (item : Visited) → AreDistinct same_id (ids_of (entries_of table)) → left ≡ item ∷ later
+    → entries_visited left ≡ drop rank (entries_of table) → HasNextRank table rank item
 next_ranked table rank left later (VisitedSection name) distinct first place = tt
 next_ranked table rank left later (VisitedEntry entry) distinct first place =
     let next : entry ∷ entries_visited later ≡ drop rank (entries_of table) = sym (ap entries_visited first) ∙ place in
@@ -53,7 +54,8 @@ next_ranked table rank left later (VisitedEntry entry) distinct first place =
     ∙ (let one : suc rank ≡ rank + 1 = omega arith in one)
 
 -- and behind it what is left has its places
-pub left_behind : (table : Collation) (rank next : ℕ) (left later : List Visited) (item : Visited) → left ≡ item ∷ later → next ≡ rank + length (entry_visited item) → entries_visited left ≡ drop rank (entries_of table) → entries_visited later ≡ drop next (entries_of table)
+pub left_behind : (table : Collation) (rank next : ℕ) (left later : List Visited) (item : Visited) → left ≡ item ∷ later → next ≡ rank + length (entry_visited item)
+    → entries_visited left ≡ drop rank (entries_of table) → entries_visited later ≡ drop next (entries_of table)
 left_behind table rank next left later (VisitedSection name) first count place =
     let same : rank ≡ next = omega (arith, count) in
     sym (ap entries_visited first) ∙ (place ∙ ap (λ n. drop n (entries_of table)) same)
@@ -64,17 +66,22 @@ left_behind table rank next left later (VisitedEntry entry) first count place =
 -- Rows.
 
 -- what is put in, and what is left of a row
-pub row_more : (ranks now : Collation) (levels fewer : ℕ) (owner : Id) (weights later : List Weight) (old new whole : List (List ℕ)) → now ≡ ranks → levels ≡ suc fewer → new ++ compiled_row_by (known_rank now) fewer owner later ≡ old ++ compiled_row_by (known_rank now) (suc fewer) owner weights → old ++ compiled_row_by (known_rank ranks) levels owner weights ≡ whole → new ++ compiled_row_by (known_rank ranks) fewer owner later ≡ whole
+pub row_more : (ranks now : Collation) (levels fewer : ℕ) (owner : Id) (weights later : List Weight) (old new whole : List (List ℕ)) → now ≡ ranks → levels ≡ suc fewer
+    → new ++ compiled_row_by (known_rank now) fewer owner later ≡ old ++ compiled_row_by (known_rank now) (suc fewer) owner weights → old ++ compiled_row_by (known_rank ranks) levels owner weights
+    ≡ whole → new ++ compiled_row_by (known_rank ranks) fewer owner later ≡ whole
 row_more ranks now levels fewer owner weights later old new whole same one put is =
     ap (λ (t : Collation). new ++ compiled_row_by (known_rank t) fewer owner later) (sym same)
     ∙ (put
     ∙ (ap₂ (λ (t : Collation) (n : ℕ). old ++ compiled_row_by (known_rank t) n owner weights) same (sym one) ∙ is))
 
 -- what is put in, and what is left of all rows
-pub rows_more : (ranks now : Collation) (levels : ℕ) (left later : List Visited) (item : Visited) (old new : WeightsValue) (whole : List (List ℕ)) → now ≡ ranks → old.levels ≡ levels → left ≡ item ∷ later → AddsRow old new (flat_map (compiled_entry (known_rank now) old.levels) (entry_visited item)) → old.lists ++ flat_map (compiled_entry (known_rank ranks) levels) (entries_visited left) ≡ whole → new.lists ++ flat_map (compiled_entry (known_rank ranks) levels) (entries_visited later) ≡ whole
+pub rows_more : (ranks now : Collation) (levels : ℕ) (left later : List Visited) (item : Visited) (old new : WeightsValue) (whole : List (List ℕ)) → now ≡ ranks → old.levels ≡ levels
+    → left ≡ item ∷ later → AddsRow old new (flat_map (compiled_entry (known_rank now) old.levels) (entry_visited item)) → old.lists ++ flat_map (compiled_entry (known_rank ranks) levels)
+    (entries_visited left) ≡ whole → new.lists ++ flat_map (compiled_entry (known_rank ranks) levels) (entries_visited later) ≡ whole
 rows_more ranks now levels left later item old new whole same counted first put is =
     ap (λ ls. ls ++ flat_map (compiled_entry (known_rank ranks) levels) (entries_visited later)) put.lists_are
-    ∙ (ap₂ (λ (t : Collation) (n : ℕ). (old.lists ++ flat_map (compiled_entry (known_rank t) n) (entry_visited item)) ++ flat_map (compiled_entry (known_rank ranks) levels) (entries_visited later)) same counted
+    ∙ (ap₂ (λ (t : Collation) (n : ℕ). (old.lists ++ flat_map (compiled_entry (known_rank t) n) (entry_visited item)) ++ flat_map (compiled_entry (known_rank ranks) levels) (entries_visited later))
+    same counted
     ∙ (append_assoc old.lists (flat_map (compiled_entry (known_rank ranks) levels) (entry_visited item)) (flat_map (compiled_entry (known_rank ranks) levels) (entries_visited later))
     ∙ (ap (λ ls. old.lists ++ ls) (sym (flat_map-append (compiled_entry (known_rank ranks) levels) (entry_visited item) (entries_visited later)))
     ∙ (ap (λ items. old.lists ++ flat_map (compiled_entry (known_rank ranks) levels) (entries_visited items)) (sym first) ∙ is))))

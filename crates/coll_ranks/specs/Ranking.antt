@@ -13,7 +13,8 @@ use Rattle.coll_ranks.specs.Ranks.{RanksById, rank_of_char, rank_with}
 -- the last place of an identifier among entries, before which so many others stand
 abbrev pub last_place : (before : ℕ) → List Entry → Id → Option ℕ
 last_place before [] id = None
-last_place before (entry ∷ entries) id = option_or (last_place (suc before) entries id) (if same_id id entry.id then Some (suc before) else None)
+last_place before (entry ∷ entries) id =
+    option_or (last_place (suc before) entries id) (if same_id id entry.id then Some (suc before) else None)
 
 -- what a walk visits, if it is an entry, has the next rank in a table, behind so many others
 abbrev pub HasNextRank : Collation → (before : ℕ) → Visited → Type 0

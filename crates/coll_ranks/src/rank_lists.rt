@@ -138,6 +138,7 @@ fn push_named<'a>(
 {
     let mut before = 0usize;
     for id in named {
+        // Not `?`: behind its conversion this exit would need a lemma.
         if let Err(error) = push_rank(ranks, recent, id, level, before) {
             return Err(error);
         }

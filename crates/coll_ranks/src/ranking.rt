@@ -81,7 +81,8 @@ fn put_walk<'a>(
     requires whole { entries_visited walk ≡ entries_of ranks.old }
     requires distinct { AreDistinct same_id (ids_of (entries_of ranks.old)) }
     ensures ranks { IfOk result (λ characters. (c : ℕ) → rank_of_char characters c ≡ last_place 0 (entries_visited walk.entry) (Char c)) }
-    ensures rows { OnOk result (AddsRow weights.old weights.new (flat_map (compiled_entry (known_rank ranks.old) weights.old.levels) (entries_visited walk.entry))) }
+    ensures rows { OnOk result (AddsRow weights.old weights.new
+        (flat_map (compiled_entry (known_rank ranks.old) weights.old.levels) (entries_visited walk.entry))) }
 {
     let mut characters = CodePoints::new(alloc);
     let mut left = walk;
@@ -104,8 +105,10 @@ fn put_visited<'a>(
     requires few { rank < 1_000_000 }
     requires next { HasNextRank ranks.old rank (visited_by item) }
     ensures count { IfOk result (λ last. last ≡ rank + length (entry_visited (visited_by item.entry))) }
-    ensures ranks { OnOk result ((c : ℕ) → rank_of_char characters.new c ≡ option_or (last_place rank (entry_visited (visited_by item.entry)) (Char c)) (rank_of_char characters.old c)) }
-    ensures rows { OnOk result (AddsRow weights.old weights.new (flat_map (compiled_entry (known_rank ranks.old) weights.old.levels) (entry_visited (visited_by item.entry)))) }
+    ensures ranks { OnOk result ((c : ℕ) → rank_of_char characters.new c
+        ≡ option_or (last_place rank (entry_visited (visited_by item.entry)) (Char c)) (rank_of_char characters.old c)) }
+    ensures rows { OnOk result (AddsRow weights.old weights.new
+        (flat_map (compiled_entry (known_rank ranks.old) weights.old.levels) (entry_visited (visited_by item.entry)))) }
     ensures same { ranks.new ≡ ranks.old }
 {
     match item {
@@ -122,7 +125,8 @@ fn put_visited<'a>(
 // Gives an identifier a rank, if it is a character.
 fn put_character(characters: &mut CodePoints, id: &Id, rank: u32) -> Result<(), AllocError>
     requires { 0 < rank }
-    ensures { OnOk result ((c : ℕ) → rank_of_char characters.new c ≡ cond (same_id (Char c) id.now) (Some rank) (rank_of_char characters.old c)) }
+    ensures { OnOk result ((c : ℕ)
+        → rank_of_char characters.new c ≡ cond (same_id (Char c) id.now) (Some rank) (rank_of_char characters.old c)) }
 {
     match id {
         Id::Char(c) => characters.set(*c, rank),
@@ -139,7 +143,8 @@ pub(crate) fn compiled_undefined(
 ) -> Result<CompiledWeights, AllocError>
     requires few { entries < 1_000_000 }
     ensures levels { IfOk result (λ compiled. compiled.levels ≡ length (collation table.now).rules) }
-    ensures lists { IfOk result (λ compiled. compiled.lists ≡ compiled_row_by (known_rank ranks.now) (length (collation table.now).rules) Undefined (undefined_weights (collation table.now))) }
+    ensures lists { IfOk result (λ compiled. compiled.lists ≡ compiled_row_by (known_rank ranks.now) (length (collation table.now).rules)
+        Undefined (undefined_weights (collation table.now))) }
     ensures own { IfOk result (λ compiled. compiled.own ≡ map is_own (undefined_weights (collation table.now))) }
 {
     table.lemma_well_formed();

@@ -5,7 +5,8 @@
 //! ranks. A `Ranks` keeps nothing of the table itself, so it is true of each table with the same rules, declarations and sections
 //! (`AreRanksOf` of `specs/Ranks.antt`), and of a changed table it isn't.
 
-ghost use Rattle.std.specs.Prelude.{◌≡◌, ◌<◌, ◌≤◌, ◌+◌, ◌∷◌, ℕ, [], chars, length, map, option_copied, Option, IfOk, IfSome, MatchOption};
+ghost use Rattle.std.specs.Prelude.{◌≡◌, ◌<◌, ◌≤◌, ◌+◌, ◌∷◌, ℕ, [], chars, length, map};
+ghost use Rattle.std.specs.Prelude.{option_copied, Option, None, IfOk, IfSome, MatchOption};
 ghost use Rattle.coll_nodes.specs.TableLayout.{collation};
 ghost use Rattle.coll_ranks.specs.AlikePrefixes.{BeginAlike};
 
@@ -43,7 +44,7 @@ impl Ranks {
     ghost use Rattle.coll_nodes.specs.Table.{Collation};
     ghost use Rattle.coll_elements.specs.Rank.{rank_of};
     ghost use Rattle.coll_elements.specs.RankedElements.{last_string};
-    ghost use Rattle.coll_ranks.specs.Ranks.{AreRanksOf, rank_with, parts_of, compiled_weight};
+    ghost use Rattle.coll_ranks.specs.Ranks.{AreRanksOf, rank_with, part_with, parts_of, compiled_weight};
 
     /// The ranks of a table, in new memory.
     pub fn new(alloc: Global, table: &Table) -> Result<Ranks, AllocError>
@@ -70,30 +71,47 @@ impl Ranks {
     /// The element that a text begins with.
     #[inline(always)]
     pub fn first_part<'a>(&self, text: &'a str) -> Option<FirstElement<'a>>
-        ensures parts { MatchOption result (parts_of self.now (chars text.now) ≡ []) (λ first. parts_of self.now (chars text.now) ≡ first.part ∷ parts_of self.now (chars first.rest.now)) }
-        ensures characters { MatchOption result (length (chars text.now) ≡ 0) (λ first. length (chars text.now) ≡ first.characters + length (chars first.rest.now)) }
+        ensures parts { MatchOption result (parts_of self.now (chars text.now) ≡ []) (λ first. parts_of self.now (chars text.now)
+            ≡ first.part ∷ parts_of self.now (chars first.rest.now)) }
+        ensures characters { MatchOption result (length (chars text.now) ≡ 0)
+            (λ first. length (chars text.now) ≡ first.characters + length (chars first.rest.now)) }
         ensures some { IfSome result (λ first. 0 < first.characters) }
     {
         let mut letters = text.chars();
         let first = letters.next()?;
+        // Asked here too, so that most characters have no place for an element made ready.
+        if !self.elements.may_begin_with(first) {
+            return Some(self.alone(first, letters.as_str()));
+        }
         match self.elements.longest(text, first) {
             Some(found) => Some(FirstElement {
                 part: TextElement::Placed(found.rank),
                 characters: found.length,
                 rest: found.rest,
             }),
-            None => Some(FirstElement {
-                part: self.ids.part(first),
-                characters: 1,
-                rest: letters.as_str(),
-            }),
+            None => Some(self.alone(first, letters.as_str())),
+        }
+    }
+
+    // The element that a character is which stands alone, before this text.
+    #[inline(always)]
+    fn alone<'a>(&self, first: char, rest: &'a str) -> FirstElement<'a>
+        ensures part { result.part ≡ part_with self.now.ids None first }
+        ensures characters { result.characters ≡ 1 }
+        ensures rest { result.rest.now ≡ rest.now }
+    {
+        FirstElement {
+            part: self.ids.part(first),
+            characters: 1,
+            rest,
         }
     }
 
     /// Two texts behind characters that both begin with, and that are elements of each.
     #[inline(always)]
     pub fn past_common<'a, 'b>(&self, text: &'a str, other: &'b str) -> (&'a str, &'b str)
-        ensures { BeginAlike (parts_of self.now (chars text.now)) (parts_of self.now (chars other.now)) (parts_of self.now (chars result.0.now)) (parts_of self.now (chars result.1.now)) }
+        ensures { BeginAlike (parts_of self.now (chars text.now)) (parts_of self.now (chars other.now))
+            (parts_of self.now (chars result.0.now)) (parts_of self.now (chars result.1.now)) }
     {
         let mut left = text;
         let mut right = other;
@@ -107,7 +125,8 @@ impl Ranks {
     // Two texts behind the first character of both, if it is the same and no element may begin with it.
     #[inline(always)]
     fn past_same<'a, 'b>(&self, text: &'a str, other: &'b str) -> Option<(&'a str, &'b str)>
-        ensures same { IfSome result (λ later. BeginAlike (parts_of self.now (chars text.now)) (parts_of self.now (chars other.now)) (parts_of self.now (chars later.0.now)) (parts_of self.now (chars later.1.now))) }
+        ensures same { IfSome result (λ later. BeginAlike (parts_of self.now (chars text.now)) (parts_of self.now (chars other.now))
+            (parts_of self.now (chars later.0.now)) (parts_of self.now (chars later.1.now))) }
         ensures shorter { IfSome result (λ later. length (chars later.0.now) < length (chars text.now)) }
     {
         let mut letters = text.chars();

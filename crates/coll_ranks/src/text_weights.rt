@@ -55,7 +55,9 @@ impl TextWeights {
         requires numbers { AreNumbersOf numbers.now table.now.layout }
         requires few { length (chars text.now) ≤ 65_536 }
         ensures levels { IfOk result (λ made. made.weights.levels ≡ length (collation table.now).rules) }
-        ensures numbers { IfOk result (λ made. (level : ℕ) → level < length (collation table.now).rules → map (part_numbers made.weights level) made.parts ≡ map (numbers_at (collation table.now) level) (elements_of (collation table.now) (chars text.now))) }
+        ensures numbers { IfOk result (λ made. (level : ℕ) → level < length (collation table.now).rules
+            → map (part_numbers made.weights level) made.parts
+            ≡ map (numbers_at (collation table.now) level) (elements_of (collation table.now) (chars text.now))) }
         ensures count { IfOk result (λ made. length made.parts ≤ length (chars text.now)) }
     {
         let elements = split_text(alloc, table, text)?;
@@ -90,7 +92,8 @@ fn compiled_parts<'a>(
 ) -> Result<Vec<TextElement>, AllocError>
     requires { length elements.now ≤ 65_536 }
     ensures parts { IfOk result (λ parts. parts.items ≡ element_parts 1 elements.now) }
-    ensures rows { OnOk result (AddsRow weights.old weights.new (flat_map (element_row (known_rank ranks.old) weights.old.levels) elements.now)) }
+    ensures rows { OnOk result (AddsRow weights.old weights.new
+        (flat_map (element_row (known_rank ranks.old) weights.old.levels) elements.now)) }
 {
     let mut parts = Vec::with_capacity(alloc, elements.len())?;
     let mut row = 1;
@@ -110,7 +113,8 @@ fn push_element<'a>(
 ) -> Result<u32, AllocError>
     requires { row < 1_000_000 }
     ensures few { IfOk result (λ next. next ≤ row + 1) }
-    ensures parts { IfOk result (λ next. (later : List ElementEntry) → parts.new.items ++ element_parts next later ≡ parts.old.items ++ element_parts row (element.entry ∷ later)) }
+    ensures parts { IfOk result (λ next. (later : List ElementEntry) → parts.new.items ++ element_parts next later
+        ≡ parts.old.items ++ element_parts row (element.entry ∷ later)) }
     ensures rows { OnOk result (AddsRow weights.old weights.new (element_row (known_rank ranks.old) weights.old.levels element.entry)) }
     ensures same { ranks.new ≡ ranks.old }
 {

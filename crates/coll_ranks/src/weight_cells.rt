@@ -106,7 +106,8 @@ impl WeightCells {
         weights: &'a [Weight],
         level: usize,
     ) -> Result<&'a [Weight], AllocError>
-        ensures row { IfOk result (λ later. (count : ℕ) → self.new ++ compiled_row_by (known_rank ranks.old) count owner.now later.now ≡ self.old ++ compiled_row_by (known_rank ranks.old) (suc count) owner.now weights.now) }
+        ensures row { IfOk result (λ later. (count : ℕ) → self.new ++ compiled_row_by (known_rank ranks.old) count owner.now later.now
+            ≡ self.old ++ compiled_row_by (known_rank ranks.old) (suc count) owner.now weights.now) }
         ensures same { ranks.new ≡ ranks.old }
     {
         let Some((weight, later)) = weights.split_first() else {

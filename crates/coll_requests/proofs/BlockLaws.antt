@@ -6,7 +6,8 @@ use Rattle.std.proofs.lemmas.Bool.{and_parts}
 use Rattle.std.proofs.lemmas.Grind.{flat_map-append}
 use Rattle.coll_lex.specs.declared.faults.LexFault.{LexFault}
 use Rattle.coll_syntax.specs.declared.identifiers.Id.{Id}
-use Rattle.coll_requests.specs.Requests.{BlockLines, with_line, command_refused_by, commands_refused_in, block_request, block_left_open, last_faults, refusals, refused_at, requests_at, block_after, requests}
+use Rattle.coll_requests.specs.Requests.{BlockLines, with_line, command_refused_by, commands_refused_in, block_request}
+use Rattle.coll_requests.specs.Requests.{block_left_open, last_faults, refusals, refused_at, requests_at, block_after, requests}
 use Rattle.coll_requests.specs.Laws.{stays, AllStay, opens, opener, block_with, ender, refused_ender, stopper, BlockEnds, BlockEndsRefused, BlockEndsAtNext, BlockLeftOpen, BlockStopped}
 use Rattle.coll_requests.specs.declared.request_faults.RequestFault.{RequestFault}
 use Rattle.coll_requests.specs.declared.session_lines.Opening.TheVariants as opening
@@ -29,7 +30,8 @@ unfolding requests requests_at block_after
 stays_one ends block line later stay = by_parsed line.number line.parsed stay
   where
     by_parsed : (n : ℕ) (h : Parsed) → stays h ≡ true
-        → requests ends (Some block) (record { number = n; parsed = h } ∷ later) ≡ commands_refused_in (record { number = n; parsed = h } ∷ []) ++ requests ends (Some (with_line block (record { number = n; parsed = h }))) later
+        → requests ends (Some block) (record { number = n; parsed = h } ∷ later) ≡ commands_refused_in (record { number = n; parsed = h } ∷ [])
+        ++ requests ends (Some (with_line block (record { number = n; parsed = h }))) later
     by_parsed n (parsed.Stops f) no_stay = absurd cc
     by_parsed n (parsed.Refused opening.ReorderAfter f) no_stay = absurd cc
     by_parsed n (parsed.Refused opening.ReorderEnd f) no_stay = absurd cc
@@ -48,7 +50,8 @@ abbrev all_stay : List ParsedLine → Bool
 all_stay lines = list_all (λ (line : ParsedLine). stays line.parsed) lines
 
 -- lines that stay in the block give the refusals of the commands among them, and are lines of the block
-stay_all : (ends : Bool) (block : BlockLines) (body later : List ParsedLine) → AllStay body → requests ends (Some block) (body ++ later) ≡ commands_refused_in body ++ requests ends (Some (with_lines block body)) later
+stay_all : (ends : Bool) (block : BlockLines) (body later : List ParsedLine) → AllStay body → requests ends (Some block) (body ++ later)
+    ≡ commands_refused_in body ++ requests ends (Some (with_lines block body)) later
 stay_all ends block [] later all = ap (λ (ls : List ParsedLine). requests ends (Some (record { line = block.line; target = block.target; lines = ls })) later) (sym (append-nil block.lines))
 stay_all ends block (line ∷ body) later all =
     let first : stays line.parsed ≡ true = (and_parts (stays line.parsed) (all_stay body) all).0 in
@@ -57,7 +60,8 @@ stay_all ends block (line ∷ body) later all =
     ∙ ap (λ (us : Requests). commands_refused_in (line ∷ []) ++ us) (stay_all ends (with_line block line) body later others)
     ∙ sym (append_assoc (commands_refused_in (line ∷ [])) (commands_refused_in body) (requests ends (Some (with_lines (with_line block line) body)) later))
     ∙ ap (λ (us : Requests). us ++ requests ends (Some (with_lines (with_line block line) body)) later) (sym (commands-cons line body))
-    ∙ ap (λ (ls : List ParsedLine). commands_refused_in (line ∷ body) ++ requests ends (Some (record { line = block.line; target = block.target; lines = ls })) later) (append_assoc block.lines (line ∷ []) body)
+    ∙ ap (λ (ls : List ParsedLine). commands_refused_in (line ∷ body) ++ requests ends (Some (record { line = block.line; target = block.target; lines = ls })) later)
+    (append_assoc block.lines (line ∷ []) body)
 
 -- the line that opens a block completes nothing
 opened_first : (ends : Bool) (n : ℕ) (target : Result Id RequestFault) (later : List ParsedLine) → requests ends None (opener n target ∷ later) ≡ requests ends (Some (block_with n target [])) later
@@ -74,15 +78,18 @@ ended_by : (ends : Bool) (block : BlockLines) (m : ℕ) (later : List ParsedLine
 unfolding requests requests_at block_after
 ended_by ends block m later = refl
 
-refused_by : (ends : Bool) (block : BlockLines) (m : ℕ) (f : RequestFault) (later : List ParsedLine) → requests ends (Some block) (refused_ender m f ∷ later) ≡ block_request (with_line block (refused_ender m f)) ∷ requests ends None later
+refused_by : (ends : Bool) (block : BlockLines) (m : ℕ) (f : RequestFault) (later : List ParsedLine) → requests ends (Some block) (refused_ender m f ∷ later)
+    ≡ block_request (with_line block (refused_ender m f)) ∷ requests ends None later
 unfolding requests requests_at block_after
 refused_by ends block m f later = refl
 
-next_by : (ends : Bool) (block : BlockLines) (next : ParsedLine) (later : List ParsedLine) → opens next.parsed ≡ true → requests ends (Some block) (next ∷ later) ≡ block_request block ∷ requests ends None (next ∷ later)
+next_by : (ends : Bool) (block : BlockLines) (next : ParsedLine) (later : List ParsedLine) → opens next.parsed ≡ true → requests ends (Some block) (next ∷ later)
+    ≡ block_request block ∷ requests ends None (next ∷ later)
 unfolding requests requests_at block_after
 next_by ends block next later begins = by_parsed next.number next.parsed begins
   where
-    by_parsed : (n : ℕ) (h : Parsed) → opens h ≡ true → requests ends (Some block) (record { number = n; parsed = h } ∷ later) ≡ block_request block ∷ requests ends None (record { number = n; parsed = h } ∷ later)
+    by_parsed : (n : ℕ) (h : Parsed) → opens h ≡ true → requests ends (Some block) (record { number = n; parsed = h } ∷ later)
+        ≡ block_request block ∷ requests ends None (record { number = n; parsed = h } ∷ later)
     by_parsed n (parsed.Stops f) none = absurd cc
     by_parsed n (parsed.Refused opening.ReorderAfter f) begins = refl
     by_parsed n (parsed.Refused opening.ReorderEnd f) none = absurd cc

@@ -9,9 +9,13 @@ use Rattle.coll_syntax.specs.declared.identifiers.Id.{Id}
 use Rattle.coll_syntax.specs.declared.syntax_faults.SyntaxFault.TheVariants as syntax
 use Rattle.coll_syntax.specs.declared.statements.OrderLine.{OrderLine}
 use Rattle.coll_requests.specs.RequestFaults.{is_lack_of_memory}
-use Rattle.coll_requests.specs.Requests.{BlockLines, fault_at, order_by, orders_in, or_else, lack_by, first_lack, spoils, first_spoiler, with_line, target_lack, lack_in, stated_unless, request_of, starved_at, unless_starved, block_request, requests_at, block_after, not_ended, block_left_open, end_faults, dropped_faults, last_faults, refusals, stop_of, last_or, requests}
+use Rattle.coll_requests.specs.Requests.{BlockLines, fault_at, order_by, orders_in, or_else, lack_by, first_lack, spoils, first_spoiler, with_line, target_lack}
+use Rattle.coll_requests.specs.Requests.{lack_in, stated_unless, request_of, starved_at, unless_starved, block_request, requests_at, block_after, not_ended}
+use Rattle.coll_requests.specs.Requests.{block_left_open, end_faults, dropped_faults, last_faults, refusals, stop_of, last_or, requests}
 use Rattle.coll_requests.specs.Limits.{most_block_lines}
-use Rattle.coll_requests.specs.OpenBlocks.{after_fault, after_order, spoiled_by, spoiled, joined, request_so_far, kept_request, left_open_so_far, kept_left_open, dropped_so_far, kept_after, kept_requests_at, kept_end_faults, kept_dropped_faults, kept_last_faults, kept_last_or, kept_requests, gathered_unless, gathered_of, starved_or, open_at, kept}
+use Rattle.coll_requests.specs.OpenBlocks.{after_fault, after_order, spoiled_by, spoiled, joined, request_so_far, kept_request, left_open_so_far, kept_left_open, dropped_so_far, kept_after}
+use Rattle.coll_requests.specs.OpenBlocks.{kept_requests_at, kept_end_faults, kept_dropped_faults, kept_last_faults, kept_last_or, kept_requests, gathered_unless, gathered_of, starved_or, open_at}
+use Rattle.coll_requests.specs.OpenBlocks.{kept}
 use Rattle.coll_requests.specs.declared.request_faults.RequestFault.{RequestFault}
 use Rattle.coll_requests.specs.declared.request_faults.RequestFault.TheVariants as fault
 use Rattle.coll_requests.specs.declared.session_lines.Opening.TheVariants as opening
@@ -54,7 +58,8 @@ orders_in-push lines line = flat_map-append order_of lines (line ∷ []) ∙ ap 
 
 lack_in-push : (block : BlockLines) (line : ParsedLine) → lack_in (with_line block line) ≡ or_else (lack_in block) (lack_by line.number line.parsed)
 lack_in-push block line =
-    ap (or_else (target_lack block.line block.target)) (first_lack-push block.lines line) ∙ or_else-assoc (target_lack block.line block.target) (first_lack block.lines) (lack_by line.number line.parsed)
+    ap (or_else (target_lack block.line block.target)) (first_lack-push block.lines line)
+    ∙ or_else-assoc (target_lack block.line block.target) (first_lack block.lines) (lack_by line.number line.parsed)
 
 -- what is kept, by the three things that decide it
 abbrev pub gathered_by : ℕ → Result Id RequestFault → Option FaultAt → List OrderLine → BlockStatus
@@ -68,17 +73,21 @@ gathered_is line (Err f) lines = refl
 abbrev pub so_far_by : Option ℕ → ℕ → Result Id RequestFault → Option FaultAt → List OrderLine → BlockStatus
 so_far_by lack line target spoiler orders = starved_or lack (gathered_by line target spoiler orders)
 
-pub so_far_is : (block : BlockLines) → starved_or (lack_in block) (gathered_of block.line block.target block.lines) ≡ so_far_by (lack_in block) block.line block.target (first_spoiler [] block.lines) (orders_in block.lines)
+pub so_far_is : (block : BlockLines) → starved_or (lack_in block) (gathered_of block.line block.target block.lines)
+    ≡ so_far_by (lack_in block) block.line block.target (first_spoiler [] block.lines) (orders_in block.lines)
 so_far_is block = ap (starved_or (lack_in block)) (gathered_is block.line block.target block.lines)
 
 -- what is kept of a block with one more line
 so_far-push : (block : BlockLines) (line : ParsedLine) → starved_or (lack_in (with_line block line)) (gathered_of block.line block.target (block.lines ++ line ∷ []))
-    ≡ so_far_by (or_else (lack_in block) (lack_by line.number line.parsed)) block.line block.target (or_else (first_spoiler [] block.lines) (spoils block.lines line)) (orders_in block.lines ++ order_by line.parsed)
+    ≡ so_far_by (or_else (lack_in block) (lack_by line.number line.parsed)) block.line block.target (or_else (first_spoiler [] block.lines) (spoils block.lines line))
+    (orders_in block.lines ++ order_by line.parsed)
 so_far-push block line =
     so_far_is (with_line block line)
     ∙ ap (λ (w : Option ℕ). so_far_by w block.line block.target (first_spoiler [] (block.lines ++ line ∷ [])) (orders_in (block.lines ++ line ∷ []))) (lack_in-push block line)
-    ∙ ap (λ (s : Option FaultAt). so_far_by (or_else (lack_in block) (lack_by line.number line.parsed)) block.line block.target s (orders_in (block.lines ++ line ∷ []))) (first_spoiler-push [] block.lines line)
-    ∙ ap (so_far_by (or_else (lack_in block) (lack_by line.number line.parsed)) block.line block.target (or_else (first_spoiler [] block.lines) (spoils block.lines line))) (orders_in-push block.lines line)
+    ∙ ap (λ (s : Option FaultAt). so_far_by (or_else (lack_in block) (lack_by line.number line.parsed)) block.line block.target s (orders_in (block.lines ++ line ∷ [])))
+    (first_spoiler-push [] block.lines line)
+    ∙ ap (so_far_by (or_else (lack_in block) (lack_by line.number line.parsed)) block.line block.target (or_else (first_spoiler [] block.lines) (spoils block.lines line)))
+    (orders_in-push block.lines line)
 
 -- a refused line, by whether memory was refused to it
 abbrev after_fault_by : Bool → BlockStatus → FaultAt → BlockStatus
@@ -102,15 +111,19 @@ fault_cases false None line (Ok target) (Some s) orders at = refl
 fault_cases false None line (Err f) spoiler orders at = refl
 
 -- what is kept after a refused line
-kept_with_fault : (block : BlockLines) (line : ParsedLine) (at : FaultAt) → lack_by line.number line.parsed ≡ (if is_lack_of_memory at.fault then Some at.line else None) → spoils block.lines line ≡ Some at → order_by line.parsed ≡ []
+kept_with_fault : (block : BlockLines) (line : ParsedLine) (at : FaultAt) → lack_by line.number line.parsed ≡ (if is_lack_of_memory at.fault then Some at.line else None)
+    → spoils block.lines line ≡ Some at → order_by line.parsed ≡ []
     → kept (with_line block line) ≡ spoiled (kept block) at
 unfolding kept
 kept_with_fault block line at lack spoiler none =
     ap (open_at block.line)
     (so_far-push block line
-    ∙ ap (λ (w : Option ℕ). so_far_by (or_else (lack_in block) w) block.line block.target (or_else (first_spoiler [] block.lines) (spoils block.lines line)) (orders_in block.lines ++ order_by line.parsed)) lack
-    ∙ ap (λ (s : Option FaultAt). so_far_by (or_else (lack_in block) (if is_lack_of_memory at.fault then Some at.line else None)) block.line block.target (or_else (first_spoiler [] block.lines) s) (orders_in block.lines ++ order_by line.parsed)) spoiler
-    ∙ ap (λ (os : List OrderLine). so_far_by (or_else (lack_in block) (if is_lack_of_memory at.fault then Some at.line else None)) block.line block.target (or_else (first_spoiler [] block.lines) (Some at)) (orders_in block.lines ++ os)) none
+    ∙ ap (λ (w : Option ℕ). so_far_by (or_else (lack_in block) w) block.line block.target (or_else (first_spoiler [] block.lines) (spoils block.lines line))
+    (orders_in block.lines ++ order_by line.parsed)) lack
+    ∙ ap (λ (s : Option FaultAt). so_far_by (or_else (lack_in block) (if is_lack_of_memory at.fault then Some at.line else None)) block.line block.target (or_else (first_spoiler [] block.lines) s)
+    (orders_in block.lines ++ order_by line.parsed)) spoiler
+    ∙ ap (λ (os : List OrderLine). so_far_by (or_else (lack_in block) (if is_lack_of_memory at.fault then Some at.line else None)) block.line block.target
+    (or_else (first_spoiler [] block.lines) (Some at)) (orders_in block.lines ++ os)) none
     ∙ fault_cases (is_lack_of_memory at.fault) (lack_in block) block.line block.target (first_spoiler [] block.lines) (orders_in block.lines) at
     ∙ ap (λ (s : BlockStatus). after_fault_by (is_lack_of_memory at.fault) s at) (sym (so_far_is block))
     ∙ after_fault_is (starved_or (lack_in block) (gathered_of block.line block.target block.lines)) at)
@@ -121,7 +134,8 @@ order_chosen true target orders order at = refl
 order_chosen false target orders order at = refl
 
 order_cases : (lack : Option ℕ) (line : ℕ) (target : Result Id RequestFault) (spoiler : Option FaultAt) (orders : List OrderLine) (n : ℕ) (order : OrderLine)
-    → so_far_by (or_else lack None) line target (or_else spoiler (if nat_le most_block_lines (length orders) then Some (fault_at n (fault.Syntax syntax.BlockTooLong)) else None)) (orders ++ order ∷ [])
+    → so_far_by (or_else lack None) line target (or_else spoiler (if nat_le most_block_lines (length orders) then Some (fault_at n (fault.Syntax syntax.BlockTooLong)) else None))
+    (orders ++ order ∷ [])
     ≡ after_order (so_far_by lack line target spoiler orders) n order
 order_cases (Some w) line target spoiler orders n order = refl
 order_cases None line (Ok target) None orders n order = order_chosen (nat_le most_block_lines (length orders)) target orders order (fault_at n (fault.Syntax syntax.BlockTooLong))
@@ -137,25 +151,29 @@ kept_with_order block n order =
     ∙ order_cases (lack_in block) block.line block.target (first_spoiler [] block.lines) (orders_in block.lines) n order
     ∙ ap (λ (s : BlockStatus). after_order s n order) (sym (so_far_is block)))
 
-command_cases : (lack : Option ℕ) (line : ℕ) (target : Result Id RequestFault) (spoiler : Option FaultAt) (orders : List OrderLine) → so_far_by (or_else lack None) line target (or_else spoiler None) (orders ++ []) ≡ so_far_by lack line target spoiler orders
+command_cases : (lack : Option ℕ) (line : ℕ) (target : Result Id RequestFault) (spoiler : Option FaultAt) (orders : List OrderLine)
+    → so_far_by (or_else lack None) line target (or_else spoiler None) (orders ++ []) ≡ so_far_by lack line target spoiler orders
 command_cases lack line target spoiler orders =
     ap (λ (w : Option ℕ). so_far_by w line target (or_else spoiler None) (orders ++ [])) (or_else-none lack)
     ∙ ap (λ (s : Option FaultAt). so_far_by lack line target s (orders ++ [])) (or_else-none spoiler)
     ∙ ap (so_far_by lack line target spoiler) (append-nil orders)
 
 -- what is kept after a command
-kept_with_command : (block : BlockLines) (line : ParsedLine) → lack_by line.number line.parsed ≡ None → spoils block.lines line ≡ None → order_by line.parsed ≡ [] → kept (with_line block line) ≡ kept block
+kept_with_command : (block : BlockLines) (line : ParsedLine) → lack_by line.number line.parsed ≡ None → spoils block.lines line ≡ None → order_by line.parsed ≡ []
+    → kept (with_line block line) ≡ kept block
 unfolding kept
 kept_with_command block line lack spoiler none =
     ap (open_at block.line)
     (so_far-push block line
-    ∙ ap (λ (w : Option ℕ). so_far_by (or_else (lack_in block) w) block.line block.target (or_else (first_spoiler [] block.lines) (spoils block.lines line)) (orders_in block.lines ++ order_by line.parsed)) lack
+    ∙ ap (λ (w : Option ℕ). so_far_by (or_else (lack_in block) w) block.line block.target (or_else (first_spoiler [] block.lines) (spoils block.lines line))
+    (orders_in block.lines ++ order_by line.parsed)) lack
     ∙ ap (λ (s : Option FaultAt). so_far_by (or_else (lack_in block) None) block.line block.target (or_else (first_spoiler [] block.lines) s) (orders_in block.lines ++ order_by line.parsed)) spoiler
     ∙ ap (λ (os : List OrderLine). so_far_by (or_else (lack_in block) None) block.line block.target (or_else (first_spoiler [] block.lines) None) (orders_in block.lines ++ os)) none
     ∙ command_cases (lack_in block) block.line block.target (first_spoiler [] block.lines) (orders_in block.lines)
     ∙ sym (so_far_is block))
 
-begun_cases : (b : Bool) (n : ℕ) (f : RequestFault) → open_at n (starved_or (or_else (if b then Some n else None) None) (Spoiled (fault_at n f))) ≡ open_at n (if b then Starved n else Spoiled (fault_at n f))
+begun_cases : (b : Bool) (n : ℕ) (f : RequestFault) → open_at n (starved_or (or_else (if b then Some n else None) None) (Spoiled (fault_at n f)))
+    ≡ open_at n (if b then Starved n else Spoiled (fault_at n f))
 begun_cases true n f = refl
 begun_cases false n f = refl
 
@@ -173,7 +191,8 @@ pub kept_step : (block : Option BlockLines) (line : ParsedLine) → kept_after (
 unfolding kept_after block_after kept first_lack first_spoiler
 kept_step block line = by_parsed block line.number line.parsed
   where
-    by_parsed : (block : Option BlockLines) (n : ℕ) (h : Parsed) → kept_after (option_map kept block) (record { number = n; parsed = h }) ≡ option_map kept (block_after block (record { number = n; parsed = h }))
+    by_parsed : (block : Option BlockLines) (n : ℕ) (h : Parsed) → kept_after (option_map kept block) (record { number = n; parsed = h })
+        ≡ option_map kept (block_after block (record { number = n; parsed = h }))
     by_parsed block n (parsed.Stops f) = refl
     by_parsed block n (parsed.Refused opening.ReorderAfter f) = ap Some (sym (opened_fault n f))
     by_parsed block n (parsed.Refused opening.ReorderEnd f) = refl
@@ -190,7 +209,8 @@ kept_step block line = by_parsed block line.number line.parsed
     by_parsed None n (parsed.Standalone a) = refl
     by_parsed (Some block) n (parsed.Standalone a) = ap Some (sym (kept_with_fault block (record { number = n; parsed = parsed.Standalone a }) (fault_at n fault.BlockOpen) refl refl refl))
 
-request_cases : (lack : Option ℕ) (line : ℕ) (target : Result Id RequestFault) (lines : List ParsedLine) → request_so_far line (starved_or lack (gathered_of line target lines)) ≡ unless_starved lack (request_of line target lines)
+request_cases : (lack : Option ℕ) (line : ℕ) (target : Result Id RequestFault) (lines : List ParsedLine) → request_so_far line (starved_or lack (gathered_of line target lines))
+    ≡ unless_starved lack (request_of line target lines)
 request_cases (Some w) line target lines = refl
 request_cases None line (Ok target) lines = stated (first_spoiler [] lines)
   where
@@ -219,7 +239,8 @@ requests_step block line = by_parsed block line.number line.parsed
     by_parsed None n (parsed.Refused opening.ReorderEnd f) = refl
     by_parsed (Some block) n (parsed.Refused opening.ReorderEnd f) =
         let line : ParsedLine = record { number = n; parsed = parsed.Refused opening.ReorderEnd f } in
-        one (kept_request (spoiled (kept block) (fault_at n f))) (block_request (with_line block line)) (ap kept_request (sym (kept_with_fault block line (fault_at n f) refl refl refl)) ∙ request_kept (with_line block line))
+        one (kept_request (spoiled (kept block) (fault_at n f))) (block_request (with_line block line)) (ap kept_request (sym (kept_with_fault block line (fault_at n f) refl refl refl))
+        ∙ request_kept (with_line block line))
     by_parsed None n (parsed.Refused opening.Neither f) = refl
     by_parsed (Some block) n (parsed.Refused opening.Neither f) = refl
     by_parsed None n (parsed.Command c) = refl
@@ -235,7 +256,8 @@ requests_step block line = by_parsed block line.number line.parsed
     by_parsed None n (parsed.Standalone a) = refl
     by_parsed (Some block) n (parsed.Standalone a) = refl
 
-left_open_cases : (lack : Option ℕ) (line : ℕ) (target : Result Id RequestFault) (spoiler : Option FaultAt) (orders : List OrderLine) → left_open_so_far line (so_far_by lack line target spoiler orders) ≡ not_ended line lack
+left_open_cases : (lack : Option ℕ) (line : ℕ) (target : Result Id RequestFault) (spoiler : Option FaultAt) (orders : List OrderLine)
+    → left_open_so_far line (so_far_by lack line target spoiler orders) ≡ not_ended line lack
 left_open_cases (Some w) line target spoiler orders = refl
 left_open_cases None line (Ok target) None orders = refl
 left_open_cases None line (Ok target) (Some at) orders = refl
@@ -246,7 +268,8 @@ unfolding kept block_left_open
 left_open_kept block =
     ap (left_open_so_far block.line) (so_far_is block) ∙ left_open_cases (lack_in block) block.line block.target (first_spoiler [] block.lines) (orders_in block.lines)
 
-dropped_cases : (lack : Option ℕ) (line : ℕ) (target : Result Id RequestFault) (spoiler : Option FaultAt) (orders : List OrderLine) → option_to_list (dropped_so_far (so_far_by lack line target spoiler orders)) ≡ map starved_at (option_to_list lack)
+dropped_cases : (lack : Option ℕ) (line : ℕ) (target : Result Id RequestFault) (spoiler : Option FaultAt) (orders : List OrderLine)
+    → option_to_list (dropped_so_far (so_far_by lack line target spoiler orders)) ≡ map starved_at (option_to_list lack)
 dropped_cases (Some w) line target spoiler orders = refl
 dropped_cases None line (Ok target) None orders = refl
 dropped_cases None line (Ok target) (Some at) orders = refl
@@ -282,7 +305,8 @@ last_kept block n f = by_fault f
     by_fault lex.BadCharDirective = dropped lex.BadCharDirective
     by_fault lex.OutOfMemory = dropped lex.OutOfMemory
 
-last_or_kept : (stop : Option LexFault) (block : Option BlockLines) (n : ℕ) (kept_more more : List RequestAt) → kept_more ≡ more → kept_last_or stop (option_map kept block) n kept_more ≡ last_or stop block n more
+last_or_kept : (stop : Option LexFault) (block : Option BlockLines) (n : ℕ) (kept_more more : List RequestAt) → kept_more ≡ more → kept_last_or stop (option_map kept block) n kept_more
+    ≡ last_or stop block n more
 last_or_kept None block n kept_more more e = e
 last_or_kept (Some f) block n kept_more more e = ap refusals (last_kept block n f)
 

@@ -67,7 +67,8 @@ no_spoiler before (line ∷ lines) all few =
     let more : length (orders_in (before ++ line ∷ [])) ≡ length (orders_in before) + length (orders_in (line ∷ [])) = orders-append before (line ∷ []) in
     let here : length (orders_in before) + own ≤ most_block_lines = omega (arith, few, split) in
     let next : length (orders_in (before ++ line ∷ [])) + rest ≤ most_block_lines = omega (arith, few, split, more, one) in
-    ap (λ (s : Option FaultAt). or_else s (first_spoiler (before ++ line ∷ []) lines)) (taken_spoils_none (length (orders_in before)) line.number line.parsed (and_parts (is_taken line.parsed) (all_taken lines) all).0 here)
+    ap (λ (s : Option FaultAt). or_else s (first_spoiler (before ++ line ∷ []) lines))
+    (taken_spoils_none (length (orders_in before)) line.number line.parsed (and_parts (is_taken line.parsed) (all_taken lines) all).0 here)
     ∙ no_spoiler (before ++ line ∷ []) lines (and_parts (is_taken line.parsed) (all_taken lines) all).1 next
 
 pub block_states : BlockStates
@@ -93,7 +94,8 @@ or_none_second (Some x) b e = absurd cc
 or_none_second None b e = e
 
 -- the first line that spoils the block is the first of all lines that does
-spoiler-within : (before prefix lines : List ParsedLine) (line : ParsedLine) (at : FaultAt) → first_spoiler before prefix ≡ None → spoils (before ++ prefix) line ≡ Some at → first_spoiler before (prefix ++ line ∷ lines) ≡ Some at
+spoiler-within : (before prefix lines : List ParsedLine) (line : ParsedLine) (at : FaultAt) → first_spoiler before prefix ≡ None → spoils (before ++ prefix) line ≡ Some at
+    → first_spoiler before (prefix ++ line ∷ lines) ≡ Some at
 unfolding first_spoiler
 spoiler-within before [] lines line at none spoiled =
     ap (λ (s : Option FaultAt). or_else s (first_spoiler (before ++ line ∷ []) lines)) (ap (λ (ls : List ParsedLine). spoils ls line) (sym (append-nil before)) ∙ spoiled)

@@ -20,7 +20,8 @@ use Rattle.coll_requests.specs.declared.requests.FaultAt.{FaultAt}
 use Rattle.coll_requests.specs.declared.requests.RequestAt.{RequestAt}
 use Rattle.coll_requests.proofs.BlockLemmas.{so_far_by, so_far_is, request_kept}
 
-full_by : (lack : Option ℕ) (line : ℕ) (target : Result Id RequestFault) (spoiler : Option FaultAt) (orders : List OrderLine) → Unspoiled (so_far_by lack line target spoiler orders) → is_full (so_far_by lack line target spoiler orders) ≡ nat_le most_block_lines (length orders)
+full_by : (lack : Option ℕ) (line : ℕ) (target : Result Id RequestFault) (spoiler : Option FaultAt) (orders : List OrderLine) → Unspoiled (so_far_by lack line target spoiler orders)
+    → is_full (so_far_by lack line target spoiler orders) ≡ nat_le most_block_lines (length orders)
 full_by (Some w) line target spoiler orders sound = absurd sound
 full_by None line (Ok target) None orders sound = refl
 full_by None line (Ok target) (Some at) orders sound = absurd sound
@@ -36,7 +37,8 @@ full_kept block sound =
 pub fault_step : (block : Option BlockLines) (line : ParsedLine) → IsUnspoiled (option_map kept block) → kept_fault_under (option_map kept block) line ≡ fault_under block line
 fault_step block line sound = by_parsed block line.number line.parsed sound
   where
-    by_parsed : (block : Option BlockLines) (n : ℕ) (h : Parsed) → IsUnspoiled (option_map kept block) → kept_fault_under (option_map kept block) (record { number = n; parsed = h }) ≡ fault_under block (record { number = n; parsed = h })
+    by_parsed : (block : Option BlockLines) (n : ℕ) (h : Parsed) → IsUnspoiled (option_map kept block) → kept_fault_under (option_map kept block) (record { number = n; parsed = h })
+        ≡ fault_under block (record { number = n; parsed = h })
     by_parsed None n h sound = refl
     by_parsed (Some block) n (parsed.Stops f) sound = refl
     by_parsed (Some block) n (parsed.Refused o f) sound = refl

@@ -6,12 +6,14 @@ use Rattle.coll_lex.proofs.LineSteps.{logical_lines-nil}
 use Rattle.coll_requests.specs.SessionLines.{delta_file_parsed}
 use Rattle.coll_requests.specs.Requests.{BlockLines}
 use Rattle.coll_requests.specs.DeltaFiles.{DeltaOutcome, AtFault, Undecided, DeltaRequests, at_line, ends_so, after_statements, fault_at_end, outcome_within, delta_outcome, delta_requests}
-use Rattle.coll_requests.specs.DeltaReading.{DeltaState, first_delta, Step, by_where, unless_faulty, delta_line, early_end, delta_end, past_line, answers_to, end_so_far, past_line_so_far, answers_so_far}
+use Rattle.coll_requests.specs.DeltaReading.{DeltaState, first_delta, Step, by_where, unless_faulty, delta_line, early_end}
+use Rattle.coll_requests.specs.DeltaReading.{delta_end, past_line, answers_to, end_so_far, past_line_so_far, answers_so_far}
 use Rattle.coll_requests.specs.declared.delta_faults.DeltaFault.{DeltaFault}
 use Rattle.coll_requests.specs.declared.delta_faults.DeltaCause.TheVariants.{Request as RequestCause, NoCategory, NoEnd}
 use Rattle.coll_requests.specs.declared.delta_files.StatementAt.{StatementAt}
 use Rattle.coll_requests.specs.declared.request_faults.RequestFault.TheVariants as fault
-use Rattle.coll_requests.proofs.DeltaSteps.{outcome_before-nil, outcome_within-nil, outcome_within-cons, outcome_from, StandsAfter, LeadsOn, IsFaultBehind, Judged, stands_first, from_ended, from_within, from_before, judged_line}
+use Rattle.coll_requests.proofs.DeltaSteps.{outcome_before-nil, outcome_within-nil, outcome_within-cons, outcome_from, StandsAfter, LeadsOn}
+use Rattle.coll_requests.proofs.DeltaSteps.{IsFaultBehind, Judged, stands_first, from_ended, from_within, from_before, judged_line}
 
 -- what an outcome says of a file of so many lines
 abbrev said_by : ℕ → DeltaOutcome → DeltaRequests
@@ -28,11 +30,13 @@ module _ (block : Option BlockLines) (s : DeltaState) (stands : StandsAfter bloc
   unfolding delta_end
   ended_early left e f = rw stands.faultless (rw e (rw f refl))
 
-  left_open : (block : Option BlockLines) (o : OpenLine) → outcome_within block (map delta_file_parsed (line_left_open (Some o))) ≡ ends_so (AtFault (at_line o.number (RequestCause (fault.Lex lex.DanglingEscape))))
+  left_open : (block : Option BlockLines) (o : OpenLine) → outcome_within block (map delta_file_parsed (line_left_open (Some o)))
+      ≡ ends_so (AtFault (at_line o.number (RequestCause (fault.Lex lex.DanglingEscape))))
   left_open None o = outcome_within-cons None _ []
   left_open (Some b) o = outcome_within-cons (Some b) _ []
 
-  left_within : (left : Option OpenLine) → s.begun ≡ true → said_by s.lexer.count (outcome_within block (map delta_file_parsed (line_left_open left))) ≡ record { statements = []; fault = Some (early_end s left) }
+  left_within : (left : Option OpenLine) → s.begun ≡ true → said_by s.lexer.count (outcome_within block (map delta_file_parsed (line_left_open left)))
+      ≡ record { statements = []; fault = Some (early_end s left) }
   left_within (Some o) e = ap (said_by s.lexer.count) (left_open block o)
   left_within None e = ap (said_by s.lexer.count) (outcome_within-nil block) ∙ rw e refl
 
@@ -83,8 +87,10 @@ abbrev behind : List StatementAt → DeltaRequests → DeltaRequests
 behind given later = record { statements = given ++ later.statements; fault = later.fault }
 
 module _ (count : ℕ) where
-  past_judged : (block : Option BlockLines) (s : DeltaState) (first : List ℕ) (lines : List (List ℕ)) (r : Step) → Judged block s first r → (s.ended ≡ false → count ≡ s.lexer.count + suc (length lines))
-      → ((next : Option BlockLines) (after : DeltaState) → StandsAfter next after → (after.ended ≡ false → count ≡ after.lexer.count + length lines) → answers_to after lines ≡ said_by count (outcome_from true next after lines))
+  past_judged : (block : Option BlockLines) (s : DeltaState) (first : List ℕ) (lines : List (List ℕ)) (r : Step) → Judged block s first r
+      → (s.ended ≡ false → count ≡ s.lexer.count + suc (length lines))
+      → ((next : Option BlockLines) (after : DeltaState) → StandsAfter next after → (after.ended ≡ false → count ≡ after.lexer.count + length lines)
+      → answers_to after lines ≡ said_by count (outcome_from true next after lines))
       → past_line r (λ after. answers_to after lines) ≡ said_by count (outcome_from true block s (first ∷ lines))
   past_judged block s first lines (Err f) h counted later = sym (ap (said_by count) (h true lines))
   past_judged block s first lines (Ok (given, after)) h counted later =
@@ -94,7 +100,8 @@ module _ (count : ℕ) where
       (λ (at : IsFaultBehind block s first given after). ap (behind given) (answers_faulty after at.fault lines at.stored) ∙ sym (ap (said_by count) (at.says true lines))) h
 
   -- what the lines ahead say is what handing them in answers
-  reads_ahead : (lines : List (List ℕ)) (block : Option BlockLines) (s : DeltaState) → StandsAfter block s → (s.ended ≡ false → count ≡ s.lexer.count + length lines) → answers_to s lines ≡ said_by count (outcome_from true block s lines)
+  reads_ahead : (lines : List (List ℕ)) (block : Option BlockLines) (s : DeltaState) → StandsAfter block s → (s.ended ≡ false → count ≡ s.lexer.count + length lines)
+      → answers_to s lines ≡ said_by count (outcome_from true block s lines)
   unfolding answers_to
   reads_ahead [] block s stands counted = ends_counted block s stands count s.ended refl counted
   reads_ahead (first ∷ lines) block s stands counted =
@@ -113,10 +120,12 @@ unfolding answers_so_far
 faulty_so_far s f [] e = ap (λ (o : Option DeltaFault). ends_so (end_so_far s o)) e
 faulty_so_far s f (line ∷ lines) e = ap (λ (r : Step). past_line_so_far r (λ after. answers_so_far after lines)) (faulty_line s f line e)
 
-undecided : (block : Option BlockLines) (s : DeltaState) (begun : Bool) → StandsAfter block s → s.ended ≡ false → s.begun ≡ begun → end_so_far s s.fault ≡ Undecided (if begun then NoEnd else NoCategory)
+undecided : (block : Option BlockLines) (s : DeltaState) (begun : Bool) → StandsAfter block s → s.ended ≡ false → s.begun ≡ begun
+    → end_so_far s s.fault ≡ Undecided (if begun then NoEnd else NoCategory)
 undecided block s begun stands e f = rw stands.faultless (rw e (rw f refl))
 
-stops_here : (block : Option BlockLines) (s : DeltaState) (ended begun : Bool) → StandsAfter block s → s.ended ≡ ended → s.begun ≡ begun → ends_so (end_so_far s s.fault) ≡ outcome_from false block s []
+stops_here : (block : Option BlockLines) (s : DeltaState) (ended begun : Bool) → StandsAfter block s → s.ended ≡ ended → s.begun ≡ begun
+    → ends_so (end_so_far s s.fault) ≡ outcome_from false block s []
 stops_here block s true begun stands e f = rw stands.faultless (rw e refl)
 stops_here block s false true stands e f =
     ap ends_so (undecided block s true stands e f)

@@ -14,8 +14,10 @@ use Rattle.coll_requests.specs.SessionLines.{opening_of, tokens_parsed, fault_pa
 use Rattle.coll_requests.specs.Parsing.{parsed_by, parsed_in}
 use Rattle.coll_requests.specs.Requests.{BlockLines, requests_at, block_after}
 use Rattle.coll_requests.specs.OpenBlocks.{kept_after, kept_requests_at, kept}
-use Rattle.coll_requests.specs.DeltaFiles.{DeltaOutcome, Ended, AtFault, Undecided, at_line, file_fault, ends_so, after_statements, statements_in, fault_under, ended_before, ends_category, by_fault, outcome_within, outcome_before}
-use Rattle.coll_requests.specs.DeltaReading.{DeltaState, first_delta, IsUnspoiled, Step, kept_fault_under, kept_ended_before, faulty, judged, by_parsed, by_outside, by_physical, by_where, unless_faulty, delta_line}
+use Rattle.coll_requests.specs.DeltaFiles.{DeltaOutcome, Ended, AtFault, Undecided, at_line, file_fault, ends_so, after_statements}
+use Rattle.coll_requests.specs.DeltaFiles.{statements_in, fault_under, ended_before, ends_category, by_fault, outcome_within, outcome_before}
+use Rattle.coll_requests.specs.DeltaReading.{DeltaState, first_delta, IsUnspoiled, Step, kept_fault_under, kept_ended_before, faulty}
+use Rattle.coll_requests.specs.DeltaReading.{judged, by_parsed, by_outside, by_physical, by_where, unless_faulty, delta_line}
 use Rattle.coll_requests.specs.declared.delta_faults.DeltaFault.{DeltaFault}
 use Rattle.coll_requests.specs.declared.delta_faults.DeltaCause.TheVariants.{Request as RequestCause, NoCategory, NoEnd}
 use Rattle.coll_requests.specs.declared.delta_files.StatementAt.{StatementAt}
@@ -36,15 +38,18 @@ pub outcome_before-nil : (ends : Bool) (s : LexerState) → outcome_before ends 
 unfolding outcome_before
 outcome_before-nil ends s = refl
 
-outcome_before-past : (ends : Bool) (s after : LexerState) (line : List ℕ) (lines : List (List ℕ)) → outside s line ≡ Ok (false, after) → outcome_before ends s (line ∷ lines) ≡ outcome_before ends after lines
+outcome_before-past : (ends : Bool) (s after : LexerState) (line : List ℕ) (lines : List (List ℕ)) → outside s line ≡ Ok (false, after)
+    → outcome_before ends s (line ∷ lines) ≡ outcome_before ends after lines
 unfolding outcome_before
 outcome_before-past ends s after line lines e = rw e refl
 
-outcome_before-found : (ends : Bool) (s after : LexerState) (line : List ℕ) (lines : List (List ℕ)) → outside s line ≡ Ok (true, after) → outcome_before ends s (line ∷ lines) ≡ outcome_within None (map delta_file_parsed (logical_lines [] ends after lines))
+outcome_before-found : (ends : Bool) (s after : LexerState) (line : List ℕ) (lines : List (List ℕ)) → outside s line ≡ Ok (true, after)
+    → outcome_before ends s (line ∷ lines) ≡ outcome_within None (map delta_file_parsed (logical_lines [] ends after lines))
 unfolding outcome_before
 outcome_before-found ends s after line lines e = rw e refl
 
-outcome_before-fault : (ends : Bool) (s : LexerState) (line : List ℕ) (lines : List (List ℕ)) (f : LexFault) → outside s line ≡ Err f → outcome_before ends s (line ∷ lines) ≡ ends_so (AtFault (at_line (number_of s) (RequestCause (fault.Lex f))))
+outcome_before-fault : (ends : Bool) (s : LexerState) (line : List ℕ) (lines : List (List ℕ)) (f : LexFault) → outside s line ≡ Err f
+    → outcome_before ends s (line ∷ lines) ≡ ends_so (AtFault (at_line (number_of s) (RequestCause (fault.Lex f))))
 unfolding outcome_before
 outcome_before-fault ends s line lines f e = rw e refl
 
@@ -52,7 +57,8 @@ pub outcome_within-nil : (block : Option BlockLines) → outcome_within block []
 unfolding outcome_within
 outcome_within-nil block = refl
 
-pub outcome_within-cons : (block : Option BlockLines) (line : ParsedLine) (lines : List ParsedLine) → outcome_within block (line ∷ lines) ≡ by_fault block line (fault_under block line) (outcome_within (block_after block line) lines)
+pub outcome_within-cons : (block : Option BlockLines) (line : ParsedLine) (lines : List ParsedLine)
+    → outcome_within block (line ∷ lines) ≡ by_fault block line (fault_under block line) (outcome_within (block_after block line) lines)
 unfolding outcome_within
 outcome_within-cons block line lines = refl
 
@@ -63,7 +69,8 @@ unfolding logical_lines served parsed_in
 parsed_ahead ends s line lines = by_answer (fed s line)
   where
     by_answer : (r : Result (Option Line × LexerState) LexFault)
-        → map delta_file_parsed (lines_by s line r ++ logical_lines [] ends (state_by s r) lines) ≡ option_to_list (parsed_by false (number_of s) (opening_of (first_line s line)) r) ++ map delta_file_parsed (logical_lines [] ends (state_by s r) lines)
+        → map delta_file_parsed (lines_by s line r ++ logical_lines [] ends (state_by s r) lines) ≡ option_to_list (parsed_by false (number_of s) (opening_of (first_line s line)) r)
+        ++ map delta_file_parsed (logical_lines [] ends (state_by s r) lines)
     by_answer (Ok (None, after)) = refl
     by_answer (Ok (Some given, after)) = refl
     by_answer (Err f) = refl
@@ -111,10 +118,12 @@ stands_first = record { stored = refl; sound = tt; faultless = refl; none_before
 pub from_ended : (ends : Bool) (block : Option BlockLines) (s : DeltaState) (lines : List (List ℕ)) → s.ended ≡ true → outcome_from ends block s lines ≡ ends_so Ended
 from_ended ends block s lines e = rw e refl
 
-pub from_within : (ends : Bool) (block : Option BlockLines) (s : DeltaState) (lines : List (List ℕ)) → s.ended ≡ false → s.begun ≡ true → outcome_from ends block s lines ≡ outcome_within block (map delta_file_parsed (logical_lines [] ends s.lexer lines))
+pub from_within : (ends : Bool) (block : Option BlockLines) (s : DeltaState) (lines : List (List ℕ)) → s.ended ≡ false → s.begun ≡ true
+    → outcome_from ends block s lines ≡ outcome_within block (map delta_file_parsed (logical_lines [] ends s.lexer lines))
 from_within ends block s lines e f = rw e (rw f refl)
 
-pub from_before : (ends : Bool) (block : Option BlockLines) (s : DeltaState) (lines : List (List ℕ)) → s.ended ≡ false → s.begun ≡ false → outcome_from ends block s lines ≡ outcome_before ends s.lexer lines
+pub from_before : (ends : Bool) (block : Option BlockLines) (s : DeltaState) (lines : List (List ℕ)) → s.ended ≡ false → s.begun ≡ false
+    → outcome_from ends block s lines ≡ outcome_before ends s.lexer lines
 from_before ends block s lines e f = rw e (rw f refl)
 
 -- a line that the lexer refuses is at fault
@@ -151,7 +160,14 @@ module _ (block : Option BlockLines) (s : DeltaState) (taken : List ℕ) (stands
         let counts = outside-one s.lexer after taken true e stands.few in
         inl (record {
           next = block;
-          stands = record { stored = stands.stored; sound = stands.sound; faultless = stands.faultless; none_before = λ n. absurd (false≢true (sym n)); closed = λ n. absurd (false≢true (sym n)); few = omega (arith, counts.0, counts.1) };
+          stands = record {
+            stored = stands.stored;
+            sound = stands.sound;
+            faultless = stands.faultless;
+            none_before = λ n. absurd (false≢true (sym n));
+            closed = λ n. absurd (false≢true (sym n));
+            few = omega (arith, counts.0, counts.1);
+          };
           went_on = λ n. going;
           counts = λ n. counts;
           says = λ ends lines.
@@ -164,7 +180,14 @@ module _ (block : Option BlockLines) (s : DeltaState) (taken : List ℕ) (stands
         let counts = outside-one s.lexer after taken false e stands.few in
         inl (record {
           next = block;
-          stands = record { stored = stands.stored; sound = stands.sound; faultless = stands.faultless; none_before = λ n. stands.none_before none; closed = λ n. outside-closed s.lexer after taken false e; few = omega (arith, counts.0, counts.1) };
+          stands = record {
+            stored = stands.stored;
+            sound = stands.sound;
+            faultless = stands.faultless;
+            none_before = λ n. stands.none_before none;
+            closed = λ n. outside-closed s.lexer after taken false e;
+            few = omega (arith, counts.0, counts.1);
+          };
           went_on = λ n. going;
           counts = λ n. counts;
           says = λ ends lines.
@@ -186,10 +209,18 @@ module _ (block : Option BlockLines) (s : DeltaState) (taken : List ℕ) (stands
           ∙ ap (λ (t : LexerState). outcome_within block (option_to_list h ++ map delta_file_parsed (logical_lines [] ends t lines))) f))
 
       -- a line that ends no logical line
-      judged_none : (after : LexerState) → parsed_in false false s.lexer taken ≡ None → state_by s.lexer (fed s.lexer taken) ≡ after → CountsOne s.lexer after → Judged block s taken (Ok ([], record s { lexer = after }))
+      judged_none : (after : LexerState) → parsed_in false false s.lexer taken ≡ None → state_by s.lexer (fed s.lexer taken) ≡ after → CountsOne s.lexer after
+          → Judged block s taken (Ok ([], record s { lexer = after }))
       judged_none after e f counts = inl (record {
         next = block;
-        stands = record { stored = stands.stored; sound = stands.sound; faultless = stands.faultless; none_before = stands.none_before; closed = λ n. absurd (false≢true (sym n ∙ within)); few = omega (arith, counts.0, counts.1) };
+        stands = record {
+          stored = stands.stored;
+          sound = stands.sound;
+          faultless = stands.faultless;
+          none_before = stands.none_before;
+          closed = λ n. absurd (false≢true (sym n ∙ within));
+          few = omega (arith, counts.0, counts.1);
+        };
         went_on = λ n. going;
         counts = λ n. counts;
         says = λ ends lines. ahead None after e f ends lines ∙ sym (from_within ends block (record s { lexer = after }) lines going within);
@@ -212,12 +243,14 @@ module _ (block : Option BlockLines) (s : DeltaState) (taken : List ℕ) (stands
         ended_for : statements_in (ended_before block line.parsed) ≡ statements_in (kept_ended_before s.block line.parsed)
         ended_for = ap statements_in (sym (ap (λ (b : Option OpenBlock). kept_ended_before b line.parsed) stands.stored ∙ ended_step block line.parsed))
 
-        says_fault : (at : FaultAt) (given : List StatementAt) → kept_fault_under s.block line ≡ Some at → statements_in (kept_ended_before s.block line.parsed) ≡ given → (ends : Bool) (lines : List (List ℕ))
+        says_fault : (at : FaultAt) (given : List StatementAt) → kept_fault_under s.block line ≡ Some at → statements_in (kept_ended_before s.block line.parsed) ≡ given
+            → (ends : Bool) (lines : List (List ℕ))
             → outcome_from ends block s (taken ∷ lines) ≡ after_statements given (ends_so (AtFault (file_fault at)))
         says_fault at given g same ends lines = says_by (Some at) g ends lines ∙ ap (λ (us : List StatementAt). after_statements us (ends_so (AtFault (file_fault at)))) (ended_for ∙ same)
 
         -- a line at fault
-        judged_fault : (at : FaultAt) (given : List StatementAt) → kept_fault_under s.block line ≡ Some at → statements_in (kept_ended_before s.block line.parsed) ≡ given → Judged block s taken (faulty (record s { lexer = after }) (file_fault at) given)
+        judged_fault : (at : FaultAt) (given : List StatementAt) → kept_fault_under s.block line ≡ Some at → statements_in (kept_ended_before s.block line.parsed) ≡ given
+            → Judged block s taken (faulty (record s { lexer = after }) (file_fault at) given)
         judged_fault at [] g same = says_fault at [] g same
         judged_fault at (first ∷ more) g same = inr (record { fault = file_fault at; stored = refl; says = says_fault at (first ∷ more) g same })
 
@@ -240,13 +273,15 @@ module _ (block : Option BlockLines) (s : DeltaState) (taken : List ℕ) (stands
           };
           went_on = λ n. going;
           counts = λ n. counts;
-          says = λ ends lines. says_by None g ends lines ∙ (ap (λ (us : List StatementAt). after_statements us (unless_ended ends lines)) given_for ∙ ap (after_statements (statements_in (kept_requests_at s.block line))) (later ended is ends lines));
+          says = λ ends lines. says_by None g ends lines ∙ (ap (λ (us : List StatementAt). after_statements us (unless_ended ends lines)) given_for
+              ∙ ap (after_statements (statements_in (kept_requests_at s.block line))) (later ended is ends lines));
         } where
           unless_ended : Bool → List (List ℕ) → DeltaOutcome
           unless_ended ends lines = if ends_category line.parsed then ends_so Ended else outcome_within (block_after block line) (map delta_file_parsed (logical_lines [] ends after lines))
 
           later : (ended : Bool) → ends_category line.parsed ≡ ended → (ends : Bool) (lines : List (List ℕ))
-              → (if ends_category line.parsed then ends_so Ended else outcome_within (block_after block line) (map delta_file_parsed (logical_lines [] ends after lines))) ≡ outcome_from ends (block_after block line) (record s { lexer = after; block = kept_after s.block line; ended = ended }) lines
+              → (if ends_category line.parsed then ends_so Ended else outcome_within (block_after block line) (map delta_file_parsed (logical_lines [] ends after lines)))
+              ≡ outcome_from ends (block_after block line) (record s { lexer = after; block = kept_after s.block line; ended = ended }) lines
           later true is ends lines = rw is refl
           later false is ends lines = rw is (sym (from_within ends (block_after block line) (record s { lexer = after; block = kept_after s.block line; ended = false }) lines refl within))
 
@@ -278,9 +313,11 @@ module _ (block : Option BlockLines) (s : DeltaState) (taken : List ℕ) (stands
           by_answer (Err f) e =
               let line : ParsedLine = record { number = number_of s.lexer; parsed = fault_parsed (opening_of (first_line s.lexer taken)) f } in
               subst (Judged block s taken) (sym (is_physical (Err f) e))
-              (judged_parsed line (dropped s.lexer) (ap parsed_as e) (ap (state_by s.lexer) e) (kept_fault_under s.block line) refl (λ none. absurd (at_fault s.block line.number (opening_of (first_line s.lexer taken)) f none)))
+              (judged_parsed line (dropped s.lexer) (ap parsed_as e) (ap (state_by s.lexer) e) (kept_fault_under s.block line) refl
+              (λ none. absurd (at_fault s.block line.number (opening_of (first_line s.lexer taken)) f none)))
 
-  judged_where : (ended begun : Bool) → s.ended ≡ ended → s.begun ≡ begun → Judged block s taken (if ended then Ok ([], s) else (if begun then by_physical s taken else by_outside s (outside s.lexer taken)))
+  judged_where : (ended begun : Bool) → s.ended ≡ ended → s.begun ≡ begun
+      → Judged block s taken (if ended then Ok ([], s) else (if begun then by_physical s taken else by_outside s (outside s.lexer taken)))
   judged_where true begun e f = judged_behind e
   judged_where false true e f = judged_within e f
   judged_where false false e f = judged_outside e (outside s.lexer taken) f refl

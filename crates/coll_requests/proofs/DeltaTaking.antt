@@ -18,7 +18,8 @@ use Rattle.coll_requests.specs.OpenBlocks.{open_at, kept_by, kept_after, kept_re
 use Rattle.coll_requests.specs.Taking.{IsOrder, TakesParsing}
 use Rattle.coll_requests.specs.DeltaFaults.{lacks_memory}
 use Rattle.coll_requests.specs.DeltaFiles.{file_fault, statements_in, ends_category}
-use Rattle.coll_requests.specs.DeltaReading.{DeltaState, Unspoiled, IsUnspoiled, kept_fault_under, kept_ended_before, faulty, judged, by_parsed, by_physical, is_lack, is_order, IsWanting, refuses, is_refused, is_starved, leaves_lack}
+use Rattle.coll_requests.specs.DeltaReading.{DeltaState, Unspoiled, IsUnspoiled, kept_fault_under, kept_ended_before, faulty, judged, by_parsed}
+use Rattle.coll_requests.specs.DeltaReading.{by_physical, is_lack, is_order, IsWanting, refuses, is_refused, is_starved, leaves_lack}
 use Rattle.coll_requests.specs.declared.delta_faults.DeltaFault.{DeltaFault}
 use Rattle.coll_requests.specs.declared.delta_files.StatementAt.{StatementAt}
 use Rattle.coll_requests.specs.declared.parsing.Parsing.{Parsing}
@@ -43,13 +44,16 @@ Answer = Result (Option StatementAt) DeltaFault
 
 module _ (s new : DeltaState) (line : ParsedLine) (at : FaultAt) (r : Answer) (is : Some at ≡ kept_fault_under s.block line) where
   -- what is given before its fault
-  pub fault_given : IfOk r (λ given. faulty s (file_fault at) (statements_in (kept_ended_before s.block line.parsed)) ≡ Ok (option_to_list given, new)) → IfOk r (λ given. judged s line (kept_fault_under s.block line) ≡ Ok (option_to_list given, new))
+  pub fault_given : IfOk r (λ given. faulty s (file_fault at) (statements_in (kept_ended_before s.block line.parsed)) ≡ Ok (option_to_list given, new))
+      → IfOk r (λ given. judged s line (kept_fault_under s.block line) ≡ Ok (option_to_list given, new))
   fault_given h = subst (λ (f : Option FaultAt). IfOk r (λ given. judged s line f ≡ Ok (option_to_list given, new))) is h
 
-  pub fault_answered : IfErr r (λ f. faulty s (file_fault at) (statements_in (kept_ended_before s.block line.parsed)) ≡ Err f) → IfErr r (λ f. lacks_memory f.cause ≡ false → judged s line (kept_fault_under s.block line) ≡ Err f)
+  pub fault_answered : IfErr r (λ f. faulty s (file_fault at) (statements_in (kept_ended_before s.block line.parsed)) ≡ Err f)
+      → IfErr r (λ f. lacks_memory f.cause ≡ false → judged s line (kept_fault_under s.block line) ≡ Err f)
   fault_answered h = subst (λ (f : Option FaultAt). IfErr r (λ e. lacks_memory e.cause ≡ false → judged s line f ≡ Err e)) is (by_answer r h)
     where
-      by_answer : (r : Answer) → IfErr r (λ f. faulty s (file_fault at) (statements_in (kept_ended_before s.block line.parsed)) ≡ Err f) → IfErr r (λ f. lacks_memory f.cause ≡ false → faulty s (file_fault at) (statements_in (kept_ended_before s.block line.parsed)) ≡ Err f)
+      by_answer : (r : Answer) → IfErr r (λ f. faulty s (file_fault at) (statements_in (kept_ended_before s.block line.parsed)) ≡ Err f)
+          → IfErr r (λ f. lacks_memory f.cause ≡ false → faulty s (file_fault at) (statements_in (kept_ended_before s.block line.parsed)) ≡ Err f)
       by_answer (Ok given) h = tt
       by_answer (Err f) h = λ _. h
 
@@ -112,13 +116,15 @@ request_refused None requests e refused = sym (ap head_refused (sym e)) ∙ refu
 request_refused (Some request) requests e refused = ap head_refused e ∙ refused
 
 -- where memory is refused to a line, the block after it says so, or its request
-starved_shows : (block next : Option OpenBlock) (request : Option RequestAt) (n : ℕ) (o : Opening) → IsUnspoiled block → next ≡ kept_by block n (no_memory o) → option_to_list request ≡ kept_requests_by block n (no_memory o) → (is_starved next || is_refused request) ≡ true
+starved_shows : (block next : Option OpenBlock) (request : Option RequestAt) (n : ℕ) (o : Opening) → IsUnspoiled block → next ≡ kept_by block n (no_memory o)
+    → option_to_list request ≡ kept_requests_by block n (no_memory o) → (is_starved next || is_refused request) ≡ true
 starved_shows None next request n opening.ReorderAfter sound kept completes = first_of_two (is_starved next) (is_refused request) (ap is_starved kept)
 starved_shows None next request n opening.ReorderEnd sound kept completes = second_of_two (is_starved next) (is_refused request) (request_refused request _ completes refl)
 starved_shows None next request n opening.Neither sound kept completes = second_of_two (is_starved next) (is_refused request) (request_refused request _ completes refl)
 starved_shows (Some block) next request n o sound kept completes = by_block block.line block.so_far o sound kept completes
   where
-    by_block : (l : ℕ) (so_far : BlockStatus) (o : Opening) → Unspoiled so_far → next ≡ kept_by (Some (open_at l so_far)) n (no_memory o) → option_to_list request ≡ kept_requests_by (Some (open_at l so_far)) n (no_memory o) → (is_starved next || is_refused request) ≡ true
+    by_block : (l : ℕ) (so_far : BlockStatus) (o : Opening) → Unspoiled so_far → next ≡ kept_by (Some (open_at l so_far)) n (no_memory o)
+        → option_to_list request ≡ kept_requests_by (Some (open_at l so_far)) n (no_memory o) → (is_starved next || is_refused request) ≡ true
     by_block l (Building g) opening.ReorderAfter sound kept completes = first_of_two (is_starved next) (is_refused request) (ap is_starved kept)
     by_block l (Building g) opening.ReorderEnd sound kept completes = second_of_two (is_starved next) (is_refused request) (request_refused request _ completes refl)
     by_block l (Building g) opening.Neither sound kept completes = first_of_two (is_starved next) (is_refused request) (ap is_starved kept)
@@ -126,7 +132,8 @@ starved_shows (Some block) next request n o sound kept completes = by_block bloc
     by_block l (Starved line) o sound kept completes = absurd sound
 
 -- so a line that leaves no such thing was taken as it is
-taken_whole : (starved : Bool) (block next : Option OpenBlock) (h : Parsing) (request : Option RequestAt) → IsUnspoiled block → TakesParsing starved block h next request → leaves_lack (is_order h.line.parsed) next request ≡ false → TakesParsing false block h next request
+taken_whole : (starved : Bool) (block next : Option OpenBlock) (h : Parsing) (request : Option RequestAt) → IsUnspoiled block → TakesParsing starved block h next request
+    → leaves_lack (is_order h.line.parsed) next request ≡ false → TakesParsing false block h next request
 unfolding kept_after kept_requests_at
 taken_whole false block next h request sound taken served = taken
 taken_whole true block next h request sound taken served =
@@ -135,11 +142,14 @@ taken_whole true block next h request sound taken served =
     absurd (false≢true (sym served ∙ both (is_order h.line.parsed) (is_starved next || is_refused request) order shows))
 
 -- the same of what the reader's block was
-pub taken_unless_lacking : (starved : Bool) (block was next : Option OpenBlock) (h : Parsing) (request : Option RequestAt) (order : Bool) → IsUnspoiled block → was ≡ block → TakesParsing starved was h next request → order ≡ is_order h.line.parsed → false ≡ leaves_lack order next request → TakesParsing false block h next request
+pub taken_unless_lacking : (starved : Bool) (block was next : Option OpenBlock) (h : Parsing) (request : Option RequestAt) (order : Bool) → IsUnspoiled block → was ≡ block
+    → TakesParsing starved was h next request → order ≡ is_order h.line.parsed → false ≡ leaves_lack order next request → TakesParsing false block h next request
 taken_unless_lacking starved block was next h request order sound is taken ordered served =
-    taken_whole starved block next h request sound (subst (λ (b : Option OpenBlock). TakesParsing starved b h next request) is taken) (sym (served ∙ ap (λ (o : Bool). leaves_lack o next request) ordered))
+    taken_whole starved block next h request sound (subst (λ (b : Option OpenBlock). TakesParsing starved b h next request) is taken)
+    (sym (served ∙ ap (λ (o : Bool). leaves_lack o next request) ordered))
 
-unless_full : (full : Bool) (at : FaultAt) (spoiled : FaultAt) (so_far : BlockStatus) → Unspoiled so_far → (if full then Some at else None) ≡ None → Unspoiled (if full then Spoiled spoiled else so_far)
+unless_full : (full : Bool) (at : FaultAt) (spoiled : FaultAt) (so_far : BlockStatus) → Unspoiled so_far → (if full then Some at else None) ≡ None
+    → Unspoiled (if full then Spoiled spoiled else so_far)
 unless_full true at spoiled so_far sound e = absurd cc
 unless_full false at spoiled so_far sound e = sound
 
@@ -148,7 +158,8 @@ pub unspoiled_after : (block : Option OpenBlock) (line : ParsedLine) → IsUnspo
 unfolding kept_after
 unspoiled_after block line sound faultless = by_parsed block line.number line.parsed sound faultless
   where
-    inside : (l : ℕ) (so_far : BlockStatus) (n : ℕ) (order : OrderLine) → Unspoiled so_far → kept_fault_under (Some (open_at l so_far)) (record { number = n; parsed = parsed.OrderLine order }) ≡ None → IsUnspoiled (kept_by (Some (open_at l so_far)) n (parsed.OrderLine order))
+    inside : (l : ℕ) (so_far : BlockStatus) (n : ℕ) (order : OrderLine) → Unspoiled so_far → kept_fault_under (Some (open_at l so_far)) (record { number = n; parsed = parsed.OrderLine order }) ≡ None
+        → IsUnspoiled (kept_by (Some (open_at l so_far)) n (parsed.OrderLine order))
     inside l (Building g) n order sound e = unless_full _ _ _ _ tt e
     inside l (Spoiled at) n order sound e = absurd sound
     inside l (Starved first) n order sound e = absurd sound
@@ -167,7 +178,8 @@ unspoiled_after block line sound faultless = by_parsed block line.number line.pa
     by_parsed (Some block) n (parsed.Standalone a) sound e = absurd cc
 
 -- what is given for it, and what is stored then
-pub accepted_answer : (s : DeltaState) (next : Option OpenBlock) (request : Option RequestAt) (h : Parsing) (given : List StatementAt) (ended : Bool) → TakesParsing false s.block h next request → given ≡ statements_in (option_to_list request) → ended ≡ ends_category h.line.parsed
+pub accepted_answer : (s : DeltaState) (next : Option OpenBlock) (request : Option RequestAt) (h : Parsing) (given : List StatementAt) (ended : Bool) → TakesParsing false s.block h next request
+    → given ≡ statements_in (option_to_list request) → ended ≡ ends_category h.line.parsed
     → judged s h.line None ≡ Ok (given, record s { block = next; ended = ended })
 accepted_answer s next request h given ended taken is ends = rw (taken.kept, is, taken.completes, ends) refl
 
@@ -187,12 +199,14 @@ no_memory_lacks : (block : Option OpenBlock) (n : ℕ) (o : Opening) → is_lack
 no_memory_lacks None n o = refl
 no_memory_lacks (Some block) n o = refl
 
-pub spared_whole : (block : Option OpenBlock) (starved : Bool) (old new : LexerState) (line : List ℕ) (h : Option ParsedLine) → Parses false starved old new line h → IsSpared block h → IsWhole old new line h
+pub spared_whole : (block : Option OpenBlock) (starved : Bool) (old new : LexerState) (line : List ℕ) (h : Option ParsedLine) → Parses false starved old new line h → IsSpared block h
+    → IsWhole old new line h
 unfolding parsed_in served
 spared_whole block false old new line h parses spared = record { parsed_is = sym parses.parsed_is; stands = parses.stands }
 spared_whole block true old new line h parses spared = by_choice (takes_memory old line) parses.parsed_is parses.stands
   where
-    by_choice : (b : Bool) → h ≡ parsed_by false (number_of old) (opening_of (first_line old line)) (if b then Err lex.OutOfMemory else fed old line) → new ≡ state_by old (if b then Err lex.OutOfMemory else fed old line) → IsWhole old new line h
+    by_choice : (b : Bool) → h ≡ parsed_by false (number_of old) (opening_of (first_line old line)) (if b then Err lex.OutOfMemory else fed old line)
+        → new ≡ state_by old (if b then Err lex.OutOfMemory else fed old line) → IsWhole old new line h
     by_choice true is stands =
         absurd (false≢true (sym (subst (IsSpared block) is spared) ∙ no_memory_lacks block (number_of old) (opening_of (first_line old line))))
     by_choice false is stands = record { parsed_is = sym is; stands = stands }
@@ -206,11 +220,13 @@ module _ (s : DeltaState) (starved : Bool) (new : LexerState) (line : List ℕ) 
   whole_by : is_lack (kept_fault_under s.block h) ≡ false → by_physical s line ≡ by_parsed (record s { lexer = new }) (Some h)
   whole_by spared = physical_by s new line (Some h) (spared_whole s.block starved s.lexer new line (Some h) parses spared)
 
-  pub physical_given : (after : DeltaState) (r : Answer) → OnOk r (is_lack (kept_fault_under s.block h) ≡ false) → IfOk r (λ given. by_parsed (record s { lexer = new }) (Some h) ≡ Ok (option_to_list given, after)) → IfOk r (λ given. by_physical s line ≡ Ok (option_to_list given, after))
+  pub physical_given : (after : DeltaState) (r : Answer) → OnOk r (is_lack (kept_fault_under s.block h) ≡ false)
+      → IfOk r (λ given. by_parsed (record s { lexer = new }) (Some h) ≡ Ok (option_to_list given, after)) → IfOk r (λ given. by_physical s line ≡ Ok (option_to_list given, after))
   physical_given after (Ok given) spared is = whole_by spared ∙ is
   physical_given after (Err f) spared is = tt
 
-  pub physical_refused : (r : Answer) → IfErr r (λ f. lacks_memory f.cause ≡ false → is_lack (kept_fault_under s.block h) ≡ false) → IfErr r (λ f. lacks_memory f.cause ≡ false → by_parsed (record s { lexer = new }) (Some h) ≡ Err f) → IfErr r (λ f. lacks_memory f.cause ≡ false → by_physical s line ≡ Err f)
+  pub physical_refused : (r : Answer) → IfErr r (λ f. lacks_memory f.cause ≡ false → is_lack (kept_fault_under s.block h) ≡ false)
+      → IfErr r (λ f. lacks_memory f.cause ≡ false → by_parsed (record s { lexer = new }) (Some h) ≡ Err f) → IfErr r (λ f. lacks_memory f.cause ≡ false → by_physical s line ≡ Err f)
   physical_refused (Ok given) spared is = tt
   physical_refused (Err f) spared is = λ lack. whole_by (spared lack) ∙ is lack
 
@@ -282,11 +298,13 @@ module _ (s : LexerState) (line : List ℕ) where
   unfolding parsed_in
   wanting_takes block starved new h parses lack = by_answer (served starved s line) refl (subst (IsWantingIf block) parses.parsed_is lack)
     where
-      by_answer : (r : Result (Option Line × LexerState) LexFault) → served starved s line ≡ r → IsWantingIf block (parsed_by false (number_of s) (opening_of (first_line s line)) r) → takes_memory s line ≡ true
+      by_answer : (r : Result (Option Line × LexerState) LexFault) → served starved s line ≡ r → IsWantingIf block (parsed_by false (number_of s) (opening_of (first_line s line)) r)
+          → takes_memory s line ≡ true
       by_answer (Ok (None, after)) e lack = absurd lack
       by_answer (Ok (Some given, after)) e lack = fed-takes s line given after (served_fed starved s line (Some given, after) e)
       by_answer (Err f) e lack = refused_takes starved f e (fault_lacks block (number_of s) (opening_of (first_line s line)) f lack)
 
-  pub physical_takes : (block : Option OpenBlock) (starved : Bool) (new : LexerState) (h : ParsedLine) (r : Answer) → Parses false starved s new line (Some h) → IfErr r (λ f. lacks_memory f.cause ≡ true → IsWanting block h) → IfErr r (λ f. lacks_memory f.cause ≡ true → IsTrue (takes_memory s line))
+  pub physical_takes : (block : Option OpenBlock) (starved : Bool) (new : LexerState) (h : ParsedLine) (r : Answer) → Parses false starved s new line (Some h)
+      → IfErr r (λ f. lacks_memory f.cause ≡ true → IsWanting block h) → IfErr r (λ f. lacks_memory f.cause ≡ true → IsTrue (takes_memory s line))
   physical_takes block starved new h (Ok given) parses lacks = tt
   physical_takes block starved new h (Err f) parses lacks = λ lack. wanting_takes block starved new h parses (lacks lack)

@@ -49,7 +49,8 @@ pub tokens_go_on : (commands : Bool) (o : Opening) (tokens : List Token) → sto
 unfolding tokens_parsed
 tokens_go_on commands o [] = delta_goes_on o (delta_line [])
 tokens_go_on commands o (first ∷ rest) =
-    neither_stops (commands && is_command first) (command_parsed (command_of first rest)) (delta_parsed o (delta_line (first ∷ rest))) (command_goes_on (command_of first rest)) (delta_goes_on o (delta_line (first ∷ rest)))
+    neither_stops (commands && is_command first) (command_parsed (command_of first rest)) (delta_parsed o (delta_line (first ∷ rest))) (command_goes_on (command_of first rest))
+    (delta_goes_on o (delta_line (first ∷ rest)))
 
 -- a fault of a line that is handed in ends a session where it ends a text
 fault_ends : (o : Opening) (f stop : LexFault) → (lex_fault_number f == 9) ≡ false → stop_of (fault_parsed o f) ≡ Some stop → ends_text stop ≡ true
@@ -80,7 +81,8 @@ pub parsed_ends : (commands starved : Bool) (s : LexerState) (line : List ℕ) (
 unfolding parsed_in
 parsed_ends commands starved s line stop e = by_answer (served starved s line) (λ f. served-not_dangling starved s line f) e
   where
-    by_answer : (r : Result (Option Line × LexerState) LexFault) → ((f : LexFault) → r ≡ Err f → (lex_fault_number f == 9) ≡ false) → stop_at (parsed_by commands (number_of s) (opening_of (first_line s line)) r) ≡ Some stop → ends_text stop ≡ true
+    by_answer : (r : Result (Option Line × LexerState) LexFault) → ((f : LexFault) → r ≡ Err f → (lex_fault_number f == 9) ≡ false)
+        → stop_at (parsed_by commands (number_of s) (opening_of (first_line s line)) r) ≡ Some stop → ends_text stop ≡ true
     by_answer (Ok (None, after)) within e = absurd cc
     by_answer (Ok (Some given, after)) within e =
         let both : None ≡ Some stop = sym (tokens_go_on commands (opening_of (first_line s line)) given.tokens) ∙ e in

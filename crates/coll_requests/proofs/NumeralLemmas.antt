@@ -1,5 +1,6 @@
 -- A text is the same numeral by its bytes and by its characters, and its number has at most nine digits.
-use Rattle.std.proofs.Common.{◌≡◌, ℕ, ◌<◌, ◌≤◌, ◌^◌, min, zero, suc, ◌==◌, ◌&&◌, nat_le, Bool, true, false, if◌then◌else◌, List, [], ◌∷◌, length, chars, IsUtf8, IsAscii, encode_utf8_all, Some, None, refl, ap, sym, ◌∙◌, arith, rules}
+use Rattle.std.proofs.Common.{◌≡◌, ℕ, ◌<◌, ◌≤◌, ◌^◌, min, zero, suc, ◌==◌, ◌&&◌, nat_le, Bool, true, false, if◌then◌else◌, List, [], ◌∷◌}
+use Rattle.std.proofs.Common.{length, chars, IsUtf8, IsAscii, encode_utf8_all, Some, None, refl, ap, sym, ◌∙◌, arith, rules}
 use Rattle.std.specs.Prelude.{◌+◌, ◌*◌, fold}
 use Rattle.std.specs.Char.{digit_value}
 use Rattle.std.specs.List.{list_all}
@@ -50,7 +51,8 @@ capped : (ds : List ℕ) (b : Bool) → list_all is_digit ds ≡ b → length ds
 capped ds false e h = refl
 capped ds true e h = let small : decimal_number ds < 10 ^ 9 = digits_value_short own ds 9 e h in ap Some (min-eq_left (omega (arith, small)))
 
-pub numeral_in_digits : (bs : List ℕ) → IsUtf8 bs → false ≡ (length bs == 0) → length bs ≤ 9 → (if list_all is_digit bs then Some (min (decimal_number bs) PAST_NUMERALS) else None) ≡ numeral_of (chars bs)
+pub numeral_in_digits : (bs : List ℕ) → IsUtf8 bs → false ≡ (length bs == 0) → length bs ≤ 9 → (if list_all is_digit bs then Some (min (decimal_number bs) PAST_NUMERALS) else None)
+    ≡ numeral_of (chars bs)
 numeral_in_digits bs u some h =
     let enough : nat_le 1 (length bs) ≡ true = grind (arith, nat_tests) in
     let few : nat_le (length bs) 9 ≡ true = grind (arith, nat_tests) in

@@ -23,7 +23,8 @@ pub opens_as_none : (s : LexerState) (opening : Opening) → s.line ≡ None →
 unfolding OpensAs
 opens_as_none s opening none some = absurd (false≢true (sym (ap is_some none) ∙ some))
 
-pub opens_as_next : (s after : LexerState) (line : List ℕ) (answer : Option Line) (opening : Opening) → fed s line ≡ Ok (answer, after) → opening ≡ opening_of (first_line s line) → OpensAs after opening
+pub opens_as_next : (s after : LexerState) (line : List ℕ) (answer : Option Line) (opening : Opening) → fed s line ≡ Ok (answer, after) → opening ≡ opening_of (first_line s line)
+    → OpensAs after opening
 unfolding OpensAs
 opens_as_next s after line answer opening e is some =
     ⊎_elim (λ (none : after.line ≡ None). absurd (false≢true (sym (ap is_some none) ∙ some)))
@@ -70,7 +71,8 @@ served_starved s line takes = ap (λ (b : Bool). if b then Err lex.OutOfMemory e
 abbrev pub numbered : ℕ → Parsed → ParsedLine
 numbered n h = record { number = n; parsed = h }
 
-pub parsed_starved : (commands : Bool) (s after : LexerState) (line : List ℕ) (opening : Opening) (parsed : ParsedLine) → opening ≡ opening_of (first_line s line) → after ≡ dropped s → parsed ≡ numbered (number_of s) (no_memory opening) → takes_memory s line ≡ true → Parses commands true s after line (Some parsed)
+pub parsed_starved : (commands : Bool) (s after : LexerState) (line : List ℕ) (opening : Opening) (parsed : ParsedLine) → opening ≡ opening_of (first_line s line) → after ≡ dropped s
+    → parsed ≡ numbered (number_of s) (no_memory opening) → takes_memory s line ≡ true → Parses commands true s after line (Some parsed)
 unfolding parsed_in
 parsed_starved commands s after line opening parsed is stands was takes =
     let e = served_starved s line takes in
@@ -79,7 +81,8 @@ parsed_starved commands s after line opening parsed is stands was takes =
       stands = stands ∙ ap (state_by s) (sym e);
     }
 
-parsed_fault : (commands : Bool) (s after : LexerState) (line : List ℕ) (opening : Opening) (f : LexFault) (parsed : ParsedLine) → opening ≡ opening_of (first_line s line) → after ≡ dropped s → fed s line ≡ Err f → parsed ≡ numbered (number_of s) (fault_parsed opening f) → Parses commands false s after line (Some parsed)
+parsed_fault : (commands : Bool) (s after : LexerState) (line : List ℕ) (opening : Opening) (f : LexFault) (parsed : ParsedLine) → opening ≡ opening_of (first_line s line) → after ≡ dropped s
+    → fed s line ≡ Err f → parsed ≡ numbered (number_of s) (fault_parsed opening f) → Parses commands false s after line (Some parsed)
 unfolding served parsed_in
 parsed_fault commands s after line opening f parsed is stands e was = record {
   parsed_is = ap Some was ∙ ap (λ (o : Opening). Some (numbered (number_of s) (fault_parsed o f))) is ∙ ap (parsed_by commands (number_of s) (opening_of (first_line s line))) (sym e);
@@ -87,8 +90,10 @@ parsed_fault commands s after line opening f parsed is stands e was = record {
 }
 
 -- a line at fault
-pub parses_fault : (commands : Bool) (s after : LexerState) (line : List ℕ) (opening : Opening) (f : LexFault) (parsed : ParsedLine) (number : ℕ) → opening ≡ opening_of (first_line s line) → number ≡ number_of s → after ≡ dropped s
-    → (f ≢ lex.OutOfMemory → fed s line ≡ Err f) → (f ≡ lex.OutOfMemory → IsTrue (takes_memory s line)) → parsed ≡ numbered number (fault_parsed opening f) → (starved : Bool) × Parses commands starved s after line (Some parsed)
+pub parses_fault : (commands : Bool) (s after : LexerState) (line : List ℕ) (opening : Opening) (f : LexFault) (parsed : ParsedLine) (number : ℕ) → opening ≡ opening_of (first_line s line)
+    → number ≡ number_of s → after ≡ dropped s
+    → (f ≢ lex.OutOfMemory → fed s line ≡ Err f) → (f ≡ lex.OutOfMemory → IsTrue (takes_memory s line)) → parsed ≡ numbered number (fault_parsed opening f) → (starved : Bool)
+    × Parses commands starved s after line (Some parsed)
 parses_fault commands s after line opening f parsed number is number_is stands e memory was =
     let at : parsed ≡ numbered (number_of s) (fault_parsed opening f) = was ∙ ap (λ (n : ℕ). numbered n (fault_parsed opening f)) number_is in
     ⊎_elim
@@ -103,7 +108,8 @@ unfolding served parsed_in
 parses_none commands s after line e =
     (false, record { parsed_is = ap (parsed_by commands (number_of s) (opening_of (first_line s line))) (sym e); stands = ap (state_by s) (sym e) })
 
-parsed_whole : (commands : Bool) (s after : LexerState) (line : List ℕ) (opening : Opening) (given : Line) (parsed : ParsedLine) → opening ≡ opening_of (first_line s line) → fed s line ≡ Ok (Some given, after) → parsed ≡ numbered (number_of s) (tokens_parsed commands opening given.tokens) → Parses commands false s after line (Some parsed)
+parsed_whole : (commands : Bool) (s after : LexerState) (line : List ℕ) (opening : Opening) (given : Line) (parsed : ParsedLine) → opening ≡ opening_of (first_line s line)
+    → fed s line ≡ Ok (Some given, after) → parsed ≡ numbered (number_of s) (tokens_parsed commands opening given.tokens) → Parses commands false s after line (Some parsed)
 unfolding served parsed_in
 parsed_whole commands s after line opening given parsed is e was = record {
   parsed_is = ap Some was ∙ ap (λ (n : ℕ). Some (numbered n (tokens_parsed commands opening given.tokens))) (sym (fed-number s line given after e))
@@ -112,14 +118,16 @@ parsed_whole commands s after line opening given parsed is e was = record {
 }
 
 -- a line that ends a logical line, where memory may be refused for what it says
-pub parses_whole : (commands : Bool) (s after : LexerState) (line : List ℕ) (opening : Opening) (given : Line) (h : Parsed) (number : ℕ) → opening ≡ opening_of (first_line s line) → number ≡ number_of s → fed s line ≡ Ok (Some given, after)
+pub parses_whole : (commands : Bool) (s after : LexerState) (line : List ℕ) (opening : Opening) (given : Line) (h : Parsed) (number : ℕ) → opening ≡ opening_of (first_line s line)
+    → number ≡ number_of s → fed s line ≡ Ok (Some given, after)
     → ParsesTokens commands opening given.tokens h → (memory : Bool) × Parses commands memory s after line (Some (numbered number h))
 parses_whole commands s after line opening given h number is number_is e was = by_choice was.0 was.1
   where
     at : numbered number h ≡ numbered (number_of s) h
     at = ap (λ (n : ℕ). numbered n h) number_is
 
-    by_choice : (starved : Bool) → h ≡ (if starved then no_memory opening else tokens_parsed commands opening given.tokens) → (memory : Bool) × Parses commands memory s after line (Some (numbered number h))
+    by_choice : (starved : Bool) → h ≡ (if starved then no_memory opening else tokens_parsed commands opening given.tokens) → (memory : Bool)
+        × Parses commands memory s after line (Some (numbered number h))
     by_choice true was =
         (true, parsed_starved commands s after line opening (numbered number h) is (fed-whole s line given after e) (at ∙ ap (numbered (number_of s)) was) (fed-takes s line given after e))
     by_choice false was = (false, parsed_whole commands s after line opening given (numbered number h) is e (at ∙ ap (numbered (number_of s)) was))

@@ -18,7 +18,8 @@ use Rattle.coll_requests.specs.declared.session_lines.ParsedLine.{ParsedLine}
 use Rattle.coll_requests.specs.declared.requests.RequestAt.{RequestAt}
 
 -- a line that ends no logical line with a token
-pub physical_none : (starved : Bool) (old new : LexerState) (line : List ℕ) (block : Option OpenBlock) → Parses true starved old new line None → (memory : Bool) × TakesPhysical memory old new line block block (Ok None)
+pub physical_none : (starved : Bool) (old new : LexerState) (line : List ℕ) (block : Option OpenBlock) → Parses true starved old new line None → (memory : Bool)
+    × TakesPhysical memory old new line block block (Ok None)
 unfolding line_block line_requests
 physical_none starved old new line block h =
     (starved, record { stands = h.stands; answers = subst (λ (given : Option ParsedLine). Answers given block block (Ok None)) h.parsed_is (refl, refl, refl) })
@@ -47,7 +48,8 @@ abbrev line_or : ParsedLine → Option ParsedLine → ParsedLine
 line_or other None = other
 line_or other (Some line) = line
 
-order_whole : (n : ℕ) (opening : Opening) (r : Result (Option Line × LexerState) LexFault) (line : ParsedLine) → Some line ≡ parsed_by true n opening r → IsOrder line.parsed → (given : Line) × (after : LexerState) × IsWhole line.number r given after
+order_whole : (n : ℕ) (opening : Opening) (r : Result (Option Line × LexerState) LexFault) (line : ParsedLine) → Some line ≡ parsed_by true n opening r → IsOrder line.parsed → (given : Line)
+    × (after : LexerState) × IsWhole line.number r given after
 order_whole n opening (Ok (None, after)) line e order = absurd cc
 order_whole n opening (Ok (Some given, after)) line e order = (given, after, record { is = refl; numbers = ap (λ (l : Option ParsedLine). (line_or line l).number) e })
 order_whole n opening (Err f) line e order = absurd (fault_no_order opening f (subst (λ (l : Option ParsedLine). IsOrder (line_or line l).parsed) e order))
@@ -63,7 +65,8 @@ served_fed true s line x e = chosen_ok (takes_memory s line) lex.OutOfMemory (fe
 served_fed false s line x e = e
 
 -- an order line to which memory was refused where a block takes it is one to which it was refused from the start
-refused_later : (starved : Bool) (old new : LexerState) (line : List ℕ) (h : Parsing) → Parses true starved old new line (Some h.line) → h.opening ≡ opening_of (first_line old line) → IsOrder h.line.parsed → Parses true true old new line (Some (line_if true h))
+refused_later : (starved : Bool) (old new : LexerState) (line : List ℕ) (h : Parsing) → Parses true starved old new line (Some h.line) → h.opening ≡ opening_of (first_line old line)
+    → IsOrder h.line.parsed → Parses true true old new line (Some (line_if true h))
 unfolding parsed_in
 refused_later starved old new line h parses opening order =
     let w = order_whole (number_of old) (opening_of (first_line old line)) (served starved old line) h.line parses.parsed_is order in
@@ -76,13 +79,18 @@ refused_later starved old new line h parses opening order =
 
 -- a line that was parsed and taken
 pub physical_taken : (starved refused : Bool) (old new : LexerState) (line : List ℕ) (h : Parsing) (block after : Option OpenBlock) (request : Option RequestAt)
-    → Parses true starved old new line (Some h.line) → h.opening ≡ opening_of (first_line old line) → stop_of h.line.parsed ≡ None → TakesParsing refused block h after request → (memory : Bool) × TakesPhysical memory old new line block after (Ok request)
+    → Parses true starved old new line (Some h.line) → h.opening ≡ opening_of (first_line old line) → stop_of h.line.parsed ≡ None → TakesParsing refused block h after request → (memory : Bool)
+    × TakesPhysical memory old new line block after (Ok request)
 unfolding line_block line_requests
 physical_taken starved false old new line h block after request parses opening goes_on taken = (
   starved,
   record {
     stands = parses.stands;
-    answers = subst (λ (given : Option ParsedLine). Answers given block after (Ok request)) parses.parsed_is (goes_on, taken.kept, taken.completes ∙ ap (λ (stop : Option LexFault). requests_or_last block h.line stop) (sym goes_on));
+    answers = subst (λ (given : Option ParsedLine). Answers given block after (Ok request)) parses.parsed_is (
+      goes_on,
+      taken.kept,
+      taken.completes ∙ ap (λ (stop : Option LexFault). requests_or_last block h.line stop) (sym goes_on),
+    );
   },
 )
 physical_taken starved true old new line h block after request parses opening goes_on taken =

@@ -19,7 +19,8 @@ unfolding kept_after kept_requests_at
 taken_so block after request n h opening kept completes = (false, record { kept = kept; completes = completes; order = λ e. absurd (false≢true e) })
 
 -- an order line to which memory was refused
-pub taken_starved : (block after : Option OpenBlock) (request : Option RequestAt) (n : ℕ) (order : OrderLine) (opening : Opening) → after ≡ kept_by block n (no_memory opening) → option_to_list request ≡ kept_requests_by block n (no_memory opening)
+pub taken_starved : (block after : Option OpenBlock) (request : Option RequestAt) (n : ℕ) (order : OrderLine) (opening : Opening) → after ≡ kept_by block n (no_memory opening)
+    → option_to_list request ≡ kept_requests_by block n (no_memory opening)
     → (starved : Bool) × TakesParsing starved block (record { line = record { number = n; parsed = parsed.OrderLine order }; opening = opening }) after request
 unfolding kept_after kept_requests_at
 taken_starved block after request n order opening kept completes = (true, record { kept = kept; completes = completes; order = λ e. tt })

@@ -108,7 +108,8 @@ ends_category _ = false
 -- category, the later lines follow
 abbrev pub by_fault : Option BlockLines → ParsedLine → Option FaultAt → DeltaOutcome → DeltaOutcome
 by_fault block line (Some at) later = after_statements (statements_in (ended_before block line.parsed)) (ends_so (AtFault (file_fault at)))
-by_fault block line None later = after_statements (statements_in (requests_at block line)) (if ends_category line.parsed then ends_so Ended else later)
+by_fault block line None later =
+    after_statements (statements_in (requests_at block line)) (if ends_category line.parsed then ends_so Ended else later)
 
 -- what lines of the category say, under the block that is open before them
 unfoldable pub outcome_within : Option BlockLines → List ParsedLine → DeltaOutcome
@@ -147,4 +148,7 @@ fault_at_end count (Undecided cause) = Some (at_line count cause)
 
 -- what a delta file of these physical lines says; nothing after the end of the category is looked at
 unfoldable pub delta_requests : List (List ℕ) → DeltaRequests
-delta_requests lines = record { statements = (delta_outcome true lines).statements; fault = fault_at_end (length lines) (delta_outcome true lines).ending }
+delta_requests lines = record {
+  statements = (delta_outcome true lines).statements;
+  fault = fault_at_end (length lines) (delta_outcome true lines).ending;
+}

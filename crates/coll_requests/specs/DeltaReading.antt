@@ -1,5 +1,6 @@
 -- A delta file handed in line by line: what is stored of the lines before, and what one more line makes of it.
-use Rattle.std.specs.Prelude.{◌≡◌, ℕ, Bool, true, false, IsTrue, ◌&&◌, ◌||◌, ◌⊎◌, if◌then◌else◌, List, [], ◌∷◌, ◌++◌, Option, Some, None, is_some, Result, Ok, Err}
+use Rattle.std.specs.Prelude.{◌≡◌, ℕ, Bool, true, false, IsTrue, ◌&&◌, ◌||◌, ◌⊎◌, if◌then◌else◌, List}
+use Rattle.std.specs.Prelude.{[], ◌∷◌, ◌++◌, Option, Some, None, is_some, Result, Ok, Err}
 use Rattle.coll_lex.specs.LogicalLines.{LexerState, OpenLine, first_state, number_of, outside, fed, takes_memory, state_by}
 use Rattle.coll_lex.specs.declared.faults.LexFault.{LexFault}
 use Rattle.coll_lex.specs.declared.faults.LexFault.TheVariants as lex
@@ -8,7 +9,9 @@ use Rattle.coll_requests.specs.Parsing.{parsed_in}
 use Rattle.coll_requests.specs.RequestFaults.{is_lack_of_memory}
 use Rattle.coll_requests.specs.Requests.{fault_at}
 use Rattle.coll_requests.specs.OpenBlocks.{is_full, dropped_so_far, kept_after, kept_requests_at, kept_ended}
-use Rattle.coll_requests.specs.DeltaFiles.{DeltaEnd, Ended, AtFault, Undecided, DeltaOutcome, DeltaRequests, at_line, ends_so, after_statements, file_fault, statements_in, standalone_fault, fault_outside, ends_category, delta_outcome, delta_requests}
+use Rattle.coll_requests.specs.DeltaFiles.{DeltaEnd, Ended, AtFault, Undecided, DeltaOutcome, DeltaRequests, at_line}
+use Rattle.coll_requests.specs.DeltaFiles.{ends_so, after_statements, file_fault, statements_in, standalone_fault}
+use Rattle.coll_requests.specs.DeltaFiles.{fault_outside, ends_category, delta_outcome, delta_requests}
 use Rattle.coll_requests.specs.declared.delta_faults.DeltaFault.{DeltaFault}
 use Rattle.coll_requests.specs.declared.delta_faults.DeltaCause.TheVariants.{Request as RequestCause, NoCategory, NoEnd}
 use Rattle.coll_requests.specs.declared.delta_files.StatementAt.{StatementAt}
@@ -65,7 +68,8 @@ kept_fault_inside block n (parsed.Command c) = None
 kept_fault_inside block n (parsed.BadCommand f) = None
 kept_fault_inside block n (parsed.BlockStart target) = None
 kept_fault_inside block n parsed.BlockEnd = None
-kept_fault_inside block n (parsed.OrderLine order) = if is_full block.so_far then Some (fault_at n (fault.Syntax syntax.BlockTooLong)) else None
+kept_fault_inside block n (parsed.OrderLine order) =
+    if is_full block.so_far then Some (fault_at n (fault.Syntax syntax.BlockTooLong)) else None
 kept_fault_inside block n (parsed.Standalone a) = Some (standalone_fault n a)
 
 -- the fault of a line, by the block that is kept before it
@@ -86,7 +90,10 @@ faulty s f (given ∷ more) = Ok (given ∷ more, record s { block = None; fault
 -- a line of the category, by its fault
 abbrev pub judged : DeltaState → ParsedLine → Option FaultAt → Step
 judged s line (Some at) = faulty s (file_fault at) (statements_in (kept_ended_before s.block line.parsed))
-judged s line None = Ok (statements_in (kept_requests_at s.block line), record s { block = kept_after s.block line; ended = ends_category line.parsed })
+judged s line None = Ok (
+  statements_in (kept_requests_at s.block line),
+  record s { block = kept_after s.block line; ended = ends_category line.parsed },
+)
 
 -- a physical line of the category, by what is parsed of it
 abbrev pub by_parsed : DeltaState → Option ParsedLine → Step

@@ -1,5 +1,6 @@
 -- What a session keeps of an open block: all that its end needs, in one piece; and the requests of lines by what is kept.
-use Rattle.std.specs.Prelude.{ℕ, Bool, false, nat_le, if◌then◌else◌, List, [], ◌∷◌, ◌++◌, length, Option, Some, None, option_to_list, Result, Ok, Err}
+use Rattle.std.specs.Prelude.{ℕ, Bool, false, nat_le, if◌then◌else◌, List, [], ◌∷◌, ◌++◌, length}
+use Rattle.std.specs.Prelude.{Option, Some, None, option_to_list, Result, Ok, Err}
 use Rattle.coll_lex.specs.declared.faults.LexFault.{LexFault}
 use Rattle.coll_lex.specs.declared.faults.LexFault.TheVariants as lex
 use Rattle.coll_syntax.specs.declared.identifiers.Id.{Id}
@@ -7,7 +8,8 @@ use Rattle.coll_syntax.specs.declared.syntax_faults.SyntaxFault.TheVariants as s
 use Rattle.coll_syntax.specs.declared.statements.OrderLine.{OrderLine}
 use Rattle.coll_syntax.specs.declared.statements.Statement.TheVariants as statement
 use Rattle.coll_requests.specs.RequestFaults.{is_lack_of_memory}
-use Rattle.coll_requests.specs.Requests.{BlockLines, asked_at, fault_at, refused_at, starved_at, standalone_requests, orders_in, first_spoiler, lack_in, dangling, refusals, stop_of}
+use Rattle.coll_requests.specs.Requests.{BlockLines, asked_at, fault_at, refused_at, starved_at, standalone_requests}
+use Rattle.coll_requests.specs.Requests.{orders_in, first_spoiler, lack_in, dangling, refusals, stop_of}
 use Rattle.coll_requests.specs.Limits.{most_block_lines}
 use Rattle.coll_requests.specs.declared.request_faults.RequestFault.{RequestFault}
 use Rattle.coll_requests.specs.declared.request_faults.RequestFault.TheVariants as fault
@@ -181,7 +183,8 @@ kept_last_or (Some f) block n more = refusals (kept_last_faults block n f)
 -- the requests of lines, by the block that is kept before them
 unfoldable pub kept_requests : (ends : Bool) → Option OpenBlock → List ParsedLine → List RequestAt
 kept_requests ends block [] = if ends then refusals (kept_end_faults block None) else []
-kept_requests ends block (line ∷ lines) = kept_last_or (stop_of line.parsed) block line.number (kept_requests_at block line ++ kept_requests ends (kept_after block line) lines)
+kept_requests ends block (line ∷ lines) =
+    kept_last_or (stop_of line.parsed) block line.number (kept_requests_at block line ++ kept_requests ends (kept_after block line) lines)
 
 -- what is kept of a block without lack of memory, by its first line that spoils it
 abbrev pub gathered_unless : Option FaultAt → Id → List OrderLine → BlockStatus

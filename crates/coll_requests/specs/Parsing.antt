@@ -19,7 +19,8 @@ OpensAs s opening = is_some s.line ≡ true → (next : List ℕ) → opening_of
 -- what the lexer's answer to a physical line is parsed as, of a logical line with this number
 abbrev pub parsed_by : (commands : Bool) → ℕ → Opening → Result (Option Line × LexerState) LexFault → Option ParsedLine
 parsed_by commands number opening (Ok (None, after)) = None
-parsed_by commands number opening (Ok (Some line, after)) = Some (record { number = line.number; parsed = tokens_parsed commands opening line.tokens })
+parsed_by commands number opening (Ok (Some line, after)) =
+    Some (record { number = line.number; parsed = tokens_parsed commands opening line.tokens })
 parsed_by commands number opening (Err f) = Some (record { number = number; parsed = fault_parsed opening f })
 
 -- what is parsed of a physical line, where memory was refused to it or not; the test says whether it may be a command
@@ -41,7 +42,8 @@ no_memory opening = parsed.Refused opening (fault.Lex lex.OutOfMemory)
 
 -- what was parsed of tokens
 abbrev pub ParsesTokens : (commands : Bool) → Opening → List Token → Parsed → Type 0
-ParsesTokens commands opening tokens h = (starved : Bool) × (h ≡ (if starved then no_memory opening else tokens_parsed commands opening tokens))
+ParsesTokens commands opening tokens h =
+    (starved : Bool) × (h ≡ (if starved then no_memory opening else tokens_parsed commands opening tokens))
 
 -- what was parsed where memory may be refused
 abbrev pub ParsesUnlessStarved : Opening → (given parsed : Parsed) → Type 0

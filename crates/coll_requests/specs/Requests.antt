@@ -4,7 +4,8 @@
 -- A block begins at an accepted `reorder-after`, or at a refused line whose first physical line begins with that
 -- text, and ends at the next `reorder-end` or `reorder-after`, or refused line that begins with either. Its one
 -- answer comes where it ends, and is judged from all of its lines.
-use Rattle.std.specs.Prelude.{ℕ, Bool, nat_le, if◌then◌else◌, List, [], ◌∷◌, ◌++◌, map, length, Option, Some, None, option_to_list, Result, Ok, Err}
+use Rattle.std.specs.Prelude.{ℕ, Bool, nat_le, if◌then◌else◌, List, [], ◌∷◌, ◌++◌, map, length}
+use Rattle.std.specs.Prelude.{Option, Some, None, option_to_list, Result, Ok, Err}
 use Rattle.std.specs.List.{flat_map}
 use Rattle.coll_lex.specs.declared.faults.LexFault.{LexFault}
 use Rattle.coll_lex.specs.declared.faults.LexFault.TheVariants as lex
@@ -99,7 +100,8 @@ spoils_by orders line (parsed.Command c) = None
 spoils_by orders line (parsed.BadCommand f) = None
 spoils_by orders line (parsed.BlockStart target) = None
 spoils_by orders line parsed.BlockEnd = None
-spoils_by orders line (parsed.OrderLine order) = if nat_le most_block_lines orders then Some (fault_at line (fault.Syntax syntax.BlockTooLong)) else None
+spoils_by orders line (parsed.OrderLine order) =
+    if nat_le most_block_lines orders then Some (fault_at line (fault.Syntax syntax.BlockTooLong)) else None
 spoils_by orders line (parsed.Standalone a) = Some (fault_at line fault.BlockOpen)
 
 -- the fault of a line, if it spoils a block with these lines before it
@@ -193,7 +195,8 @@ standalone_requests n apart.EndsCategory = []
 abbrev pub requests_by : Option BlockLines → ℕ → Parsed → List RequestAt
 requests_by block n (parsed.Stops f) = []
 requests_by block n (parsed.Refused opening.ReorderAfter f) = ended_request block
-requests_by block n (parsed.Refused opening.ReorderEnd f) = ended_with_or block (record { number = n; parsed = parsed.Refused opening.ReorderEnd f }) (asked_at n (kind.Refused f)) ∷ []
+requests_by block n (parsed.Refused opening.ReorderEnd f) =
+    ended_with_or block (record { number = n; parsed = parsed.Refused opening.ReorderEnd f }) (asked_at n (kind.Refused f)) ∷ []
 requests_by block n (parsed.Refused opening.Neither f) = own_requests block (asked_at n (kind.Refused f) ∷ [])
 requests_by block n (parsed.Command c) = outside_block block (asked_at n (kind.Command c)) ∷ []
 requests_by block n (parsed.BadCommand f) = outside_block block (asked_at n (kind.Refused f)) ∷ []
@@ -281,4 +284,5 @@ last_or (Some f) block n more = refusals (last_faults block n f)
 -- the requests of lines, under the block that is open before them; the test says whether the text's end is seen
 unfoldable pub requests : Bool → Option BlockLines → List ParsedLine → List RequestAt
 requests ends block [] = if ends then refusals (end_faults block None) else []
-requests ends block (line ∷ lines) = last_or (stop_of line.parsed) block line.number (requests_at block line ++ requests ends (block_after block line) lines)
+requests ends block (line ∷ lines) =
+    last_or (stop_of line.parsed) block line.number (requests_at block line ++ requests ends (block_after block line) lines)

@@ -24,7 +24,8 @@ IsOrder _ = ⊥
 
 -- a line that was parsed was taken: the block that is kept after it, and the request that it completes; memory was refused to an
 -- order line alone
-pub record TakesParsing (starved : Bool) (block : Option OpenBlock) (h : Parsing) (block_after : Option OpenBlock) (request : Option RequestAt) : Type 0 where
+pub record TakesParsing (starved : Bool) (block : Option OpenBlock) (h : Parsing) (block_after : Option OpenBlock)
+    (request : Option RequestAt) : Type 0 where
   pub kept : block_after ≡ kept_after block (line_if starved h)
   pub completes : option_to_list request ≡ kept_requests_at block (line_if starved h)
   pub order : starved ≡ true → IsOrder h.line.parsed
@@ -52,10 +53,12 @@ line_block block (Some line) = kept_after block line
 -- what is answered to a physical line of which this was parsed: the request that it completes; or the fault at which the session
 -- ends, and then the block that was kept still is
 abbrev pub Answers : Option ParsedLine → (block block_after : Option OpenBlock) → Result (Option RequestAt) LexFault → Type 0
-Answers parsed block block_after (Ok request) = (stop_at parsed ≡ None) × (block_after ≡ line_block block parsed) × (option_to_list request ≡ line_requests block parsed)
+Answers parsed block block_after (Ok request) = (stop_at parsed ≡ None) × (block_after ≡ line_block block parsed)
+    × (option_to_list request ≡ line_requests block parsed)
 Answers parsed block block_after (Err f) = (stop_at parsed ≡ Some f) × (block_after ≡ block)
 
 -- a physical line of a session was taken, where memory was refused to it or not
-pub record TakesPhysical (starved : Bool) (old new : LexerState) (line : List ℕ) (block block_after : Option OpenBlock) (answer : Result (Option RequestAt) LexFault) : Type 0 where
+pub record TakesPhysical (starved : Bool) (old new : LexerState) (line : List ℕ) (block block_after : Option OpenBlock)
+    (answer : Result (Option RequestAt) LexFault) : Type 0 where
   pub stands : new ≡ state_by old (served starved old line)
   pub answers : Answers (parsed_at starved old line) block block_after answer

@@ -8,7 +8,9 @@
 ghost use Rattle.std.specs.Prelude.{◌≡◌, ◌≢◌, Ok, Err, IsTrue, IfOk, IfErr, chars};
 ghost use Rattle.coll_syntax.specs.Operands.{ended as spelled_end, only};
 ghost use Rattle.coll_syntax.specs.declared.syntax_faults.SyntaxFault.TheVariants as syntax;
-ghost use Rattle.coll_requests.specs.Commands.{is_command as spells_command, is_command_word as spells_command_word, command_of as spelled_command, argued, key_of, compare_of, withdraw_of, text_in, two_texts as spelled_two, command_takes_memory, begins_with_string, is_string};
+ghost use Rattle.coll_requests.specs.Commands.{is_command as spells_command, is_command_word as spells_command_word};
+ghost use Rattle.coll_requests.specs.Commands.{command_of as spelled_command, argued, key_of, compare_of, withdraw_of, text_in};
+ghost use Rattle.coll_requests.specs.Commands.{two_texts as spelled_two, command_takes_memory, begins_with_string, is_string};
 ghost use Rattle.coll_requests.specs.declared.request_faults.RequestFault.TheVariants as fault;
 
 use crate::numerals::only_number;
@@ -50,8 +52,10 @@ pub(crate) fn command_of(
     arguments: &[Token],
 ) -> Result<Command, RequestFault>
     ensures ok { IfOk result (λ command. spelled_command word.now arguments.now ≡ Ok command) }
-    ensures err { IfErr result (λ refused. refused ≢ fault.Syntax syntax.OutOfMemory → spelled_command word.now arguments.now ≡ Err refused) }
-    ensures memory { IfErr result (λ refused. refused ≡ fault.Syntax syntax.OutOfMemory → IsTrue (command_takes_memory word.now arguments.now)) }
+    ensures err { IfErr result (λ refused. refused ≢ fault.Syntax syntax.OutOfMemory → spelled_command word.now arguments.now
+        ≡ Err refused) }
+    ensures memory { IfErr result (λ refused. refused ≡ fault.Syntax syntax.OutOfMemory
+        → IsTrue (command_takes_memory word.now arguments.now)) }
 {
     if is_word(word, ":undo") {
         return alone(Command::Undo, arguments);

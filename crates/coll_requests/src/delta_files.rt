@@ -13,8 +13,11 @@ ghost use Rattle.std.specs.Prelude.{◌≡◌, false, Ok, true, Err, None, Some,
 ghost use Rattle.coll_lex.specs.LogicalLines.{number_of, outside, takes_memory};
 ghost use Rattle.coll_syntax.specs.Proper.{IsProper};
 ghost use Rattle.coll_requests.specs.DeltaFaults.{lacks_memory};
-ghost use Rattle.coll_requests.specs.DeltaFiles.{file_fault as fault_in_file, fault_outside as fault_of_outside, statements_in, ends_category as ends_the_category};
-ghost use Rattle.coll_requests.specs.DeltaReading.{DeltaLinesAreRead, DeltaLinesAreTaken, MayTakeDelta, IsWanting, kept_fault_under, kept_fault_inside, kept_ended_before, is_lack, is_order as is_order_line, leaves_lack as lack_is_left};
+ghost use Rattle.coll_requests.specs.DeltaFiles.{file_fault as fault_in_file, fault_outside as fault_of_outside};
+ghost use Rattle.coll_requests.specs.DeltaFiles.{statements_in, ends_category as ends_the_category};
+ghost use Rattle.coll_requests.specs.DeltaReading.{DeltaLinesAreRead, DeltaLinesAreTaken, MayTakeDelta, IsWanting};
+ghost use Rattle.coll_requests.specs.DeltaReading.{kept_fault_under, kept_fault_inside, kept_ended_before, is_lack};
+ghost use Rattle.coll_requests.specs.DeltaReading.{is_order as is_order_line, leaves_lack as lack_is_left};
 ghost use Rattle.coll_requests.specs.ProperLines.{IsProperParsed, IsProperRequest};
 ghost use Rattle.coll_requests.specs.declared.delta_faults.DeltaFault.{DeltaFault};
 
@@ -63,11 +66,13 @@ impl Model for DeltaReader {
 
     ghost view = { λ r. record { lexer = r.parser; begun = r.begun; ended = r.ended; block = r.block; fault = r.fault } };
 
-    ghost invariant = { λ r. IsSoundDelta (record { lexer = r.parser; begun = r.begun; ended = r.ended; block = r.block; fault = r.fault }) };
+    ghost invariant = { λ r. IsSoundDelta
+        (record { lexer = r.parser; begun = r.begun; ended = r.ended; block = r.block; fault = r.fault }) };
 }
 
 impl DeltaReader {
-    ghost use Rattle.coll_requests.specs.DeltaReading.{first_delta, delta_line, delta_end, early_end, by_where, by_outside, by_physical, by_parsed, judged, faulty};
+    ghost use Rattle.coll_requests.specs.DeltaReading.{first_delta, delta_line, delta_end, early_end, by_where};
+    ghost use Rattle.coll_requests.specs.DeltaReading.{by_outside, by_physical, by_parsed, judged, faulty};
 
     /// A reader before the first line.
     pub fn new(alloc: Global) -> Result<DeltaReader, AllocError>
@@ -246,7 +251,8 @@ impl DeltaReader {
         ensures ok { IfOk result (λ given. by_parsed self.old (Some parsing.line) ≡ Ok (option_to_list given, self.new)) }
         ensures served { OnOk result (is_lack (kept_fault_under self.old.block parsing.line) ≡ false) }
         ensures err { IfErr result (λ fault. lacks_memory fault.cause ≡ false → by_parsed self.old (Some parsing.line) ≡ Err fault) }
-        ensures refused { IfErr result (λ fault. lacks_memory fault.cause ≡ false → is_lack (kept_fault_under self.old.block parsing.line) ≡ false) }
+        ensures refused { IfErr result (λ fault. lacks_memory fault.cause ≡ false → is_lack (kept_fault_under self.old.block parsing.line)
+            ≡ false) }
         ensures memory { IfErr result (λ fault. lacks_memory fault.cause ≡ true → IsWanting self.old.block parsing.line) }
         ensures line { IfErr result (λ fault. fault.line ≡ parsing.line.number) }
         ensures ended { OnErr result (self.new.ended ≡ self.old.ended) }
@@ -284,8 +290,10 @@ impl DeltaReader {
         parsed: &Parsed,
         at: FaultAt,
     ) -> Result<Option<StatementAt>, DeltaFault>
-        ensures ok { IfOk result (λ given. faulty self.old (fault_in_file at) (statements_in (kept_ended_before self.old.block parsed.now)) ≡ Ok (option_to_list given, self.new)) }
-        ensures err { IfErr result (λ fault. faulty self.old (fault_in_file at) (statements_in (kept_ended_before self.old.block parsed.now)) ≡ Err fault) }
+        ensures ok { IfOk result (λ given. faulty self.old (fault_in_file at) (statements_in (kept_ended_before self.old.block parsed.now))
+            ≡ Ok (option_to_list given, self.new)) }
+        ensures err { IfErr result (λ fault.
+            faulty self.old (fault_in_file at) (statements_in (kept_ended_before self.old.block parsed.now)) ≡ Err fault) }
         ensures own { IfErr result (λ fault. fault ≡ fault_in_file at) }
         ensures ended { OnErr result (self.new.ended ≡ self.old.ended) }
         ensures proper { IfOk result (λ given. IfSome given (λ at. IsProper at.statement)) }

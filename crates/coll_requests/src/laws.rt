@@ -1,6 +1,7 @@
 //! What follows from the definitions of requests, as contracts of functions that do nothing.
 
-ghost use Rattle.coll_requests.specs.Laws.{BlockEnds, BlockEndsRefused, BlockEndsAtNext, BlockLeftOpen, BlockStopped, BlockStates, BlockStarves, BlockBegunRefused, BlockSpoiled};
+ghost use Rattle.coll_requests.specs.Laws.{BlockEnds, BlockEndsRefused, BlockEndsAtNext, BlockLeftOpen, BlockStopped};
+ghost use Rattle.coll_requests.specs.Laws.{BlockStates, BlockStarves, BlockBegunRefused, BlockSpoiled};
 
 /// The law of a block: the lines from one that opens it to the next that ends it give the refusals of the commands
 /// among them, in order, and then one request.

@@ -9,7 +9,10 @@ ghost use Rattle.coll_syntax.specs.Proper.{IsId, IsProperLine, IsProper};
 ghost use Rattle.coll_requests.specs.ProperLines.{IsProperParsed, IsProperRequest};
 ghost use Rattle.coll_requests.specs.Taking.{TakesParsing};
 ghost use Rattle.coll_requests.specs.Requests.{asked_at, fault_at, refused_at, order_by, standalone_requests, starved_at as line_starved};
-ghost use Rattle.coll_requests.specs.OpenBlocks.{is_full as is_full_so_far, open_at, begun_at, spoiled_by as kept_of_fault, after_fault as kept_after_fault, after_order as kept_after_order, spoiled as kept_spoiled, joined as kept_joined, kept_request, kept_left_open, dropped_so_far, kept_by, kept_requests_by};
+ghost use Rattle.coll_requests.specs.OpenBlocks.{is_full as is_full_so_far, open_at, begun_at, spoiled_by as kept_of_fault};
+ghost use Rattle.coll_requests.specs.OpenBlocks.{after_fault as kept_after_fault, after_order as kept_after_order, spoiled as kept_spoiled};
+ghost use Rattle.coll_requests.specs.OpenBlocks.{joined as kept_joined, kept_request, kept_left_open, dropped_so_far, kept_by};
+ghost use Rattle.coll_requests.specs.OpenBlocks.{kept_requests_by};
 
 use crate::block_builder::BlockBuilder;
 use crate::parsing::Parsing;
@@ -338,7 +341,8 @@ fn inside(alloc: Global, block: OpenBlock, number: u32, parsed: Parsed) -> After
 // Takes an order line where a block is open. Where memory for it is refused, it is a refused line.
 fn order_inside(mut block: OpenBlock, opening: Opening, number: u32, order: OrderLine) -> AfterLine
     requires { IsProperLine order }
-    ensures taken { (starved : Bool) × TakesParsing starved (Some block) (record { line = record { number = number; parsed = Parsed.OrderLine order }; opening = opening }) result.0 result.1 }
+    ensures taken { (starved : Bool) × TakesParsing starved (Some block)
+        (record { line = record { number = number; parsed = Parsed.OrderLine order }; opening = opening }) result.0 result.1 }
     ensures proper { IfSome result.1 (λ request. IsProperRequest request.request) }
 {
     match block.join(number, order) {

@@ -10,7 +10,8 @@ ghost use Rattle.coll_lex.specs.Limits.{most_lines};
 ghost use Rattle.coll_lex.specs.Names.{AreTokens};
 ghost use Rattle.coll_syntax.specs.DeltaLines.{delta_line};
 ghost use Rattle.coll_requests.specs.Commands.{command_of as spelled_command};
-ghost use Rattle.coll_requests.specs.SessionLines.{opening_of, fault_parsed, delta_parsed as spelled_delta, command_parsed as spelled_command_parsed};
+ghost use Rattle.coll_requests.specs.SessionLines.{opening_of, fault_parsed, delta_parsed as spelled_delta};
+ghost use Rattle.coll_requests.specs.SessionLines.{command_parsed as spelled_command_parsed};
 ghost use Rattle.coll_requests.specs.Requests.{stop_of};
 ghost use Rattle.coll_requests.specs.Parsing.{Parses, ParsesTokens, ParsesUnlessStarved, no_memory as line_starved};
 ghost use Rattle.coll_requests.specs.ProperLines.{IsProperParsed};
@@ -84,7 +85,8 @@ impl LineParser {
     ///
     /// Where memory is refused, the line is a refused one, and the logical line so far is dropped.
     pub(crate) fn parse(&mut self, alloc: Global, commands: bool, line: &[u8]) -> Option<Parsing>
-        ensures parsed { (starved : Bool) × Parses commands starved self.old self.new line.now (option_map (λ (parsing : Parsing). parsing.line) result) }
+        ensures parsed { (starved : Bool)
+            × Parses commands starved self.old self.new line.now (option_map (λ (parsing : Parsing). parsing.line) result) }
         ensures opening { IfSome result (λ parsing. parsing.opening ≡ opening_of (first_line self.old line.now)) }
         ensures number { IfSome result (λ parsing. parsing.line.number ≡ number_of self.old) }
         ensures proper { IfSome result (λ parsing. IsProperParsed parsing.line.parsed) }

@@ -11,7 +11,8 @@ use Rattle.coll_nodes.specs.LookUps.{characters_of, all_characters_of, AreTexts,
 
 module _ {Y : Type 0} where
   -- a text is found by its bytes where its characters are found
-  pub found_name : (texts : List (String Y)) (name bytes : List ℕ) → encode_utf8_all name ≡ bytes → chars bytes ≡ name → AreTexts texts → list_any (λ text. bytes_eq bytes (string_bytes text)) texts ≡ has_name (all_characters_of texts) name
+  pub found_name : (texts : List (String Y)) (name bytes : List ℕ) → encode_utf8_all name ≡ bytes → chars bytes ≡ name → AreTexts texts → list_any (λ text. bytes_eq bytes (string_bytes text)) texts
+      ≡ has_name (all_characters_of texts) name
   found_name [] name bytes p q h = refl
   found_name (text ∷ texts) name bytes p q h =
       let here : bytes_eq bytes (string_bytes text) ≡ same_name name (characters_of text) =
@@ -29,7 +30,8 @@ module _ {Y : Type 0} where
   inserted texts text = cond (list_any (λ t. bytes_eq (string_bytes text) (string_bytes t)) texts) texts (texts ++ text ∷ [])
 
   -- so does a name among names
-  pub inserted_name : (texts : List (String Y)) (text : String Y) (name : List ℕ) → AreTexts texts → characters_of text ≡ name → encode_utf8_all name ≡ string_bytes text → all_characters_of (inserted texts text) ≡ with_name (all_characters_of texts) name
+  pub inserted_name : (texts : List (String Y)) (text : String Y) (name : List ℕ) → AreTexts texts → characters_of text ≡ name → encode_utf8_all name ≡ string_bytes text
+      → all_characters_of (inserted texts text) ≡ with_name (all_characters_of texts) name
   inserted_name texts text name h q p =
       let found = found_name texts name (string_bytes text) p q h in
       ap (λ b. all_characters_of (cond b texts (texts ++ text ∷ []))) found ∙ pushed (has_name (all_characters_of texts) name) where
@@ -38,7 +40,8 @@ module _ {Y : Type 0} where
         pushed false = map-append characters_of texts (text ∷ []) ∙ ap (λ n. all_characters_of texts ++ n ∷ []) q
 
   -- and the texts stay texts
-  pub inserted_are : (texts : List (String Y)) (text : String Y) (name : List ℕ) → AreTexts texts → characters_of text ≡ name → encode_utf8_all name ≡ string_bytes text → AreTexts (inserted texts text)
+  pub inserted_are : (texts : List (String Y)) (text : String Y) (name : List ℕ) → AreTexts texts → characters_of text ≡ name → encode_utf8_all name ≡ string_bytes text
+      → AreTexts (inserted texts text)
   inserted_are texts text name h q p = kept (list_any (λ t. bytes_eq (string_bytes text) (string_bytes t)) texts) where
     kept : (b : Bool) → AreTexts (cond b texts (texts ++ text ∷ []))
     kept true = h

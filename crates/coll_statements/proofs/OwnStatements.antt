@@ -26,7 +26,8 @@ given_same : (declared : List Declaration) (line : OrderLine) → line_uses_seco
 given_same declared line absent = by_given line.weights refl where
   by_given : (given : Option (List Weight)) → line.weights ≡ given → option_map (own_weights declared) given ≡ given
   by_given None is = refl
-  by_given (Some weights) is = ap Some (own_weights_same declared weights (neither _ _ (subst (λ (w : Option (List Weight)). line_uses_second declared (record line { weights = w }) ≡ false) is absent)).1)
+  by_given (Some weights) is = ap
+      Some (own_weights_same declared weights (neither _ _ (subst (λ (w : Option (List Weight)). line_uses_second declared (record line { weights = w }) ≡ false) is absent)).1)
 
 -- so does an order line
 pub line_same : (declared : List Declaration) (line : OrderLine) → line_uses_second declared line ≡ false → own_line declared line ≡ line
@@ -53,7 +54,8 @@ module _ (declared : List Declaration) (names : All IsName (names_of declared)) 
   own_proper_weights : (weights : List Weight) → All IsProperWeight weights → All IsProperWeight (own_weights declared weights)
   own_proper_weights [] proper = All-nil IsProperWeight
   own_proper_weights (weight ∷ weights) proper =
-      All-cons IsProperWeight (own_weight declared weight) (own_weights declared weights) (own_weight_proper declared weight meant distinct names (All-head IsProperWeight weight weights proper)) (own_proper_weights weights (All-tail IsProperWeight weight weights proper))
+      All-cons IsProperWeight (own_weight declared weight) (own_weights declared weights) (own_weight_proper declared weight meant distinct names (All-head IsProperWeight weight weights proper))
+      (own_proper_weights weights (All-tail IsProperWeight weight weights proper))
 
   -- so do the lines that give them
   own_proper_line : (line : OrderLine) → IsProperLine line → IsProperLine (own_line declared line)
@@ -64,13 +66,15 @@ module _ (declared : List Declaration) (names : All IsName (names_of declared)) 
 
   own_proper_lines : (lines : List OrderLine) → All IsProperLine lines → All IsProperLine (own_lines declared lines)
   own_proper_lines [] proper = All-nil IsProperLine
-  own_proper_lines (line ∷ lines) proper = All-cons IsProperLine (own_line declared line) (own_lines declared lines) (own_proper_line line (All-head IsProperLine line lines proper)) (own_proper_lines lines (All-tail IsProperLine line lines proper))
+  own_proper_lines (line ∷ lines) proper = All-cons IsProperLine (own_line declared line) (own_lines declared lines) (own_proper_line line (All-head IsProperLine line lines proper))
+      (own_proper_lines lines (All-tail IsProperLine line lines proper))
 
   -- a proper statement stays proper
   pub own_proper : (s : Statement) → IsProper s → IsProper (by_own_names declared s)
   own_proper (statement.Symbol name) proper = proper
   own_proper (statement.Element name text) proper = proper
   own_proper (statement.Equivalence name symbol) proper = (proper.0, named_own_name declared symbol meant distinct names proper.1)
-  own_proper (statement.Block target lines) proper = (own_id_proper declared target meant distinct names proper.0, subst (λ n. n ≤ 4096) (sym (length-map lines (own_line declared))) proper.1, own_proper_lines lines proper.2)
+  own_proper (statement.Block target lines) proper =
+      (own_id_proper declared target meant distinct names proper.0, subst (λ n. n ≤ 4096) (sym (length-map lines (own_line declared))) proper.1, own_proper_lines lines proper.2)
   own_proper (statement.SectionAfter name after) proper = proper
   own_proper (statement.Reweight line) proper = own_proper_line line proper

@@ -83,7 +83,8 @@ with_name_has names name other = by_there (has_name names name) refl where
     turned false false = refl
 
 -- with one name more, a look-up has that name more
-pub adds_name : (names : List (List ℕ)) (characters : List ℕ) (undefined : Bool) (name : List ℕ) → AddsId (ids_in_set names characters undefined) (ids_in_set (with_name names name) characters undefined) (Named name)
+pub adds_name : (names : List (List ℕ)) (characters : List ℕ) (undefined : Bool) (name : List ℕ)
+    → AddsId (ids_in_set names characters undefined) (ids_in_set (with_name names name) characters undefined) (Named name)
 adds_name names characters undefined name (Char c) =
     found_place (with_name names name) characters undefined (Char c) ∙ sym (found_place names characters undefined (Char c))
 adds_name names characters undefined name (Named other) =
@@ -93,7 +94,8 @@ adds_name names characters undefined name Undefined =
     found_place (with_name names name) characters undefined Undefined ∙ sym (found_place names characters undefined Undefined)
 
 -- with one character more, a look-up has that character more
-pub adds_char : (names : List (List ℕ)) (old new : List ℕ) (undefined : Bool) (c : ℕ) → ((q : ℕ) → list_any (nat_eq q) new ≡ cond (nat_eq c q) true (list_any (nat_eq q) old)) → AddsId (ids_in_set names old undefined) (ids_in_set names new undefined) (Char c)
+pub adds_char : (names : List (List ℕ)) (old new : List ℕ) (undefined : Bool) (c : ℕ) → ((q : ℕ) → list_any (nat_eq q) new ≡ cond (nat_eq c q) true (list_any (nat_eq q) old))
+    → AddsId (ids_in_set names old undefined) (ids_in_set names new undefined) (Char c)
 adds_char names old new undefined c h (Char other) =
     found_place names new undefined (Char other)
     ∙ (h other ∙ (ap (λ b. cond b true (list_any (nat_eq other) old)) (decided_symmetric nat_eq Decides-eqb c other) ∙ (either (nat_eq other c) _

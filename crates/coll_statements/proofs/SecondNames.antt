@@ -19,13 +19,15 @@ on_err P (Ok x) p = tt
 on_err P (Err e) p = p
 
 -- what a text means is what the name means that it spells
-pub told : (declared : List Declaration) (name text : List ℕ) (found : Option (List ℕ)) → text ≡ name → found ≡ symbol_meant (declaration_of declared text) → symbol_meant (declaration_of declared name) ≡ found
+pub told : (declared : List Declaration) (name text : List ℕ) (found : Option (List ℕ)) → text ≡ name → found ≡ symbol_meant (declaration_of declared text)
+    → symbol_meant (declaration_of declared name) ≡ found
 told declared name text found same is = sym (is ∙ ap (λ n. symbol_meant (declaration_of declared n)) same)
 
 -- a second name is one by its declaration
 second_by : (declared : List Declaration) (name other symbol : List ℕ) → declaration_of declared name ≡ Some (Equivalence other symbol) → list_any (declares_second name) declared ≡ true
 second_by [] name other symbol e = cc
-second_by (first ∷ later) name other symbol e = by_test (λ b. same_name name (name_of first) ≡ b → cond b (Some first) (declaration_of later name) ≡ Some (Equivalence other symbol) → list_any (declares_second name) (first ∷ later) ≡ true) (same_name name (name_of first))
+second_by (first ∷ later) name other symbol e = by_test (λ b. same_name name (name_of first) ≡ b → cond b (Some first) (declaration_of later name) ≡ Some (Equivalence other symbol)
+    → list_any (declares_second name) (first ∷ later) ≡ true) (same_name name (name_of first))
     (λ on is e. let it : first ≡ Equivalence other symbol = cc in or_first _ _ (ap (declares_second name) it ∙ (sym (ap (λ d. same_name name (name_of d)) it) ∙ is)))
     (λ off is e. or_second _ _ (second_by later name other symbol e)) refl e
 

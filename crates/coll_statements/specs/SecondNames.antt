@@ -16,4 +16,5 @@ symbol_meant (Some (Equivalence name symbol)) = Some symbol
 
 -- in a well-formed table no second name stands in a section: its symbol does, if anything
 abbrev pub SecondNamesAreNotPlaced : Type 0
-SecondNamesAreNotPlaced = (table : Collation) (id : Id) → IsWellFormed table → is_second table.declared id ≡ true → is_placed table id ≡ false
+SecondNamesAreNotPlaced = (table : Collation) (id : Id) → IsWellFormed table → is_second table.declared id ≡ true
+    → is_placed table id ≡ false

@@ -40,8 +40,10 @@ fn own_equivalence(
     name: &TextBuf,
     symbol: &TextBuf,
 ) -> Result<Option<Statement>, AllocError>
-    ensures own { IfOk result (λ own. unwrap_or own (statement.Equivalence name.now symbol.now) ≡ stated_own (declared_at body.now.layout) (statement.Equivalence name.now symbol.now)) }
-    ensures kept { IfOk result (λ own. uses_second (declared_at body.now.layout) (statement.Equivalence name.now symbol.now) ≡ false → own ≡ None) }
+    ensures own { IfOk result (λ own. unwrap_or own (statement.Equivalence name.now symbol.now)
+        ≡ stated_own (declared_at body.now.layout) (statement.Equivalence name.now symbol.now)) }
+    ensures kept { IfOk result (λ own. uses_second (declared_at body.now.layout) (statement.Equivalence name.now symbol.now) ≡ false
+        → own ≡ None) }
     ensures memory { OnErr result (uses_second (declared_at body.now.layout) (statement.Equivalence name.now symbol.now) ≡ true) }
 {
     match symbol_meant(body, symbol.get()) {
@@ -56,8 +58,10 @@ fn own_equivalence(
 
 // The same of a block.
 fn own_block(body: &Body, target: &Id, lines: &[OrderLine]) -> Result<Option<Statement>, AllocError>
-    ensures own { IfOk result (λ own. unwrap_or own (statement.Block target.now lines.now) ≡ stated_own (declared_at body.now.layout) (statement.Block target.now lines.now)) }
-    ensures kept { IfOk result (λ own. uses_second (declared_at body.now.layout) (statement.Block target.now lines.now) ≡ false → own ≡ None) }
+    ensures own { IfOk result (λ own. unwrap_or own (statement.Block target.now lines.now)
+        ≡ stated_own (declared_at body.now.layout) (statement.Block target.now lines.now)) }
+    ensures kept { IfOk result (λ own. uses_second (declared_at body.now.layout) (statement.Block target.now lines.now) ≡ false
+        → own ≡ None) }
     ensures memory { OnErr result (uses_second (declared_at body.now.layout) (statement.Block target.now lines.now) ≡ true) }
 {
     if !block_uses_second(body, target, lines) {
@@ -70,7 +74,8 @@ fn own_block(body: &Body, target: &Id, lines: &[OrderLine]) -> Result<Option<Sta
 
 // The same of an order line outside a block.
 fn own_reweight(body: &Body, line: &OrderLine) -> Result<Option<Statement>, AllocError>
-    ensures own { IfOk result (λ own. unwrap_or own (statement.Reweight line.now) ≡ stated_own (declared_at body.now.layout) (statement.Reweight line.now)) }
+    ensures own { IfOk result (λ own. unwrap_or own (statement.Reweight line.now)
+        ≡ stated_own (declared_at body.now.layout) (statement.Reweight line.now)) }
     ensures kept { IfOk result (λ own. uses_second (declared_at body.now.layout) (statement.Reweight line.now) ≡ false → own ≡ None) }
     ensures memory { OnErr result (uses_second (declared_at body.now.layout) (statement.Reweight line.now) ≡ true) }
 {

@@ -24,7 +24,8 @@ prefixed-more done c None = refl
 prefixed-more done c (Some cs) = ap Some (sym (append_assoc done (c ∷ []) cs))
 
 -- one more character of a string
-pub takes_char : (pieces : List Piece) (text after : List ℕ) (n c : ℕ) → characters_of pieces ≡ prefixed text (characters_of (drop n pieces)) → n < length pieces → get_or pieces n (Char c) ≡ Char c → after ≡ text ++ c ∷ [] → characters_of pieces ≡ prefixed after (characters_of (drop (n + 1) pieces))
+pub takes_char : (pieces : List Piece) (text after : List ℕ) (n c : ℕ) → characters_of pieces ≡ prefixed text (characters_of (drop n pieces)) → n < length pieces → get_or pieces n (Char c) ≡ Char c
+    → after ≡ text ++ c ∷ [] → characters_of pieces ≡ prefixed after (characters_of (drop (n + 1) pieces))
 takes_char pieces text after n c h l e a =
     h
     ∙ ap (λ rest. prefixed text (characters_of rest)) (drop_more pieces n (Char c) l)
@@ -49,7 +50,8 @@ wanted-some None cs e = cc
 wanted-some (Some ds) cs e = cc
 
 -- a text is short by the number of the pieces that spell it
-short_by : (pieces : List Piece) (cs : List ℕ) → wanted (characters_of pieces) ≡ Ok cs → (b : Bool) → (nat_le 2 (length pieces) && nat_le (length pieces) 16) ≡ b → short_text cs ≡ (if b then Ok cs else Err ElementLength)
+short_by : (pieces : List Piece) (cs : List ℕ) → wanted (characters_of pieces) ≡ Ok cs → (b : Bool) → (nat_le 2 (length pieces) && nat_le (length pieces) 16) ≡ b
+    → short_text cs ≡ (if b then Ok cs else Err ElementLength)
 short_by pieces cs e b h =
     let same = length-characters_of pieces cs (wanted-some (characters_of pieces) cs e) in
     rw (same, h) refl

@@ -28,12 +28,14 @@ pub record ReadsWeights (ts : List Token) (done : List Weight) (n : ℕ) : Type 
 weight_at : (ts : List Token) (n : ℕ) (operand : List Token) (d : Result Weight SyntaxFault) → StandsAt ts n operand → get_or (map operand_weight (operands_of ts)) n d ≡ operand_weight operand
 weight_at ts n operand d at = get_or-map operand_weight (operands_of ts) n operand d at.within ∙ ap operand_weight (sym at.is)
 
-pub weights_more : (ts : List Token) (done : List Weight) (n : ℕ) (operand : List Token) (w : Weight) → ReadsWeights ts done n → StandsAt ts n operand → operand_weight operand ≡ Ok w → ReadsWeights ts (done ++ w ∷ []) (n + 1)
+pub weights_more : (ts : List Token) (done : List Weight) (n : ℕ) (operand : List Token) (w : Weight) → ReadsWeights ts done n → StandsAt ts n operand → operand_weight operand ≡ Ok w
+    → ReadsWeights ts (done ++ w ∷ []) (n + 1)
 weights_more ts done n operand w h at e = record {
   read = reads_more _ done n w h.read (rw length-map at.within) (weight_at ts n operand (Ok w) at ∙ e);
 }
 
-pub weights_fault : (ts : List Token) (done : List Weight) (n : ℕ) (operand : List Token) (f : SyntaxFault) → ReadsWeights ts done n → StandsAt ts n operand → operand_weight operand ≡ Err f → weights ts ≡ Err f
+pub weights_fault : (ts : List Token) (done : List Weight) (n : ℕ) (operand : List Token) (f : SyntaxFault) → ReadsWeights ts done n → StandsAt ts n operand → operand_weight operand ≡ Err f
+    → weights ts ≡ Err f
 unfolding weights
 weights_fault ts done n operand f h at e = reads_fault _ done n f h.read (rw length-map at.within) (weight_at ts n operand (Err f) at ∙ e)
 
@@ -72,7 +74,8 @@ pub record ReadsRules (ts : List Token) (done : List Rule) (n : ℕ) : Type 0 wh
 rule_at : (ts : List Token) (n : ℕ) (operand : List Token) (d : Result Rule SyntaxFault) → StandsAt ts n operand → n < 4 → get_or (judged_levels (operands_of ts)) n d ≡ rule operand
 rule_at ts n operand d at k = judged-low 4 n (operands_of ts) operand d at.within k ∙ ap rule (sym at.is)
 
-pub rules_more : (ts : List Token) (done : List Rule) (n : ℕ) (operand : List Token) (r : Rule) → ReadsRules ts done n → StandsAt ts n operand → n < 4 → rule operand ≡ Ok r → ReadsRules ts (done ++ r ∷ []) (n + 1)
+pub rules_more : (ts : List Token) (done : List Rule) (n : ℕ) (operand : List Token) (r : Rule) → ReadsRules ts done n → StandsAt ts n operand → n < 4 → rule operand ≡ Ok r
+    → ReadsRules ts (done ++ r ∷ []) (n + 1)
 rules_more ts done n operand r h at k e = record {
   read = reads_more _ done n r h.read (rw length-judged at.within) (rule_at ts n operand (Ok r) at k ∙ e);
 }

@@ -35,7 +35,8 @@ always (Err f) = tt
 weighted-proper : (o : Option Id) (rest : List Token) → OnSomeId IsId o → All IsToken rest → IfOk (weighted o rest) IsProperLine
 weighted-proper None rest h a = tt
 weighted-proper (Some id) [] h a = (h, tt)
-weighted-proper (Some id) (t ∷ ts) h a = if_as (λ ws. (1 ≤ length ws) × All IsProperWeight ws) IsProperLine (λ given. record { id = id; weights = Some given }) (weights (t ∷ ts)) (weights-proper (t ∷ ts) a) (λ ws p. (h, p))
+weighted-proper (Some id) (t ∷ ts) h a =
+    if_as (λ ws. (1 ≤ length ws) × All IsProperWeight ws) IsProperLine (λ given. record { id = id; weights = Some given }) (weights (t ∷ ts)) (weights-proper (t ∷ ts) a) (λ ws p. (h, p))
 
 order_line-proper : (first : Token) (rest : List Token) → IsToken first → All IsToken rest → IfOk (order_line first rest) IsProperLine
 order_line-proper first rest h a = weighted-proper (id_of first) rest (id_of-proper first h) a
@@ -57,7 +58,8 @@ only_rules ts = if_as (λ rs. (1 ≤ length rs) × (length rs ≤ 4)) IsProperTa
 order_start-proper : (ts : List Token) → All IsToken ts → IfOk (tables.order_start ts) IsProperTableLine
 order_start-proper [] a = (tt, tt)
 order_start-proper (token.Word w ∷ rest) a = only_rules (token.Word w ∷ rest)
-order_start-proper (token.Symbol name ∷ rest) a = if_as AreRulesIfGiven IsProperTableLine (table.OrderStart (Some name)) (tables.section_rules rest) (section_rules-proper rest) (λ rs p. (All-head IsToken (token.Symbol name) rest a, p))
+order_start-proper (token.Symbol name ∷ rest) a =
+    if_as AreRulesIfGiven IsProperTableLine (table.OrderStart (Some name)) (tables.section_rules rest) (section_rules-proper rest) (λ rs p. (All-head IsToken (token.Symbol name) rest a, p))
 order_start-proper (token.Char c ∷ rest) a = tt
 order_start-proper (token.Text ps ∷ rest) a = only_rules (token.Text ps ∷ rest)
 order_start-proper (token.Semicolon ∷ rest) a = only_rules (token.Semicolon ∷ rest)
@@ -65,14 +67,17 @@ order_start-proper (token.Comma ∷ rest) a = only_rules (token.Comma ∷ rest)
 
 table_keyword : (word : Keyword) (rest : List Token) → All IsToken rest → IfOk (tables.keyword_row word rest) IsProperTableLine
 table_keyword keyword.CollatingSymbol rest a = if_as IsName IsProperTableLine table.Symbol (only name_in rest) (if_only IsName name_in rest a name_in-name) (λ name p. p)
-table_keyword keyword.CollatingElement rest a = if_as (λ read. IsName read.0 × IsElementText read.1) IsProperTableLine (λ read. table.Element read.0 read.1) (element rest) (element-proper rest a) (λ read p. p)
-table_keyword keyword.SymbolEquivalence rest a = if_as (λ names. IsName names.0 × IsName names.1) IsProperTableLine (λ names. table.Equivalence names.0 names.1) (two_names rest) (two_names-proper rest a) (λ names p. p)
+table_keyword keyword.CollatingElement rest a =
+    if_as (λ read. IsName read.0 × IsElementText read.1) IsProperTableLine (λ read. table.Element read.0 read.1) (element rest) (element-proper rest a) (λ read p. p)
+table_keyword keyword.SymbolEquivalence rest a =
+    if_as (λ names. IsName names.0 × IsName names.1) IsProperTableLine (λ names. table.Equivalence names.0 names.1) (two_names rest) (two_names-proper rest a) (λ names p. p)
 table_keyword keyword.OrderStart rest a = order_start-proper rest a
 table_keyword keyword.OrderEnd rest a = if_ended IsProperTableLine table.OrderEnd rest tt
 table_keyword keyword.Section rest a = if_as IsName IsProperTableLine table.Section (only name_in rest) (if_only IsName name_in rest a name_in-name) (λ name p. p)
 table_keyword keyword.Script rest a = if_as (λ _. Unit {0}) IsProperTableLine (λ name. table.Script) (only name_in rest) (always (only name_in rest)) (λ _ _. tt)
 table_keyword keyword.Category rest a = tt
-table_keyword keyword.End rest a = if_as (λ _. Unit {0}) IsProperTableLine (λ word. table.EndCategory) (only (word_in (codes "LC_COLLATE")) rest) (always (only (word_in (codes "LC_COLLATE")) rest)) (λ _ _. tt)
+table_keyword keyword.End rest a =
+    if_as (λ _. Unit {0}) IsProperTableLine (λ word. table.EndCategory) (only (word_in (codes "LC_COLLATE")) rest) (always (only (word_in (codes "LC_COLLATE")) rest)) (λ _ _. tt)
 table_keyword keyword.Copy rest a = tt
 table_keyword keyword.ReorderAfter rest a = tt
 table_keyword keyword.ReorderEnd rest a = tt
@@ -86,18 +91,22 @@ table_begun None first rest h a = if_as IsProperLine IsProperTableLine table.Ord
 
 delta_keyword : (word : Keyword) (rest : List Token) → All IsToken rest → IfOk (deltas.keyword_row word rest) IsProperDeltaLine
 delta_keyword keyword.CollatingSymbol rest a = if_as IsName IsProperDeltaLine delta.Symbol (only name_in rest) (if_only IsName name_in rest a name_in-name) (λ name p. p)
-delta_keyword keyword.CollatingElement rest a = if_as (λ read. IsName read.0 × IsElementText read.1) IsProperDeltaLine (λ read. delta.Element read.0 read.1) (element rest) (element-proper rest a) (λ read p. p)
-delta_keyword keyword.SymbolEquivalence rest a = if_as (λ names. IsName names.0 × IsName names.1) IsProperDeltaLine (λ names. delta.Equivalence names.0 names.1) (two_names rest) (two_names-proper rest a) (λ names p. p)
+delta_keyword keyword.CollatingElement rest a =
+    if_as (λ read. IsName read.0 × IsElementText read.1) IsProperDeltaLine (λ read. delta.Element read.0 read.1) (element rest) (element-proper rest a) (λ read p. p)
+delta_keyword keyword.SymbolEquivalence rest a =
+    if_as (λ names. IsName names.0 × IsName names.1) IsProperDeltaLine (λ names. delta.Equivalence names.0 names.1) (two_names rest) (two_names-proper rest a) (λ names p. p)
 delta_keyword keyword.OrderStart rest a = tt
 delta_keyword keyword.OrderEnd rest a = tt
 delta_keyword keyword.Section rest a = tt
 delta_keyword keyword.Script rest a = if_as (λ _. Unit {0}) IsProperDeltaLine (λ name. delta.Script) (only name_in rest) (always (only name_in rest)) (λ _ _. tt)
 delta_keyword keyword.Category rest a = if_ended IsProperDeltaLine delta.Category rest tt
-delta_keyword keyword.End rest a = if_as (λ _. Unit {0}) IsProperDeltaLine (λ word. delta.EndCategory) (only (word_in (codes "LC_COLLATE")) rest) (always (only (word_in (codes "LC_COLLATE")) rest)) (λ _ _. tt)
+delta_keyword keyword.End rest a =
+    if_as (λ _. Unit {0}) IsProperDeltaLine (λ word. delta.EndCategory) (only (word_in (codes "LC_COLLATE")) rest) (always (only (word_in (codes "LC_COLLATE")) rest)) (λ _ _. tt)
 delta_keyword keyword.Copy rest a = if_as (λ _. Unit {0}) IsProperDeltaLine (λ pieces. delta.Copy) (only string_in rest) (always (only string_in rest)) (λ _ _. tt)
 delta_keyword keyword.ReorderAfter rest a = if_as IsId IsProperDeltaLine delta.ReorderAfter (only id_in rest) (if_only IsId id_in rest a id_in-proper) (λ id p. p)
 delta_keyword keyword.ReorderEnd rest a = if_ended IsProperDeltaLine delta.ReorderEnd rest tt
-delta_keyword keyword.ReorderSectionAfter rest a = if_as (λ names. IsName names.0 × IsName names.1) IsProperDeltaLine (λ names. delta.SectionAfter names.0 names.1) (two_names rest) (two_names-proper rest a) (λ names p. p)
+delta_keyword keyword.ReorderSectionAfter rest a =
+    if_as (λ names. IsName names.0 × IsName names.1) IsProperDeltaLine (λ names. delta.SectionAfter names.0 names.1) (two_names rest) (two_names-proper rest a) (λ names p. p)
 
 delta_begun : (o : Option Keyword) (first : Token) (rest : List Token) → IsToken first → All IsToken rest → IfOk (deltas.begun_row o first rest) IsProperDeltaLine
 delta_begun (Some word) first rest h a = delta_keyword word rest a
@@ -110,12 +119,14 @@ answered P said (Err f) e h = tt
 answered P (Ok x) (Ok y) e h = let same : x ≡ y = cc in subst P same h
 answered P (Err f) (Ok y) e h = cc
 
-pub table_row-proper : (ts : List Token) (first : Token) (rest : List Token) (result : Result TableLine SyntaxFault) → AreTokens ts → ts ≡ first ∷ rest → IfOk result (λ read. tables.table_row first rest ≡ Ok read) → IfOk result IsProperTableLine
+pub table_row-proper : (ts : List Token) (first : Token) (rest : List Token) (result : Result TableLine SyntaxFault) → AreTokens ts → ts ≡ first ∷ rest
+    → IfOk result (λ read. tables.table_row first rest ≡ Ok read) → IfOk result IsProperTableLine
 table_row-proper ts first rest result a e h =
     let each = All-same IsToken (first ∷ rest) ts (sym e) a.each in
     answered IsProperTableLine (tables.table_row first rest) result h (table_begun (keyword_of first) first rest (All-head IsToken first rest each) (All-tail IsToken first rest each))
 
-pub delta_row-proper : (ts : List Token) (first : Token) (rest : List Token) (result : Result DeltaLine SyntaxFault) → AreTokens ts → ts ≡ first ∷ rest → IfOk result (λ read. deltas.delta_row first rest ≡ Ok read) → IfOk result IsProperDeltaLine
+pub delta_row-proper : (ts : List Token) (first : Token) (rest : List Token) (result : Result DeltaLine SyntaxFault) → AreTokens ts → ts ≡ first ∷ rest
+    → IfOk result (λ read. deltas.delta_row first rest ≡ Ok read) → IfOk result IsProperDeltaLine
 delta_row-proper ts first rest result a e h =
     let each = All-same IsToken (first ∷ rest) ts (sym e) a.each in
     answered IsProperDeltaLine (deltas.delta_row first rest) result h (delta_begun (keyword_of first) first rest (All-head IsToken first rest each) (All-tail IsToken first rest each))

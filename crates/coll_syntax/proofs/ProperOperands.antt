@@ -1,5 +1,6 @@
 -- What the grammar gives is proper: operands, strings, rules and weights.
-use Rattle.std.proofs.Common.{◌≡◌, ℕ, zero, suc, ◌<◌, ◌≤◌, ◌&&◌, nat_le, Bool, true, false, if◌then◌else◌, cond, List, [], ◌∷◌, ◌++◌, length, take, drop, map, Some, None, Ok, Err, refl, ap, ◌∙◌, arith}
+use Rattle.std.proofs.Common.{◌≡◌, ℕ, zero, suc, ◌<◌, ◌≤◌, ◌&&◌, nat_le, Bool, true, false, if◌then◌else◌, cond, List, []}
+use Rattle.std.proofs.Common.{◌∷◌, ◌++◌, length, take, drop, map, Some, None, Ok, Err, refl, ap, ◌∙◌, arith}
 use Rattle.std.specs.Prelude.{Result, Option, All, IfOk, codes}
 use Rattle.std.specs.List.{slice_split, onto_first}
 use Rattle.std.proofs.lemmas.List.Elements.{All-nil, All-cons, All-head, All-tail}
@@ -42,7 +43,8 @@ pub if_ended : {A : Type 0} (P : A → Type 0) (x : A) (rest : List Token) → P
 if_ended P x [] h = h
 if_ended P x (t ∷ rest) h = tt
 
-pub if_operand : {A B : Type 0} (Q : A → Type 0) (P : B → Type 0) (kind : Token → Result A SyntaxFault) (ts : List Token) (next : A → List Token → Result B SyntaxFault) → All IsToken ts → ((t : Token) → IsToken t → IfOk (kind t) Q) → ((x : A) (rest : List Token) → Q x → All IsToken rest → IfOk (next x rest) P) → IfOk (operand kind ts next) P
+pub if_operand : {A B : Type 0} (Q : A → Type 0) (P : B → Type 0) (kind : Token → Result A SyntaxFault) (ts : List Token) (next : A → List Token → Result B SyntaxFault) → All IsToken ts
+    → ((t : Token) → IsToken t → IfOk (kind t) Q) → ((x : A) (rest : List Token) → Q x → All IsToken rest → IfOk (next x rest) P) → IfOk (operand kind ts next) P
 if_operand Q P kind [] next a h k = tt
 if_operand Q P kind (t ∷ rest) next a h k = if_then Q P (kind t) (λ x. next x rest) (h t (All-head IsToken t rest a)) (λ x q. k x rest q (All-tail IsToken t rest a))
 
@@ -214,14 +216,17 @@ operand_weight-proper (t ∷ next ∷ ts) a = if_then IsProperWeight IsProperWei
 
 each-operand : (parts : List (List Token)) → All (All IsToken) parts → All (λ r. IfOk r IsProperWeight) (map operand_weight parts)
 each-operand [] a = All-nil (λ r. IfOk r IsProperWeight)
-each-operand (part ∷ parts) a = All-cons (λ r. IfOk r IsProperWeight) (operand_weight part) (map operand_weight parts) (operand_weight-proper part (All-head (All IsToken) part parts a)) (each-operand parts (All-tail (All IsToken) part parts a))
+each-operand (part ∷ parts) a = All-cons (λ r. IfOk r IsProperWeight) (operand_weight part) (map operand_weight parts) (operand_weight-proper part (All-head (All IsToken) part parts a))
+    (each-operand parts (All-tail (All IsToken) part parts a))
 
 -- the weights of a line are proper, and there is one
 pub weights-proper : (ts : List Token) → All IsToken ts → IfOk (weights ts) (λ ws. (1 ≤ length ws) × All IsProperWeight ws)
 unfolding weights
-weights-proper ts a = counted (operands_of ts) (all_read (map operand_weight (operands_of ts))) (some_operand ts) (if_all_read IsProperWeight (map operand_weight (operands_of ts)) (each-operand (operands_of ts) (All-slice_split IsToken is_semicolon ts a)))
+weights-proper ts a = counted (operands_of ts) (all_read (map operand_weight (operands_of ts))) (some_operand ts)
+    (if_all_read IsProperWeight (map operand_weight (operands_of ts)) (each-operand (operands_of ts) (All-slice_split IsToken is_semicolon ts a)))
   where
-    counted : (parts : List (List Token)) (r : Result (List Weight) SyntaxFault) → 0 < length parts → IfOk r (λ ws. (length ws ≡ length (map operand_weight parts)) × All IsProperWeight ws) → IfOk r (λ ws. (1 ≤ length ws) × All IsProperWeight ws)
+    counted : (parts : List (List Token)) (r : Result (List Weight) SyntaxFault) → 0 < length parts → IfOk r (λ ws. (length ws ≡ length (map operand_weight parts)) × All IsProperWeight ws)
+        → IfOk r (λ ws. (1 ≤ length ws) × All IsProperWeight ws)
     counted parts (Ok ws) l h = let e = h.0 ∙ length-map parts operand_weight in (omega (arith, e, l), h.1)
     counted parts (Err f) l h = tt
 
@@ -235,7 +240,8 @@ unfolding all_read
 judged-most zero [] = omega arith
 judged-most zero (op ∷ ops) = tt
 judged-most (suc m) [] = omega arith
-judged-most (suc m) (op ∷ ops) = if_then (λ _. Unit {0}) (λ rs. length rs ≤ suc m) (rule op) _ (any_rule (rule op)) (λ r _. if_as (λ rs. length rs ≤ m) (λ rs. length rs ≤ suc m) (λ more. r ∷ more) _ (judged-most m ops) (λ rs h. omega (arith, h)))
+judged-most (suc m) (op ∷ ops) = if_then (λ _. Unit {0}) (λ rs. length rs ≤ suc m) (rule op) _ (any_rule (rule op))
+    (λ r _. if_as (λ rs. length rs ≤ m) (λ rs. length rs ≤ suc m) (λ more. r ∷ more) _ (judged-most m ops) (λ rs h. omega (arith, h)))
   where
     any_rule : (r : Result Rule SyntaxFault) → IfOk r (λ _. Unit {0})
     any_rule (Ok r) = tt

@@ -14,7 +14,8 @@ use Rattle.coll_lex.specs.Names.{AreCharacters, IsName, gives_name, is_proper_na
 use Rattle.coll_lex.specs.declared.tokens.Piece.{Piece}
 use Rattle.coll_lex.specs.declared.tokens.Piece.TheVariants as piece
 use Rattle.coll_lex.specs.declared.faults.LexFault.TheVariants.{BadName, BadCodePoint}
-use Rattle.coll_syntax.specs.Proper.{IsId, IsWeightId, IsProperWeight, AreProperWeights, IsProperLine, IsElementText, IsProper, is_proper_id, is_weight_id, is_proper_weight, are_proper_weights, is_proper_line, is_element_text, is_proper}
+use Rattle.coll_syntax.specs.Proper.{IsId, IsWeightId, IsProperWeight, AreProperWeights, IsProperLine, IsElementText, IsProper, is_proper_id}
+use Rattle.coll_syntax.specs.Proper.{is_weight_id, is_proper_weight, are_proper_weights, is_proper_line, is_element_text, is_proper}
 use Rattle.coll_syntax.specs.declared.identifiers.Id.{Id}
 use Rattle.coll_syntax.specs.declared.identifiers.Id.TheVariants.{Char, Named, Undefined}
 use Rattle.coll_syntax.specs.declared.weights.Weight.{Weight}
@@ -85,7 +86,8 @@ Decides-all p P each xs = Decides-by_and p P (list_all p) each refl (λ _ _. ref
 Decides-weight : (w : Weight) → Decides (is_proper_weight w) (IsProperWeight w)
 Decides-weight Ignore = Decides-always
 Decides-weight Own = Decides-always
-Decides-weight (Names ids) = Decides-three (not (length ids == 0)) (nat_le (length ids) 32) (list_all is_weight_id ids) (Decides-some (length ids)) (Decides-leb (length ids) 32) (Decides-all is_weight_id IsWeightId Decides-weight_id ids)
+Decides-weight (Names ids) = Decides-three (not (length ids == 0)) (nat_le (length ids) 32) (list_all is_weight_id ids) (Decides-some (length ids)) (Decides-leb (length ids) 32)
+    (Decides-all is_weight_id IsWeightId Decides-weight_id ids)
 
 Decides-weights : (o : Option (List Weight)) → Decides (are_proper_weights o) (AreProperWeights o)
 Decides-weights None = Decides-always
@@ -113,6 +115,7 @@ unfolding is_proper
 is_proper_tells (statement.Symbol name) = Decides-name name
 is_proper_tells (statement.Element name text) = Decides-and (is_proper_name name) (is_element_text text) (Decides-name name) (Decides-text text)
 is_proper_tells (statement.Equivalence name symbol) = Decides-and (is_proper_name name) (is_proper_name symbol) (Decides-name name) (Decides-name symbol)
-is_proper_tells (statement.Block target lines) = Decides-three (is_proper_id target) (nat_le (length lines) 4096) (list_all is_proper_line lines) (Decides-id target) (Decides-leb (length lines) 4096) (Decides-all is_proper_line IsProperLine Decides-line lines)
+is_proper_tells (statement.Block target lines) = Decides-three (is_proper_id target) (nat_le (length lines) 4096) (list_all is_proper_line lines) (Decides-id target) (Decides-leb (length lines) 4096)
+    (Decides-all is_proper_line IsProperLine Decides-line lines)
 is_proper_tells (statement.SectionAfter moved after) = Decides-and (is_proper_name moved) (is_proper_name after) (Decides-name moved) (Decides-name after)
 is_proper_tells (statement.Reweight line) = Decides-line line

@@ -21,7 +21,8 @@ prefixed-more done x (Ok xs) = ap Ok (sym (append_assoc done (x ∷ []) xs))
 prefixed-more done x (Err f) = refl
 
 -- one more operand is read
-pub reads_more : {A : Type 0} (all : List (Result A SyntaxFault)) (done : List A) (n : ℕ) (x : A) → all_read all ≡ prefixed done (all_read (drop n all)) → n < length all → get_or all n (Ok x) ≡ Ok x → all_read all ≡ prefixed (done ++ x ∷ []) (all_read (drop (n + 1) all))
+pub reads_more : {A : Type 0} (all : List (Result A SyntaxFault)) (done : List A) (n : ℕ) (x : A) → all_read all ≡ prefixed done (all_read (drop n all)) → n < length all → get_or all n (Ok x) ≡ Ok x
+    → all_read all ≡ prefixed (done ++ x ∷ []) (all_read (drop (n + 1) all))
 unfolding all_read
 reads_more all done n x h l e =
     h
@@ -30,7 +31,8 @@ reads_more all done n x h l e =
     ∙ prefixed-more done x (all_read (drop (n + 1) all))
 
 -- the next operand is at fault
-pub reads_fault : {A : Type 0} (all : List (Result A SyntaxFault)) (done : List A) (n : ℕ) (f : SyntaxFault) → all_read all ≡ prefixed done (all_read (drop n all)) → n < length all → get_or all n (Err f) ≡ Err f → all_read all ≡ Err f
+pub reads_fault : {A : Type 0} (all : List (Result A SyntaxFault)) (done : List A) (n : ℕ) (f : SyntaxFault) → all_read all ≡ prefixed done (all_read (drop n all)) → n < length all
+    → get_or all n (Err f) ≡ Err f → all_read all ≡ Err f
 unfolding all_read
 reads_fault all done n f h l e =
     h

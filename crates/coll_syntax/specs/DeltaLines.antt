@@ -10,7 +10,8 @@ use Rattle.coll_syntax.specs.OrderLines.{order_line}
 use Rattle.coll_syntax.specs.declared.keywords.Keyword.{Keyword}
 use Rattle.coll_syntax.specs.declared.keywords.Keyword.TheVariants as keyword
 use Rattle.coll_syntax.specs.declared.lines.DeltaLine.{DeltaLine}
-use Rattle.coll_syntax.specs.declared.lines.DeltaLine.TheVariants.{Symbol, Element, Equivalence, Script, Category, EndCategory, Copy, ReorderAfter, ReorderEnd, SectionAfter, Order}
+use Rattle.coll_syntax.specs.declared.lines.DeltaLine.TheVariants.{Symbol, Element, Equivalence, Script, Category, EndCategory}
+use Rattle.coll_syntax.specs.declared.lines.DeltaLine.TheVariants.{Copy, ReorderAfter, ReorderEnd, SectionAfter, Order}
 use Rattle.coll_syntax.specs.declared.syntax_faults.SyntaxFault.{SyntaxFault}
 use Rattle.coll_syntax.specs.declared.syntax_faults.SyntaxFault.TheVariants.{UnknownStatement}
 

@@ -3,7 +3,9 @@ use Rattle.std.specs.Prelude.{if◌then◌else◌, Option, Some, None, codes}
 use Rattle.coll_lex.specs.declared.tokens.Token.{Token}
 use Rattle.coll_syntax.specs.Identifier.{is_word}
 use Rattle.coll_syntax.specs.declared.keywords.Keyword.{Keyword}
-use Rattle.coll_syntax.specs.declared.keywords.Keyword.TheVariants.{CollatingSymbol, CollatingElement, SymbolEquivalence, OrderStart, OrderEnd, Section, Script, Category, End, Copy, ReorderAfter, ReorderEnd, ReorderSectionAfter}
+use Rattle.coll_syntax.specs.declared.keywords.Keyword.TheVariants.{CollatingSymbol, CollatingElement, SymbolEquivalence}
+use Rattle.coll_syntax.specs.declared.keywords.Keyword.TheVariants.{OrderStart, OrderEnd, Section, Script, Category, End, Copy}
+use Rattle.coll_syntax.specs.declared.keywords.Keyword.TheVariants.{ReorderAfter, ReorderEnd, ReorderSectionAfter}
 
 -- the keyword that a token spells, if it spells one
 unfoldable pub keyword_of : Token → Option Keyword

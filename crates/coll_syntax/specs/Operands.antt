@@ -30,7 +30,8 @@ ended read [] = Ok read
 ended read (_ ∷ _) = Err ExtraOperand
 
 -- an operand of this kind, and then what follows it; where it is missing, that is the fault
-abbrev pub operand : {A B : Type 0} → (Token → Result A SyntaxFault) → List Token → (A → List Token → Result B SyntaxFault) → Result B SyntaxFault
+abbrev pub operand : {A B : Type 0} → (Token → Result A SyntaxFault) → List Token → (A → List Token → Result B SyntaxFault)
+    → Result B SyntaxFault
 operand kind [] next = Err MissingOperand
 operand kind (t ∷ rest) next = and_then (kind t) (λ read. next read rest)
 

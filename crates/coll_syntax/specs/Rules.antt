@@ -12,7 +12,8 @@ use Rattle.coll_syntax.specs.declared.syntax_faults.SyntaxFault.TheVariants.{Bad
 
 -- the directive that a word spells
 abbrev pub directive_of : Token → Option Directive
-directive_of t = if is_word t (codes "forward") then Some Forward else (if is_word t (codes "backward") then Some Backward else (if is_word t (codes "position") then Some Position else None))
+directive_of t = if is_word t (codes "forward") then Some Forward
+    else (if is_word t (codes "backward") then Some Backward else (if is_word t (codes "position") then Some Position else None))
 
 -- the rule of one directive; `position` alone means `forward,position` (the project's own rule)
 abbrev pub one_directive : Option Directive → Option Rule

@@ -1,7 +1,9 @@
 -- The numbers and the names of the faults of the grammar, as replies and messages show them.
 use Rattle.std.specs.Prelude.{ℕ, List, codes}
 use Rattle.coll_syntax.specs.declared.syntax_faults.SyntaxFault.{SyntaxFault}
-use Rattle.coll_syntax.specs.declared.syntax_faults.SyntaxFault.TheVariants.{UnknownStatement, MissingOperand, ExtraOperand, BadRule, TooManyLevels, WeightTooLong, ElementLength, BlockTooLong, EmptyString, BadOperand, OutOfMemory}
+use Rattle.coll_syntax.specs.declared.syntax_faults.SyntaxFault.TheVariants.{UnknownStatement, MissingOperand, ExtraOperand, BadRule}
+use Rattle.coll_syntax.specs.declared.syntax_faults.SyntaxFault.TheVariants.{TooManyLevels, WeightTooLong, ElementLength, BlockTooLong}
+use Rattle.coll_syntax.specs.declared.syntax_faults.SyntaxFault.TheVariants.{EmptyString, BadOperand, OutOfMemory}
 
 -- the number of a fault of the grammar
 abbrev pub syntax_fault_number : SyntaxFault → ℕ

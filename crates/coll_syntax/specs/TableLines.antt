@@ -12,7 +12,8 @@ use Rattle.coll_syntax.specs.declared.keywords.Keyword.{Keyword}
 use Rattle.coll_syntax.specs.declared.keywords.Keyword.TheVariants as keyword
 use Rattle.coll_syntax.specs.declared.rules.Rule.{Rule}
 use Rattle.coll_syntax.specs.declared.lines.TableLine.{TableLine}
-use Rattle.coll_syntax.specs.declared.lines.TableLine.TheVariants.{Symbol, Element, Equivalence, OrderStart, OrderEnd, Section, Script, EndCategory, Order}
+use Rattle.coll_syntax.specs.declared.lines.TableLine.TheVariants.{Symbol, Element, Equivalence, OrderStart, OrderEnd}
+use Rattle.coll_syntax.specs.declared.lines.TableLine.TheVariants.{Section, Script, EndCategory, Order}
 use Rattle.coll_syntax.specs.declared.syntax_faults.SyntaxFault.{SyntaxFault}
 use Rattle.coll_syntax.specs.declared.syntax_faults.SyntaxFault.TheVariants.{UnknownStatement, ExtraOperand, BadOperand}
 

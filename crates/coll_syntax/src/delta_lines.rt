@@ -45,7 +45,8 @@ pub fn parse_delta_line(alloc: Global, line: &Line) -> Result<DeltaLine, SyntaxF
 fn row(alloc: Global, first: &Token, rest: &[Token]) -> Result<DeltaLine, SyntaxFault>
     ensures ok { IfOk result (λ read. delta_row first.now rest.now ≡ Ok read) }
     ensures err { IfErr result (λ fault. fault ≢ OutOfMemory → delta_row first.now rest.now ≡ Err fault) }
-    ensures memory { IfErr result (λ fault. fault ≡ OutOfMemory → IsTrue (delta_row_takes_memory (spelled_keyword first.now) first.now rest.now)) }
+    ensures memory { IfErr result (λ fault. fault ≡ OutOfMemory
+        → IsTrue (delta_row_takes_memory (spelled_keyword first.now) first.now rest.now)) }
 {
     let Some(keyword) = keyword_of(first) else {
         let line = order_line(alloc, first, rest)?;

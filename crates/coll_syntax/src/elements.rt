@@ -5,7 +5,8 @@
 
 ghost use Rattle.std.specs.Prelude.{◌≡◌, ◌≢◌, [], ◌∷◌, ◌++◌, ◌&&◌, nat_le, Ok, Err, IsTrue, IfOk, IfErr, OnOk, chars, string_bytes};
 ghost use Rattle.coll_syntax.specs.Operands.{only, wanted};
-ghost use Rattle.coll_syntax.specs.Elements.{element as spelled_element, from_text as spelled_from, text_in, element_text as spelled_text, characters_of};
+ghost use Rattle.coll_syntax.specs.Elements.{element as spelled_element, from_text as spelled_from, text_in};
+ghost use Rattle.coll_syntax.specs.Elements.{element_text as spelled_text, characters_of};
 ghost use Rattle.coll_syntax.specs.Proper.{is_element_text as may_be_text};
 ghost use Rattle.coll_syntax.specs.TakenMemory.{begins_with_symbol};
 ghost use Rattle.coll_syntax.specs.declared.syntax_faults.SyntaxFault.TheVariants.{OutOfMemory};

@@ -6,7 +6,8 @@
 ghost use Rattle.std.specs.Prelude.{◌≡◌, ◌≢◌, Ok, Err, IsTrue, IfOk, IfErr, OnErr, chars, nat_lt};
 ghost use Rattle.std.specs.List.{list_all};
 ghost use Rattle.coll_syntax.specs.Identifier.{id_of as spelled_id, char_or_name as spelled_char_or_name, only_char};
-ghost use Rattle.coll_syntax.specs.Operands.{ended, only, name_in, word_in, id_in, string_in, two_names as spelled_two, is_semicolon as separates};
+ghost use Rattle.coll_syntax.specs.Operands.{ended, only, name_in, word_in, id_in, string_in};
+ghost use Rattle.coll_syntax.specs.Operands.{two_names as spelled_two, is_semicolon as separates};
 ghost use Rattle.coll_syntax.specs.TakenMemory.{is_read, is_symbol, begins_with_symbol};
 ghost use Rattle.coll_syntax.specs.declared.syntax_faults.SyntaxFault.TheVariants.{OutOfMemory};
 

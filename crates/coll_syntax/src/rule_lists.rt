@@ -3,7 +3,9 @@
 //! Each call is the definition of its name in `specs/Rules.antt`. None of them takes memory.
 
 ghost use Rattle.std.specs.Prelude.{◌≡◌, ◌≢◌, Ok, Err, IfOk, IfErr};
-ghost use Rattle.coll_syntax.specs.Rules.{rules as spelled_rules, operand_rule as spelled_operand, one_directive as rule_of_one, two_directives as rule_of_two, directive_of as spelled_directive};
+ghost use Rattle.coll_syntax.specs.Rules.{rules as spelled_rules, operand_rule as spelled_operand};
+ghost use Rattle.coll_syntax.specs.Rules.{one_directive as rule_of_one, two_directives as rule_of_two};
+ghost use Rattle.coll_syntax.specs.Rules.{directive_of as spelled_directive};
 ghost use Rattle.coll_syntax.specs.declared.syntax_faults.SyntaxFault.TheVariants.{OutOfMemory};
 
 use crate::keywords::is_word;

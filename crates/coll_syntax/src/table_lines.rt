@@ -5,10 +5,12 @@
 
 ghost use Rattle.std.specs.Prelude.{◌≡◌, ◌∷◌, ◌≢◌, Ok, Err, IsTrue, IfOk, IfErr};
 ghost use Rattle.coll_syntax.specs.declared.syntax_faults.SyntaxFault.TheVariants.{OutOfMemory};
-ghost use Rattle.coll_syntax.specs.TableLines.{table_line, table_row, keyword_row as spelled_row, order_start as spelled_start, section_rules as spelled_section_rules};
+ghost use Rattle.coll_syntax.specs.TableLines.{table_line, table_row, keyword_row as spelled_row};
+ghost use Rattle.coll_syntax.specs.TableLines.{order_start as spelled_start, section_rules as spelled_section_rules};
 ghost use Rattle.coll_lex.specs.Names.{AreTokens};
 ghost use Rattle.coll_syntax.specs.Keywords.{keyword_of as spelled_keyword};
-ghost use Rattle.coll_syntax.specs.TakenMemory.{table_line_takes_memory, table_row_takes_memory, table_keyword_takes_memory, begins_with_symbol};
+ghost use Rattle.coll_syntax.specs.TakenMemory.{table_line_takes_memory, table_row_takes_memory};
+ghost use Rattle.coll_syntax.specs.TakenMemory.{table_keyword_takes_memory, begins_with_symbol};
 ghost use Rattle.coll_syntax.specs.Proper.{IsProperTableLine};
 
 use crate::elements::element;
@@ -44,7 +46,8 @@ pub fn parse_table_line(alloc: Global, line: &Line) -> Result<TableLine, SyntaxF
 fn row(alloc: Global, first: &Token, rest: &[Token]) -> Result<TableLine, SyntaxFault>
     ensures ok { IfOk result (λ read. table_row first.now rest.now ≡ Ok read) }
     ensures err { IfErr result (λ fault. fault ≢ OutOfMemory → table_row first.now rest.now ≡ Err fault) }
-    ensures memory { IfErr result (λ fault. fault ≡ OutOfMemory → IsTrue (table_row_takes_memory (spelled_keyword first.now) first.now rest.now)) }
+    ensures memory { IfErr result (λ fault. fault ≡ OutOfMemory
+        → IsTrue (table_row_takes_memory (spelled_keyword first.now) first.now rest.now)) }
 {
     let Some(keyword) = keyword_of(first) else {
         let line = order_line(alloc, first, rest)?;

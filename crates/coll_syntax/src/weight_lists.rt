@@ -4,7 +4,10 @@
 //! operands are read one after another, each from left to right.
 
 ghost use Rattle.std.specs.Prelude.{◌≡◌, ◌≢◌, Ok, Err, IfOk, IfErr, map};
-ghost use Rattle.coll_syntax.specs.Weights.{weights as spelled_weights, operand_weight as spelled_operand, weight as spelled_weight, string_weight as spelled_string, left_over as spelled_left_over, begins_operand as spelled_begin, piece_id as spelled_piece, one_id};
+ghost use Rattle.coll_syntax.specs.Weights.{weights as spelled_weights, operand_weight as spelled_operand};
+ghost use Rattle.coll_syntax.specs.Weights.{weight as spelled_weight, string_weight as spelled_string};
+ghost use Rattle.coll_syntax.specs.Weights.{left_over as spelled_left_over, begins_operand as spelled_begin};
+ghost use Rattle.coll_syntax.specs.Weights.{piece_id as spelled_piece, one_id};
 ghost use Rattle.coll_syntax.specs.declared.syntax_faults.SyntaxFault.TheVariants.{OutOfMemory};
 
 use crate::keywords::is_word;

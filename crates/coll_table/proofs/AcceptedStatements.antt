@@ -5,8 +5,9 @@ use Rattle.coll_syntax.specs.Identifier.{has_name, same_name}
 use Rattle.coll_syntax.specs.declared.identifiers.Id.{Id}
 use Rattle.coll_syntax.specs.declared.statements.OrderLine.{OrderLine}
 use Rattle.coll_nodes.proofs.LayoutReads.{both_true}
-use Rattle.coll_builder.proofs.SoundLines.{not_false, passed}
-use Rattle.coll_table.specs.Delta.{all_moved, block_delta, block_result, ids_given, lines_refusal, looked_up, or_refused, reweight_delta, reweight_refusal, reweighted, section_delta, section_refusal, unless_refused, weight_ids_refusal}
+use Rattle.coll_texts.proofs.SoundLines.{not_false, passed}
+use Rattle.coll_table.specs.Delta.{all_moved, block_delta, block_result, ids_given, lines_refusal, looked_up, or_refused, reweight_delta}
+use Rattle.coll_table.specs.Delta.{reweight_refusal, reweighted, section_delta, section_refusal, unless_refused, weight_ids_refusal}
 use Rattle.coll_nodes.specs.Causes.{refused_if}
 use Rattle.coll_nodes.specs.Limits.{most_entries}
 use Rattle.coll_nodes.specs.Placement.{section_moved}
@@ -60,7 +61,8 @@ pub record SectionAccepted (table : Collation) (name after : List ℕ) : Type 0 
 pub section_accepted : (table : Collation) (name after : List ℕ) → IsOk (section_delta table name after) → SectionAccepted table name after
 section_accepted table name after ok =
     let parts = unless_accepted (section_refusal table name after) (record table { sections = section_moved table.sections name after }) ok in
-    let there = passed (not (has_name (section_names table.sections) name && has_name (section_names table.sections) after)) NoSuchSection (refused_if (same_name name after) SectionAfterItself None) parts.0 in
+    let there = passed (not (has_name (section_names table.sections) name && has_name (section_names table.sections) after)) NoSuchSection (refused_if (same_name name after) SectionAfterItself None)
+    parts.0 in
     let both = both_true (has_name (section_names table.sections) name) (has_name (section_names table.sections) after) (not_false _ there.0) in
     record {
       moved = both.0;

@@ -138,7 +138,8 @@ block_theirs table layout before (line ∷ lines) (item ∷ items) prepared node
 
 -- a block that is accepted, and prepared, is ready
 pub block_ready : (old table : TableValue) (target : Id) (lines : List OrderLine) (items : List Item) → IsTable table → AddsLoose old table (added_nodes items)
-    → IsProper (statement.Block target lines) → IsOk (own_delta (collation old) (statement.Block target lines)) → IsPreparedBlock (collation old) table.layout target lines items → IsReady table (statement.Block target lines) items
+    → IsProper (statement.Block target lines) → IsOk (own_delta (collation old) (statement.Block target lines)) → IsPreparedBlock (collation old) table.layout target lines items
+    → IsReady table (statement.Block target lines) items
 unfolding own_delta statement_items own_steps
 block_ready old table target lines items is adds proper ok prepared_old =
     let same : collation old ≡ collation table = sym (collation_grown old table (added_nodes items) adds) in
@@ -200,7 +201,8 @@ declaration_ready old table new items is adds_all proper ok prepared =
 
 -- a section move that is accepted, and prepared, is ready
 pub section_ready : (table : TableValue) (name after : List ℕ) (items : List Item) → IsTable table
-    → IsProper (statement.SectionAfter name after) → IsOk (own_delta (collation table) (statement.SectionAfter name after)) → IsPreparedSection table.layout name after items → IsReady table (statement.SectionAfter name after) items
+    → IsProper (statement.SectionAfter name after) → IsOk (own_delta (collation table) (statement.SectionAfter name after)) → IsPreparedSection table.layout name after items
+    → IsReady table (statement.SectionAfter name after) items
 unfolding own_delta statement_items own_steps
 section_ready table name after items is proper ok prepared =
     let item : Item = record { node = prepared.0; old = Some (After prepared.1); new = Some (After prepared.1); weights = None } in
@@ -228,12 +230,14 @@ rules_are table = refl
 
 -- an order line outside a block that is accepted, and prepared, is ready
 pub reweight_ready : (table : TableValue) (line : OrderLine) (items : List Item) → IsTable table
-    → IsProper (statement.Reweight line) → IsOk (own_delta (collation table) (statement.Reweight line)) → IsPreparedReweight (collation table) table.layout line items → IsReady table (statement.Reweight line) items
+    → IsProper (statement.Reweight line) → IsOk (own_delta (collation table) (statement.Reweight line)) → IsPreparedReweight (collation table) table.layout line items
+    → IsReady table (statement.Reweight line) items
 unfolding own_delta statement_items own_steps
 reweight_ready table line items is proper ok prepared =
     let item : Item = record { node = prepared.0; old = None; new = None; weights = weights_to (length table.rules) line.id line.weights } in
     let accepted = reweight_accepted (collation table) line ok in
-    subst (λ is. IsReady table (statement.Reweight line) is) (sym (prepared.2 ∙ ap (λ rules. record { node = prepared.0; old = None; new = None; weights = weights_to (length rules) line.id line.weights } ∷ []) (rules_are table))) (record {
+    subst (λ is. IsReady table (statement.Reweight line) is)
+    (sym (prepared.2 ∙ ap (λ rules. record { node = prepared.0; old = None; new = None; weights = weights_to (length rules) line.id line.weights } ∷ []) (rules_are table))) (record {
       after = reweighted (collation table) line;
       accepted = accepted.result;
       done = reweight_done table line item is.sound prepared.1 refl refl refl accepted.passes;

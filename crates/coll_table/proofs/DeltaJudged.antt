@@ -1,5 +1,6 @@
 -- What judging a statement says of its delta.
-use Rattle.std.proofs.Common.{◌≡◌, ◌≢◌, ℕ, ◌+◌, ◌-◌, ◌<◌, ◌≤◌, true, false, ◌||◌, not, cond, List, [], ◌∷◌, Option, Some, None, Result, Ok, Err, IsOk, IfErr, OnOk, length, sym, ap, ap₂, ◌∙◌, refl, arith, append-nil}
+use Rattle.std.proofs.Common.{◌≡◌, ◌≢◌, ℕ, ◌+◌, ◌-◌, ◌<◌, ◌≤◌, true, false, ◌||◌, not, cond, List, [], ◌∷◌, Option, Some, None}
+use Rattle.std.proofs.Common.{Result, Ok, Err, IsOk, IfErr, OnOk, length, sym, ap, ap₂, ◌∙◌, refl, arith, append-nil}
 use Rattle.std.specs.List.{flat_map}
 use Rattle.std.specs.Option.{option_or}
 use Rattle.std.proofs.lemmas.Bool.{lt-leb, le-leb, or_right}
@@ -11,7 +12,8 @@ use Rattle.coll_syntax.specs.declared.statements.OrderLine.{OrderLine}
 use Rattle.coll_table.proofs.DeltaPlacing.{has_all_moved, length_all_moved, all_moved_declared}
 use Rattle.coll_table.proofs.DeltaTables.{may_follow, reweighted_ids}
 use Rattle.coll_lookups.proofs.Sameness.{found_holds, same_id_decides}
-use Rattle.coll_table.specs.Delta.{unless_refused, or_refused, weight_ids_refusal, ids_given, looked_up, lines_refusal, all_moved, block_result, block_delta, reweighted, reweight_refusal, reweight_delta}
+use Rattle.coll_table.specs.Delta.{unless_refused, or_refused, weight_ids_refusal, ids_given, looked_up, lines_refusal}
+use Rattle.coll_table.specs.Delta.{all_moved, block_result, block_delta, reweighted, reweight_refusal, reweight_delta}
 use Rattle.coll_nodes.specs.Causes.{refused_if}
 use Rattle.coll_nodes.specs.Entries.{given_weights, weight_ids}
 use Rattle.coll_table.specs.Judging.{HaveSame, entries_added, line_ids, id_refusal, ids_refusal}
@@ -22,11 +24,13 @@ use Rattle.coll_table.specs.declared.refusals.Refusal.{Refusal}
 use Rattle.coll_table.specs.declared.refusals.Refusal.TheVariants.{NotDeclared, WeightNotPlaced, Full, TargetNotPlaced, OutOfMemory}
 
 -- where a result is a table unless it is refused, and that is judged, the result is judged
-pub judged_ok : {U : Type 0} (r : Result U Refusal) (result : Result Collation Refusal) (refusal : Option Refusal) (after : Collation) → result ≡ unless_refused refusal after → OnOk r (refusal ≡ None) → OnOk r (IsOk result)
+pub judged_ok : {U : Type 0} (r : Result U Refusal) (result : Result Collation Refusal) (refusal : Option Refusal) (after : Collation) → result ≡ unless_refused refusal after → OnOk r (refusal ≡ None)
+    → OnOk r (IsOk result)
 judged_ok (Ok u) result refusal after is none = rw (is, none) refl
 judged_ok (Err it) result refusal after is none = tt
 
-pub judged_err : {U : Type 0} (r : Result U Refusal) (result : Result Collation Refusal) (refusal : Option Refusal) (after : Collation) → result ≡ unless_refused refusal after → IfErr r (λ it. refusal ≡ Some it) → IfErr r (λ it. result ≡ Err it)
+pub judged_err : {U : Type 0} (r : Result U Refusal) (result : Result Collation Refusal) (refusal : Option Refusal) (after : Collation) → result ≡ unless_refused refusal after
+    → IfErr r (λ it. refusal ≡ Some it) → IfErr r (λ it. result ≡ Err it)
 judged_err (Ok u) result refusal after is some = tt
 judged_err (Err it) result refusal after is some = is ∙ ap (λ r. unless_refused r after) some
 
@@ -59,7 +63,8 @@ looked_up_before table after more (id ∷ ids) h =
 -- Order lines outside a block.
 
 -- one whose weights are as many as they may be results in a table, unless one of them is refused
-pub reweight_judged : (table : Collation) (line : OrderLine) → reweight_refusal table line ≡ None → reweight_delta table line ≡ unless_refused (ids_refusal table [] (flat_map weight_ids (given_weights line.weights))) (reweighted table line)
+pub reweight_judged : (table : Collation) (line : OrderLine) → reweight_refusal table line ≡ None
+    → reweight_delta table line ≡ unless_refused (ids_refusal table [] (flat_map weight_ids (given_weights line.weights))) (reweighted table line)
 reweight_judged table line passes =
     let new = reweighted table line in
     let results : Results table [] new = record { declared = refl; placed = λ id. ap (λ ids. has_id ids id) (reweighted_ids table line) ∙ or_comm false (is_placed table id) } in
@@ -101,7 +106,8 @@ module _ (table : Collation) (target : Id) (lines : List OrderLine) (there : is_
           (λ _ _. or_comm (has_id (line_ids lines) id) (is_placed table id)) refl
 
     -- room, so that the weights decide
-    pub weights_decide : (ids : List Id) → HaveSame ids (target ∷ line_ids lines) → added ≤ most_entries - length (entries_of table) → block_delta table target lines ≡ unless_refused (ids_refusal table ids (ids_given lines)) (all_moved table target lines)
+    pub weights_decide : (ids : List Id) → HaveSame ids (target ∷ line_ids lines) → added ≤ most_entries - length (entries_of table)
+        → block_delta table target lines ≡ unless_refused (ids_refusal table ids (ids_given lines)) (all_moved table target lines)
     weights_decide ids same room =
         let e = counted_entries in
         let few = well.built.few_entries in

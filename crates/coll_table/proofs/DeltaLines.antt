@@ -44,7 +44,8 @@ module _ (table : Collation) (target : Id) (lines : List OrderLine) (i : ℕ) (l
     one_judged =
         h.goes_on
         ∙ (ap (lines_refusal table (before_line target lines i)) rest_more
-        ∙ (ap (λ b. option_or (refused_if b TwiceInBlock (refused_if (not (is_known table.declared line.id)) NotDeclared (weights_refusal table line None))) (lines_refusal table (before_line target lines i ++ line.id ∷ []) (drop (i + 1) lines))) (sym (h.members line.id))
+        ∙ (ap (λ b. option_or (refused_if b TwiceInBlock (refused_if (not (is_known table.declared line.id)) NotDeclared (weights_refusal table line None)))
+        (lines_refusal table (before_line target lines i ++ line.id ∷ []) (drop (i + 1) lines))) (sym (h.members line.id))
         ∙ ap (λ before. option_or (line_refusal table ids line) (lines_refusal table before (drop (i + 1) lines))) (sym before_more)))
 
     -- a line that is refused is the first

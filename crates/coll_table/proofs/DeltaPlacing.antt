@@ -1,5 +1,6 @@
 -- A table with the entries of a block's lines moved, or newly placed: what stands there, and that it holds together.
-use Rattle.std.proofs.Common.{◌≡◌, ◌≤◌, ℕ, ◌+◌, suc, zero, Bool, true, false, ◌||◌, ◌-◌, not, cond, if◌then◌else◌, List, [], ◌∷◌, ◌++◌, Option, Some, None, IsTrue, length, map, filter, replicate, All, sym, ap, ap₂, subst, ◌∙◌, refl, arith}
+use Rattle.std.proofs.Common.{◌≡◌, ◌≤◌, ℕ, ◌+◌, suc, zero, Bool, true, false, ◌||◌, ◌-◌, not, cond, if◌then◌else◌, List, [], ◌∷◌, ◌++◌, Option}
+use Rattle.std.proofs.Common.{Some, None, IsTrue, length, map, filter, replicate, All, sym, ap, ap₂, subst, ◌∙◌, refl, arith}
 use Rattle.std.specs.Prelude.{is_none}
 use Rattle.std.specs.List.{flat_map}
 use Rattle.std.specs.Option.{option_or}
@@ -12,12 +13,13 @@ use Rattle.coll_syntax.specs.declared.identifiers.Id.{Id}
 use Rattle.coll_syntax.specs.declared.statements.OrderLine.{OrderLine}
 use Rattle.coll_syntax.specs.declared.weights.Weight.{Weight}
 use Rattle.coll_syntax.specs.declared.weights.Weight.TheVariants.{Own}
-use Rattle.coll_builder.proofs.BuiltTables.{built_with}
+use Rattle.coll_texts.proofs.BuiltTables.{built_with}
 use Rattle.coll_table.proofs.DeltaRefusals.{Passes, passes, has_last, has_still}
-use Rattle.coll_nodes.proofs.EntryLemmas.{taken_out, others_without, distinct_without, all_without, none_without, length_without, distinct_after, all_after, length_after, has_after, entry_found, found_id, by_ids, to_ids}
+use Rattle.coll_nodes.proofs.EntryLemmas.{taken_out, others_without, distinct_without, all_without, none_without, length_without}
+use Rattle.coll_nodes.proofs.EntryLemmas.{distinct_after, all_after, length_after, has_after, entry_found, found_id, by_ids, to_ids}
 use Rattle.coll_lookups.proofs.Sameness.{same_id_decides, same_id_symmetric, same_id_itself}
 use Rattle.coll_nodes.proofs.SectionLemmas.{joined_moved, names_stay, as_many, first_stays}
-use Rattle.coll_builder.proofs.SoundLines.{weights_are}
+use Rattle.coll_texts.proofs.SoundLines.{weights_are}
 use Rattle.coll_table.specs.Delta.{standing, block_entry, moved, all_moved, lines_refusal, line_refusal, ids_given}
 use Rattle.coll_nodes.specs.Entries.{ids_named, weight_ids, weights_of, kept_weight, given_weights, names_only, entry_of}
 use Rattle.coll_table.specs.Judging.{entries_added, line_ids}
@@ -73,7 +75,8 @@ module _ (P : Id → Type 0) where
 
 module _ (table : Collation) (line : OrderLine) where
   -- the entry that a line places: the one that stands, or the one that it makes
-  pub entry_by : (P : Entry → Type 0) → ((found : Entry) → entry_at (entries_of table) line.id ≡ Some found → P found) → P (entry_of (length table.rules) table.declared line) → P (block_entry table line)
+  pub entry_by : (P : Entry → Type 0) → ((found : Entry) → entry_at (entries_of table) line.id ≡ Some found → P found) → P (entry_of (length table.rules) table.declared line)
+      → P (block_entry table line)
   entry_by P found new = by (is_none line.weights) (entry_at (entries_of table) line.id) refl where
     by : (none : Bool) (entry : Option Entry) → entry_at (entries_of table) line.id ≡ entry → P (standing none entry (entry_of (length table.rules) table.declared line))
     by true None e = new
@@ -92,11 +95,13 @@ module _ (table : Collation) (line : OrderLine) where
     -- each stands once
     pub distinct_moved : AreDistinct same_id (ids_of (entries_of (moved table target line)))
     distinct_moved = subst (λ es. AreDistinct same_id (ids_of es)) (sym moved_entries)
-        (distinct_after (entries_without (entries_of table) line.id) target (block_entry table line) (distinct_without (entries_of table) line.id d) (ap (has_id (ids_of (entries_without (entries_of table) line.id))) block_entry_id ∙ taken_out (entries_of table) line.id))
+        (distinct_after (entries_without (entries_of table) line.id) target (block_entry table line) (distinct_without (entries_of table) line.id d)
+        (ap (has_id (ids_of (entries_without (entries_of table) line.id))) block_entry_id ∙ taken_out (entries_of table) line.id))
 
     -- what holds of each entry, and of this one, holds of each entry
     pub all_moved_entries : (P : Entry → Type 0) → All P (entries_of table) → P (block_entry table line) → All P (entries_of (moved table target line))
-    all_moved_entries P h p = subst (All P) (sym moved_entries) (all_after P (entries_without (entries_of table) line.id) target (block_entry table line) (all_without P (entries_of table) line.id h) p)
+    all_moved_entries P h p = subst (All P) (sym moved_entries)
+        (all_after P (entries_without (entries_of table) line.id) target (block_entry table line) (all_without P (entries_of table) line.id h) p)
 
     -- so of identifiers
     moved_ids : (P : Id → Type 0) → All P (ids_of (entries_of table)) → P line.id → All P (ids_of (entries_of (moved table target line)))
@@ -112,7 +117,8 @@ module _ (table : Collation) (line : OrderLine) where
           ap (λ es. has_id (ids_of es) other) moved_entries
           ∙ (has_after (entries_without (entries_of table) line.id) target (block_entry table line) other target_stays
           ∙ (ap (λ i. same_id other i || has_id (ids_of (entries_without (entries_of table) line.id)) other) block_entry_id
-          ∙ by_test (λ b. same_id other line.id ≡ b → (b || has_id (ids_of (entries_without (entries_of table) line.id)) other) ≡ (b || has_id (ids_of (entries_of table)) other)) (same_id other line.id)
+          ∙ by_test (λ b. same_id other line.id ≡ b → (b || has_id (ids_of (entries_without (entries_of table) line.id)) other) ≡ (b || has_id (ids_of (entries_of table)) other))
+          (same_id other line.id)
           (λ _. λ _. refl)
           (λ _. λ e. others_without (entries_of table) line.id other (same_id_symmetric line.id other ∙ e)) refl))
 
@@ -122,12 +128,14 @@ module _ (table : Collation) (line : OrderLine) where
 
       -- there is one entry more, where it is new
       pub length_moved : length (entries_of (moved table target line)) ≡ cond (not (is_placed table line.id)) 1 0 + length (entries_of table)
-      length_moved = ap length moved_entries ∙ (length_after (entries_without (entries_of table) line.id) target (block_entry table line) target_stays ∙ by_test (λ b. is_placed table line.id ≡ b → suc (length (entries_without (entries_of table) line.id)) ≡ cond (not b) 1 0 + length (entries_of table)) (is_placed table line.id)
+      length_moved = ap length moved_entries ∙ (length_after (entries_without (entries_of table) line.id) target (block_entry table line) target_stays
+          ∙ by_test (λ b. is_placed table line.id ≡ b → suc (length (entries_without (entries_of table) line.id)) ≡ cond (not b) 1 0 + length (entries_of table)) (is_placed table line.id)
           (λ _. λ here. let e = length_without (entries_of table) line.id d here in omega arith)
           (λ _. λ new. let e = ap (λ (es : List Entry). length es) (none_without (entries_of table) line.id new) in omega arith) refl)
 
   -- the sections have other entries, and nothing else
-  sections_stay : (target : Id) → {X : Type 0} (f : List Section → X) → ((change : List Entry → List Entry) (sections : List Section) → f (map (λ (section : Section). record section { entries = change section.entries }) sections) ≡ f sections) → f (moved table target line).sections ≡ f table.sections
+  sections_stay : (target : Id) → {X : Type 0} (f : List Section → X) → ((change : List Entry → List Entry) (sections : List Section)
+      → f (map (λ (section : Section). record section { entries = change section.entries }) sections) ≡ f sections) → f (moved table target line).sections ≡ f table.sections
   sections_stay target f stays = stays (λ es. entries_after es target (block_entry table line)) (without table.sections line.id) ∙ stays (λ es. entries_without es line.id) table.sections
 
   -- it has its weights
@@ -137,10 +145,12 @@ module _ (table : Collation) (line : OrderLine) where
       (weights_are (length table.rules) (is_symbol table.declared line.id) line proper few)
 
   -- the table with it moved holds together, where there is room
-  pub moved_built : (target : Id) → IsBuilt table → IsProperLine line → IsTrue (is_known table.declared line.id) → length (given_weights line.weights) ≤ length table.rules → length (entries_of (moved table target line)) ≤ most_entries → IsBuilt (moved table target line)
+  pub moved_built : (target : Id) → IsBuilt table → IsProperLine line → IsTrue (is_known table.declared line.id) → length (given_weights line.weights) ≤ length table.rules
+      → length (entries_of (moved table target line)) ≤ most_entries → IsBuilt (moved table target line)
   moved_built target built proper known few room = built_with table (moved table target line).sections built (record {
     ids = moved_ids target built.distinct_entries IsId built.ids proper.0;
-    first_unnamed = first_stays (λ es. entries_after es target (block_entry table line)) (without table.sections line.id) (first_stays (λ es. entries_without es line.id) table.sections built.first_unnamed);
+    first_unnamed = first_stays (λ es. entries_after es target (block_entry table line)) (without table.sections line.id)
+        (first_stays (λ es. entries_without es line.id) table.sections built.first_unnamed);
     distinct_sections = subst (AreDistinct same_name) (sym (sections_stay target section_names names_stay)) built.distinct_sections;
     distinct_entries = distinct_moved target built.distinct_entries;
     known = moved_ids target built.distinct_entries (IsKnown table.declared) built.known known;
@@ -152,16 +162,19 @@ module _ (table : Collation) (line : OrderLine) where
 -- All lines.
 
 -- lines are judged by the rules and declarations alone, which stay
-pub lines_stay : (table : Collation) (sections : List Section) (before : List Id) (lines : List OrderLine) → lines_refusal (record table { sections = sections }) before lines ≡ lines_refusal table before lines
+pub lines_stay : (table : Collation) (sections : List Section) (before : List Id) (lines : List OrderLine) → lines_refusal (record table { sections = sections }) before lines
+    ≡ lines_refusal table before lines
 lines_stay table sections before [] = refl
 lines_stay table sections before (line ∷ lines) = ap (λ later. option_or (line_refusal table before line) later) (lines_stay table sections (before ++ line.id ∷ []) lines)
 
 -- the first of some lines adds an entry, where it isn't placed
 pub added_more : (table : Collation) (line : OrderLine) (lines : List OrderLine) → entries_added table (line ∷ lines) ≡ cond (not (is_placed table line.id)) 1 0 + entries_added table lines
-added_more table line lines = by_test (λ b. length (cond b (line ∷ filter (λ (l : OrderLine). not (is_placed table l.id)) lines) (filter (λ (l : OrderLine). not (is_placed table l.id)) lines)) ≡ cond b 1 0 + entries_added table lines) (not (is_placed table line.id)) (λ _. omega arith) (λ _. omega arith)
+added_more table line lines = by_test (λ b. length (cond b (line ∷ filter (λ (l : OrderLine). not (is_placed table l.id)) lines) (filter (λ (l : OrderLine). not (is_placed table l.id)) lines))
+    ≡ cond b 1 0 + entries_added table lines) (not (is_placed table line.id)) (λ _. omega arith) (λ _. omega arith)
 
 -- the lines that add an entry are the same, where one more is placed that isn't among them
-added_stay : (judged table now : Collation) (id : Id) (before : List Id) (lines : List OrderLine) → ((other : Id) → is_placed now other ≡ (same_id other id || is_placed table other)) → has_id before id ≡ true → lines_refusal judged before lines ≡ None → entries_added now lines ≡ entries_added table lines
+added_stay : (judged table now : Collation) (id : Id) (before : List Id) (lines : List OrderLine) → ((other : Id) → is_placed now other ≡ (same_id other id || is_placed table other))
+    → has_id before id ≡ true → lines_refusal judged before lines ≡ None → entries_added now lines ≡ entries_added table lines
 added_stay judged table now id before [] placed here e = refl
 added_stay judged table now id before (line ∷ lines) placed here e =
     let h = passes judged before line lines e in
@@ -201,7 +214,8 @@ last_of_three true false c = refl
 last_of_three false b c = refl
 
 -- what is placed is what was, and the identifiers of the lines
-pub has_all_moved : (table : Collation) (target : Id) (before : List Id) (lines : List OrderLine) → MayFollow table target before lines → (other : Id) → is_placed (all_moved table target lines) other ≡ (has_id (line_ids lines) other || is_placed table other)
+pub has_all_moved : (table : Collation) (target : Id) (before : List Id) (lines : List OrderLine) → MayFollow table target before lines → (other : Id) → is_placed (all_moved table target lines) other
+    ≡ (has_id (line_ids lines) other || is_placed table other)
 has_all_moved table target before [] h other = refl
 has_all_moved table target before (line ∷ lines) h other =
     let apart = first_apart table target before line lines h in
@@ -210,7 +224,8 @@ has_all_moved table target before (line ∷ lines) h other =
     ∙ last_of_three (same_id other line.id) (has_id (line_ids lines) other) (is_placed table other))
 
 -- there are as many more entries as lines add
-pub length_all_moved : (table : Collation) (target : Id) (before : List Id) (lines : List OrderLine) → MayFollow table target before lines → length (entries_of (all_moved table target lines)) ≡ entries_added table lines + length (entries_of table)
+pub length_all_moved : (table : Collation) (target : Id) (before : List Id) (lines : List OrderLine) → MayFollow table target before lines → length (entries_of (all_moved table target lines))
+    ≡ entries_added table lines + length (entries_of table)
 length_all_moved table target before [] h = omega arith
 length_all_moved table target before (line ∷ lines) h =
     let apart = first_apart table target before line lines h in
@@ -233,7 +248,8 @@ all_moved_declared table target [] = refl
 all_moved_declared table target (line ∷ lines) = all_moved_declared (moved table target line) line.id lines
 
 -- the table with all of them moved holds together, where there is room in the end
-pub all_moved_built : (table : Collation) (target : Id) (before : List Id) (lines : List OrderLine) → MayFollow table target before lines → IsBuilt table → All IsProperLine lines → length (entries_of (all_moved table target lines)) ≤ most_entries → IsBuilt (all_moved table target lines)
+pub all_moved_built : (table : Collation) (target : Id) (before : List Id) (lines : List OrderLine) → MayFollow table target before lines → IsBuilt table → All IsProperLine lines
+    → length (entries_of (all_moved table target lines)) ≤ most_entries → IsBuilt (all_moved table target lines)
 all_moved_built table target before [] h built proper room = built
 all_moved_built table target before (line ∷ lines) h built proper room =
     let passed = first_passes table target before line lines h in
@@ -243,11 +259,13 @@ all_moved_built table target before (line ∷ lines) h built proper room =
     all_moved_built (moved table target line) line.id (before ++ line.id ∷ []) lines others one (All-tail IsProperLine line lines proper) room
 
 -- what holds of each identifier that the weights of entries named, and of each that the lines give, holds of each that they name
-pub all_named : (P : Id → Type 0) (table : Collation) (target : Id) (before : List Id) (lines : List OrderLine) → MayFollow table target before lines → All (λ (entry : Entry). All P (ids_named entry)) (entries_of table) → All P (ids_given lines) → All (λ (entry : Entry). All P (ids_named entry)) (entries_of (all_moved table target lines))
+pub all_named : (P : Id → Type 0) (table : Collation) (target : Id) (before : List Id) (lines : List OrderLine) → MayFollow table target before lines
+    → All (λ (entry : Entry). All P (ids_named entry)) (entries_of table) → All P (ids_given lines) → All (λ (entry : Entry). All P (ids_named entry)) (entries_of (all_moved table target lines))
 all_named P table target before [] h were given = were
 all_named P table target before (line ∷ lines) h were given =
     let ids = flat_map weight_ids (given_weights line.weights) in
     let Q = λ (entry : Entry). All P (ids_named entry) in
-    let one : Q (block_entry table line) = entry_by table line Q (λ found e. (entry_found Q (entries_of table) line.id found were e).0) (entry_names P (length table.rules) (is_symbol table.declared line.id) line (all_prefix P ids (ids_given lines) given)) in
+    let one : Q (block_entry table line) = entry_by table line Q (λ found e. (entry_found Q (entries_of table) line.id found were e).0)
+    (entry_names P (length table.rules) (is_symbol table.declared line.id) line (all_prefix P ids (ids_given lines) given)) in
     all_named P (moved table target line) line.id (before ++ line.id ∷ []) lines (others_follow table target before line lines h)
     (all_moved_entries table line target h.distinct Q were one) (all_back P ids (ids_given lines) given)

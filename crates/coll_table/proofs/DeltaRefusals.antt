@@ -8,7 +8,7 @@ use Rattle.coll_syntax.specs.declared.identifiers.Id.{Id}
 use Rattle.coll_syntax.specs.declared.statements.OrderLine.{OrderLine}
 use Rattle.coll_nodes.proofs.EntryLemmas.{turned}
 use Rattle.coll_lookups.proofs.Sameness.{same_id_itself}
-use Rattle.coll_builder.proofs.SoundLines.{neither_found, passed, not_false}
+use Rattle.coll_texts.proofs.SoundLines.{neither_found, passed, not_false}
 use Rattle.coll_table.specs.Delta.{unless_refused, or_refused, weights_refusal, weight_id_refusal, weight_ids_refusal, line_refusal, lines_refusal}
 use Rattle.coll_nodes.specs.Causes.{refused_if}
 use Rattle.coll_nodes.specs.Entries.{given_weights}

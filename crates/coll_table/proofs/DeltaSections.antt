@@ -1,5 +1,6 @@
 -- A section moved after another: the sections are the same ones, in another order.
-use Rattle.std.proofs.Common.{◌≡◌, ◌≤◌, ℕ, ◌+◌, Bool, true, false, ◌||◌, not, cond, if◌then◌else◌, List, [], ◌∷◌, ◌++◌, Option, Some, None, length, All, sym, ap, subst, ◌∙◌, refl, arith, length-append}
+use Rattle.std.proofs.Common.{◌≡◌, ◌≤◌, ℕ, ◌+◌, Bool, true, false, ◌||◌, not, cond, if◌then◌else◌, List, [], ◌∷◌, ◌++◌}
+use Rattle.std.proofs.Common.{Option, Some, None, length, All, sym, ap, subst, ◌∙◌, refl, arith, length-append}
 use Rattle.std.specs.List.{list_any}
 use Rattle.std.proofs.lemmas.Bool.{false≢true}
 use Rattle.std.proofs.lemmas.List.{map-append}
@@ -92,7 +93,8 @@ has_named None names x = refl
 has_named (Some own) names x = refl
 
 -- where each stands once, the first is none of those behind it
-distinct_named : (own : Option (List ℕ)) (names : List (List ℕ)) → AreDistinct same_name (named own ++ names) → AreDistinct same_name names × ((x : List ℕ) → has_section_name x own ≡ true → has_name names x ≡ false)
+distinct_named : (own : Option (List ℕ)) (names : List (List ℕ)) → AreDistinct same_name (named own ++ names) → AreDistinct same_name names
+    × ((x : List ℕ) → has_section_name x own ≡ true → has_name names x ≡ false)
 distinct_named None names d = (d, λ x e. absurd (false≢true e))
 distinct_named (Some own) names d = (d.1, λ x e. ap (has_name names) ((same_name_decides x own).0 e) ∙ d.0)
 
@@ -118,22 +120,27 @@ module _ (measure : Section → ℕ) where
   total_split [] name = refl
   total_split (section ∷ sections) name =
       let later = total_split sections name in
-      by_test (λ b. total measure (cond (not b) (section ∷ sections_without sections name) (sections_without sections name)) + total measure (cond b (section ∷ sections_named sections name) (sections_named sections name)) ≡ measure section + total measure sections) (has_section_name name section.name)
+      by_test (λ b. total measure (cond (not b) (section ∷ sections_without sections name) (sections_without sections name)) + total measure
+      (cond b (section ∷ sections_named sections name) (sections_named sections name)) ≡ measure section + total measure sections) (has_section_name name section.name)
       (λ _. omega arith) (λ _. omega arith)
 
   -- where none has a name, nothing is put after it
-  total_after_none : (sections : List Section) (after : List ℕ) (more : List Section) → has_name (section_names sections) after ≡ false → total measure (sections_after sections after more) ≡ total measure sections
+  total_after_none : (sections : List Section) (after : List ℕ) (more : List Section) → has_name (section_names sections) after ≡ false → total measure (sections_after sections after more)
+      ≡ total measure sections
   total_after_none [] after more e = refl
   total_after_none (section ∷ sections) after more e =
       let h = neither (has_section_name after section.name) (has_name (section_names sections) after) (sym (has_named section.name (section_names sections) after) ∙ e) in
       ap (λ b. measure section + total measure (cond b more [] ++ sections_after sections after more)) h.0 ∙ ap (λ n. measure section + n) (total_after_none sections after more h.1)
 
   -- where one has it, what is put after it is there once more
-  total_after : (sections : List Section) (after : List ℕ) (more : List Section) → AreDistinct same_name (section_names sections) → has_name (section_names sections) after ≡ true → total measure (sections_after sections after more) ≡ total measure sections + total measure more
+  total_after : (sections : List Section) (after : List ℕ) (more : List Section) → AreDistinct same_name (section_names sections) → has_name (section_names sections) after ≡ true
+      → total measure (sections_after sections after more) ≡ total measure sections + total measure more
   total_after [] after more d e = absurd (false≢true e)
   total_after (section ∷ sections) after more d e =
       let apart = distinct_named section.name (section_names sections) d in
-      by_test (λ b. has_section_name after section.name ≡ b → (b || has_name (section_names sections) after) ≡ true → measure section + total measure (cond b more [] ++ sections_after sections after more) ≡ measure section + total measure sections + total measure more) (has_section_name after section.name)
+      by_test (λ b. has_section_name after section.name ≡ b → (b || has_name (section_names sections) after) ≡ true
+      → measure section + total measure (cond b more [] ++ sections_after sections after more) ≡ measure section + total measure sections + total measure more)
+      (has_section_name after section.name)
       (λ _ on _.
       let none = total_after_none sections after more (apart.1 after on) in
       let both = total_append more (sections_after sections after more) in omega arith)
@@ -156,11 +163,13 @@ distinct_stays sections name d = names_once (section_names (sections_without sec
     let once = name_once x (section_names sections) d in omega arith)
 
 -- another name is there as before
-other_stays : (sections : List Section) (name other : List ℕ) → same_name name other ≡ false → has_name (section_names sections) other ≡ true → has_name (section_names (sections_without sections name)) other ≡ true
+other_stays : (sections : List Section) (name other : List ℕ) → same_name name other ≡ false → has_name (section_names sections) other ≡ true
+    → has_name (section_names (sections_without sections name)) other ≡ true
 other_stays [] name other apart e = absurd (false≢true e)
 other_stays (section ∷ sections) name other apart e =
     let later = other_stays sections name other apart in
-    by_test (λ b. has_section_name name section.name ≡ b → (has_section_name other section.name || has_name (section_names sections) other) ≡ true → has_name (section_names (cond (not b) (section ∷ sections_without sections name) (sections_without sections name))) other ≡ true) (has_section_name name section.name)
+    by_test (λ b. has_section_name name section.name ≡ b → (has_section_name other section.name || has_name (section_names sections) other) ≡ true
+    → has_name (section_names (cond (not b) (section ∷ sections_without sections name) (sections_without sections name))) other ≡ true) (has_section_name name section.name)
     (λ _ on there. later (ap (λ b. b || has_name (section_names sections) other) (sym (other_name section.name name other apart on)) ∙ there))
     (λ _ _ there. has_named section.name (section_names (sections_without sections name)) other
     ∙ by_test (λ b. (b || has_name (section_names sections) other) ≡ true → (b || has_name (section_names (sections_without sections name)) other) ≡ true) (has_section_name other section.name)
@@ -169,7 +178,8 @@ other_stays (section ∷ sections) name other apart e =
 
 -- A section moved.
 
-module _ (sections : List Section) (name after : List ℕ) (d : AreDistinct same_name (section_names sections)) (there : has_name (section_names sections) after ≡ true) (apart : same_name name after ≡ false) where
+module _ (sections : List Section) (name after : List ℕ) (d : AreDistinct same_name (section_names sections)) (there : has_name (section_names sections) after ≡ true)
+    (apart : same_name name after ≡ false) where
   -- the sections measure together what they did, by any measure
   pub total_moved : (measure : Section → ℕ) → total measure (section_moved sections name after) ≡ total measure sections
   total_moved measure =
@@ -213,7 +223,8 @@ module _ (sections : List Section) (name after : List ℕ) (d : AreDistinct same
 
   -- what was placed is placed
   pub section_moved_has : (x : Id) → has_id (ids_of (joined_entries sections)) x ≡ true → has_id (ids_of (joined_entries (section_moved sections name after))) x ≡ true
-  section_moved_has x here = by_test (λ b. has_id (ids_of (joined_entries (section_moved sections name after))) x ≡ b → b ≡ true) (has_id (ids_of (joined_entries (section_moved sections name after))) x)
+  section_moved_has x here = by_test (λ b. has_id (ids_of (joined_entries (section_moved sections name after))) x ≡ b → b ≡ true)
+      (has_id (ids_of (joined_entries (section_moved sections name after))) x)
       (λ _ _. refl)
       (λ _ off. let none = often_none same_id x (ids_of (joined_entries (section_moved sections name after))) off in
       let some = often_some same_id x (ids_of (joined_entries sections)) here in
@@ -225,7 +236,8 @@ all_sections_after P [] after more h k = h
 all_sections_after P (section ∷ sections) after more h k =
     let later = all_sections_after P sections after more (All-tail P section sections h) k in
     All-cons P section (cond (has_section_name after section.name) more [] ++ sections_after sections after more) (All-head P section sections h)
-    (All-append P (cond (has_section_name after section.name) more []) (sections_after sections after more) (by_test (λ b. All P (cond b more [])) (has_section_name after section.name) (λ _. k) (λ _. All-nil P)) later)
+    (All-append P (cond (has_section_name after section.name) more []) (sections_after sections after more)
+    (by_test (λ b. All P (cond b more [])) (has_section_name after section.name) (λ _. k) (λ _. All-nil P)) later)
 
 -- what holds of each section holds of each when one is moved
 pub all_sections_moved : (P : Section → Type 0) (sections : List Section) (name after : List ℕ) → All P sections → All P (section_moved sections name after)
@@ -236,14 +248,16 @@ all_sections_moved P sections name after h =
 
 -- so of each entry
 pub all_entries_moved : (P : Entry → Type 0) (sections : List Section) (name after : List ℕ) → All P (joined_entries sections) → All P (joined_entries (section_moved sections name after))
-all_entries_moved P sections name after h = to_entries (section_moved sections name after) (all_sections_moved (λ (section : Section). All P section.entries) sections name after (by_sections sections h)) where
-  by_sections : (ss : List Section) → All P (joined_entries ss) → All (λ (section : Section). All P section.entries) ss
-  by_sections [] h = All-nil (λ (section : Section). All P section.entries)
-  by_sections (s ∷ ss) h = All-cons (λ (section : Section). All P section.entries) s ss (all_prefix P s.entries (joined_entries ss) h) (by_sections ss (all_back P s.entries (joined_entries ss) h))
+all_entries_moved P sections name after h =
+    to_entries (section_moved sections name after) (all_sections_moved (λ (section : Section). All P section.entries) sections name after (by_sections sections h)) where
+      by_sections : (ss : List Section) → All P (joined_entries ss) → All (λ (section : Section). All P section.entries) ss
+      by_sections [] h = All-nil (λ (section : Section). All P section.entries)
+      by_sections (s ∷ ss) h = All-cons (λ (section : Section). All P section.entries) s ss (all_prefix P s.entries (joined_entries ss) h) (by_sections ss (all_back P s.entries (joined_entries ss) h))
 
-  to_entries : (ss : List Section) → All (λ (section : Section). All P section.entries) ss → All P (joined_entries ss)
-  to_entries [] h = All-nil P
-  to_entries (s ∷ ss) h = All-append P s.entries (joined_entries ss) (All-head (λ (section : Section). All P section.entries) s ss h) (to_entries ss (All-tail (λ (section : Section). All P section.entries) s ss h))
+      to_entries : (ss : List Section) → All (λ (section : Section). All P section.entries) ss → All P (joined_entries ss)
+      to_entries [] h = All-nil P
+      to_entries (s ∷ ss) h = All-append P s.entries (joined_entries ss) (All-head (λ (section : Section). All P section.entries) s ss h)
+          (to_entries ss (All-tail (λ (section : Section). All P section.entries) s ss h))
 
 -- the first section alone has no name still: it is neither moved nor a target
 pub first_unmoved : (sections : List Section) (name after : List ℕ) → FirstIsUnnamed sections → FirstIsUnnamed (section_moved sections name after)

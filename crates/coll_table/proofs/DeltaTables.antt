@@ -13,7 +13,7 @@ use Rattle.coll_syntax.specs.declared.rules.Rule.{Rule}
 use Rattle.coll_syntax.specs.declared.statements.OrderLine.{OrderLine}
 use Rattle.coll_syntax.specs.declared.statements.Statement.{Statement}
 use Rattle.coll_syntax.specs.declared.statements.Statement.TheVariants as statement
-use Rattle.coll_builder.proofs.BuiltTables.{built_declared, built_with}
+use Rattle.coll_texts.proofs.BuiltTables.{built_declared, built_with}
 use Rattle.coll_table.proofs.DeltaPlacing.{MayFollow, has_all_moved, all_moved_rules, all_moved_built, all_named, all_prefix, entry_names}
 use Rattle.coll_table.proofs.DeltaRefusals.{unrefused, or_unrefused, weights_pass, placed_ids}
 use Rattle.coll_table.proofs.DeltaSections.{section_moved_number, section_moved_entries, section_moved_names, section_moved_ids, section_moved_has, all_entries_moved, first_unmoved}
@@ -21,8 +21,9 @@ use Rattle.coll_nodes.proofs.EntryLemmas.{by_ids, to_ids}
 use Rattle.coll_nodes.proofs.LayoutReads.{both_true}
 use Rattle.coll_lookups.proofs.Sameness.{same_id_decides, same_id_itself}
 use Rattle.coll_nodes.proofs.SectionLemmas.{names_stay, as_many, first_stays}
-use Rattle.coll_builder.proofs.SoundLines.{passed, not_false, weights_are}
-use Rattle.coll_table.specs.Delta.{own_delta, or_refused, declaration_delta, declaration_refusal, section_delta, section_refusal, block_delta, block_result, looked_up, all_moved, lines_refusal, ids_given, weight_ids_refusal, reweight_delta, reweight_refusal, reweighted, weights_refusal}
+use Rattle.coll_texts.proofs.SoundLines.{passed, not_false, weights_are}
+use Rattle.coll_table.specs.Delta.{own_delta, or_refused, declaration_delta, declaration_refusal, section_delta, section_refusal, block_delta, block_result, looked_up}
+use Rattle.coll_table.specs.Delta.{all_moved, lines_refusal, ids_given, weight_ids_refusal, reweight_delta, reweight_refusal, reweighted, weights_refusal}
 use Rattle.coll_nodes.specs.Table.{has_text}
 use Rattle.coll_nodes.specs.Causes.{refused_if}
 use Rattle.coll_nodes.specs.Entries.{ids_named, weight_ids, given_weights, entry_of}
@@ -30,7 +31,7 @@ use Rattle.coll_table.specs.Judging.{line_ids}
 use Rattle.coll_nodes.specs.Limits.{most_entries, most_declarations, most_sections}
 use Rattle.coll_nodes.specs.OwnNames.{means_nothing, means_no_symbol}
 use Rattle.coll_nodes.specs.Placement.{with_entry, section_moved}
-use Rattle.coll_builder.specs.SoundStates.{IsProperDeclaration}
+use Rattle.coll_texts.specs.SoundStates.{IsProperDeclaration}
 use Rattle.coll_nodes.specs.Table.{Collation, Section, name_of, text_of, entries_of, ids_of, joined_entries, section_names, is_declared, is_known, is_placed, is_symbol}
 use Rattle.coll_nodes.specs.WellFormed.{AreDistinct, IsKnown, IsWeighted, HasPlacedWeights, IsBuilt, IsWellFormed}
 use Rattle.coll_nodes.specs.declared.declarations.Declaration.{Declaration}
@@ -88,7 +89,8 @@ section_well_formed table after name behind well e =
       });
       some_levels = well.some_levels;
       weights_placed = all_entries_moved (HasPlacedWeights turned) table.sections name behind
-          (All-weaker (HasPlacedWeights table) (HasPlacedWeights turned) (λ entry all. All-weaker (λ id. IsTrue (is_placed table id)) (λ id. IsTrue (is_placed turned id)) (λ id here. section_moved_has table.sections name behind once there apart id here) (ids_named entry) all) (entries_of table) well.weights_placed);
+          (All-weaker (HasPlacedWeights table) (HasPlacedWeights turned) (λ entry all. All-weaker (λ id. IsTrue (is_placed table id)) (λ id. IsTrue (is_placed turned id))
+          (λ id here. section_moved_has table.sections name behind once there apart id here) (ids_named entry) all) (entries_of table) well.weights_placed);
     })
 
 -- Blocks.
@@ -102,7 +104,8 @@ looked_up_is table after lines e =
 -- a table that a block results in has room for its entries
 room_is : (table after : Collation) (lines : List OrderLine) → block_result table lines ≡ Ok after → (length (entries_of table) ≤ most_entries) × (looked_up table lines ≡ Ok after)
 room_is table after lines e =
-    by_test (λ b. nat_le (length (entries_of table)) most_entries ≡ b → cond b (looked_up table lines) (Err Full) ≡ Ok after → (length (entries_of table) ≤ most_entries) × (looked_up table lines ≡ Ok after)) (nat_le (length (entries_of table)) most_entries)
+    by_test (λ b. nat_le (length (entries_of table)) most_entries ≡ b → cond b (looked_up table lines) (Err Full) ≡ Ok after → (length (entries_of table) ≤ most_entries)
+    × (looked_up table lines ≡ Ok after)) (nat_le (length (entries_of table)) most_entries)
     (λ _ on is. (leb-true (length (entries_of table)) most_entries on, is))
     (λ _ _ is. cc) refl e
 
@@ -114,12 +117,14 @@ record BlockPasses (table : Collation) (target : Id) (lines : List OrderLine) (a
 
 block_passes : (table after : Collation) (target : Id) (lines : List OrderLine) → block_delta table target lines ≡ Ok after → BlockPasses table target lines after
 block_passes table after target lines e =
-    by_test (λ b. is_placed table target ≡ b → cond (not b) (Err TargetNotPlaced) (or_refused (lines_refusal table (target ∷ []) lines) (block_result (all_moved table target lines) lines)) ≡ Ok after → BlockPasses table target lines after) (is_placed table target)
+    by_test (λ b. is_placed table target ≡ b → cond (not b) (Err TargetNotPlaced) (or_refused (lines_refusal table (target ∷ []) lines) (block_result (all_moved table target lines) lines)) ≡ Ok after
+    → BlockPasses table target lines after) (is_placed table target)
     (λ _ there is. let h = or_unrefused (lines_refusal table (target ∷ []) lines) (block_result (all_moved table target lines) lines) after is in record { there = there; judged = h.0; result = h.1 })
     (λ _ _ is. cc) refl e
 
 -- where the lines of a block may be placed
-pub may_follow : (table : Collation) (target : Id) (lines : List OrderLine) → IsBuilt table → is_placed table target ≡ true → lines_refusal table (target ∷ []) lines ≡ None → MayFollow table target (target ∷ []) lines
+pub may_follow : (table : Collation) (target : Id) (lines : List OrderLine) → IsBuilt table → is_placed table target ≡ true → lines_refusal table (target ∷ []) lines ≡ None
+    → MayFollow table target (target ∷ []) lines
 may_follow table target lines built there judged = record {
   distinct = built.distinct_entries;
   there = there;
@@ -136,12 +141,14 @@ block_well_formed table after target lines well proper e =
     let looked = looked_up_is result after lines room.1 in
     let follow = may_follow table target lines well.built h.there h.judged in
     let P : Id → Type 0 = λ id. IsTrue (is_placed result id) in
-    let stays : (id : Id) → IsTrue (is_placed table id) → P id = λ id here. has_all_moved table target (target ∷ []) lines follow id ∙ or_right (has_id (line_ids lines) id) (is_placed table id) here in
+    let stays : (id : Id) → IsTrue (is_placed table id) → P id =
+    λ id here. has_all_moved table target (target ∷ []) lines follow id ∙ or_right (has_id (line_ids lines) id) (is_placed table id) here in
     subst IsWellFormed looked.1 (record {
       built = all_moved_built table target (target ∷ []) lines follow well.built proper room.0;
       some_levels = subst (λ (rules : List Rule). 1 ≤ length rules) (sym (all_moved_rules table target lines)) well.some_levels;
       weights_placed = all_named P table target (target ∷ []) lines follow
-          (All-weaker (HasPlacedWeights table) (λ (entry : Entry). All P (ids_named entry)) (λ entry all. All-weaker (λ id. IsTrue (is_placed table id)) P stays (ids_named entry) all) (entries_of table) well.weights_placed)
+          (All-weaker (HasPlacedWeights table) (λ (entry : Entry). All P (ids_named entry)) (λ entry all. All-weaker (λ id. IsTrue (is_placed table id)) P stays (ids_named entry) all)
+          (entries_of table) well.weights_placed)
           looked.0;
     })
 
@@ -154,7 +161,8 @@ in_place entry old = if same_id entry.id old.id then entry else old
 -- the entries with one replaced, section by section, or all joined
 replaced_entries : (sections : List Section) (entry : Entry) → joined_entries (with_entry sections entry) ≡ map (in_place entry) (joined_entries sections)
 replaced_entries [] entry = refl
-replaced_entries (section ∷ sections) entry = ap (λ es. map (in_place entry) section.entries ++ es) (replaced_entries sections entry) ∙ sym (map-append (in_place entry) section.entries (joined_entries sections))
+replaced_entries (section ∷ sections) entry =
+    ap (λ es. map (in_place entry) section.entries ++ es) (replaced_entries sections entry) ∙ sym (map-append (in_place entry) section.entries (joined_entries sections))
 
 -- the identifiers stay
 replaced_ids : (entries : List Entry) (entry : Entry) → ids_of (map (in_place entry) entries) ≡ ids_of entries
@@ -166,7 +174,8 @@ replaced_ids (old ∷ entries) entry = ap₂ (λ (id : Id) ids. id ∷ ids) (sam
 -- what holds of each entry, and of the one that replaces, holds of each
 replaced_all : (P : Entry → Type 0) (entries : List Entry) (entry : Entry) → All P entries → P entry → All P (map (in_place entry) entries)
 replaced_all P [] entry h p = All-nil P
-replaced_all P (old ∷ entries) entry h p = All-cons P (in_place entry old) (map (in_place entry) entries) (by_test (λ b. P (cond b entry old)) (same_id entry.id old.id) (λ _. p) (λ _. All-head P old entries h)) (replaced_all P entries entry (All-tail P old entries h) p)
+replaced_all P (old ∷ entries) entry h p = All-cons P (in_place entry old) (map (in_place entry) entries)
+    (by_test (λ b. P (cond b entry old)) (same_id entry.id old.id) (λ _. p) (λ _. All-head P old entries h)) (replaced_all P entries entry (All-tail P old entries h) p)
 
 -- so what is placed stays
 pub reweighted_ids : (table : Collation) (line : OrderLine) → ids_of (entries_of (reweighted table line)) ≡ ids_of (entries_of table)
@@ -203,7 +212,8 @@ reweight_well_formed table after line well proper e =
         distinct_sections = subst (AreDistinct same_name) (sym (names_stay change table.sections)) built.distinct_sections;
         distinct_entries = subst (AreDistinct same_id) (sym same) built.distinct_entries;
         known = subst (All (IsKnown table.declared)) (sym same) built.known;
-        weighted = subst (All (IsWeighted (length table.rules) table.declared)) (sym joined) (replaced_all (IsWeighted (length table.rules) table.declared) (entries_of table) entry built.weighted weighs);
+        weighted = subst (All (IsWeighted (length table.rules) table.declared)) (sym joined)
+            (replaced_all (IsWeighted (length table.rules) table.declared) (entries_of table) entry built.weighted weighs);
         few_entries = let n = ap (λ (es : List Entry). length es) joined in let m = length-map (entries_of table) (in_place entry) in let f = built.few_entries in omega arith;
         few_sections = let n = as_many change table.sections in let f = built.few_sections in omega arith;
       });

@@ -15,7 +15,8 @@ use Rattle.coll_nodes.specs.Bodies.{BodyValue, IsLooseNode, Makes, value_of}
 use Rattle.coll_table.specs.Growth.{AddsLoose}
 use Rattle.coll_nodes.specs.Linking.{nodes_without}
 use Rattle.coll_table.specs.Record.{Extends, HasNodesOf, without_nodes}
-use Rattle.coll_nodes.specs.TableLayout.{TableValue, MadeNode, collation, content_of, content_among, contents_in, entry_in, section_in, if_any, declared_at, sections_at, declarations_ring, sections_ring, declaration_in}
+use Rattle.coll_nodes.specs.TableLayout.{TableValue, MadeNode, collation, content_of, content_among, contents_in, entry_in, section_in}
+use Rattle.coll_nodes.specs.TableLayout.{if_any, declared_at, sections_at, declarations_ring, sections_ring, declaration_in}
 use Rattle.coll_nodes.specs.declared.contents.Content.{Content}
 use Rattle.coll_nodes.specs.declared.contents.Content.TheVariants as content
 
@@ -43,13 +44,16 @@ content_without dropped [] node = by_test (λ b. content_among [] node ≡ cond 
 content_without dropped (made ∷ nodes) node =
     let rest = nodes_without dropped nodes in
     let later = content_without dropped nodes node in
-    by_test (λ b. has_node dropped made.node ≡ b → content_among (cond (not b) (made ∷ rest) rest) node ≡ cond (has_node dropped node) None (cond (same_node node made.node) (Some made.content) (content_among nodes node))) (has_node dropped made.node)
-    (λ on t. later ∙ by_test (λ s. same_node node made.node ≡ s → cond (has_node dropped node) None (content_among nodes node) ≡ cond (has_node dropped node) None (cond s (Some made.content) (content_among nodes node))) (same_node node made.node)
+    by_test (λ b. has_node dropped made.node ≡ b → content_among (cond (not b) (made ∷ rest) rest) node
+    ≡ cond (has_node dropped node) None (cond (same_node node made.node) (Some made.content) (content_among nodes node))) (has_node dropped made.node)
+    (λ on t. later ∙ by_test (λ s. same_node node made.node ≡ s → cond (has_node dropped node) None (content_among nodes node)
+    ≡ cond (has_node dropped node) None (cond s (Some made.content) (content_among nodes node))) (same_node node made.node)
     (λ same e.
     let there : has_node dropped node ≡ true = subst (λ m. has_node dropped m ≡ true) (sym (same_node_is node made.node e)) t in
     ap (λ b. cond b None (content_among nodes node)) there ∙ sym (ap (λ b. cond b None (Some made.content)) there))
     (λ differs e. refl) refl)
-    (λ off t. by_test (λ s. same_node node made.node ≡ s → cond s (Some made.content) (content_among rest node) ≡ cond (has_node dropped node) None (cond s (Some made.content) (content_among nodes node))) (same_node node made.node)
+    (λ off t. by_test (λ s. same_node node made.node ≡ s → cond s (Some made.content) (content_among rest node)
+    ≡ cond (has_node dropped node) None (cond s (Some made.content) (content_among nodes node))) (same_node node made.node)
     (λ same e.
     let apart : has_node dropped node ≡ false = subst (λ m. has_node dropped m ≡ false) (sym (same_node_is node made.node e)) t in
     sym (ap (λ b. cond b None (Some made.content)) apart))

@@ -15,12 +15,12 @@ use Rattle.coll_nodes.proofs.BodyReads.{name_found, text_found}
 use Rattle.coll_table.proofs.ItemPlaces.{finds_once, node_by}
 use Rattle.coll_table.proofs.ItemRings.{linked_anew, section_still}
 use Rattle.coll_table.proofs.ItemsDone.{AreDone}
-use Rattle.coll_builder.proofs.LayoutEnds.{end_place}
+use Rattle.coll_texts.proofs.LayoutEnds.{end_place}
 use Rattle.coll_nodes.proofs.LayoutReads.{declared_read, read_known, sections_read}
 use Rattle.coll_nodes.proofs.NodeLists.{same_read}
 use Rattle.coll_nodes.proofs.RingPlaces.{get_put_other, place_off}
 use Rattle.coll_lookups.proofs.Sameness.{same_name_decides}
-use Rattle.coll_builder.proofs.SoundLines.{passed}
+use Rattle.coll_texts.proofs.SoundLines.{passed}
 use Rattle.coll_nodes.specs.Bodies.{IsLooseNode, with_link, without_link}
 use Rattle.coll_table.specs.Delta.{declaration_refusal}
 use Rattle.coll_nodes.specs.Table.{has_text}
@@ -40,7 +40,8 @@ use Rattle.coll_table.specs.declared.records.Item.{Item}
 use Rattle.coll_table.specs.declared.refusals.Refusal.TheVariants.{DeclaredTwice, NotDeclared, NotASymbol, StringTwice}
 
 -- a key that isn't found is that of no node
-unfound : {Key : Type 0} (same : Key → Key → Bool) (keys : Content → List Key) (layout : TableLayout) (find : Key → Option NodeId) (key : Key) → Finds same keys layout find → is_some (find key) ≡ false
+unfound : {Key : Type 0} (same : Key → Key → Bool) (keys : Content → List Key) (layout : TableLayout) (find : Key → Option NodeId) (key : Key) → Finds same keys layout find
+    → is_some (find key) ≡ false
     → (other : NodeId) → has_key same keys layout key other ≡ false
 unfound same keys layout find key finds none other =
     by_test (λ b. has_key same keys layout key other ≡ b → b ≡ false) (has_key same keys layout key other)
@@ -115,7 +116,8 @@ module _ (layout : TableLayout) (sound : IsSoundLayout layout) (node : NodeId) (
   ring_other : (index : ℕ) → 1 ≤ index → ring_at now index ≡ ring_at layout index
   ring_other index high =
       let from : 0 + index ≡ index = omega arith in
-      let off : is_place_of place (head_of index) (ring_at layout index) ≡ false = place_off layout.rings place 0 index sound.laid.once (end_on (head_of 0) (ring_at layout 0)) (λ same. absurd (omega (arith, high, same))) in
+      let off : is_place_of place (head_of index) (ring_at layout index) ≡ false =
+      place_off layout.rings place 0 index sound.laid.once (end_on (head_of 0) (ring_at layout 0)) (λ same. absurd (omega (arith, high, same))) in
       ap (λ rings. slice_index_or (rings_with place node 0 rings) index []) rings_out
       ∙ get_put_other place node 0 index layout.rings (ap (λ k. is_place_of place (head_of k) (ring_at layout index)) from ∙ off)
 
@@ -135,7 +137,8 @@ module _ (layout : TableLayout) (sound : IsSoundLayout layout) (node : NodeId) (
       ∙ sym (sections_read layout)))
 
 -- the item of a declaration makes what the statement makes
-pub declaration_done : (table : TableValue) (new : Declaration) (item : Item) → IsSoundLayout table.layout → IsLooseNode table.layout item.node → content_of table.layout item.node ≡ Some (content.Declared new)
+pub declaration_done : (table : TableValue) (new : Declaration) (item : Item) → IsSoundLayout table.layout → IsLooseNode table.layout item.node
+    → content_of table.layout item.node ≡ Some (content.Declared new)
     → item.old ≡ None → item.new ≡ Some (end_of_declarations table.layout) → item.weights ≡ None → declaration_refusal (collation table) new ≡ None
     → AreDone table (item ∷ []) (record (collation table) { declared = (collation table).declared ++ new ∷ [] }) 1
 unfolding collation CanTurnOn placed_items turned_on steps_of

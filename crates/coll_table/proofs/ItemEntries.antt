@@ -33,11 +33,13 @@ use Rattle.coll_table.specs.declared.records.Item.{Item}
 -- Weights of nodes.
 
 -- the others are what they were
-pub others_weighed : (node other : NodeId) (weights : Option (List Weight)) (nodes : List MadeNode) → same_node other node ≡ false → content_among (weighed_nodes node weights nodes) other ≡ content_among nodes other
+pub others_weighed : (node other : NodeId) (weights : Option (List Weight)) (nodes : List MadeNode) → same_node other node ≡ false → content_among (weighed_nodes node weights nodes) other
+    ≡ content_among nodes other
 others_weighed node other weights nodes differ = content_weighed node weights nodes other ∙ ap (λ b. cond b (weighed_if weights (content_among nodes other)) (content_among nodes other)) differ
 
 -- the node is what it was, with the weights
-pub itself_weighed : (node : NodeId) (weights : Option (List Weight)) (nodes : List MadeNode) (it : Content) → content_among nodes node ≡ Some it → content_among (weighed_nodes node weights nodes) node ≡ Some (weighed weights it)
+pub itself_weighed : (node : NodeId) (weights : Option (List Weight)) (nodes : List MadeNode) (it : Content) → content_among nodes node ≡ Some it
+    → content_among (weighed_nodes node weights nodes) node ≡ Some (weighed weights it)
 itself_weighed node weights nodes it is =
     content_weighed node weights nodes node ∙ (ap (λ b. cond b (weighed_if weights (content_among nodes node)) (content_among nodes node)) (same_node_itself node) ∙ ap (weighed_if weights) is)
 
@@ -98,10 +100,12 @@ module _ (layout : TableLayout) (id : Id) (node : NodeId) where
     unbegun = absent 1;
   } where
     absent : (index : ℕ) → has_node (ring_at layout index) node ≡ false
-    absent index = by_test (λ b. has_node (ring_at layout index) node ≡ b → b ≡ false) (has_node (ring_at layout index) node) (λ on t. not_both (in_rings layout index node t) apart) (λ off t. refl) refl
+    absent index = by_test (λ b. has_node (ring_at layout index) node ≡ b → b ≡ false) (has_node (ring_at layout index) node) (λ on t. not_both (in_rings layout index node t) apart) (λ off t. refl)
+        refl
 
   -- the nodes of two identifiers are two
-  pub entries_apart : (target : Id) (after : NodeId) (mine other : Entry) → IsEntryOf layout id node mine → IsEntryOf layout target after other → same_id id target ≡ false → same_node after node ≡ false
+  pub entries_apart : (target : Id) (after : NodeId) (mine other : Entry) → IsEntryOf layout id node mine → IsEntryOf layout target after other → same_id id target ≡ false
+      → same_node after node ≡ false
   entries_apart target after mine other own aim differ = by_test (λ b. same_node after node ≡ b → b ≡ false) (same_node after node)
       (λ on t.
       let same : mine ≡ other = placed_same (sym own.is ∙ (ap (content_of layout) (sym (same_node_is after node t)) ∙ aim.is)) in
@@ -175,7 +179,8 @@ module _ (old new : TableLayout) (shaped : IsShaped old) (id target : Id) (node 
 
   -- and has the identifier
   pub put_key : has_key same_id ids_in new id node ≡ true
-  put_key = and_true put_itself (ap (list_any (same_id id)) (read_known ids_in new node (content.Placed entry) puts.itself) ∙ (ap (λ other. same_id id other || false) same ∙ or_first (same_id id id) false (same_id_itself id)))
+  put_key = and_true put_itself (ap (list_any (same_id id)) (read_known ids_in new node (content.Placed entry) puts.itself)
+      ∙ (ap (λ other. same_id id other || false) same ∙ or_first (same_id id id) false (same_id_itself id)))
 
   -- other identifiers are those of the nodes that had them
   pub put_keys : (key : Id) (other : NodeId) → same_id key id ≡ false → has_key same_id ids_in new key other ≡ has_key same_id ids_in old key other

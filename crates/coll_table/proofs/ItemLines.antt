@@ -21,7 +21,7 @@ use Rattle.coll_table.proofs.ItemPlaces.{entry_goes, finds_once, loose_suits, ne
 use Rattle.coll_table.proofs.ItemsDone.{AreDone, with_layout}
 use Rattle.coll_nodes.proofs.LayoutReads.{both_true}
 use Rattle.coll_lookups.proofs.Sameness.{same_id_decides, same_id_itself}
-use Rattle.coll_builder.proofs.SoundLines.{neither_found, passed}
+use Rattle.coll_texts.proofs.SoundLines.{neither_found, passed}
 use Rattle.coll_table.proofs.TurningSound.{item_on_sound}
 use Rattle.coll_nodes.specs.Bodies.{without_link}
 use Rattle.coll_table.specs.Delta.{all_moved, block_entry, line_refusal, lines_refusal, moved, standing, weights_refusal}
@@ -134,7 +134,8 @@ module _ (table : TableValue) (line : OrderLine) (item : Item) (sound : IsSoundL
       let layout = table.layout in
       let made : Entry = made_entry (collation table) line.id in
       let fresh = unplaced layout sound line.id placed in
-      let absent : entry_at (entries_of (collation table)) line.id ≡ None = no_entry_at (entry_at (entries_of (collation table)) line.id) (sym (entry_there (entries_of (collation table)) line.id) ∙ placed) in
+      let absent : entry_at (entries_of (collation table)) line.id ≡ None =
+      no_entry_at (entry_at (entries_of (collation table)) line.id) (sym (entry_there (entries_of (collation table)) line.id) ∙ placed) in
       let at : placed_at item.old layout item.node ≡ None = ap (λ had. placed_at had layout item.node) node.0 in
       record {
         entry = made;
@@ -213,7 +214,8 @@ line_done table target before line item sound has differ plain prepared =
       goes = goes;
       sound = item_on_sound layout (record item { old = from }) sound goes;
       declared = put_declared layout new sound.shaped line.id target item.node before entry r.entry aim.0 puts r.own aim.1 differ linked same;
-      sections = put_sections layout new sound.shaped line.id target item.node before entry r.entry aim.0 puts r.own aim.1 differ linked same ∙ ap (placed_after (without (sections_at layout) line.id) target) made;
+      sections = put_sections layout new sound.shaped line.id target item.node before entry r.entry aim.0 puts r.own aim.1 differ linked same
+          ∙ ap (placed_after (without (sections_at layout) line.id) target) made;
       key = put_key layout new sound.shaped line.id target item.node before entry r.entry aim.0 puts r.own aim.1 differ linked same;
       keys = put_keys layout new sound.shaped line.id target item.node before entry r.entry aim.0 puts r.own aim.1 differ linked same;
       linked = put_others layout new sound.shaped line.id target item.node before entry r.entry aim.0 puts r.own aim.1 differ linked same;
@@ -260,7 +262,8 @@ module _ (table : TableValue) (target : Id) (line : OrderLine) (item : Item) (so
       not_both (ap (same_id id) (sym ids) ∙ same_id_itself id) far) (λ off e. refl) refl in
       let finds = finds_once same_id ids_in layout sound.ids in
       let finds_now = finds_once same_id ids_in new done.sound.ids in
-      sym (entry_known new done.sound.shaped (node_by same_id ids_in new) id at.0 (content.Placed mine.0) finds_now (finds_now.finds id at.0 (done.keys id at.0 far ∙ at.1)) (done.contents at.0 differ ∙ mine.1.is))
+      sym (entry_known new done.sound.shaped (node_by same_id ids_in new) id at.0 (content.Placed mine.0) finds_now (finds_now.finds id at.0 (done.keys id at.0 far ∙ at.1))
+      (done.contents at.0 differ ∙ mine.1.is))
       ∙ entry_known layout sound.shaped (node_by same_id ids_in layout) id at.0 (content.Placed mine.0) finds (finds.finds id at.0 at.1) mine.1.is)
       (λ off t.
       no_entry_at (entry_at (entries_of (collation now)) id) (sym (entry_there (entries_of (collation now)) id) ∙ (still_placed id far ∙ t))
@@ -269,14 +272,16 @@ module _ (table : TableValue) (target : Id) (line : OrderLine) (item : Item) (so
   -- so a line that gives no weights has the entry that it had
   pub still_standing : (id : Id) → same_id id line.id ≡ false → block_entry (collation now) (without_weights id) ≡ block_entry (collation table) (without_weights id)
   unfolding collation
-  still_standing id far = ap₂ (λ (found : Option Entry) (declared : List Declaration). standing true found (entry_of (length table.rules) declared (without_weights id))) (still_entry id far) done.declared
+  still_standing id far = ap₂ (λ (found : Option Entry) (declared : List Declaration). standing true found (entry_of (length table.rules) declared (without_weights id))) (still_entry id far)
+      done.declared
 
   -- an entry is made as it was
   still_made : (id : Id) → made_entry (collation now) id ≡ made_entry (collation table) id
   unfolding collation
   still_made id = ap (λ (declared : List Declaration). entry_of (length table.rules) declared (record { id = id; weights = None })) done.declared
 
-  node_still : (placed : Bool) (id : Id) (its : Item) → same_id id line.id ≡ false → IsNodeFor placed (collation table) table.layout id its → IsNodeFor placed (collation now) (item_on table.layout item) id its
+  node_still : (placed : Bool) (id : Id) (its : Item) → same_id id line.id ≡ false → IsNodeFor placed (collation table) table.layout id its
+      → IsNodeFor placed (collation now) (item_on table.layout item) id its
   node_still true id its far node = (node.0, done.keys id its.node far ∙ node.1)
   node_still false id its far node =
       let differ : same_node its.node item.node ≡ false = by_test (λ b. same_node its.node item.node ≡ b → b ≡ false) (same_node its.node item.node)
@@ -293,7 +298,8 @@ module _ (table : TableValue) (target : Id) (line : OrderLine) (item : Item) (so
   line_still before other its far prepared = record {
     goes = prepared.goes;
     weights = prepared.weights;
-    node = subst (λ b. IsNodeFor b (collation now) (item_on table.layout item) other.id its) (sym (still_placed other.id far)) (node_still (is_placed (collation table) other.id) other.id its far prepared.node);
+    node = subst (λ b. IsNodeFor b (collation now) (item_on table.layout item) other.id its) (sym (still_placed other.id far))
+        (node_still (is_placed (collation table) other.id) other.id its far prepared.node);
   }
 
   -- so are those of the lines that follow
@@ -309,7 +315,8 @@ module _ (table : TableValue) (target : Id) (line : OrderLine) (item : Item) (so
       (line_still before other its far prepared.0, lines_still (ids ++ other.id ∷ []) its.node lines items (has_still ids other.id line.id here) first.later prepared.1)
 
   -- and their ring steps are as many
-  steps_still : (ids : List Id) (lines : List OrderLine) → has_id ids line.id ≡ true → lines_refusal (collation table) ids lines ≡ None → lines_steps (collation now) lines ≡ lines_steps (collation table) lines
+  steps_still : (ids : List Id) (lines : List OrderLine) → has_id ids line.id ≡ true → lines_refusal (collation table) ids lines ≡ None
+      → lines_steps (collation now) lines ≡ lines_steps (collation table) lines
   steps_still ids [] here judged = refl
   steps_still ids (other ∷ lines) here judged =
       let first = passes (collation table) ids other lines judged in
@@ -319,7 +326,8 @@ module _ (table : TableValue) (target : Id) (line : OrderLine) (item : Item) (so
 -- Blocks.
 
 -- the items of lines that follow a target, none of which has an identifier of these
-lines_done : (table : TableValue) (target : Id) (before : NodeId) (ids : List Id) (lines : List OrderLine) (items : List Item) → IsSoundLayout table.layout → has_key same_id ids_in table.layout target before ≡ true
+lines_done : (table : TableValue) (target : Id) (before : NodeId) (ids : List Id) (lines : List OrderLine) (items : List Item) → IsSoundLayout table.layout
+    → has_key same_id ids_in table.layout target before ≡ true
     → has_id ids target ≡ true → lines_refusal (collation table) ids lines ≡ None → ArePrepared (collation table) table.layout before lines items
     → AreDone table items (all_moved (collation table) target lines) (lines_steps (collation table) lines)
 unfolding ArePrepared CanTurnOn placed_items turned_on steps_of
@@ -333,9 +341,11 @@ lines_done table target before ids (line ∷ lines) (item ∷ items) sound has h
     let after : TableValue = now table target line item sound done in
     let made = line_made table target line item sound done in
     let more = ids ++ line.id ∷ [] in
-    let passed : lines_refusal (collation after) more lines ≡ None = ap (λ (t : Collation). lines_refusal t more lines) made ∙ (lines_stay (collation table) (moved (collation table) target line).sections more lines ∙ first.later) in
+    let passed : lines_refusal (collation after) more lines ≡ None =
+    ap (λ (t : Collation). lines_refusal t more lines) made ∙ (lines_stay (collation table) (moved (collation table) target line).sections more lines ∙ first.later) in
     let last = has_last ids line.id in
-    let later = lines_done after line.id item.node more lines items done.sound done.key last passed (lines_still table target line item sound done more item.node lines items last first.later prepared.1) in
+    let later = lines_done after line.id item.node more lines items done.sound done.key last passed
+    (lines_still table target line item sound done more item.node lines items last first.later prepared.1) in
     record {
       goes = (done.goes, later.goes);
       made = later.made ∙ ap (λ (t : Collation). all_moved t line.id lines) made;
@@ -343,7 +353,8 @@ lines_done table target before ids (line ∷ lines) (item ∷ items) sound has h
     }
 
 -- the items of a block make what its lines make
-pub block_done : (table : TableValue) (target : Id) (before : NodeId) (lines : List OrderLine) (items : List Item) → IsSoundLayout table.layout → has_key same_id ids_in table.layout target before ≡ true
+pub block_done : (table : TableValue) (target : Id) (before : NodeId) (lines : List OrderLine) (items : List Item) → IsSoundLayout table.layout → has_key same_id ids_in table.layout target before
+    ≡ true
     → lines_refusal (collation table) (target ∷ []) lines ≡ None → ArePrepared (collation table) table.layout before lines items
     → AreDone table items (all_moved (collation table) target lines) (lines_steps (collation table) lines)
 block_done table target before lines items sound has judged prepared = lines_done table target before (target ∷ []) lines items sound has (ap (λ b. b || false) (same_id_itself target)) judged prepared

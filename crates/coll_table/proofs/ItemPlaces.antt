@@ -87,7 +87,8 @@ place_in_ring : (first : ℕ) (rings : List (List NodeId)) (node : NodeId) (plac
 place_in_ring first [] node place e = cc
 place_in_ring first (nodes ∷ rings) node place e =
     elim (place_in (head_of first) nodes node) as (λ found. place_in (head_of first) nodes node ≡ found → option_or found (place_from (suc first) rings node) ≡ Some place
-    → (index : ℕ) × (index < length (nodes ∷ rings)) × (has_node (get_or (nodes ∷ rings) index []) node ≡ true) × (is_place_of place (head_of (first + index)) (without node (get_or (nodes ∷ rings) index [])) ≡ true)) [
+    → (index : ℕ) × (index < length (nodes ∷ rings)) × (has_node (get_or (nodes ∷ rings) index []) node ≡ true)
+    × (is_place_of place (head_of (first + index)) (without node (get_or (nodes ∷ rings) index [])) ≡ true)) [
       | Some p ↦ λ here e.
           let it = place_in_list (head_of first) nodes node place (here ∙ e) in
           let same : first + 0 ≡ first = omega arith in
@@ -109,7 +110,8 @@ stands first (nodes ∷ rings) node there =
     ] refl
 
 -- an item that says that its node stood somewhere gets the place where it stands
-pub placed_standing : (layout : TableLayout) (node : NodeId) (had : Option Place) (place : Place) → is_some had ≡ true → place_from 0 layout.rings node ≡ Some place → placed_at had layout node ≡ Some place
+pub placed_standing : (layout : TableLayout) (node : NodeId) (had : Option Place) (place : Place) → is_some had ≡ true → place_from 0 layout.rings node ≡ Some place
+    → placed_at had layout node ≡ Some place
 placed_standing layout node None place is at = not_both is refl
 placed_standing layout node (Some any) place is at = ap (λ found. option_or found (Some any)) at
 
@@ -152,7 +154,8 @@ module _ (layout : TableLayout) (node : NodeId) where
       (owned.0, and_true (is_in_without node owned.0 layout.rings differ ∙ parts.0) parts.1)
 
   -- a place of a ring without the node
-  pub place_out : (index : ℕ) (place : Place) → index < length layout.rings → is_place_of place (head_of index) (without node (ring_at layout index)) ≡ true → IsPlaceIn (without_link layout node) index place
+  pub place_out : (index : ℕ) (place : Place) → index < length layout.rings → is_place_of place (head_of index) (without node (ring_at layout index)) ≡ true
+      → IsPlaceIn (without_link layout node) index place
   place_out index place below on = record {
     ring = subst (λ n. index < n) (sym (length_rings_without node layout.rings)) below;
     on = ap (is_place_of place (head_of index)) (get_without node layout.rings index) ∙ on;
@@ -174,7 +177,8 @@ module _ (layout : TableLayout) (node : NodeId) where
       let here = place_in_ring 0 layout.rings node place at in
       let from : 0 + here.0 ≡ here.0 = omega arith in
       by_ring here.0 here.1 here.2 (ap (λ k. is_place_of place (head_of k) (without node (ring_at layout here.0))) (sym from) ∙ here.3) where
-        by_ring : (index : ℕ) → index < length layout.rings → has_node (ring_at layout index) node ≡ true → is_place_of place (head_of index) (without node (ring_at layout index)) ≡ true → Suits (without_link layout node) node (Some place)
+        by_ring : (index : ℕ) → index < length layout.rings → has_node (ring_at layout index) node ≡ true → is_place_of place (head_of index) (without node (ring_at layout index)) ≡ true
+            → Suits (without_link layout node) node (Some place)
         by_ring zero below there on =
             let is = declaration_is (content_of layout node) (sound.shaped.declared node there) in
             (content.Declared is.0, is.1, (place_out 0 place below on, apart_out (content.Declared is.0) sound (in_rings layout 0 node there) is.1))

@@ -73,7 +73,8 @@ pub record Names (f : NodeId → List Section) (name : List ℕ) (own node : Nod
 
 module _ (f : NodeId → List Section) where
   -- nodes without the one of a name have no section of it
-  absent_named : (name : List ℕ) (own : NodeId) (nodes : List NodeId) → has_node nodes own ≡ false → ((node : NodeId) → has_node nodes node ≡ true → Names f name own node) → has_named name (flat_map f nodes) ≡ false
+  absent_named : (name : List ℕ) (own : NodeId) (nodes : List NodeId) → has_node nodes own ≡ false → ((node : NodeId) → has_node nodes node ≡ true → Names f name own node)
+      → has_named name (flat_map f nodes) ≡ false
   absent_named name own nodes absent names =
       by_test (λ b. has_named name (flat_map f nodes) ≡ b → b ≡ false) (has_named name (flat_map f nodes))
       (λ on t.
@@ -94,7 +95,8 @@ module _ (f : NodeId → List Section) where
       (λ on. let it = parts.0.here on in
       later ∙ sym (ap (λ ss. sections_without (ss ++ rest) name) it.1 ∙ ap (λ b. cond (not b) (it.0 ∷ sections_without rest name) (sections_without rest name)) it.2))
       (λ off. ap (λ ss. f node ++ ss) later
-      ∙ sym (filter-append (λ (section : Section). not (has_section_name name section.name)) (f node) rest ∙ ap (λ ss. ss ++ sections_without rest name) (none_without (f node) name (parts.0.off off))))
+      ∙ sym (filter-append (λ (section : Section). not (has_section_name name section.name)) (f node) rest
+      ∙ ap (λ ss. ss ++ sections_without rest name) (none_without (f node) name (parts.0.off off))))
 
   -- the sections of the name are that of its node
   only_named : (name : List ℕ) (own : NodeId) (nodes : List NodeId) → AreDistinct nodes → has_node nodes own ≡ true → ((node : NodeId) → has_node nodes node ≡ true → Names f name own node)
@@ -108,7 +110,8 @@ module _ (f : NodeId → List Section) where
       let it = parts.0.here on in
       let is : own ≡ node = same_node_is own node on in
       let none : sections_named rest name ≡ [] = none_named rest name (absent_named name own nodes (ap (has_node nodes) is ∙ distinct.0) parts.1) in
-      ap (λ ss. sections_named (ss ++ rest) name) it.1 ∙ (ap (λ b. cond b (it.0 ∷ sections_named rest name) (sections_named rest name)) it.2 ∙ (ap (λ ss. it.0 ∷ ss) none ∙ (sym it.1 ∙ ap f (sym is)))))
+      ap (λ ss. sections_named (ss ++ rest) name) it.1
+      ∙ (ap (λ b. cond b (it.0 ∷ sections_named rest name) (sections_named rest name)) it.2 ∙ (ap (λ ss. it.0 ∷ ss) none ∙ (sym it.1 ∙ ap f (sym is)))))
       (λ off t later. filter-append (λ (section : Section). has_section_name name section.name) (f node) rest
       ∙ (ap (λ ss. ss ++ sections_named rest name) (none_named (f node) name (parts.0.off off)) ∙ only_named name own nodes distinct.1 later parts.1)) refl there
 
@@ -161,9 +164,14 @@ module _ (layout : TableLayout) (sound : IsSoundLayout layout) (name : List ℕ)
       let is = section_at layout sound.shaped other there in
       let known = content.Begun is.0 is.1 in
       let reads = read_known (section_in layout) layout other known is.2 in
-      let keys : list_any (same_name name) (read_at section_names_in layout other) ≡ has_section_name name is.0 = ap (list_any (same_name name)) (read_known section_names_in layout other known is.2) ∙ key_of_name name is.0 in
+      let keys : list_any (same_name name) (read_at section_names_in layout other) ≡ has_section_name name is.0 =
+      ap (list_any (same_name name)) (read_known section_names_in layout other known is.2) ∙ key_of_name name is.0 in
       record {
-        here = λ on. (record { name = is.0; entries = entries_in layout is.1 }, reads, sym keys ∙ (ap (λ n. list_any (same_name name) (read_at section_names_in layout n)) (sym (same_node_is own other on)) ∙ (both_true _ _ has).1));
+        here = λ on. (
+          record { name = is.0; entries = entries_in layout is.1 },
+          reads,
+          sym keys ∙ (ap (λ n. list_any (same_name name) (read_at section_names_in layout n)) (sym (same_node_is own other on)) ∙ (both_true _ _ has).1),
+        );
         off = λ differ. by_test (λ b. has_section_name name is.0 ≡ b → has_named name (read_at (section_in layout) layout other) ≡ false) (has_section_name name is.0)
             (λ on t.
             let same : own ≡ other = sound.sections name own other has (and_true (in_rings layout 1 other there) (keys ∙ t)) in
@@ -219,7 +227,8 @@ module _ (layout : TableLayout) (sound : IsSoundLayout layout) (name after : Lis
   section_declared = declared_stays layout now (ring_other 0 (λ same. absurd (omega (arith, same)))) (λ other there. refl)
 
   -- what stands in the ring of the sections stood there
-  before_put : (nodes : List NodeId) (other : NodeId) → has_node nodes node ≡ true → has_node (put_after (After target) node (head_of 1) (nodes_without node nodes)) other ≡ true → has_node nodes other ≡ true
+  before_put : (nodes : List NodeId) (other : NodeId) → has_node nodes node ≡ true → has_node (put_after (After target) node (head_of 1) (nodes_without node nodes)) other ≡ true
+      → has_node nodes other ≡ true
   before_put nodes other there put = by_test (λ b. same_node other node ≡ b → has_node nodes other ≡ true) (same_node other node)
       (λ on t. ap (has_node nodes) (same_node_is other node t) ∙ there)
       (λ off t. (before_taken node nodes other (sym (has_put (After target) (head_of 1) node other (nodes_without node nodes) t) ∙ put)).1) refl
@@ -231,13 +240,16 @@ module _ (layout : TableLayout) (sound : IsSoundLayout layout) (name after : Lis
       let nodes = ring_at layout 1 in
       let there = section_stands layout sound name node has in
       let put : ring_at now 1 ≡ put_after (After target) node (head_of 1) (nodes_without node nodes) = anew_put layout node (After target) 1 below in
-      let distinct : AreDistinct (nodes_without node nodes) = subst AreDistinct (get_without node layout.rings 1) (distinct_ring (rings_without node layout.rings) 1 (once_without node layout.rings sound.laid.once)) in
+      let distinct : AreDistinct (nodes_without node nodes) =
+      subst AreDistinct (get_without node layout.rings 1) (distinct_ring (rings_without node layout.rings) 1 (once_without node layout.rings sound.laid.once)) in
       let stay : (index : ℕ) → 2 ≤ index → ring_at now index ≡ ring_at layout index = λ index high. ring_other index (λ same. absurd (omega (arith, high, same))) in
       let read = sections_read layout in
       sections_read now
       ∙ (ap (flat_map (read_at (section_in now) now)) put
-      ∙ (same_read f (read_at (section_in now) now) (put_after (After target) node (head_of 1) (nodes_without node nodes)) (λ other in_put. section_still layout sound.shaped now.rings stay other (before_put nodes other there in_put))
-      ∙ (put_section f after target node (head_of 1) (nodes_without node nodes) refl distinct (λ other in_rest. section_names layout sound after target has_target other (before_taken node nodes other in_rest).1)
+      ∙ (same_read f (read_at (section_in now) now) (put_after (After target) node (head_of 1) (nodes_without node nodes))
+      (λ other in_put. section_still layout sound.shaped now.rings stay other (before_put nodes other there in_put))
+      ∙ (put_section f after target node (head_of 1) (nodes_without node nodes) refl distinct
+      (λ other in_rest. section_names layout sound after target has_target other (before_taken node nodes other in_rest).1)
       ∙ (ap₂ (λ (ss more : List Section). sections_after ss after more) (take_section f name node nodes (section_names layout sound name node has))
       (sym (only_named f name node nodes (distinct_ring layout.rings 1 sound.laid.once) there (section_names layout sound name node has)))
       ∙ ap (λ ss. section_moved ss name after) (sym read)))))
@@ -260,6 +272,7 @@ section_done table name after item target sound has has_target had gets plain di
         tt,
       );
       made = ap₂ (λ (declared : List Declaration) (sections : List Section). record { rules = table.rules; declared = declared; sections = sections })
-          (ap declared_at on ∙ section_declared layout sound name after item.node target has has_target differ) (ap sections_at on ∙ section_put layout sound name after item.node target has has_target differ);
+          (ap declared_at on ∙ section_declared layout sound name after item.node target has has_target differ)
+          (ap sections_at on ∙ section_put layout sound name after item.node target has has_target differ);
       steps = ap₂ (λ (from to : Option Place). steps_between from to + 0) from gets;
     }

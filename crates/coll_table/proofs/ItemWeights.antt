@@ -15,7 +15,7 @@ use Rattle.coll_nodes.proofs.LayoutMoves.{declared_stays, sections_changed}
 use Rattle.coll_nodes.proofs.LayoutReads.{both_true, entries_read, in_rings, read_known}
 use Rattle.coll_nodes.proofs.NodeLists.{map_read, same_read}
 use Rattle.coll_lookups.proofs.Sameness.{neither, same_id_itself}
-use Rattle.coll_builder.proofs.SoundLines.{passed}
+use Rattle.coll_texts.proofs.SoundLines.{passed}
 use Rattle.coll_table.specs.Delta.{reweight_refusal, reweighted, standing, weights_refusal}
 use Rattle.coll_nodes.specs.Entries.{entry_of}
 use Rattle.coll_nodes.specs.Placement.{entry_at, with_entry}
@@ -66,7 +66,8 @@ module _ (old new : TableLayout) (shaped : IsShaped old) (id : Id) (node : NodeI
       ∙ (ap (λ b. cond b entry was ∷ []) (sym (ap₂ (λ (a b : Id). same_id a b) same own.same ∙ same_id_itself id))
       ∙ sym (ap (replaced entry) (read_known entry_in old node (content.Placed was) own.is)))))
       (λ off t.
-      let absent : has_id (ids_of (read_at entry_in old other)) entry.id ≡ false = ap (has_id (ids_of (read_at entry_in old other))) same ∙ (own.tells other linked).off (other_node_turned other node t) in
+      let absent : has_id (ids_of (read_at entry_in old other)) entry.id ≡ false =
+      ap (has_id (ids_of (read_at entry_in old other))) same ∙ (own.tells other linked).off (other_node_turned other node t) in
       ap (λ known. flat_map entry_in (if_any known)) (others other t) ∙ sym (replaced_absent entry (read_at entry_in old other) absent)) refl
 
   -- and the entry stands in place of the one of its identifier
@@ -80,7 +81,8 @@ module _ (old new : TableLayout) (shaped : IsShaped old) (id : Id) (node : NodeI
       ∙ ap (replaced entry) (sym (entries_read old ring))))))
 
 -- the item of an order line outside a block makes what the line makes
-pub reweight_done : (table : TableValue) (line : OrderLine) (item : Item) → IsSoundLayout table.layout → has_key same_id ids_in table.layout line.id item.node ≡ true → item.old ≡ None → item.new ≡ None
+pub reweight_done : (table : TableValue) (line : OrderLine) (item : Item) → IsSoundLayout table.layout → has_key same_id ids_in table.layout line.id item.node ≡ true → item.old ≡ None
+    → item.new ≡ None
     → item.weights ≡ weights_to (length table.rules) line.id line.weights → reweight_refusal (collation table) line ≡ None → AreDone table (item ∷ []) (reweighted (collation table) line) 0
 unfolding collation CanTurnOn placed_items turned_on steps_of
 reweight_done table line item sound has had gets given judged =

@@ -126,7 +126,8 @@ pub record RecordDone (table now : TableValue) (items : List Item) (count : ℕ)
   pub back : IsSame (turn now (record_of table.layout items)) table
   pub steps : steps_of (items_on table.layout (placed_items table.layout items)) ≡ count
 
-pub done_record : RecordsTurnBack → (table now : TableValue) (items : List Item) (after : Collation) (count : ℕ) → IsTable table → AreDone table items after count → IsWellFormed after → length items ≤ 4096
+pub done_record : RecordsTurnBack → (table now : TableValue) (items : List Item) (after : Collation) (count : ℕ) → IsTable table → AreDone table items after count → IsWellFormed after
+    → length items ≤ 4096
     → now.rules ≡ table.rules → now.layout ≡ turned_on table.layout items → RecordDone table now items count
 unfolding turn turned
 done_record turns table now items after count is done well few rules layout =

@@ -11,11 +11,12 @@ use Rattle.coll_nodes.specs.declared.entries.Entry.{Entry}
 use Rattle.coll_nodes.specs.Table.{Section, joined_entries}
 use Rattle.coll_nodes.specs.Entries.{ids_named}
 use Rattle.coll_nodes.specs.Causes.{refused_if}
-use Rattle.coll_builder.specs.BuilderStates.{Numbered, BuilderState, second_name, own_order, with_own_weights, meaning_cause, declaration_cause, section_cause, section_cause_if, order_cause, cause_after, weight_cause, ids_cause, at_line, entries_fault, fault_at_end, line_fault}
+use Rattle.coll_texts.specs.BuilderStates.{Numbered, BuilderState, second_name, own_order, with_own_weights, meaning_cause, declaration_cause, section_cause}
+use Rattle.coll_texts.specs.BuilderStates.{section_cause_if, order_cause, cause_after, weight_cause, ids_cause, at_line, entries_fault, fault_at_end, line_fault}
 use Rattle.coll_table.specs.SoundLoaders.{IsLineCause}
-use Rattle.coll_builder.specs.declared.load_faults.LoadFault.{LoadFault}
-use Rattle.coll_builder.specs.declared.load_faults.LoadCause.{LoadCause}
-use Rattle.coll_builder.specs.declared.load_faults.LoadCause.TheVariants.{OutOfMemory}
+use Rattle.coll_texts.specs.declared.load_faults.LoadFault.{LoadFault}
+use Rattle.coll_texts.specs.declared.load_faults.LoadCause.{LoadCause}
+use Rattle.coll_texts.specs.declared.load_faults.LoadCause.TheVariants.{OutOfMemory}
 
 abbrev OwnCause : Option LoadCause → Type 0
 OwnCause cause = IfSome cause IsLineCause
@@ -73,7 +74,8 @@ either_fault number None b h k = k
 entries_own : (d : BuilderState) (numbers : List ℕ) (entries : List Entry) → OwnFault (entries_fault d numbers entries)
 entries_own d [] entries = tt
 entries_own d (number ∷ numbers) [] = tt
-entries_own d (number ∷ numbers) (entry ∷ entries) = either_fault number (ids_cause d.declared d.sections (ids_named entry)) (entries_fault d numbers entries) (ids_own d.declared d.sections (ids_named entry)) (entries_own d numbers entries)
+entries_own d (number ∷ numbers) (entry ∷ entries) =
+    either_fault number (ids_cause d.declared d.sections (ids_named entry)) (entries_fault d numbers entries) (ids_own d.declared d.sections (ids_named entry)) (entries_own d numbers entries)
 
 end_own : (d : BuilderState) (l : TableLine) → OwnFault (fault_at_end d l)
 end_own d line.EndCategory = let own = with_own_weights d in entries_own own own.numbers (joined_entries own.sections)

@@ -12,7 +12,7 @@ use Rattle.coll_syntax.specs.declared.identifiers.Id.{Id}
 use Rattle.coll_syntax.specs.declared.statements.OrderLine.{OrderLine}
 use Rattle.coll_syntax.specs.declared.statements.Statement.TheVariants as statement
 use Rattle.coll_syntax.specs.declared.weights.Weight.{Weight}
-use Rattle.coll_builder.proofs.SoundLines.{neither_found}
+use Rattle.coll_texts.proofs.SoundLines.{neither_found}
 use Rattle.coll_nodes.proofs.LayoutReads.{both_true}
 use Rattle.coll_lookups.proofs.Sameness.{same_id_itself, same_id_symmetric}
 use Rattle.coll_nodes.specs.Linking.{end_of_declarations}
@@ -70,7 +70,8 @@ record Listed (old : Collation) (table : TableValue) (before : NodeId) (ids : Li
   keys : (id : Id) (node : NodeId) → has_id ids id ≡ true → has_key same_id ids_in (turned_on table.layout items) id node ≡ has_key same_id ids_in table.layout id node
   listed : AreLineItems old (turned_on table.layout items) table.layout.rings before lines (items_on table.layout (placed_items table.layout items))
 
-lines_listed : (old : Collation) (table : TableValue) (target : Id) (before : NodeId) (ids : List Id) (lines : List OrderLine) (items : List Item) → IsSoundLayout table.layout → has_key same_id ids_in table.layout target before ≡ true
+lines_listed : (old : Collation) (table : TableValue) (target : Id) (before : NodeId) (ids : List Id) (lines : List OrderLine) (items : List Item) → IsSoundLayout table.layout
+    → has_key same_id ids_in table.layout target before ≡ true
     → has_id ids target ≡ true → lines_refusal (collation table) ids lines ≡ None → ArePrepared (collation table) table.layout before lines items
     → ((id : Id) → has_id ids id ≡ false → block_entry (collation table) (without_weights id) ≡ block_entry old (without_weights id))
     → Listed old table before ids lines items
@@ -85,7 +86,8 @@ lines_listed old table target before ids (line ∷ lines) (item ∷ items) sound
     let after : TableValue = now table target line item sound done in
     let made = line_made table target line item sound done in
     let more = ids ++ line.id ∷ [] in
-    let passed : lines_refusal (collation after) more lines ≡ None = ap (λ (t : Collation). lines_refusal t more lines) made ∙ (lines_stay (collation table) (moved (collation table) target line).sections more lines ∙ first.later) in
+    let passed : lines_refusal (collation after) more lines ≡ None =
+    ap (λ (t : Collation). lines_refusal t more lines) made ∙ (lines_stay (collation table) (moved (collation table) target line).sections more lines ∙ first.later) in
     let last = has_last ids line.id in
     let still = lines_still table target line item sound done more item.node lines items last first.later prepared.1 in
     let later = lines_listed old after line.id item.node more lines items done.sound done.key last passed still (λ id absent.
@@ -99,9 +101,11 @@ lines_listed old table target before ids (line ∷ lines) (item ∷ items) sound
           node = later.keys line.id item.node last ∙ done.key;
           stood = stood_at table.layout item.node (placed_at item.old table.layout item.node) bare.stands;
           went = prepared.0.goes;
-          weights = gave old (length (collation table).rules) line.id line.weights item.weights (content_of table.layout item.node) bare.entry prepared.0.weights bare.own.is (bare.kept refl ∙ same line.id first.new);
+          weights = gave old (length (collation table).rules) line.id line.weights item.weights (content_of table.layout item.node) bare.entry prepared.0.weights bare.own.is
+              (bare.kept refl ∙ same line.id first.new);
         },
-        subst (λ to. AreLineItems old (turned_on (item_on table.layout item) items) (moved_rings to table.layout.rings item.node to) item.node lines (items_on (item_on table.layout item) (placed_items (item_on table.layout item) items))) prepared.0.goes later.listed,
+        subst (λ to. AreLineItems old (turned_on (item_on table.layout item) items) (moved_rings to table.layout.rings item.node to) item.node lines
+            (items_on (item_on table.layout item) (placed_items (item_on table.layout item) items))) prepared.0.goes later.listed,
       );
     }
 
@@ -115,10 +119,12 @@ block_listed old table target lines items is adds ok prepared_old =
     let prepared : IsPreparedBlock (collation table) table.layout target lines items = subst (λ t. IsPreparedBlock t table.layout target lines items) (sym same) prepared_old in
     let accepted = block_accepted (collation table) target lines (subst (λ t. IsOk (own_delta t (statement.Block target lines))) (sym same) ok) in
     let here : has_id (target ∷ []) target ≡ true = ap (λ b. b || false) (same_id_itself target) in
-    let all = lines_listed (collation old) table target prepared.0 (target ∷ []) lines items is.sound prepared.1 here accepted.passes prepared.2 (λ id absent. ap (λ t. block_entry t (without_weights id)) same) in (
+    let all = lines_listed (collation old) table target prepared.0 (target ∷ []) lines items is.sound prepared.1 here accepted.passes prepared.2
+    (λ id absent. ap (λ t. block_entry t (without_weights id)) same) in (
       prepared.0,
       all.keys target prepared.0 here ∙ prepared.1,
-      subst (λ rings. AreLineItems (collation old) (turned_on table.layout items) rings prepared.0 lines (record_of table.layout items).items) (same_rings old table (added_nodes items) adds) all.listed,
+      subst (λ rings. AreLineItems (collation old) (turned_on table.layout items) rings prepared.0 lines (record_of table.layout items).items) (same_rings old table (added_nodes items) adds)
+          all.listed,
     )
 
 -- Other statements.
@@ -135,7 +141,8 @@ declaration_listed old table new items adds prepared = subst (λ is. AreOwnItems
   it = (
     prepared.0,
     itself_weighed prepared.0 None table.layout.nodes (content.Declared new) prepared.1,
-    ap (λ rings. record { node = prepared.0; old = None; new = Some (end_of_declarations (record { rings = rings; nodes = [] })); weights = None } ∷ []) (same_rings old table (added_nodes items) adds),
+    ap (λ rings. record { node = prepared.0; old = None; new = Some (end_of_declarations (record { rings = rings; nodes = [] })); weights = None } ∷ [])
+        (same_rings old table (added_nodes items) adds),
   )
 
   by : (other : Declaration) → new ≡ other → AreOwnItems old (turned_on table.layout (item ∷ [])) (declaring other) (record_of table.layout (item ∷ [])).items
@@ -170,9 +177,11 @@ reweight_listed table line items is prepared =
     let levels = length (collation table).rules in
     let weights = weights_to levels line.id line.weights in
     let stays : Item = record { node = prepared.0; old = Some (After prepared.0); new = None; weights = weights } in
-    let bare = ready table (without_weights line.id) stays is.sound (subst (λ b. IsNodeFor b (collation table) layout line.id stays) (sym (placed_by table line.id prepared.0 is prepared.1)) (refl, prepared.1)) in
+    let bare = ready table (without_weights line.id) stays is.sound
+    (subst (λ b. IsNodeFor b (collation table) layout line.id stays) (sym (placed_by table line.id prepared.0 is prepared.1)) (refl, prepared.1)) in
     subst (λ is. AreOwnItems table (turned_on layout is) (statement.Reweight line) (record_of layout is).items) (sym prepared.2) (
       prepared.0,
       prepared.1,
-      ap (λ ws. record { node = prepared.0; old = None; new = None; weights = ws } ∷ []) (gave (collation table) levels line.id line.weights weights (content_of layout prepared.0) bare.entry refl bare.own.is (bare.kept refl)),
+      ap (λ ws. record { node = prepared.0; old = None; new = None; weights = ws } ∷ [])
+          (gave (collation table) levels line.id line.weights weights (content_of layout prepared.0) bare.entry refl bare.own.is (bare.kept refl)),
     )

@@ -7,11 +7,11 @@ use Rattle.coll_lex.specs.declared.faults.LexFault.TheVariants as lex
 use Rattle.coll_lex.proofs.LineSteps.{logical_lines-nil}
 use Rattle.coll_lex.proofs.LineEnds.{fed-too_long}
 use Rattle.coll_lex.proofs.OutsideLines.{outside-too_long}
-use Rattle.coll_builder.specs.BuilderStates.{Numbered, table_of, at_line}
-use Rattle.coll_builder.specs.Loading.{LoaderState, by_outside, by_fed, by_where, unless_faulty, loaded_line, early_end, loaded}
+use Rattle.coll_texts.specs.BuilderStates.{Numbered, table_of, at_line}
+use Rattle.coll_texts.specs.Loading.{LoaderState, by_outside, by_fed, by_where, unless_faulty, loaded_line, early_end, loaded}
 use Rattle.coll_table.specs.Loads.{IsUndecided}
-use Rattle.coll_builder.specs.Reading.{Decided, Undecided, outcome_within, answer_at_end}
-use Rattle.coll_builder.specs.declared.load_faults.LoadCause.TheVariants.{Lex, NoCategory}
+use Rattle.coll_texts.specs.Reading.{Decided, Undecided, outcome_within, answer_at_end}
+use Rattle.coll_texts.specs.declared.load_faults.LoadCause.TheVariants.{Lex, NoCategory}
 use Rattle.coll_table.proofs.LoadSteps.{outcome_before-nil, outcome_within-nil, outcome_within-cons, outcome_from, StandsAfter, from_ended, from_within, from_before}
 
 module _ (before : List Numbered) (s : LoaderState) (stands : StandsAfter before s) where
@@ -56,7 +56,8 @@ module _ (before : List Numbered) (s : LoaderState) (stands : StandsAfter before
   pub undecided_here : s.ended ≡ false → IsUndecided (outcome_from false before s [])
   undecided_here e = undecided_by s.begun e refl
 
-  long_by : (line : List ℕ) → most_line_bytes < length line → (ended begun : Bool) → ended ≡ false → (if ended then Ok s else (if begun then by_fed s (fed s.lexer line) else by_outside s (outside s.lexer line))) ≡ Err (at_line (number_of s.lexer) (Lex lex.LineTooLong))
+  long_by : (line : List ℕ) → most_line_bytes < length line → (ended begun : Bool) → ended ≡ false
+      → (if ended then Ok s else (if begun then by_fed s (fed s.lexer line) else by_outside s (outside s.lexer line))) ≡ Err (at_line (number_of s.lexer) (Lex lex.LineTooLong))
   long_by line long true begun e = absurd (false≢true (sym e))
   long_by line long false true e = ap (by_fed s) (fed-too_long s.lexer line long)
   long_by line long false false e = ap (by_outside s) (outside-too_long s.lexer line long)

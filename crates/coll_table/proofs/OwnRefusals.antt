@@ -53,10 +53,13 @@ module _ (table : Collation) where
 reweight_own : (table : Collation) (line : OrderLine) → OwnAnswer (reweight_delta table line)
 reweight_own table line =
     let after = reweighted table line in
-    or_own (reweight_refusal table line) (looked_up after (line ∷ [])) (line_own table line) (unless_own (weight_ids_refusal after (ids_given (line ∷ []))) after (ids_own after (ids_given (line ∷ []))))
+    or_own (reweight_refusal table line) (looked_up after (line ∷ [])) (line_own table line)
+    (unless_own (weight_ids_refusal after (ids_given (line ∷ []))) after (ids_own after (ids_given (line ∷ []))))
 
 -- so a lack of memory is no answer to it
-pub reweight_unstarved : {U : Type 0} (Taken : Type 0) (r : Result U Refusal) (table : Collation) (line : OrderLine) (refusal : Option Refusal) → reweight_delta table line ≡ unless_refused refusal (reweighted table line)
+pub reweight_unstarved : {U : Type 0} (Taken : Type 0) (r : Result U Refusal) (table : Collation) (line : OrderLine) (refusal : Option Refusal)
+    → reweight_delta table line ≡ unless_refused refusal (reweighted table line)
     → IfErr r (λ it. refusal ≡ Some it) → IfErr r (λ it. it ≡ OutOfMemory → Taken)
 reweight_unstarved Taken (Ok u) table line refusal is some = tt
-reweight_unstarved Taken (Err it) table line refusal is some = λ lack. absurd (subst OwnAnswer (is ∙ ap (λ r. unless_refused r (reweighted table line)) (some ∙ ap Some lack)) (reweight_own table line))
+reweight_unstarved Taken (Err it) table line refusal is some =
+    λ lack. absurd (subst OwnAnswer (is ∙ ap (λ r. unless_refused r (reweighted table line)) (some ∙ ap Some lack)) (reweight_own table line))

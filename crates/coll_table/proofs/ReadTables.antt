@@ -19,25 +19,28 @@ use Rattle.coll_syntax.specs.declared.lines.TableLine.TheVariants as line
 use Rattle.coll_syntax.specs.declared.rules.Rule.{Rule}
 use Rattle.coll_syntax.specs.declared.syntax_faults.SyntaxFault.{SyntaxFault}
 use Rattle.coll_syntax.proofs.ProperLines.{table_row-proper}
-use Rattle.coll_builder.specs.BuilderStates.{Numbered, BuilderState, state_of, table_of, second_name, own_order, rules_given, rules_differ, section_cause, section_cause_if, cause_after, at_line, fault_at_end, line_fault}
-use Rattle.coll_builder.specs.Loading.{LoaderState, first_loader, rules_after, with_section_if, state_with, by_outside, by_fed, by_read, taken_line, by_where, unless_faulty, loaded_line, early_end, loaded, past_line, answer_to}
-use Rattle.coll_builder.specs.Reading.{TextsAreWellFormed}
-use Rattle.coll_builder.specs.SoundStates.{IsSoundBuilderState}
+use Rattle.coll_texts.specs.BuilderStates.{Numbered, BuilderState, state_of, table_of, second_name, own_order, rules_given, rules_differ}
+use Rattle.coll_texts.specs.BuilderStates.{section_cause, section_cause_if, cause_after, at_line, fault_at_end, line_fault}
+use Rattle.coll_texts.specs.Loading.{LoaderState, first_loader, rules_after, with_section_if, state_with, by_outside, by_fed, by_read}
+use Rattle.coll_texts.specs.Loading.{taken_line, by_where, unless_faulty, loaded_line, early_end, loaded, past_line, answer_to}
+use Rattle.coll_texts.specs.Reading.{TextsAreWellFormed}
+use Rattle.coll_texts.specs.SoundStates.{IsSoundBuilderState}
 use Rattle.coll_nodes.specs.Table.{Collation, entries_of}
 use Rattle.coll_nodes.specs.WellFormed.{IsBuilt, IsWellFormed, IsWeighted}
 use Rattle.coll_nodes.specs.declared.declarations.Declaration.TheVariants as declaration
-use Rattle.coll_builder.specs.declared.load_faults.LoadCause.{LoadCause}
-use Rattle.coll_builder.specs.declared.load_faults.LoadCause.TheVariants.{RulesDiffer, OutsideOrder}
-use Rattle.coll_builder.specs.declared.load_faults.LoadFault.{LoadFault}
+use Rattle.coll_texts.specs.declared.load_faults.LoadCause.{LoadCause}
+use Rattle.coll_texts.specs.declared.load_faults.LoadCause.TheVariants.{RulesDiffer, OutsideOrder}
+use Rattle.coll_texts.specs.declared.load_faults.LoadFault.{LoadFault}
 use Rattle.coll_nodes.proofs.OwnNames.{own_id_proper}
-use Rattle.coll_builder.proofs.EndedStates.{own_at_end, well_formed_at_end}
-use Rattle.coll_builder.proofs.SoundLines.{passed, sound_declared, sound_own, sound_section, sound_entry, may_be_put}
+use Rattle.coll_texts.proofs.EndedStates.{own_at_end, well_formed_at_end}
+use Rattle.coll_texts.proofs.SoundLines.{passed, sound_declared, sound_own, sound_section, sound_entry, may_be_put}
 use Rattle.coll_table.proofs.LinesRead.{lines_read}
 
 -- Each accepted line keeps what the lines say together sound.
 
 -- an order is opened, with these rules where there are none yet
-opened : (d : BuilderState) (was given : Option (List Rule)) → d.rules ≡ was → IsSoundBuilderState d → AreRulesIfGiven given → IsSoundBuilderState (record d { order_open = true; rules = rules_after was given })
+opened : (d : BuilderState) (was given : Option (List Rule)) → d.rules ≡ was → IsSoundBuilderState d → AreRulesIfGiven given
+    → IsSoundBuilderState (record d { order_open = true; rules = rules_after was given })
 opened d (Some rules) given e sound proper = record {
   built = subst (λ r. IsBuilt (table_of (record d { rules = r }))) e sound.built;
   started = λ n. refl;
@@ -79,7 +82,8 @@ opened d None given e sound proper =
       given_are some f = cc
 
 -- a section begins, if one does
-begun : (d : BuilderState) (name : Option (List ℕ)) → IsSoundBuilderState d → IsNameIfGiven name → section_cause_if d name ≡ None → IsSoundBuilderState (record d { sections = with_section_if d.sections name })
+begun : (d : BuilderState) (name : Option (List ℕ)) → IsSoundBuilderState d → IsNameIfGiven name → section_cause_if d name ≡ None
+    → IsSoundBuilderState (record d { sections = with_section_if d.sections name })
 begun d None sound is e = sound
 begun d (Some name) sound is e = sound_section d name sound is e
 
@@ -92,12 +96,14 @@ sound_line d number (line.Equivalence name symbol) sound proper e = sound_declar
 sound_line d number (line.OrderStart section rules) sound proper e =
     let begins = begun d section sound proper.0 (passed (rules_differ d.rules rules) RulesDiffer (section_cause_if d section) e).1 in
     opened (record d { sections = with_section_if d.sections section }) d.rules rules refl begins proper.1
-sound_line d number line.OrderEnd sound proper e = record { built = sound.built; started = λ n. absurd (false≢true n); none_before = sound.none_before; some_levels = sound.some_levels; numbered = sound.numbered }
+sound_line d number line.OrderEnd sound proper e =
+    record { built = sound.built; started = λ n. absurd (false≢true n); none_before = sound.none_before; some_levels = sound.some_levels; numbered = sound.numbered }
 sound_line d number (line.Section name) sound proper e = sound_section d name sound proper (passed (not d.order_open) OutsideOrder (section_cause d name) e).1
 sound_line d number line.Script sound proper e = sound
 sound_line d number line.EndCategory sound proper e = sound_own d sound
 sound_line d number (line.Order order) sound proper e =
-    sound_entry d number _ sound (may_be_put d (own_order d.declared order) sound (own_id_proper d.declared order.id sound.built.meant sound.built.distinct_names sound.built.names proper.0, proper.1) e)
+    sound_entry d number _ sound (may_be_put d (own_order d.declared order) sound (own_id_proper d.declared order.id sound.built.meant sound.built.distinct_names sound.built.names proper.0, proper.1)
+    e)
 
 -- a line that isn't at fault isn't refused by those before it
 not_refused : (number : ℕ) (cause : Option LoadCause) (later : Option LoadFault) → option_or (option_map (at_line number) cause) later ≡ None → cause ≡ None
@@ -167,12 +173,14 @@ module _ (s : LoaderState) (physical : List ℕ) (sound : IsSoundState s) where
   line_sound = unless_sound s.fault
 
 -- the table of a loader whose category has ended
-table_sound : (s : LoaderState) (fault : Option LoadFault) (ended : Bool) → IsSoundState s → s.ended ≡ ended → IfOk (unless_faulty fault (if ended then Ok (table_of s.builder) else Err (early_end s s.lexer.line))) IsWellFormed
+table_sound : (s : LoaderState) (fault : Option LoadFault) (ended : Bool) → IsSoundState s → s.ended ≡ ended
+    → IfOk (unless_faulty fault (if ended then Ok (table_of s.builder) else Err (early_end s s.lexer.line))) IsWellFormed
 table_sound s (Some fault) ended sound e = tt
 table_sound s None true sound e = sound.ended e
 table_sound s None false sound e = tt
 
-past_sound : (r : Result LoaderState LoadFault) (lines : List (List ℕ)) → StaysSound r → ((after : LoaderState) → IsSoundState after → IfOk (answer_to after lines) IsWellFormed) → IfOk (past_line r (λ after. answer_to after lines)) IsWellFormed
+past_sound : (r : Result LoaderState LoadFault) (lines : List (List ℕ)) → StaysSound r → ((after : LoaderState) → IsSoundState after → IfOk (answer_to after lines) IsWellFormed)
+    → IfOk (past_line r (λ after. answer_to after lines)) IsWellFormed
 past_sound (Ok after) lines sound later = later after sound
 past_sound (Err fault) lines sound later = tt
 
@@ -188,4 +196,5 @@ first_sound = search rules
 
 -- whatever text is a table, that table is well formed
 pub texts_well_formed : TextsAreWellFormed
-texts_well_formed text table e = subst (λ (r : Result Collation LoadFault). IfOk r IsWellFormed) (lines_read text ∙ e) (answer_sound (lines_of text) first_loader (record { text = first-text; builder = first_sound; ended = λ n. absurd (false≢true n) }))
+texts_well_formed text table e = subst (λ (r : Result Collation LoadFault). IfOk r IsWellFormed) (lines_read text ∙ e)
+    (answer_sound (lines_of text) first_loader (record { text = first-text; builder = first_sound; ended = λ n. absurd (false≢true n) }))

@@ -111,7 +111,8 @@ after_wider gets wide layout node to weights wider = record {
 -- Items.
 
 -- what can be taken back can be in a wider layout
-wider_back : (wide layout : TableLayout) (items : List Item) → IsSoundLayout layout → IsWider wide layout → CanTurnBack layout items → CanTurnBack wide items × IsWider (turned_back wide items) (turned_back layout items)
+wider_back : (wide layout : TableLayout) (items : List Item) → IsSoundLayout layout → IsWider wide layout → CanTurnBack layout items → CanTurnBack wide items
+    × IsWider (turned_back wide items) (turned_back layout items)
 unfolding CanTurnBack turned_back
 wider_back wide layout [] sound wider goes = (tt, wider)
 wider_back wide layout (item ∷ items) sound wider goes =
@@ -123,7 +124,8 @@ wider_back wide layout (item ∷ items) sound wider goes =
     )
 
 -- and what can be done
-wider_on : (wide layout : TableLayout) (items : List Item) → IsSoundLayout layout → IsWider wide layout → CanTurnOn layout items → CanTurnOn wide items × IsWider (turned_on wide items) (turned_on layout items)
+wider_on : (wide layout : TableLayout) (items : List Item) → IsSoundLayout layout → IsWider wide layout → CanTurnOn layout items → CanTurnOn wide items
+    × IsWider (turned_on wide items) (turned_on layout items)
 unfolding CanTurnOn turned_on
 wider_on wide layout [] sound wider goes = (tt, wider)
 wider_on wide layout (item ∷ items) sound wider goes =
@@ -177,7 +179,8 @@ narrower_on wide layout (item ∷ items) sound wider named goes =
     let own = was_same wide layout wider item.node (first_named layout item items named) in
     let goes_here = goes_alike wide layout (turned_linked layout wide (wider_linked wide layout sound wider)) item.node own item.new item.old item.old item.new goes.0 in
     let named_after : NameNodesOf (item_on layout item) items = λ node there. stays_made item.new layout item.node item.new item.weights node (others_named layout item items named node there) in
-    let later = narrower_on (item_on wide item) (item_on layout item) items (item_on_sound layout item sound goes_here) (after_wider item.new wide layout item.node item.new item.weights wider) named_after goes.1 in
+    let later = narrower_on (item_on wide item) (item_on layout item) items (item_on_sound layout item sound goes_here) (after_wider item.new wide layout item.node item.new item.weights wider)
+    named_after goes.1 in
     ((goes_here, later.0), later.1)
 
 -- Items in force name nodes that stand in rings.
@@ -201,7 +204,8 @@ unfolding CanTurnBack
 named_linked layout [] goes node there = not_both there refl
 named_linked layout (item ∷ items) goes node there =
     by_test (λ b. same_node node item.node ≡ b → (b || has_node (named_nodes items) node) ≡ true → is_in layout.rings node ≡ true) (same_node node item.node)
-    (λ on e _. were_linked layout items node goes.0 (ap (is_in (turned_back layout items).rings) (same_node_is node item.node e) ∙ names_linked item.new item.old (turned_back layout items) item.node goes.1))
+    (λ on e _. were_linked layout items node goes.0 (ap (is_in (turned_back layout items).rings) (same_node_is node item.node e)
+    ∙ names_linked item.new item.old (turned_back layout items) item.node goes.1))
     (λ off e there. named_linked layout items goes.0 node there) refl there
 
 -- Tables.
@@ -240,7 +244,8 @@ same_collation old new rules sound same =
 
 -- a table that extends another one reads as that
 pub collation_wider : WiderReadsAlike
-collation_wider wide table is extends = same_collation table wide (sym extends.rules) is.sound (wider_linked wide.layout table.layout is.sound (record { rings = extends.rings; nodes = extends.nodes }))
+collation_wider wide table is extends =
+    same_collation table wide (sym extends.rules) is.sound (wider_linked wide.layout table.layout is.sound (record { rings = extends.rings; nodes = extends.nodes }))
 
 -- what can be turned can be in a wider layout
 turns_wider : (undone : Bool) (wide layout : TableLayout) (items : List Item) → IsSoundLayout layout → IsWider wide layout → CanTurn undone layout items
@@ -265,7 +270,8 @@ turns_same : (wide table : TableValue) (kept : Record) → Extends wide table �
     → IsSoundLayout (turned_layout kept.undone table.layout kept.items) → collation (turn wide kept) ≡ collation (turn table kept)
 unfolding turn
 turns_same wide table kept extends wider sound =
-    same_collation (turn table kept) (turn wide kept) (sym extends.rules) sound (wider_linked (turned_layout kept.undone wide.layout kept.items) (turned_layout kept.undone table.layout kept.items) sound wider)
+    same_collation (turn table kept) (turn wide kept) (sym extends.rules) sound
+    (wider_linked (turned_layout kept.undone wide.layout kept.items) (turned_layout kept.undone table.layout kept.items) sound wider)
 
 -- a record that fits a table fits each that extends it
 pub records_wider : RecordsFitWider
@@ -289,5 +295,6 @@ records_where_named wide table kept is_wide is extends named fits =
 pub records_narrower : RecordsFitNarrower
 records_narrower wide table kept is_wide is extends in_force fits =
     let back : CanTurnBack wide.layout kept.items = subst (λ undone. CanTurn undone wide.layout kept.items) in_force fits.goes in
-    let named : NameNodesOf table.layout kept.items = λ node there. is.sound.laid.made node (ap (λ rings. is_in rings node) (sym extends.rings) ∙ named_linked wide.layout kept.items back node there) in
+    let named : NameNodesOf table.layout kept.items =
+    λ node there. is.sound.laid.made node (ap (λ rings. is_in rings node) (sym extends.rings) ∙ named_linked wide.layout kept.items back node there) in
     records_where_named wide table kept is_wide is extends named fits

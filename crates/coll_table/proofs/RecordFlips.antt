@@ -58,7 +58,8 @@ flipped_with table kept steps is fits =
     }
 
 pub flipped : (table : TableValue) (kept : Record) (layout : TableLayout) (items : List Item) (steps : ℕ) → IsTable table → Fits table kept → layout ≡ turned_layout kept.undone table.layout kept.items
-    → items ≡ turned_items kept.undone table.layout kept.items → IsFlipped table kept (record { rules = table.rules; layout = layout; steps = steps }) (record { undone = not kept.undone; items = items })
+    → items ≡ turned_items kept.undone table.layout kept.items
+    → IsFlipped table kept (record { rules = table.rules; layout = layout; steps = steps }) (record { undone = not kept.undone; items = items })
 unfolding turn turned
 flipped table kept layout items steps is fits is_layout is_items =
     subst (λ own. IsFlipped table kept (record { rules = table.rules; layout = layout; steps = steps }) (record { undone = not kept.undone; items = own })) (sym is_items)

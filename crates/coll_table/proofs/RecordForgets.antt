@@ -1,5 +1,6 @@
 -- A record that is given up: the nodes that an undone one added are dropped, one after another, and the table stays.
-use Rattle.std.proofs.Common.{◌≡◌, ℕ, suc, ◌+◌, ◌<◌, ◌≤◌, Bool, true, false, not, ◌||◌, cond, List, [], ◌∷◌, ◌++◌, Option, Some, None, IsSome, length, drop, get_or, drop-cons, sym, ap, subst, ◌∙◌, refl, arith}
+use Rattle.std.proofs.Common.{◌≡◌, ℕ, suc, ◌+◌, ◌<◌, ◌≤◌, Bool, true, false, not, ◌||◌, cond, List, [], ◌∷◌, ◌++◌, Option, Some}
+use Rattle.std.proofs.Common.{None, IsSome, length, drop, get_or, drop-cons, sym, ap, subst, ◌∙◌, refl, arith}
 use Rattle.std.proofs.Math.ListN.{drop_of_length-le}
 use Rattle.coll_order.specs.Lists.{same_node, has_node}
 use Rattle.coll_order.specs.declared.places.NodeId.{NodeId}
@@ -35,7 +36,8 @@ more_without node others (first ∷ later) =
 pub content_without : (dropped : List NodeId) (nodes : List MadeNode) (node : NodeId) → has_node dropped node ≡ false → content_among (nodes_without dropped nodes) node ≡ content_among nodes node
 content_without dropped [] node stays = refl
 content_without dropped (first ∷ later) node stays =
-    by_test (λ b. has_node dropped first.node ≡ b → content_among (cond (not b) (first ∷ nodes_without dropped later) (nodes_without dropped later)) node ≡ content_among (first ∷ later) node) (has_node dropped first.node)
+    by_test (λ b. has_node dropped first.node ≡ b → content_among (cond (not b) (first ∷ nodes_without dropped later) (nodes_without dropped later)) node ≡ content_among (first ∷ later) node)
+    (has_node dropped first.node)
     (λ on e. by_test (λ b. same_node node first.node ≡ b → content_among (nodes_without dropped later) node ≡ cond b (Some first.content) (content_among later node)) (same_node node first.node)
     (λ same f. not_both (ap (has_node dropped) (same_node_is node first.node f) ∙ e) stays)
     (λ differ f. content_without dropped later node stays) refl)
@@ -46,7 +48,8 @@ loose_behind : (layout : TableLayout) (node : NodeId) (others : List NodeId) →
 loose_behind layout node others are = record {
   loose = λ other there.
       let was = are.loose other (or_second (same_node other node) _ there) in
-      let differ : same_node other node ≡ false = by_test (λ b. same_node other node ≡ b → b ≡ false) (same_node other node) (λ on e. not_both (ap (has_node others) (sym (same_node_is other node e)) ∙ there) are.once.0) (λ off e. refl) refl in
+      let differ : same_node other node ≡ false = by_test (λ b. same_node other node ≡ b → b ≡ false) (same_node other node)
+      (λ on e. not_both (ap (has_node others) (sym (same_node_is other node e)) ∙ there) are.once.0) (λ off e. refl) refl in
       record {
         made = subst (λ (found : Option _). IsSome found) (sym (content_without (node ∷ []) layout.nodes other (ap (λ b. b || false) differ))) was.made;
         apart = was.apart;
@@ -84,7 +87,8 @@ pub record AreDropped (first : TableLayout) (items : List Item) (before at : ℕ
   pub goes_on : without_loose first (added_nodes items) ≡ without_loose layout (added_nodes (drop at items))
   pub counted : steps ≡ before
 
-module _ (first : TableLayout) (items : List Item) (before at : ℕ) (layout : TableLayout) (steps : ℕ) (are : AreDropped first items before at layout steps) (below : at < length items) (item : Item) (is_item : item ≡ get_or items at item) where
+module _ (first : TableLayout) (items : List Item) (before at : ℕ) (layout : TableLayout) (steps : ℕ) (are : AreDropped first items before at layout steps) (below : at < length items) (item : Item)
+    (is_item : item ≡ get_or items at item) where
   next_item : drop at items ≡ item ∷ drop (suc at) items
   next_item = drop-cons items at item below ∙ ap (λ own. own ∷ drop (suc at) items) (sym is_item)
 
@@ -122,7 +126,8 @@ unfolding without_nodes
 well_formed_without table nodes is are =
     subst (λ it. IsWellFormed it) (sym (same_collation table (without_nodes table nodes) refl is.sound (record {
       rings = refl;
-      contents = λ node linked. content_without nodes table.layout.nodes node (by_test (λ b. has_node nodes node ≡ b → b ≡ false) (has_node nodes node) (λ on e. not_both linked (are.loose node e).apart) (λ off e. refl) refl);
+      contents = λ node linked. content_without nodes table.layout.nodes node
+          (by_test (λ b. has_node nodes node ≡ b → b ≡ false) (has_node nodes node) (λ on e. not_both linked (are.loose node e).apart) (λ off e. refl) refl);
     }))) is.well_formed
 
 -- without none it is the table

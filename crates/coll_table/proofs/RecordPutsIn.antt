@@ -41,7 +41,8 @@ puts_none layout item new nodes goes later = record {
 }
 
 -- or put in one
-puts_one : (layout : TableLayout) (item : Item) (new : TableLayout) (nodes : List NodeId) → CanGoOn layout item → IsLooseNode layout item.node → is_in (item_on layout item).rings item.node ≡ true → is_in new.rings item.node ≡ true
+puts_one : (layout : TableLayout) (item : Item) (new : TableLayout) (nodes : List NodeId) → CanGoOn layout item → IsLooseNode layout item.node → is_in (item_on layout item).rings item.node ≡ true
+    → is_in new.rings item.node ≡ true
     → PutIn (item_on layout item) new nodes → PutIn layout new (item.node ∷ nodes)
 puts_one layout item new nodes goes own there still later =
     let after = puts_none layout item new nodes goes later in
@@ -72,7 +73,8 @@ puts_in layout (item ∷ items) goes = by item.old item.new refl refl (puts_in (
   by (Some other) gets was is later = puts_none layout item (turned_on (item_on layout item) items) (added_nodes items) goes.0 later
   by None (Some place) was is later =
       let there : is_in (item_on layout item).rings item.node ≡ true = lands layout item place is goes.0 in
-      puts_one layout item (turned_on (item_on layout item) items) (added_nodes items) goes.0 (own item.new item.old is was goes.0) there (stays_on (item_on layout item) items item.node goes.1 there) later where
+      puts_one layout item (turned_on (item_on layout item) items) (added_nodes items) goes.0 (own item.new item.old is was goes.0) there (stays_on (item_on layout item) items item.node goes.1 there)
+      later where
         own : (gets had : Option Place) → gets ≡ Some place → had ≡ None → ItemGoes gets had layout item.node had gets → IsLooseNode layout item.node
         own None had is was goes = cc
         own (Some to) None is was goes = goes.stands

@@ -1,11 +1,10 @@
 -- A text that is read line by line: what is known of it after some lines, and what each end of the reading says of it.
-use Rattle.std.proofs.Common.{◌≡◌, ◌≢◌, ℕ, Bool, true, false, List, [], ◌∷◌, ◌++◌, length, Option, Some, None, Result, Ok, Err, ◌⊎◌, inr, ⊎_elim, sym, ap, subst, ◌∙◌, refl, arith, append_assoc, append-nil, length-append}
+use Rattle.std.proofs.Common.{◌≡◌, ◌≢◌, ℕ, Bool, true, false, List, [], ◌∷◌, ◌++◌, length, Option, Some, None, Result, Ok, Err, ◌⊎◌}
+use Rattle.std.proofs.Common.{inr, ⊎_elim, sym, ap, subst, ◌∙◌, refl, arith, append_assoc, append-nil, length-append}
 use Rattle.std.proofs.lemmas.Bool.{false≢true}
-use Rattle.std.proofs.lemmas.Grind.{flat_map-append}
-use Rattle.std.specs.Io.KnownBytes.{prepend_known}
 use Rattle.std.specs.Prelude.{IfOk, IfErr}
 use Rattle.coll_devices.specs.LineReading.{ReaderState, no_line, Advances, GivesLine, GivesEnd, EndsAgain, StopsNow, StopsAgain}
-use Rattle.coll_devices.specs.PhysicalLines.{line_feed, lines_of, with_feeds}
+use Rattle.coll_devices.specs.PhysicalLines.{lines_of, with_feeds}
 use Rattle.coll_lex.specs.LogicalLines.{number_of}
 use Rattle.coll_lex.specs.declared.faults.LexFault.TheVariants as lex
 use Rattle.coll_devices.specs.declared.stops.ReadStop.{ReadStop}
@@ -13,28 +12,24 @@ use Rattle.coll_devices.specs.declared.stops.ReadStop.TheVariants as stop
 use Rattle.coll_syntax.specs.declared.syntax_faults.SyntaxFault.TheVariants as syntax
 use Rattle.coll_nodes.specs.Table.{Collation}
 use Rattle.coll_nodes.specs.TableLayout.{TableValue, collation}
-use Rattle.coll_builder.specs.BuilderStates.{Numbered, table_of, at_line}
-use Rattle.coll_builder.specs.Loading.{LoaderState, first_loader, loaded_line, loaded}
+use Rattle.coll_texts.specs.BuilderStates.{Numbered, table_of, at_line}
+use Rattle.coll_texts.specs.Loading.{LoaderState, first_loader, loaded_line, loaded}
 use Rattle.coll_table.specs.Loads.{stop_fault, IsUndecided, Starves, FaultSays, Loads, counted_by, CountsFault}
-use Rattle.coll_builder.specs.Reading.{Outcome, Decided, outcome_of, answer_at_end, reads}
+use Rattle.coll_texts.specs.Reading.{Outcome, Decided, outcome_of, answer_at_end, reads}
 use Rattle.coll_table.specs.SoundLoaders.{IsLineCause}
-use Rattle.coll_builder.specs.declared.load_faults.LoadFault.{LoadFault}
-use Rattle.coll_builder.specs.declared.load_faults.LoadCause.{LoadCause}
-use Rattle.coll_builder.specs.declared.load_faults.LoadCause.TheVariants.{Lex, Syntax, ReadFault, OutOfMemory}
+use Rattle.coll_texts.specs.declared.load_faults.LoadFault.{LoadFault}
+use Rattle.coll_texts.specs.declared.load_faults.LoadCause.{LoadCause}
+use Rattle.coll_texts.specs.declared.load_faults.LoadCause.TheVariants.{Lex, Syntax, ReadFault, OutOfMemory}
 use Rattle.coll_table.proofs.LoadEnds.{loaded_ended, ends_here, undecided_here, long_line}
 use Rattle.coll_table.proofs.LineNumbers.{next_within}
 use Rattle.coll_table.proofs.LoadSteps.{outcome_from, StandsAfter, CountsOne, LeadsOn, Judged, stands_first, from_ended, judged}
-use Rattle.coll_table.proofs.TextSteps.{IsUnread, gives_first, was_last, stops_long, stops_short}
+use Rattle.coll_table.proofs.TextSteps.{LinesGiven, gives_first, was_last, stops_long, stops_short, none_given, one_given, all_given}
 
 -- of the text these lines were taken, and the rest is unread; what they decide is what the loader decides
 pub record ReadSoFar (text : List ℕ) (reader : ReaderState) (left : Option (List ℕ)) (before : List Numbered) (s : LoaderState) : Type 0 where
-  pub whole : List (List ℕ)
-  pub rest : List ℕ
-  pub unread : IsUnread reader left rest
-  pub lines : lines_of text ≡ whole ++ lines_of rest
-  pub fed : reader.ended ≡ false → text ≡ with_feeds whole ++ rest
-  pub count : s.ended ≡ false → s.lexer.count ≡ length whole
-  pub decides : (ends : Bool) (more : List (List ℕ)) → outcome_of ends (whole ++ more) ≡ outcome_from ends before s more
+  pub lines : LinesGiven text reader left
+  pub count : s.ended ≡ false → s.lexer.count ≡ length lines.whole
+  pub decides : (ends : Bool) (more : List (List ℕ)) → outcome_of ends (lines.whole ++ more) ≡ outcome_from ends before s more
 
 -- whatever text the device had, it was read so far
 pub record OnWay (start : Option (List ℕ)) (reader : ReaderState) (left : Option (List ℕ)) (s : LoaderState) : Type 0 where
@@ -47,37 +42,20 @@ pub sets_out : (start : Option (List ℕ)) → OnWay start no_line start first_l
 sets_out start = record {
   before = [];
   stands = stands_first;
-  read = λ text e. record {
-    whole = [];
-    rest = text;
-    unread = (ap (prepend_known []) e, λ n. absurd (false≢true n));
-    lines = refl;
-    fed = λ n. refl;
-    count = λ n. refl;
-    decides = λ ends more. refl;
-  };
+  read = λ text e. record { lines = none_given text start e; count = λ n. refl; decides = λ ends more. refl };
 }
 
 -- the reader gave a line
-pub gives_line : (old new : ReaderState) (left left_after : Option (List ℕ)) (failed failed_after : ℕ) (is_line : Bool) → is_line ≡ true → Advances old new left left_after failed failed_after (Ok is_line) → GivesLine old new left left_after failed failed_after
+pub gives_line : (old new : ReaderState) (left left_after : Option (List ℕ)) (failed failed_after : ℕ) (is_line : Bool) → is_line ≡ true
+    → Advances old new left left_after failed failed_after (Ok is_line) → GivesLine old new left left_after failed failed_after
 gives_line old new left left_after failed failed_after true e h = h
 gives_line old new left left_after failed failed_after false e h = absurd (false≢true e)
 
 -- the reader gave none
-pub gives_none : (old new : ReaderState) (left left_after : Option (List ℕ)) (failed failed_after : ℕ) (is_line : Bool) → is_line ≡ false → Advances old new left left_after failed failed_after (Ok is_line) → GivesEnd old new left left_after failed failed_after ⊎ EndsAgain old new left left_after failed failed_after
+pub gives_none : (old new : ReaderState) (left left_after : Option (List ℕ)) (failed failed_after : ℕ) (is_line : Bool) → is_line ≡ false
+    → Advances old new left left_after failed failed_after (Ok is_line) → GivesEnd old new left left_after failed failed_after ⊎ EndsAgain old new left left_after failed failed_after
 gives_none old new left left_after failed failed_after true e h = absurd (false≢true (sym e))
 gives_none old new left left_after failed failed_after false e h = h
-
--- lines and one more, and those behind it
-one_behind : (whole : List (List ℕ)) (line : List ℕ) (more : List (List ℕ)) → (whole ++ line ∷ []) ++ more ≡ whole ++ line ∷ more
-one_behind whole line more = append_assoc whole (line ∷ []) more
-
--- the same with their line feeds
-one_fed : (text : List ℕ) (whole : List (List ℕ)) (rest line later : List ℕ) → text ≡ with_feeds whole ++ rest → rest ≡ with_feeds (line ∷ []) ++ later → text ≡ with_feeds (whole ++ line ∷ []) ++ later
-one_fed text whole rest line later h k =
-    h ∙ (ap (λ l. with_feeds whole ++ l) k
-    ∙ (sym (append_assoc (with_feeds whole) (with_feeds (line ∷ [])) later)
-    ∙ ap (λ l. l ++ later) (sym (flat_map-append (λ line. line ++ line_feed ∷ []) whole (line ∷ [])))))
 
 -- what the lines of a text decide is its answer
 reads_decided : (text : List ℕ) (answer : Result Collation LoadFault) → outcome_of true (lines_of text) ≡ Decided answer → reads text ≡ answer
@@ -89,7 +67,8 @@ unfolding reads
 reads_by text count outcome e n = ap (answer_at_end (length (lines_of text))) e ∙ ap (λ c. answer_at_end c outcome) n
 
 -- a fault of lines says of the text what is answered to it, or at which of its lines memory was refused
-pub fault_says : (text : List ℕ) (left : Option (List ℕ)) (line : ℕ) (cause : LoadCause) → IsLineCause cause → (cause ≡ OutOfMemory → Starves text line) → (cause ≢ OutOfMemory → reads text ≡ Err (record { line = line; cause = cause })) → FaultSays cause line text left
+pub fault_says : (text : List ℕ) (left : Option (List ℕ)) (line : ℕ) (cause : LoadCause) → IsLineCause cause → (cause ≡ OutOfMemory → Starves text line)
+    → (cause ≢ OutOfMemory → reads text ≡ Err (record { line = line; cause = cause })) → FaultSays cause line text left
 fault_says text left line OutOfMemory own starves h = starves refl
 fault_says text left line (Lex lex.OutOfMemory) own starves h = own
 fault_says text left line (Syntax syntax.OutOfMemory) own starves h = own
@@ -98,16 +77,17 @@ fault_says text left line _ own starves h = h (λ e. cc)
 
 module _ (start : Option (List ℕ)) (reader : ReaderState) (left : Option (List ℕ)) (s : LoaderState) (way : OnWay start reader left s) (going : s.ended ≡ false) where
   -- what is decided of the text by the lines unread
-  from_here : (text : List ℕ) (e : start ≡ Some text) (lines : List (List ℕ)) → let at = way.read text e in lines_of at.rest ≡ lines → outcome_of true (lines_of text) ≡ outcome_from true way.before s lines
+  from_here : (text : List ℕ) (e : start ≡ Some text) (lines : List (List ℕ)) → let at =
+      way.read text e in lines_of at.lines.rest ≡ lines → outcome_of true (lines_of text) ≡ outcome_from true way.before s lines
   from_here text e lines ahead =
       let at = way.read text e in
-      ap (outcome_of true) (at.lines ∙ ap (λ l. at.whole ++ l) ahead) ∙ at.decides true lines
+      ap (outcome_of true) (at.lines.lines ∙ ap (λ l. at.lines.whole ++ l) ahead) ∙ at.decides true lines
 
   -- the lines so far decide nothing
-  undecided : (text : List ℕ) (e : start ≡ Some text) → IsUndecided (outcome_of false (way.read text e).whole)
+  undecided : (text : List ℕ) (e : start ≡ Some text) → IsUndecided (outcome_of false (way.read text e).lines.whole)
   undecided text e =
       let at = way.read text e in
-      subst IsUndecided (sym (ap (outcome_of false) (sym (append-nil at.whole)) ∙ at.decides false [])) (undecided_here way.before s way.stands going)
+      subst IsUndecided (sym (ap (outcome_of false) (sym (append-nil at.lines.whole)) ∙ at.decides false [])) (undecided_here way.before s way.stands going)
 
   module _ (new : ReaderState) (left_after : Option (List ℕ)) (failed failed_after : ℕ) where
     -- a line more that was taken
@@ -119,15 +99,11 @@ module _ (start : Option (List ℕ)) (reader : ReaderState) (left : Option (List
           stands = leads.stands;
           read = λ text e.
               let at = way.read text e in
-              let first = gives_first reader new left left_after failed failed_after at.rest at.unread gives in
+              let whole = at.lines.whole in
               record {
-                whole = at.whole ++ new.line ∷ [];
-                rest = first.rest;
-                unread = first.unread;
-                lines = at.lines ∙ (ap (λ lines. at.whole ++ lines) first.first ∙ sym (one_behind at.whole new.line (lines_of first.rest)));
-                fed = λ n. one_fed text at.whole at.rest new.line first.rest (at.fed first.went_on) (first.fed n);
-                count = λ n. let one = leads.counts n in omega (arith, one.1, at.count going, length-append at.whole (new.line ∷ []));
-                decides = λ ends more. ap (outcome_of ends) (one_behind at.whole new.line more) ∙ (at.decides ends (new.line ∷ more) ∙ leads.decides ends more);
+                lines = one_given text reader new left left_after failed failed_after at.lines gives;
+                count = λ n. let one = leads.counts n in omega (arith, one.1, at.count going, length-append whole (new.line ∷ []));
+                decides = λ ends more. ap (outcome_of ends) (append_assoc whole (new.line ∷ []) more) ∙ (at.decides ends (new.line ∷ more) ∙ leads.decides ends more);
               };
         }
 
@@ -135,43 +111,55 @@ module _ (start : Option (List ℕ)) (reader : ReaderState) (left : Option (List
     starved : (number : ℕ) → GivesLine reader new left left_after failed failed_after → number ≡ number_of s.lexer → (text : List ℕ) → start ≡ Some text → Starves text number
     starved number gives same text e =
         let at = way.read text e in
-        let first = gives_first reader new left left_after failed failed_after at.rest at.unread gives in
+        let first = gives_first reader new left left_after failed failed_after at.lines.rest at.lines.unread gives in
         let within = next_within s.lexer way.stands.opens in
-        inr (at.whole, new.line, lines_of first.rest, at.lines ∙ ap (λ lines. at.whole ++ lines) first.first, undecided text e, (omega (arith, same, within.0), omega (arith, same, within.1, at.count going)))
+        inr (
+          at.lines.whole,
+          new.line,
+          lines_of first.rest,
+          at.lines.lines ∙ ap (λ lines. at.lines.whole ++ lines) first.first,
+          undecided text e,
+          (omega (arith, same, within.0), omega (arith, same, within.1, at.count going)),
+        )
 
     -- a line more that was refused
-    pub refused : (fault : LoadFault) → GivesLine reader new left left_after failed failed_after → IsLineCause fault.cause → (fault.cause ≡ OutOfMemory → s.fault ≡ None → fault.line ≡ number_of s.lexer) → (fault.cause ≢ OutOfMemory → loaded_line s new.line ≡ Err fault) → Loads start left_after (Err fault)
+    pub refused : (fault : LoadFault) → GivesLine reader new left left_after failed failed_after → IsLineCause fault.cause
+        → (fault.cause ≡ OutOfMemory → s.fault ≡ None → fault.line ≡ number_of s.lexer) → (fault.cause ≢ OutOfMemory → loaded_line s new.line ≡ Err fault) → Loads start left_after (Err fault)
     refused fault gives own number says = λ text e.
         let at = way.read text e in
-        let first = gives_first reader new left left_after failed failed_after at.rest at.unread gives in
+        let first = gives_first reader new left left_after failed failed_after at.lines.rest at.lines.unread gives in
         fault_says text left_after fault.line fault.cause own
         (λ lack. starved fault.line gives (number lack way.stands.faultless) text e)
         (λ memory.
-        let decides : (ends : Bool) (lines : List (List ℕ)) → outcome_from ends way.before s (new.line ∷ lines) ≡ Decided (Err fault) = subst (Judged way.before s new.line) (says memory) (judged way.before s new.line way.stands) in
+        let decides : (ends : Bool) (lines : List (List ℕ)) → outcome_from ends way.before s (new.line ∷ lines) ≡ Decided (Err fault) =
+        subst (Judged way.before s new.line) (says memory) (judged way.before s new.line way.stands) in
         reads_decided text (Err fault) (from_here text e (new.line ∷ lines_of first.rest) first.first ∙ decides true (lines_of first.rest)))
 
     -- a line more that is longer than a line may be
-    stopped_long : reader.stop ≡ None → StopsNow reader new left left_after failed failed_after stop.LineTooLong ⊎ StopsAgain reader new left left_after failed failed_after stop.LineTooLong → Loads start left_after (Err (stop_fault (number_of s.lexer) stop.LineTooLong))
+    stopped_long : reader.stop ≡ None → StopsNow reader new left left_after failed failed_after stop.LineTooLong ⊎ StopsAgain reader new left left_after failed failed_after stop.LineTooLong
+        → Loads start left_after (Err (stop_fault (number_of s.lexer) stop.LineTooLong))
     stopped_long none stops = λ text e.
         let at = way.read text e in
-        let first = stops_long reader new left left_after failed failed_after at.rest at.unread none stops in
+        let first = stops_long reader new left left_after failed failed_after at.lines.rest at.lines.unread none stops in
         let fault = at_line (number_of s.lexer) (Lex lex.LineTooLong) in
-        let decides : (ends : Bool) (lines : List (List ℕ)) → outcome_from ends way.before s (first.line ∷ lines) ≡ Decided (Err fault) = subst (Judged way.before s first.line) (long_line way.before s way.stands first.line first.long going) (judged way.before s first.line way.stands) in
+        let decides : (ends : Bool) (lines : List (List ℕ)) → outcome_from ends way.before s (first.line ∷ lines) ≡ Decided (Err fault) =
+        subst (Judged way.before s first.line) (long_line way.before s way.stands first.line first.long going) (judged way.before s first.line way.stands) in
         reads_decided text (Err fault) (from_here text e (first.line ∷ first.later) first.first ∙ decides true first.later)
 
     -- a read that failed
-    stopped_short : reader.stop ≡ None → StopsNow reader new left left_after failed failed_after stop.ReadFault ⊎ StopsAgain reader new left left_after failed failed_after stop.ReadFault → Loads start left_after (Err (stop_fault (number_of s.lexer) stop.ReadFault))
+    stopped_short : reader.stop ≡ None → StopsNow reader new left left_after failed failed_after stop.ReadFault ⊎ StopsAgain reader new left left_after failed failed_after stop.ReadFault
+        → Loads start left_after (Err (stop_fault (number_of s.lexer) stop.ReadFault))
     stopped_short none stops = λ text e.
         let at = way.read text e in
-        let cut = stops_short reader new left left_after failed failed_after at.rest at.unread none stops in (
+        let cut = stops_short reader new left left_after failed failed_after at.lines.rest at.lines.unread none stops in (
           refl,
           (
-            at.whole,
+            at.lines.whole,
             cut.part,
             cut.rest,
             cut.left,
-            at.fed cut.went_on ∙ ap (λ rest. with_feeds at.whole ++ rest) cut.all,
-            at.lines ∙ ap (λ rest. at.whole ++ lines_of rest) cut.all,
+            at.lines.fed cut.went_on ∙ ap (λ rest. with_feeds at.lines.whole ++ rest) cut.all,
+            at.lines.lines ∙ ap (λ rest. at.lines.whole ++ lines_of rest) cut.all,
             cut.whole,
             cut.short,
             undecided text e,
@@ -193,21 +181,24 @@ module _ (start : Option (List ℕ)) (reader : ReaderState) (left : Option (List
     pub all_read : GivesEnd reader new left left_after failed failed_after ⊎ EndsAgain reader new left left_after failed failed_after → (text : List ℕ) → start ≡ Some text → reads text ≡ loaded s
     all_read ends text e =
         let at = way.read text e in
-        let none = was_last reader new left left_after failed failed_after at.rest at.unread ends in
-        let all : lines_of text ≡ at.whole = at.lines ∙ (ap (λ lines. at.whole ++ lines) none ∙ append-nil at.whole) in
+        let none = was_last reader new left left_after failed failed_after at.lines.rest at.lines.unread ends in
+        let all = all_given text reader new left left_after failed failed_after at.lines ends in
         reads_by text s.lexer.count (outcome_from true way.before s []) (from_here text e [] none) (ap length all ∙ sym (at.count going))
         ∙ ends_here way.before s way.stands
 
 -- the category has ended
-pub ended_reads : (start : Option (List ℕ)) (reader : ReaderState) (left : Option (List ℕ)) (s : LoaderState) → OnWay start reader left s → s.ended ≡ true → (text : List ℕ) → start ≡ Some text → reads text ≡ loaded s
+pub ended_reads : (start : Option (List ℕ)) (reader : ReaderState) (left : Option (List ℕ)) (s : LoaderState) → OnWay start reader left s → s.ended ≡ true → (text : List ℕ) → start ≡ Some text
+    → reads text ≡ loaded s
 ended_reads start reader left s way ended text e =
     let at = way.read text e in
     reads_decided text (Ok (table_of s.builder))
-    (ap (outcome_of true) at.lines ∙ (at.decides true (lines_of at.rest) ∙ from_ended true way.before s (lines_of at.rest) ended))
+    (ap (outcome_of true) at.lines.lines ∙ (at.decides true (lines_of at.lines.rest) ∙ from_ended true way.before s (lines_of at.lines.rest) ended))
     ∙ sym (loaded_ended way.before s way.stands ended)
 
 -- what a loader answers at the end is the answer to the text
-pub loads : (start left_after : Option (List ℕ)) (s : LoaderState) (result : Result TableValue LoadFault) → s.fault ≡ None → ((text : List ℕ) → start ≡ Some text → reads text ≡ loaded s) → IfOk result (λ table. loaded s ≡ Ok (collation table)) → IfErr result (λ fault. loaded s ≡ Err fault) → IfErr result (λ fault. IsLineCause fault.cause) → IfErr result (λ fault. s.fault ≡ None → fault.cause ≢ OutOfMemory) → Loads start left_after result
+pub loads : (start left_after : Option (List ℕ)) (s : LoaderState) (result : Result TableValue LoadFault) → s.fault ≡ None → ((text : List ℕ) → start ≡ Some text → reads text ≡ loaded s)
+    → IfOk result (λ table. loaded s ≡ Ok (collation table)) → IfErr result (λ fault. loaded s ≡ Err fault) → IfErr result (λ fault. IsLineCause fault.cause)
+    → IfErr result (λ fault. s.fault ≡ None → fault.cause ≢ OutOfMemory) → Loads start left_after result
 loads start left_after s (Ok table) faultless all ok err own spared = λ text e. all text e ∙ ok
 loads start left_after s (Err fault) faultless all ok err own spared = λ text e.
     fault_says text left_after fault.line fault.cause own (λ lack. absurd (spared faultless lack)) (λ memory. all text e ∙ err)
@@ -222,10 +213,12 @@ counts_none old new (Ok table) e own = e
 counts_none old new (Err fault) e own = e ∙ sym (counted_lines fault.cause old own)
 
 -- where the reader gives no line it counts no error
-pub counts_end : (old new : ReaderState) (left left_after : Option (List ℕ)) (failed failed_after : ℕ) → GivesEnd old new left left_after failed failed_after ⊎ EndsAgain old new left left_after failed failed_after → failed_after ≡ failed
+pub counts_end : (old new : ReaderState) (left left_after : Option (List ℕ)) (failed failed_after : ℕ) → GivesEnd old new left left_after failed failed_after
+    ⊎ EndsAgain old new left left_after failed failed_after → failed_after ≡ failed
 counts_end old new left left_after failed failed_after h = ⊎_elim (λ now. now.count) (λ again. again.count) h
 
 -- where it stops, it counts a read error
-pub counts_stop : (old new : ReaderState) (left left_after : Option (List ℕ)) (failed failed_after number : ℕ) (why : ReadStop) → old.stop ≡ None → Advances old new left left_after failed failed_after (Err why) → failed_after ≡ counted_by (stop_fault number why).cause failed
+pub counts_stop : (old new : ReaderState) (left left_after : Option (List ℕ)) (failed failed_after number : ℕ) (why : ReadStop) → old.stop ≡ None
+    → Advances old new left left_after failed failed_after (Err why) → failed_after ≡ counted_by (stop_fault number why).cause failed
 counts_stop old new left left_after failed failed_after number stop.LineTooLong none h = ⊎_elim (λ now. now.count) (λ again. again.count) h
 counts_stop old new left left_after failed failed_after number stop.ReadFault none h = ⊎_elim (λ now. now.count) (λ again. let both : None ≡ Some stop.ReadFault = sym none ∙ again.stopped in cc) h

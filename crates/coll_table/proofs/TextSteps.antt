@@ -1,8 +1,9 @@
--- What a reader's answer to one call says of the lines of the text that is unread.
+-- What a reader's answer to one call says of the lines of the text that is unread, and which lines it has given so far.
 use Rattle.std.proofs.Common.{◌≡◌, ℕ, ◌<◌, ◌≤◌, Bool, true, false, List, [], ◌∷◌, ◌++◌, length, Option, Some, None, ◌⊎◌, ⊎_elim, sym, ap, subst, ◌∙◌, refl, append_assoc, append-nil}
+use Rattle.std.proofs.lemmas.Grind.{flat_map-append}
 use Rattle.std.proofs.lemmas.Bool.{false≢true}
 use Rattle.std.specs.Io.KnownBytes.{prepend_known, Keeps, IsAtEnd}
-use Rattle.coll_devices.specs.LineReading.{ReaderState, unread, Cuts, CutsLine, GivesLine, GivesEnd, EndsAgain, StopsNow, StopsAgain}
+use Rattle.coll_devices.specs.LineReading.{ReaderState, no_line, unread, Cuts, CutsLine, GivesLine, GivesEnd, EndsAgain, StopsNow, StopsAgain}
 use Rattle.coll_devices.specs.PhysicalLines.{line_feed, lines_of, IsInLine, with_feeds}
 use Rattle.coll_devices.specs.Limits.{most_line_bytes}
 use Rattle.coll_devices.specs.declared.stops.ReadStop.{ReadStop}
@@ -89,7 +90,8 @@ module _ (old new : ReaderState) (left left_after : Option (List ℕ)) (failed f
   was_last h = ⊎_elim (λ now. ends_now now) (λ again. ap lines_of (unread_before.1 again.ended) ∙ lines_of-nil) h
 
   -- a reader that hasn't stopped stops now
-  stops_now : (s : ReadStop) → old.stop ≡ None → StopsNow old new left left_after failed failed_after s ⊎ StopsAgain old new left left_after failed failed_after s → StopsNow old new left left_after failed failed_after s
+  stops_now : (s : ReadStop) → old.stop ≡ None → StopsNow old new left left_after failed failed_after s ⊎ StopsAgain old new left left_after failed failed_after s
+      → StopsNow old new left left_after failed failed_after s
   stops_now s none h = ⊎_elim (λ now. now) (λ again. let both : None ≡ Some s = sym none ∙ again.stopped in cc) h
 
   -- the bytes that were unread are those held and those left
@@ -106,8 +108,53 @@ module _ (old new : ReaderState) (left left_after : Option (List ℕ)) (failed f
       record { line = long.0; later = long.1; first = ap lines_of at.2 ∙ long.2; long = long.3 }
 
   -- at a read that fails, a part of the first one unread was read
-  pub stops_short : old.stop ≡ None → StopsNow old new left left_after failed failed_after stop.ReadFault ⊎ StopsAgain old new left left_after failed failed_after stop.ReadFault → IsCutShort old left_after text
+  pub stops_short : old.stop ≡ None → StopsNow old new left left_after failed failed_after stop.ReadFault ⊎ StopsAgain old new left left_after failed failed_after stop.ReadFault
+      → IsCutShort old left_after text
   stops_short none either =
       let h = stops_now stop.ReadFault none either in
       let at = stopped_at stop.ReadFault h in
       record { part = new.held; rest = at.0; left = at.1; all = at.2; whole = h.cause.1; short = h.cause.2; went_on = h.not_ended }
+
+-- of a text these lines were given, and the rest is unread
+pub record LinesGiven (text : List ℕ) (reader : ReaderState) (left : Option (List ℕ)) : Type 0 where
+  pub whole : List (List ℕ)
+  pub rest : List ℕ
+  pub unread : IsUnread reader left rest
+  pub lines : lines_of text ≡ whole ++ lines_of rest
+  pub fed : reader.ended ≡ false → text ≡ with_feeds whole ++ rest
+
+-- before the first line
+abbrev pub none_given : (text : List ℕ) (start : Option (List ℕ)) → start ≡ Some text → LinesGiven text no_line start
+none_given text start e = record {
+  whole = [];
+  rest = text;
+  unread = (ap (prepend_known []) e, λ n. absurd (false≢true n));
+  lines = refl;
+  fed = λ n. refl;
+}
+
+-- lines with their line feeds, and one more
+pub one_fed : (text : List ℕ) (whole : List (List ℕ)) (rest line later : List ℕ) → text ≡ with_feeds whole ++ rest → rest ≡ with_feeds (line ∷ []) ++ later
+    → text ≡ with_feeds (whole ++ line ∷ []) ++ later
+one_fed text whole rest line later h k =
+    h ∙ (ap (λ l. with_feeds whole ++ l) k
+    ∙ (sym (append_assoc (with_feeds whole) (with_feeds (line ∷ [])) later)
+    ∙ ap (λ l. l ++ later) (sym (flat_map-append (λ line. line ++ line_feed ∷ []) whole (line ∷ [])))))
+
+module _ (text : List ℕ) (old new : ReaderState) (left left_after : Option (List ℕ)) (failed failed_after : ℕ) (given : LinesGiven text old left) where
+  -- one more
+  abbrev pub one_given : GivesLine old new left left_after failed failed_after → LinesGiven text new left_after
+  one_given gives =
+      let first = gives_first old new left left_after failed failed_after given.rest given.unread gives in
+      record {
+        whole = given.whole ++ new.line ∷ [];
+        rest = first.rest;
+        unread = first.unread;
+        lines = given.lines ∙ (ap (λ lines. given.whole ++ lines) first.first ∙ sym (append_assoc given.whole (new.line ∷ []) (lines_of first.rest)));
+        fed = λ n. one_fed text given.whole given.rest new.line first.rest (given.fed first.went_on) (first.fed n);
+      }
+
+  -- all
+  pub all_given : GivesEnd old new left left_after failed failed_after ⊎ EndsAgain old new left left_after failed failed_after → lines_of text ≡ given.whole
+  all_given ends =
+      given.lines ∙ (ap (λ lines. given.whole ++ lines) (was_last old new left left_after failed failed_after given.rest given.unread ends) ∙ append-nil given.whole)

@@ -66,11 +66,13 @@ goes_again None had layout node from to weights goes = goes
 goes_again (Some place) had layout node from to weights goes = can_go_back layout node from to weights place goes
 
 -- which gives back the layout
-pub gives_back : (gets had : Option Place) (layout : TableLayout) (node : NodeId) (from to : Option Place) (weights : Option (List Weight)) → IsSoundLayout layout → ItemGoes gets had layout node from to
+pub gives_back : (gets had : Option Place) (layout : TableLayout) (node : NodeId) (from to : Option Place) (weights : Option (List Weight)) → IsSoundLayout layout
+    → ItemGoes gets had layout node from to
     → after_item gets (after_item gets layout node to weights) node from (exchanged weights (content_of layout node)) ≡ layout
 gives_back None had layout node from to weights sound goes = ap (λ nodes. record layout { nodes = nodes }) (weighed_back node weights layout.nodes sound.named)
 gives_back (Some place) had layout node from to weights sound goes =
-    ap (λ rings. record { rings = rings; nodes = (after_item (Some place) (after_item (Some place) layout node to weights) node from (exchanged weights (content_of layout node))).nodes }) (goes_back layout node from to sound.laid.once goes.stands)
+    ap (λ rings. record { rings = rings; nodes = (after_item (Some place) (after_item (Some place) layout node to weights) node from (exchanged weights (content_of layout node))).nodes })
+    (goes_back layout node from to sound.laid.once goes.stands)
     ∙ ap (λ nodes. record layout { nodes = nodes }) (weighed_back node weights layout.nodes sound.named)
 
 -- items taken back can be done, which gives back the layout

@@ -8,7 +8,8 @@ use Rattle.coll_order.specs.Sound.{AreDistinct, AreApart, StandOnce}
 use Rattle.coll_order.specs.declared.places.NodeId.{NodeId}
 use Rattle.coll_order.specs.declared.places.Place.{Place}
 use Rattle.coll_order.specs.declared.places.Place.TheVariants.{Head, After}
-use Rattle.coll_order.proofs.ListLemmas.{neither, or_first, or_second, is_on, is_among, has_without, has_without_itself, has_put, put_nowhere, rings_without_absent, is_in_without, is_in_without_itself}
+use Rattle.coll_order.proofs.ListLemmas.{neither, or_first, or_second, is_on, is_among, has_without, has_without_itself, has_put}
+use Rattle.coll_order.proofs.ListLemmas.{put_nowhere, rings_without_absent, is_in_without, is_in_without_itself}
 use Rattle.coll_order.proofs.RingLemmas.{among_after, among_earlier, length_rings_with, length_rings_without, rings_without_put, rings_put_back, rings_put_nowhere, is_in_put}
 use Rattle.coll_order.proofs.Sameness.{by_test, not_both, same_node_is, other_node_turned}
 use Rattle.coll_nodes.proofs.LayoutMoves.{get_without}
@@ -108,7 +109,8 @@ stays_in place node other first zero (nodes ∷ rings) differ = has_put place (h
 stays_in place node other first (suc index) (nodes ∷ rings) differ = stays_in place node other (suc first) index rings differ
 
 -- and once another is taken out
-ring_without : (rings : List (List NodeId)) (node other : NodeId) (index : ℕ) → same_node other node ≡ false → has_node (get_or (rings_without node rings) index []) other ≡ has_node (get_or rings index []) other
+ring_without : (rings : List (List NodeId)) (node other : NodeId) (index : ℕ) → same_node other node ≡ false → has_node (get_or (rings_without node rings) index []) other
+    ≡ has_node (get_or rings index []) other
 ring_without rings node other index differ = ap (λ nodes. has_node nodes other) (get_without node rings index) ∙ has_without node other (get_or rings index []) differ
 
 -- whichever place another goes to, a node stands in the ring where it stood
@@ -124,13 +126,16 @@ from_zero index = omega arith
 -- the node stands in the ring that has the place where it is put
 pub ring_put : (rings : List (List NodeId)) (node : NodeId) (place : Place) (index : ℕ) → has_node (get_or (relinked rings node (Some place)) index []) node ≡ true
     → is_place_of place (head_of index) (get_or (rings_without node rings) index []) ≡ true
-ring_put rings node place index there = by_test (λ b. is_place_of place (head_of index) (get_or (rings_without node rings) index []) ≡ b → b ≡ true) (is_place_of place (head_of index) (get_or (rings_without node rings) index []))
+ring_put rings node place index there =
+    by_test (λ b. is_place_of place (head_of index) (get_or (rings_without node rings) index []) ≡ b → b ≡ true) (is_place_of place (head_of index) (get_or (rings_without node rings) index []))
     (λ on e. refl)
-    (λ off e. not_both there (ap (λ nodes. has_node nodes node) (get_put_other place node 0 index (rings_without node rings) (ap (λ k. is_place_of place (head_of k) (get_or (rings_without node rings) index [])) (from_zero index) ∙ e))
+    (λ off e. not_both there (ap (λ nodes. has_node nodes node)
+    (get_put_other place node 0 index (rings_without node rings) (ap (λ k. is_place_of place (head_of k) (get_or (rings_without node rings) index [])) (from_zero index) ∙ e))
     ∙ (ap (λ nodes. has_node nodes node) (get_without node rings index) ∙ has_without_itself node (get_or rings index [])))) refl
 
 -- a place in the ring with a number is in rings numbered from a first on
-among_from : (rings : List (List NodeId)) (place : Place) (first index : ℕ) → index < length rings → is_place_of place (head_of (first + index)) (get_or rings index []) ≡ true → is_among place first rings ≡ true
+among_from : (rings : List (List NodeId)) (place : Place) (first index : ℕ) → index < length rings → is_place_of place (head_of (first + index)) (get_or rings index []) ≡ true
+    → is_among place first rings ≡ true
 among_from [] place first index below on = absurd (omega arith)
 among_from (nodes ∷ rings) place first zero below on = let same : first + zero ≡ first = omega arith in or_first _ _ (ap (λ k. is_on place (head_of k) nodes) (sym same) ∙ on)
 among_from (nodes ∷ rings) place first (suc index) below on =

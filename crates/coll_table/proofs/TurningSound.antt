@@ -21,7 +21,8 @@ use Rattle.coll_nodes.proofs.TurningKeys.{IsAlike, AreSame, some_alike, once_ali
 use Rattle.coll_nodes.proofs.TurningNodes.{content_weighed, named_weighed, weighed_if, weighed_same}
 use Rattle.coll_table.proofs.TurningRings.{among_ring, is_in_relinked, length_relinked, once_relinked, once_without, ring_put, ring_relinked}
 use Rattle.coll_nodes.specs.Bodies.{without_link}
-use Rattle.coll_nodes.specs.SoundBodies.{read_at, ring_at, has_key, names_in, texts_in, section_names_in, rings_in, ids_in, same_ring, is_place_of, IsPlaceIn, IsDeclaration, IsSection, IsEntry, IsOwned, IsShaped}
+use Rattle.coll_nodes.specs.SoundBodies.{read_at, ring_at, has_key, names_in, texts_in, section_names_in, rings_in, ids_in, same_ring}
+use Rattle.coll_nodes.specs.SoundBodies.{is_place_of, IsPlaceIn, IsDeclaration, IsSection, IsEntry, IsOwned, IsShaped}
 use Rattle.coll_nodes.specs.SoundLayouts.{AreOnce, IsSoundLayout}
 use Rattle.coll_nodes.specs.TableLayout.{TableLayout, content_of}
 use Rattle.coll_nodes.specs.Moving.{AreNew, CanGo, IsApart, IsAt, IsPlaceFor, MayStand, moved_rings, relinked, weighed_nodes}
@@ -39,7 +40,8 @@ reweighed layout node weights = record layout { nodes = weighed_nodes node weigh
 -- each node is what it was, but for its weights
 pub reweighed_same : (layout : TableLayout) (node other : NodeId) (weights : Option (List Weight)) → AreSame (content_of (reweighed layout node weights) other) (content_of layout other)
 reweighed_same layout node other weights = subst (λ (found : Option Content). AreSame found (content_of layout other)) (sym (content_weighed node weights layout.nodes other))
-    (by_test (λ b. AreSame (cond b (weighed_if weights (content_of layout other)) (content_of layout other)) (content_of layout other)) (same_node other node) (λ on. weighed_same weights (content_of layout other)) (λ off. refl))
+    (by_test (λ b. AreSame (cond b (weighed_if weights (content_of layout other)) (content_of layout other)) (content_of layout other)) (same_node other node)
+    (λ on. weighed_same weights (content_of layout other)) (λ off. refl))
 
 -- so it is alike
 pub reweighed_alike : (layout : TableLayout) (node : NodeId) (weights : Option (List Weight)) → IsAlike layout (reweighed layout node weights)
@@ -149,9 +151,11 @@ module _ (layout : TableLayout) (sound : IsSoundLayout layout) (node : NodeId) (
     by_test (λ b. same_node owned.0 node ≡ b → has_key same_ring rings_in gone_to (record { index = index }) owned.0 ≡ true) (same_node owned.0 node)
         (λ on e.
         let is : owned.0 ≡ node = same_node_is owned.0 node e in
-        let has : list_any (same_ring (record { index = index })) (read_at rings_in layout node) ≡ true = ap (λ n. list_any (same_ring (record { index = index })) (read_at rings_in layout n)) (sym is) ∙ (both_true _ _ owned.1).1 in
+        let has : list_any (same_ring (record { index = index })) (read_at rings_in layout node) ≡ true =
+        ap (λ n. list_any (same_ring (record { index = index })) (read_at rings_in layout n)) (sym is) ∙ (both_true _ _ owned.1).1 in
         ap (has_key same_ring rings_in gone_to (record { index = index })) is
-        ∙ (ap (λ b. b && list_any (same_ring (record { index = index })) (read_at rings_in layout node)) (section_of (record { index = index }) (sym (own_keys same_ring rings_in (record { index = index })) ∙ has)) ∙ has))
+        ∙ (ap (λ b. b && list_any (same_ring (record { index = index })) (read_at rings_in layout node))
+        (section_of (record { index = index }) (sym (own_keys same_ring rings_in (record { index = index })) ∙ has)) ∙ has))
         (λ off e. key_stays same_ring rings_in (record { index = index }) owned.0 e ∙ owned.1) refl,
   )
 
@@ -217,10 +221,12 @@ module _ (layout : TableLayout) (sound : IsSoundLayout layout) (node : NodeId) (
         let is : other ≡ node = same_node_is other node e in
         subst (λ (found : Option Content). IsDeclaration found) (sym (ap (content_of layout) is ∙ known)) (kind_declared it (kind_there 0 (ap (has_node (ring_at gone_to 0)) (sym is) ∙ there))))
         (λ off e. sound.shaped.declared other (sym (ring_relinked layout.rings node other to 0 e) ∙ there)) refl;
-    begun = λ other there. subst (λ n. IsSection n (content_of layout other)) (sym (length_relinked layout.rings node to)) (by_test (λ b. same_node other node ≡ b → IsSection (length layout.rings) (content_of layout other)) (same_node other node)
+    begun = λ other there. subst (λ n. IsSection n (content_of layout other)) (sym (length_relinked layout.rings node to))
+        (by_test (λ b. same_node other node ≡ b → IsSection (length layout.rings) (content_of layout other)) (same_node other node)
         (λ on e.
         let is : other ≡ node = same_node_is other node e in
-        subst (λ (found : Option Content). IsSection (length layout.rings) found) (sym (ap (content_of layout) is ∙ known)) (kind_begun it known (kind_there 1 (ap (has_node (ring_at gone_to 1)) (sym is) ∙ there))))
+        subst (λ (found : Option Content). IsSection (length layout.rings) found) (sym (ap (content_of layout) is ∙ known))
+        (kind_begun it known (kind_there 1 (ap (has_node (ring_at gone_to 1)) (sym is) ∙ there))))
         (λ off e. sound.shaped.begun other (sym (ring_relinked layout.rings node other to 1 e) ∙ there)) refl);
     placed = λ index other there. by_test (λ b. same_node other node ≡ b → IsEntry (content_of layout other) × IsOwned gone_to (suc (suc index))) (same_node other node)
         (λ on e.
@@ -257,7 +263,8 @@ abbrev pub after_item : (gets : Option Place) → TableLayout → NodeId → (to
 after_item gets layout node to weights = record { rings = moved_rings gets layout.rings node to; nodes = weighed_nodes node weights layout.nodes }
 
 -- it is sound
-pub after_sound : (gets had : Option Place) (layout : TableLayout) (node : NodeId) (from to : Option Place) (weights : Option (List Weight)) → IsSoundLayout layout → ItemGoes gets had layout node from to
+pub after_sound : (gets had : Option Place) (layout : TableLayout) (node : NodeId) (from to : Option Place) (weights : Option (List Weight)) → IsSoundLayout layout
+    → ItemGoes gets had layout node from to
     → IsSoundLayout (after_item gets layout node to weights)
 after_sound None had layout node from to weights sound goes = reweighed_sound layout node weights sound
 after_sound (Some place) had layout node from to weights sound goes = reweighed_sound (gone_to layout sound node from to goes) node weights (gone_sound layout sound node from to goes)
@@ -273,14 +280,16 @@ item_back_sound layout item sound goes = after_sound item.new item.old layout it
 -- Nodes once an item is done.
 
 -- its node stands where it goes
-pub lands : (layout : TableLayout) (item : Item) (place : Place) → item.new ≡ Some place → ItemGoes item.new item.old layout item.node item.old item.new → is_in (item_on layout item).rings item.node ≡ true
+pub lands : (layout : TableLayout) (item : Item) (place : Place) → item.new ≡ Some place → ItemGoes item.new item.old layout item.node item.old item.new → is_in (item_on layout item).rings item.node
+    ≡ true
 lands layout item place is goes = by item.new item.old is goes where
   by : (gets had : Option Place) → gets ≡ Some place → ItemGoes gets had layout item.node had gets → is_in (moved_rings gets layout.rings item.node gets) item.node ≡ true
   by None had is goes = cc
   by (Some other) had is goes = is_in_put_itself other item.node 0 (without_link layout item.node).rings (place_for_among (without_link layout item.node) other goes.there.0 goes.there.2.0)
 
 -- each node that stood in a ring stands in one
-pub stays_linked : (layout : TableLayout) (item : Item) (node : NodeId) → ItemGoes item.new item.old layout item.node item.old item.new → is_in layout.rings node ≡ true → is_in (item_on layout item).rings node ≡ true
+pub stays_linked : (layout : TableLayout) (item : Item) (node : NodeId) → ItemGoes item.new item.old layout item.node item.old item.new → is_in layout.rings node ≡ true
+    → is_in (item_on layout item).rings node ≡ true
 stays_linked layout item node goes there = by item.new refl where
   by : (gets : Option Place) → item.new ≡ gets → is_in (moved_rings gets layout.rings item.node gets) node ≡ true
   by None is = there

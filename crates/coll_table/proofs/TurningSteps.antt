@@ -1,5 +1,6 @@
 -- The steps of turning: what a call that turns an item needs, and what one item more makes of those that are turned.
-use Rattle.std.proofs.Common.{◌≡◌, ℕ, zero, suc, ◌+◌, ◌*◌, ◌%◌, ◌^◌, ◌<◌, ◌≤◌, Bool, true, false, List, [], ◌∷◌, ◌++◌, take, drop, get_or, set, length, length-drop, drop-cons, append_assoc, arith, Option, Some, None, IsSome, sym, ap, subst, ◌∙◌, refl}
+use Rattle.std.proofs.Common.{◌≡◌, ℕ, zero, suc, ◌+◌, ◌*◌, ◌%◌, ◌^◌, ◌<◌, ◌≤◌, Bool, true, false, List, [], ◌∷◌, ◌++◌, take, drop, get_or, set}
+use Rattle.std.proofs.Common.{length, length-drop, drop-cons, append_assoc, arith, Option, Some, None, IsSome, sym, ap, subst, ◌∙◌, refl}
 use Rattle.std.proofs.lemmas.List.{drop-set-lt, take-append-drop}
 use Rattle.std.proofs.Math.ListN.{drop_of_length-le}
 use Rattle.std.proofs.Math.Nat.{mod-add-mod, mod-eq_of_lt}
@@ -15,7 +16,8 @@ use Rattle.coll_table.specs.Record.{CanTurn, more_steps, turned_items}
 use Rattle.coll_nodes.specs.SoundLayouts.{IsSoundLayout}
 use Rattle.coll_nodes.specs.TableLayout.{TableLayout, content_of}
 use Rattle.coll_nodes.specs.Moving.{CanGo, IsAt, Suits, moved_rings}
-use Rattle.coll_table.specs.Turning.{CanDo, CanGoBack, CanGoOn, CanTurnBack, CanTurnOn, ItemGoes, item_back, item_on, item_steps, items_back, items_on, placed_at, placed_item, placed_items, steps_between, steps_of, turned_back, turned_on, with_exchanged}
+use Rattle.coll_table.specs.Turning.{CanDo, CanGoBack, CanGoOn, CanTurnBack, CanTurnOn, ItemGoes, item_back, item_on, item_steps, items_back, items_on}
+use Rattle.coll_table.specs.Turning.{placed_at, placed_item, placed_items, steps_between, steps_of, turned_back, turned_on, with_exchanged}
 use Rattle.coll_table.specs.declared.records.Item.{Item}
 
 -- a node that an item in force names stands in a ring
@@ -52,7 +54,8 @@ put_loose gets layout node place is loose =
     ∙ ap (λ (to : Option Place). record layout { rings = moved_rings to layout.rings node to }) (sym is)
 
 -- the node of an item is there
-pub item_made : (gets had : Option Place) (layout : TableLayout) (node : NodeId) (from to : Option Place) → IsSoundLayout layout → ItemGoes gets had layout node from to → IsSome (content_of layout node)
+pub item_made : (gets had : Option Place) (layout : TableLayout) (node : NodeId) (from to : Option Place) → IsSoundLayout layout → ItemGoes gets had layout node from to
+    → IsSome (content_of layout node)
 item_made None had layout node from to sound goes = sound.laid.made node goes.1
 item_made (Some place) had layout node from to sound goes = subst (λ (found : Option _). IsSome found) (sym goes.there.1) refl
 
@@ -123,7 +126,8 @@ back_init layout given before low = record {
   rises = no_more before low;
 }
 
-module _ (layout : TableLayout) (given : List Item) (before k : ℕ) (now : TableLayout) (items : List Item) (count steps : ℕ) (are : AreBack layout given before (suc k) now items count steps) (below : k < length given) (d : Item) where
+module _ (layout : TableLayout) (given : List Item) (before k : ℕ) (now : TableLayout) (items : List Item) (count steps : ℕ) (are : AreBack layout given before (suc k) now items count steps)
+    (below : k < length given) (d : Item) where
   -- the next item stands
   next_read : get_or items k d ≡ get_or given k d
   next_read = ap (λ xs. get_or xs k d) are.exchanged ∙ prefix_read given (items_back layout (drop (suc k) given)) k d below
@@ -136,7 +140,8 @@ module _ (layout : TableLayout) (given : List Item) (before k : ℕ) (now : Tabl
       subst (λ item. CanGoBack now item) (sym next_read) (subst (λ l. CanGoBack l (get_or given k d)) (sym are.turned) from.1)
 
   -- then one item more is taken back
-  pub back_more : (after : TableLayout) (turned : Item) (more risen : ℕ) → after ≡ item_back now (get_or items k d) → turned ≡ with_exchanged now (get_or items k d) → more ≡ item_steps (get_or items k d)
+  pub back_more : (after : TableLayout) (turned : Item) (more risen : ℕ) → after ≡ item_back now (get_or items k d) → turned ≡ with_exchanged now (get_or items k d)
+      → more ≡ item_steps (get_or items k d)
       → risen ≡ more_steps steps more → AreBack layout given before k after (set items k turned) (count + more) risen
   unfolding turned_back items_back steps_of
   back_more after turned more risen is_after is_turned is_more rises =
@@ -147,14 +152,16 @@ module _ (layout : TableLayout) (given : List Item) (before k : ℕ) (now : Tabl
       record {
         turned = is_after ∙ (ap (λ l. item_back l (get_or items k d)) are.turned ∙ (ap (item_back (turned_back layout later)) next_read ∙ ap (turned_back layout) (sym next)));
         exchanged = ap (λ xs. set xs k turned) are.exchanged ∙ (prefix_set given (items_back layout later) k turned below
-            ∙ (ap (λ item. take k given ++ item ∷ items_back layout later) (is_turned ∙ (ap (λ l. with_exchanged l (get_or items k d)) are.turned ∙ ap (with_exchanged (turned_back layout later)) next_read))
+            ∙ (ap (λ item. take k given ++ item ∷ items_back layout later)
+            (is_turned ∙ (ap (λ l. with_exchanged l (get_or items k d)) are.turned ∙ ap (with_exchanged (turned_back layout later)) next_read))
             ∙ ap (λ xs. take k given ++ items_back layout xs) (sym next)));
         counted = is_count ∙ ap steps_of (sym next);
         rises = is_risen;
       }
 
 -- a count of steps is small
-pub back_few : (layout : TableLayout) (given : List Item) (before k : ℕ) (now : TableLayout) (items : List Item) (count steps : ℕ) → AreBack layout given before k now items count steps → length given ≤ 4096 → count ≤ 8192
+pub back_few : (layout : TableLayout) (given : List Item) (before k : ℕ) (now : TableLayout) (items : List Item) (count steps : ℕ) → AreBack layout given before k now items count steps
+    → length given ≤ 4096 → count ≤ 8192
 back_few layout given before k now items count steps are few =
     let bound = bounded_steps (drop k given) in let most = length-drop k given in let is = are.counted in omega (arith, bound, most, is, few)
 
@@ -198,7 +205,8 @@ module _ {X : Type 0} where
       let both : get_or xs k d ∷ drop (suc k) xs ≡ get_or ys k d ∷ drop (suc k) ys = sym (drop-cons xs k d (omega (arith, same, below))) ∙ (e ∙ drop-cons ys k d below) in
       (cc, cc)
 
-module _ (layout : TableLayout) (given : List Item) (before k : ℕ) (now : TableLayout) (items : List Item) (count steps : ℕ) (are : AreOn layout given before k now items count steps) (below : k < length given) (as_many : length items ≡ length given) (d : Item) where
+module _ (layout : TableLayout) (given : List Item) (before k : ℕ) (now : TableLayout) (items : List Item) (count steps : ℕ) (are : AreOn layout given before k now items count steps)
+    (below : k < length given) (as_many : length items ≡ length given) (d : Item) where
   same_next : (get_or items k d ≡ get_or given k d) × (drop (suc k) items ≡ drop (suc k) given)
   same_next = same_rest items given k d as_many below are.rest
 
@@ -211,7 +219,8 @@ module _ (layout : TableLayout) (given : List Item) (before k : ℕ) (now : Tabl
   on_next = subst (λ item. CanGoOn now (placed_item now item)) (sym same_next.0) goes_next.0
 
   -- then one item more is done
-  pub on_more : (after : TableLayout) (turned : Item) (more risen : ℕ) → after ≡ item_on now (get_or items k d) → turned ≡ with_exchanged now (placed_item now (get_or items k d)) → more ≡ item_steps (get_or items k d)
+  pub on_more : (after : TableLayout) (turned : Item) (more risen : ℕ) → after ≡ item_on now (get_or items k d) → turned ≡ with_exchanged now (placed_item now (get_or items k d))
+      → more ≡ item_steps (get_or items k d)
       → risen ≡ more_steps steps more → AreOn layout given before (suc k) after (set items k turned) (count + more) risen
   unfolding turned_on items_on placed_items steps_of
   on_more after turned more risen is_after is_turned is_more rises =
@@ -224,7 +233,8 @@ module _ (layout : TableLayout) (given : List Item) (before k : ℕ) (now : Tabl
         goes = subst (λ l. CanDo l later) (sym stands) goes_next.1;
         turned = are.turned ∙ (ap (turned_on now) next ∙ ap (λ l. turned_on l later) (sym stands));
         exchanged = are.exchanged ∙ (ap (λ xs. take k items ++ items_on now (placed_items now xs)) next
-            ∙ (ap (λ own. take k items ++ own ∷ items_on (item_on now item) (placed_items (item_on now item) later)) (sym (is_turned ∙ ap (λ own. with_exchanged now (placed_item now own)) same_next.0))
+            ∙ (ap (λ own. take k items ++ own ∷ items_on (item_on now item) (placed_items (item_on now item) later))
+            (sym (is_turned ∙ ap (λ own. with_exchanged now (placed_item now own)) same_next.0))
             ∙ (ap (λ l. take k items ++ turned ∷ items_on l (placed_items l later)) (sym stands)
             ∙ (sym (append_assoc (take k items) (turned ∷ []) (items_on after (placed_items after later)))
             ∙ ap (λ xs. xs ++ items_on after (placed_items after later)) (sym (set_prefix items k turned (omega (arith, below, as_many))))))));
@@ -233,7 +243,8 @@ module _ (layout : TableLayout) (given : List Item) (before k : ℕ) (now : Tabl
       }
 
 -- a count of steps is small
-pub on_few : (layout : TableLayout) (given : List Item) (before k : ℕ) (now : TableLayout) (items : List Item) (count steps : ℕ) → AreOn layout given before k now items count steps → length given ≤ 4096 → count ≤ 8192
+pub on_few : (layout : TableLayout) (given : List Item) (before k : ℕ) (now : TableLayout) (items : List Item) (count steps : ℕ) → AreOn layout given before k now items count steps
+    → length given ≤ 4096 → count ≤ 8192
 on_few layout given before k now items count steps are few = let bound = bounded_steps given in let is = are.counted in omega (arith, bound, is, few)
 
 -- at the end all are done
@@ -243,7 +254,8 @@ pub record AllOn (first : TableLayout) (given : List Item) (before : ℕ) (layou
   pub counted : count ≡ steps_of given
   pub rises : steps ≡ more_steps before count
 
-pub on_done : (layout : TableLayout) (given : List Item) (before at : ℕ) (now : TableLayout) (items : List Item) (count steps : ℕ) → AreOn layout given before at now items count steps → length given ≤ at
+pub on_done : (layout : TableLayout) (given : List Item) (before at : ℕ) (now : TableLayout) (items : List Item) (count steps : ℕ) → AreOn layout given before at now items count steps
+    → length given ≤ at
     → AllOn layout given before now items count steps
 unfolding turned_on items_on placed_items steps_of
 on_done layout given before at now items count steps are all =
@@ -260,7 +272,8 @@ pub placed_already : (layout : TableLayout) (items : List Item) → CanTurnOn la
 unfolding CanTurnOn placed_items
 placed_already layout [] goes = refl
 placed_already layout (item ∷ items) goes =
-    ap (λ had. (record item { old = had }) ∷ placed_items (item_on layout item) items) (same item.new item.old goes.0) ∙ ap (λ later. item ∷ later) (placed_already (item_on layout item) items goes.1) where
+    ap (λ had. (record item { old = had }) ∷ placed_items (item_on layout item) items) (same item.new item.old goes.0)
+    ∙ ap (λ later. item ∷ later) (placed_already (item_on layout item) items goes.1) where
       same : (gets had : Option Place) → ItemGoes gets had layout item.node had gets → placed_at had layout item.node ≡ had
       same gets None goes = refl
       same None (Some place) goes = let none = goes.0 in cc
@@ -272,6 +285,7 @@ undone_goes true layout items is goes = subst (λ placed. CanTurnOn layout place
 undone_goes false layout items is goes = cc
 
 -- and are then turned
-pub undone_turned : (undone : Bool) (layout : TableLayout) (items : List Item) → undone ≡ true → CanTurn undone layout items → items_on layout (placed_items layout items) ≡ turned_items undone layout items
+pub undone_turned : (undone : Bool) (layout : TableLayout) (items : List Item) → undone ≡ true → CanTurn undone layout items → items_on layout (placed_items layout items)
+    ≡ turned_items undone layout items
 undone_turned true layout items is goes = ap (items_on layout) (placed_already layout items goes)
 undone_turned false layout items is goes = cc

@@ -1,6 +1,7 @@
 -- What a statement makes of a table: the table rewritten, or the refusal (the project's own rules, and for weights
 -- POSIX.1-2017, 7.3.2.4). The refusals of a statement stand in their order.
-use Rattle.std.specs.Prelude.{ℕ, Bool, true, false, ◌&&◌, if◌then◌else◌, nat_le, nat_lt, not, is_some, is_none, List, [], ◌∷◌, ◌++◌, Option, Some, None, Result, Ok, Err, length}
+use Rattle.std.specs.Prelude.{ℕ, Bool, true, false, ◌&&◌, if◌then◌else◌, nat_le, nat_lt, not, is_some, is_none}
+use Rattle.std.specs.Prelude.{List, [], ◌∷◌, ◌++◌, Option, Some, None, Result, Ok, Err, length}
 use Rattle.std.specs.List.{flat_map}
 use Rattle.std.specs.Option.{option_or}
 use Rattle.coll_syntax.specs.Identifier.{same_name, has_name, has_id}
@@ -20,7 +21,9 @@ use Rattle.coll_nodes.specs.declared.declarations.Declaration.TheVariants as dec
 use Rattle.coll_nodes.specs.declared.entries.Entry.{Entry}
 use Rattle.coll_table.specs.OwnStatements.{own_statement}
 use Rattle.coll_table.specs.declared.refusals.Refusal.{Refusal}
-use Rattle.coll_table.specs.declared.refusals.Refusal.TheVariants.{DeclaredTwice, NotDeclared, SymbolWithWeights, TooManyWeights, WeightNotPlaced, StringTwice, Full, TargetNotPlaced, TwiceInBlock, NoSuchSection, SectionAfterItself, NotPlaced, NoWeights, NotASymbol}
+use Rattle.coll_table.specs.declared.refusals.Refusal.TheVariants.{DeclaredTwice, NotDeclared, SymbolWithWeights, TooManyWeights}
+use Rattle.coll_table.specs.declared.refusals.Refusal.TheVariants.{WeightNotPlaced, StringTwice, Full, TargetNotPlaced, TwiceInBlock}
+use Rattle.coll_table.specs.declared.refusals.Refusal.TheVariants.{NoSuchSection, SectionAfterItself, NotPlaced, NoWeights, NotASymbol}
 
 -- a table that results, unless a refusal stands before it
 abbrev pub unless_refused : Option Refusal → Collation → Result Collation Refusal

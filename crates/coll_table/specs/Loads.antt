@@ -7,13 +7,13 @@ use Rattle.coll_lex.specs.declared.faults.LexFault.TheVariants as lex
 use Rattle.coll_devices.specs.declared.stops.ReadStop.{ReadStop}
 use Rattle.coll_devices.specs.declared.stops.ReadStop.TheVariants as stop
 use Rattle.coll_nodes.specs.TableLayout.{TableValue, collation}
-use Rattle.coll_builder.specs.BuilderStates.{at_line}
-use Rattle.coll_builder.specs.Loading.{LoaderState, loaded}
-use Rattle.coll_builder.specs.Reading.{Outcome, Decided, Undecided, outcome_of, reads}
+use Rattle.coll_texts.specs.BuilderStates.{at_line}
+use Rattle.coll_texts.specs.Loading.{LoaderState, loaded}
+use Rattle.coll_texts.specs.Reading.{Outcome, Decided, Undecided, outcome_of, reads}
 use Rattle.coll_syntax.specs.declared.syntax_faults.SyntaxFault.TheVariants as syntax
-use Rattle.coll_builder.specs.declared.load_faults.LoadFault.{LoadFault}
-use Rattle.coll_builder.specs.declared.load_faults.LoadCause.{LoadCause}
-use Rattle.coll_builder.specs.declared.load_faults.LoadCause.TheVariants.{Lex, Syntax, ReadFault, OutOfMemory}
+use Rattle.coll_texts.specs.declared.load_faults.LoadFault.{LoadFault}
+use Rattle.coll_texts.specs.declared.load_faults.LoadCause.{LoadCause}
+use Rattle.coll_texts.specs.declared.load_faults.LoadCause.TheVariants.{Lex, Syntax, ReadFault, OutOfMemory}
 
 -- lines that decide nothing
 abbrev pub IsUndecided : Outcome → Type 0
@@ -30,7 +30,8 @@ stop_fault number stop.ReadFault = at_line 0 ReadFault
 abbrev pub StopsWithin : List ℕ → Option (List ℕ) → Type 0
 StopsWithin text left =
     (whole : List (List ℕ)) × (part : List ℕ) × (rest : List ℕ) × (left ≡ Some rest) × (text ≡ with_feeds whole ++ (part ++ rest))
-    × (lines_of text ≡ whole ++ lines_of (part ++ rest)) × IsInLine part × (length part ≤ most_line_bytes) × IsUndecided (outcome_of false whole)
+    × (lines_of text ≡ whole ++ lines_of (part ++ rest)) × IsInLine part × (length part ≤ most_line_bytes)
+    × IsUndecided (outcome_of false whole)
 
 -- the number of one of so many lines, from 1
 abbrev pub IsLineWithin : (number count : ℕ) → Type 0

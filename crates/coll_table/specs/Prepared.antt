@@ -29,7 +29,8 @@ made_entry table id = entry_of (length table.rules) table.declared (record { id 
 -- the node of a line: that of its entry, and else one that was made, and is loose
 abbrev pub IsNodeFor : (placed : Bool) → Collation → TableLayout → Id → Item → Type 0
 IsNodeFor true table layout id item = IsSome item.old × (has_key same_id ids_in layout id item.node ≡ true)
-IsNodeFor false table layout id item = (item.old ≡ None) × (is_in layout.rings item.node ≡ false) × (content_of layout item.node ≡ Some (Placed (made_entry table id)))
+IsNodeFor false table layout id item =
+    (item.old ≡ None) × (is_in layout.rings item.node ≡ false) × (content_of layout item.node ≡ Some (Placed (made_entry table id)))
 
 -- an item is prepared for a line of a block, behind the node of the line before, or of the target
 pub record IsPreparedLine (table : Collation) (layout : TableLayout) (before : NodeId) (line : OrderLine) (item : Item) : Type 0 where
@@ -42,11 +43,13 @@ unfoldable pub ArePrepared : Collation → TableLayout → (before : NodeId) →
 ArePrepared table layout before [] [] = Unit {0}
 ArePrepared table layout before [] (item ∷ items) = ⊥
 ArePrepared table layout before (line ∷ lines) [] = ⊥
-ArePrepared table layout before (line ∷ lines) (item ∷ items) = IsPreparedLine table layout before line item × ArePrepared table layout item.node lines items
+ArePrepared table layout before (line ∷ lines) (item ∷ items) =
+    IsPreparedLine table layout before line item × ArePrepared table layout item.node lines items
 
 -- items are prepared for a block behind the node of its target
 abbrev pub IsPreparedBlock : Collation → TableLayout → (target : Id) → List OrderLine → List Item → Type 0
-IsPreparedBlock table layout target lines items = (node : NodeId) × (has_key same_id ids_in layout target node ≡ true) × ArePrepared table layout node lines items
+IsPreparedBlock table layout target lines items = (node : NodeId) × (has_key same_id ids_in layout target node ≡ true)
+    × ArePrepared table layout node lines items
 
 -- one item is prepared for a declaration: a loose node goes behind all declarations
 abbrev pub IsPreparedDeclaration : TableLayout → Declaration → List Item → Type 0
@@ -57,7 +60,8 @@ IsPreparedDeclaration layout declaration items =
 -- one item is prepared for a section: its node goes behind that of another
 abbrev pub IsPreparedSection : TableLayout → (name after : List ℕ) → List Item → Type 0
 IsPreparedSection layout name after items =
-    (node : NodeId) × (other : NodeId) × (has_key same_name section_names_in layout name node ≡ true) × (has_key same_name section_names_in layout after other ≡ true)
+    (node : NodeId) × (other : NodeId) × (has_key same_name section_names_in layout name node ≡ true)
+    × (has_key same_name section_names_in layout after other ≡ true)
     × (items ≡ record { node = node; old = Some (After other); new = Some (After other); weights = None } ∷ [])
 
 -- one item is prepared for an order line outside a block: the weights that it gives go to its entry, which stays

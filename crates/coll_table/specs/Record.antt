@@ -1,5 +1,6 @@
 -- What undoes a statement and does it again: a record, when it fits a table, and the table that it turns that into.
-use Rattle.std.specs.Prelude.{◌≡◌, ℕ, ◌+◌, ◌%◌, ◌^◌, ◌≤◌, Bool, true, false, not, if◌then◌else◌, List, [], ◌∷◌, ◌++◌, Option, Some, None, IsSome, length, map}
+use Rattle.std.specs.Prelude.{◌≡◌, ℕ, ◌+◌, ◌%◌, ◌^◌, ◌≤◌, Bool, true, false, not, if◌then◌else◌, List}
+use Rattle.std.specs.Prelude.{[], ◌∷◌, ◌++◌, Option, Some, None, IsSome, length, map}
 use Rattle.coll_order.specs.Layout.{is_in}
 use Rattle.coll_order.specs.Lists.{has_node}
 use Rattle.coll_order.specs.Sound.{AreDistinct}
@@ -63,7 +64,8 @@ pub record Extends (wide table : TableValue) : Type 0 where
 
 -- each loose node stays loose, and what it was
 abbrev pub KeepsLoose : (old new : TableLayout) → Type 0
-KeepsLoose old new = (node : NodeId) (it : Content) → is_in old.rings node ≡ false → content_of old node ≡ Some it → (is_in new.rings node ≡ false) × (content_of new node ≡ Some it)
+KeepsLoose old new = (node : NodeId) (it : Content) → is_in old.rings node ≡ false → content_of old node ≡ Some it
+    → (is_in new.rings node ≡ false) × (content_of new node ≡ Some it)
 
 -- the nodes that items name
 abbrev pub named_nodes : List Item → List NodeId

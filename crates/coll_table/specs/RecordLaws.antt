@@ -33,15 +33,18 @@ pub record TurnsAlike (wide table : TableValue) (kept : Record) (own : TableValu
 
 -- a record that fits a table fits each table that extends it
 abbrev pub RecordsFitWider : Type 0
-RecordsFitWider = (wide table : TableValue) (kept : Record) → IsTable wide → IsTable table → Extends wide table → Fits table kept → TurnsAlike wide table kept wide
+RecordsFitWider = (wide table : TableValue) (kept : Record) → IsTable wide → IsTable table → Extends wide table → Fits table kept
+    → TurnsAlike wide table kept wide
 
 -- a record that fits a table fits each table that this extends, if it names none of the loose nodes that are missing there
 abbrev pub RecordsFitWhereNamed : Type 0
-RecordsFitWhereNamed = (wide table : TableValue) (kept : Record) → IsTable wide → IsTable table → Extends wide table → NameNodesOf table.layout kept.items → Fits wide kept → TurnsAlike wide table kept table
+RecordsFitWhereNamed = (wide table : TableValue) (kept : Record) → IsTable wide → IsTable table → Extends wide table
+    → NameNodesOf table.layout kept.items → Fits wide kept → TurnsAlike wide table kept table
 
 -- a record in force that fits a table fits each table that this extends: it names none of the loose nodes that are missing there
 abbrev pub RecordsFitNarrower : Type 0
-RecordsFitNarrower = (wide table : TableValue) (kept : Record) → IsTable wide → IsTable table → Extends wide table → kept.undone ≡ false → Fits wide kept → TurnsAlike wide table kept table
+RecordsFitNarrower = (wide table : TableValue) (kept : Record) → IsTable wide → IsTable table → Extends wide table → kept.undone ≡ false
+    → Fits wide kept → TurnsAlike wide table kept table
 
 -- loose nodes more make no other table of rules, declarations and sections
 abbrev pub WiderReadsAlike : Type 0

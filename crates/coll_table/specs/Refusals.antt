@@ -1,7 +1,10 @@
 -- The numbers and the names of the refusals of a table, as replies and messages show them.
 use Rattle.std.specs.Prelude.{ℕ, List, codes}
 use Rattle.coll_table.specs.declared.refusals.Refusal.{Refusal}
-use Rattle.coll_table.specs.declared.refusals.Refusal.TheVariants.{DeclaredTwice, NotDeclared, SymbolWithWeights, TooManyWeights, WeightNotPlaced, StringTwice, Full, TargetNotPlaced, TwiceInBlock, NoSuchSection, SectionAfterItself, NotPlaced, NoWeights, OutOfMemory, NotASymbol}
+use Rattle.coll_table.specs.declared.refusals.Refusal.TheVariants.{DeclaredTwice, NotDeclared, SymbolWithWeights, TooManyWeights}
+use Rattle.coll_table.specs.declared.refusals.Refusal.TheVariants.{WeightNotPlaced, StringTwice, Full, TargetNotPlaced, TwiceInBlock}
+use Rattle.coll_table.specs.declared.refusals.Refusal.TheVariants.{NoSuchSection, SectionAfterItself, NotPlaced, NoWeights, OutOfMemory}
+use Rattle.coll_table.specs.declared.refusals.Refusal.TheVariants.{NotASymbol}
 
 -- the number of a refusal
 abbrev pub refusal_number : Refusal → ℕ

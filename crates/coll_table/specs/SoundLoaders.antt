@@ -4,11 +4,11 @@ use Rattle.coll_lex.specs.LogicalLines.{takes_memory}
 use Rattle.coll_lex.specs.declared.faults.LexFault.TheVariants as lex
 use Rattle.coll_syntax.specs.declared.syntax_faults.SyntaxFault.TheVariants as syntax
 use Rattle.coll_nodes.specs.WellFormed.{IsWellFormed}
-use Rattle.coll_builder.specs.BuilderStates.{table_of}
-use Rattle.coll_builder.specs.Loading.{LoaderState}
-use Rattle.coll_builder.specs.declared.load_faults.LoadFault.{LoadFault}
-use Rattle.coll_builder.specs.declared.load_faults.LoadCause.{LoadCause}
-use Rattle.coll_builder.specs.declared.load_faults.LoadCause.TheVariants.{Lex, Syntax, ReadFault}
+use Rattle.coll_texts.specs.BuilderStates.{table_of}
+use Rattle.coll_texts.specs.Loading.{LoaderState}
+use Rattle.coll_texts.specs.declared.load_faults.LoadFault.{LoadFault}
+use Rattle.coll_texts.specs.declared.load_faults.LoadCause.{LoadCause}
+use Rattle.coll_texts.specs.declared.load_faults.LoadCause.TheVariants.{Lex, Syntax, ReadFault}
 
 -- a cause that lines are refused for: it is no read error, and a lack of memory has its one spelling
 abbrev pub IsLineCause : LoadCause → Type 0

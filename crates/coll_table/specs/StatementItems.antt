@@ -41,19 +41,22 @@ weights_before table id (Some given) = Some (block_entry table (without_weights 
 -- the item of a line of a block: its node is the line's entry in the table after the block; it stood where the rings have it that
 -- the lines before leave, if anywhere; it went directly behind the entry of the line before, or of the target; and the weights are
 -- those that the line took the place of
-pub record IsLineItem (table : Collation) (after : TableLayout) (rings : List (List NodeId)) (before : NodeId) (line : OrderLine) (item : Item) : Type 0 where
+pub record IsLineItem (table : Collation) (after : TableLayout) (rings : List (List NodeId)) (before : NodeId) (line : OrderLine)
+    (item : Item) : Type 0 where
   pub node : IsEntryNode after line.id item.node
   pub stood : item.old ≡ place_from 0 rings item.node
   pub went : item.new ≡ Some (After before)
   pub weights : item.weights ≡ weights_before table line.id line.weights
 
 -- the items of the lines of a block: one for each, in their order, and each line leaves the rings with its node behind the other
-unfoldable pub AreLineItems : Collation → (after : TableLayout) → (rings : List (List NodeId)) → (before : NodeId) → List OrderLine → List Item → Type 0
+unfoldable pub AreLineItems : Collation → (after : TableLayout) → (rings : List (List NodeId)) → (before : NodeId) → List OrderLine
+    → List Item → Type 0
 AreLineItems table after rings before [] [] = Unit {0}
 AreLineItems table after rings before [] (item ∷ items) = ⊥
 AreLineItems table after rings before (line ∷ lines) [] = ⊥
 AreLineItems table after rings before (line ∷ lines) (item ∷ items) =
-    IsLineItem table after rings before line item × AreLineItems table after (relinked rings item.node (Some (After before))) item.node lines items
+    IsLineItem table after rings before line item
+    × AreLineItems table after (relinked rings item.node (Some (After before))) item.node lines items
 
 -- the one item of a declaration: its node, which is new, went behind all declarations
 abbrev pub IsDeclarationItem : (old after : TableLayout) → Declaration → List Item → Type 0
@@ -77,7 +80,8 @@ IsReweightItem old line items =
 unfoldable pub AreOwnItems : (old : TableValue) → (after : TableLayout) → Statement → List Item → Type 0
 AreOwnItems old after (statement.Symbol name) items = IsDeclarationItem old.layout after (declaration.Symbol name) items
 AreOwnItems old after (statement.Element name text) items = IsDeclarationItem old.layout after (declaration.Element name text) items
-AreOwnItems old after (statement.Equivalence name symbol) items = IsDeclarationItem old.layout after (declaration.Equivalence name symbol) items
+AreOwnItems old after (statement.Equivalence name symbol) items =
+    IsDeclarationItem old.layout after (declaration.Equivalence name symbol) items
 AreOwnItems old after (statement.Block target lines) items =
     (node : NodeId) × IsEntryNode after target node × AreLineItems (collation old) after old.layout.rings node lines items
 AreOwnItems old after (statement.SectionAfter name target) items = IsSectionItem old.layout name target items

@@ -19,11 +19,17 @@ with_exchanged layout item = record item { weights = exchanged item.weights (con
 
 -- a layout with an item taken back
 abbrev pub item_back : TableLayout → Item → TableLayout
-item_back layout item = record { rings = moved_rings item.new layout.rings item.node item.old; nodes = weighed_nodes item.node item.weights layout.nodes }
+item_back layout item = record {
+  rings = moved_rings item.new layout.rings item.node item.old;
+  nodes = weighed_nodes item.node item.weights layout.nodes;
+}
 
 -- a layout with an item done
 abbrev pub item_on : TableLayout → Item → TableLayout
-item_on layout item = record { rings = moved_rings item.new layout.rings item.node item.new; nodes = weighed_nodes item.node item.weights layout.nodes }
+item_on layout item = record {
+  rings = moved_rings item.new layout.rings item.node item.new;
+  nodes = weighed_nodes item.node item.weights layout.nodes;
+}
 
 -- a layout with items taken back, from the last to the first
 unfoldable pub turned_back : TableLayout → List Item → TableLayout

@@ -13,7 +13,8 @@ ghost use Rattle.coll_table.specs.Delta.{delta, own_delta};
 ghost use Rattle.coll_table.specs.Judging.{judging_takes_memory, own_judging_takes_memory};
 ghost use Rattle.coll_statements.specs.OwnStatements.{uses_second};
 ghost use Rattle.coll_table.specs.OwnStatements.{own_statement};
-ghost use Rattle.coll_table.specs.Record.{Extends, Fits, IsSame, KeepsLoose, added_nodes, own_steps, statement_items, statement_steps, turn, without_nodes};
+ghost use Rattle.coll_table.specs.Record.{Extends, Fits, IsSame, KeepsLoose, added_nodes, own_steps};
+ghost use Rattle.coll_table.specs.Record.{statement_items, statement_steps, turn, without_nodes};
 ghost use Rattle.coll_nodes.specs.TableLayout.{collation};
 ghost use Rattle.coll_table.specs.StatementItems.{AreItemsOf, AreOwnItems};
 ghost use Rattle.coll_table.specs.Turning.{CanDo, items_on, placed_items, steps_of, turned_on};
@@ -50,7 +51,8 @@ impl Table {
         ensures steps { IfOk result (λ kept. steps_of kept.items ≡ statement_steps (collation self.old) statement.now) }
         ensures loose { OnOk result (KeepsLoose self.old.layout self.new.layout) }
         ensures err { IfErr result (λ refusal. refusal ≢ OutOfMemory → delta (collation self.old) statement.now ≡ Err refusal) }
-        ensures memory { IfErr result (λ refusal. refusal ≡ OutOfMemory → judging_takes_memory (collation self.old) statement.now ≡ false → IsOk (delta (collation self.old) statement.now)) }
+        ensures memory { IfErr result (λ refusal. refusal ≡ OutOfMemory → judging_takes_memory (collation self.old) statement.now ≡ false
+            → IsOk (delta (collation self.old) statement.now)) }
         ensures unchanged { OnErr result (self.new ≡ self.old) }
     {
         match self.own_statement(statement)? {
@@ -84,7 +86,8 @@ impl Table {
         ensures steps { IfOk result (λ kept. steps_of kept.items ≡ own_steps (collation self.old) statement.now) }
         ensures loose { OnOk result (KeepsLoose self.old.layout self.new.layout) }
         ensures err { IfErr result (λ refusal. refusal ≢ OutOfMemory → own_delta (collation self.old) statement.now ≡ Err refusal) }
-        ensures memory { IfErr result (λ refusal. refusal ≡ OutOfMemory → own_judging_takes_memory (collation self.old) statement.now ≡ false → IsOk (own_delta (collation self.old) statement.now)) }
+        ensures memory { IfErr result (λ refusal. refusal ≡ OutOfMemory → own_judging_takes_memory (collation self.old) statement.now
+            ≡ false → IsOk (own_delta (collation self.old) statement.now)) }
         ensures unchanged { OnErr result (self.new ≡ self.old) }
     {
         self.check_own(statement)?;

@@ -1,8 +1,8 @@
 //! Tables of a collation order, and the statements that rewrite them.
 //!
 //! A `Table` is read by `load`, or by a `Loader` line by line, and rewritten by `apply`, which gives a `Record` that `flip` turns
-//! back. It stands on `coll_nodes`, which keeps what a table is made of, on `coll_builder`, which judges the lines of a table text,
-//! on `coll_print`, which spells the canonical text, and on `coll_statements`, which takes a statement by own names; what a user
+//! back. It stands on `coll_nodes`, which keeps what a table is made of, on `coll_texts`, which judges the lines of a table text,
+//! on `coll_texts`, which spells the canonical text, and on `coll_statements`, which takes a statement by own names; what a user
 //! of tables needs of them is handed on here. A way through the crate, each file with its definitions in `specs/`:
 //!
 //! - `tables`: a table, read;
@@ -16,21 +16,19 @@
 mod deltas;
 mod loaders;
 mod loading;
-mod printing;
 mod record_laws;
 mod records;
 mod refusals;
 mod tables;
 mod turning;
 
-pub use coll_builder::{LoadCause, LoadFault};
 pub use coll_lookups::{EntryNumbers, HashKeys, NamePlaces};
 pub use coll_nodes::{
     Declaration, Declared, DeclaredItem, Entry, MOST_DECLARATIONS, MOST_ENTRIES, MOST_SECTIONS,
     Walk, WalkItem, limits_are_stated,
 };
-pub use coll_print::{printed_tables_are_read_back, write_id};
 pub use coll_statements::second_names_are_not_placed;
+pub use coll_texts::{LoadCause, LoadFault, printed_tables_are_read_back, write_id};
 pub use loaders::{Loader, lines_are_read};
 pub use loading::{load, load_keyed, texts_are_well_formed};
 pub use record_laws::{

@@ -1,6 +1,6 @@
 //! A table text, handed in line by line.
 //!
-//! A `Loader` stores what the next line is judged by (`LoaderState` of coll_builder, `specs/Loading.antt`), and each call is the
+//! A `Loader` stores what the next line is judged by (`LoaderState` of coll_texts, `specs/Loading.antt`), and each call is the
 //! definition applied to what is stored and the line handed in. It joins a lexer and a builder: what a line is belongs to the
 //! first, and what it means to the second; here lines are passed on, and faults get the number of their line. A fault is stored
 //! where it is met, in `line` alone.
@@ -9,19 +9,19 @@ ghost use Rattle.std.specs.Prelude.{◌≡◌, ◌≢◌, true, false, None, Ok,
 ghost use Rattle.coll_lex.specs.LogicalLines.{number_of, fed, outside, takes_memory};
 ghost use Rattle.coll_lex.specs.Names.{AreTokens};
 ghost use Rattle.coll_syntax.specs.TableLines.{table_line};
-ghost use Rattle.coll_builder.specs.BuilderStates.{table_of};
-ghost use Rattle.coll_builder.specs.Loading.{LinesAreRead};
+ghost use Rattle.coll_texts.specs.BuilderStates.{table_of};
+ghost use Rattle.coll_texts.specs.Loading.{LinesAreRead};
 ghost use Rattle.coll_table.specs.SoundLoaders.{IsLineCause, MayTake};
-ghost use Rattle.coll_builder.specs.declared.load_faults.LoadFault.{LoadFault};
+ghost use Rattle.coll_texts.specs.declared.load_faults.LoadFault.{LoadFault};
 ghost use Rattle.coll_nodes.specs.TableLayout.{collation};
 ghost use Rattle.coll_nodes.specs.WellFormed.{IsWellFormed};
-ghost use Rattle.coll_builder.specs.declared.load_faults.LoadCause.TheVariants.{OutOfMemory};
+ghost use Rattle.coll_texts.specs.declared.load_faults.LoadCause.TheVariants.{OutOfMemory};
 
 use crate::Table;
-use coll_builder::{LoadCause, LoadFault, TableBuilder};
 use coll_lex::{LexFault, Lexer, Line};
 use coll_lookups::HashKeys;
 use coll_syntax::parse_table_line;
+use coll_texts::{LoadCause, LoadFault, TableBuilder};
 use std::alloc::{AllocError, Global};
 use std::marker::Model;
 
@@ -43,18 +43,20 @@ pub struct Loader {
 }
 
 impl Model for Loader {
-    ghost use Rattle.coll_builder.specs.Loading.{LoaderState};
+    ghost use Rattle.coll_texts.specs.Loading.{LoaderState};
     ghost use Rattle.coll_table.specs.SoundLoaders.{IsSoundLoader};
 
     ghost Value = { LoaderState };
 
     ghost view = { λ l. record { lexer = l.lexer; begun = l.begun; ended = l.ended; builder = l.builder; fault = l.fault } };
 
-    ghost invariant = { λ l. IsSoundLoader (record { lexer = l.lexer; begun = l.begun; ended = l.ended; builder = l.builder; fault = l.fault }) };
+    ghost invariant = { λ l. IsSoundLoader
+        (record { lexer = l.lexer; begun = l.begun; ended = l.ended; builder = l.builder; fault = l.fault }) };
 }
 
 impl Loader {
-    ghost use Rattle.coll_builder.specs.Loading.{LoaderState, first_loader, loaded_line, loaded, by_where, by_outside, by_fed, by_read, early_end};
+    ghost use Rattle.coll_texts.specs.Loading.{LoaderState, first_loader, loaded_line, loaded, by_where};
+    ghost use Rattle.coll_texts.specs.Loading.{by_outside, by_fed, by_read, early_end};
 
     /// A loader before the first line, for a text that one trusts: its names are looked up under keys that anyone knows.
     pub fn new(alloc: Global) -> Result<Loader, AllocError>
@@ -84,13 +86,14 @@ impl Loader {
     /// The first fault is stored, lack of memory as any other, and each later call answers it again. Behind the end of the
     /// category nothing is looked at. Memory is taken in the category alone, and there where the lexer takes it or a line has
     /// tokens. A line that is refused doesn't end the category.
-    #[tactic(auto, unfolding(coll_builder::specs::Loading::loaded_line))]
+    #[tactic(auto, unfolding(coll_texts::specs::Loading::loaded_line))]
     pub fn line(&mut self, line: &[u8]) -> Result<(), LoadFault>
         ensures ok { OnOk result (loaded_line self.old line.now ≡ Ok self.new) }
         ensures err { IfErr result (λ fault. fault.cause ≢ OutOfMemory → loaded_line self.old line.now ≡ Err fault) }
         ensures again { IfErr result (λ fault. (first : LoadFault) → self.old.fault ≡ Some first → fault ≡ first) }
         ensures memory { IfErr result (λ fault. fault.cause ≡ OutOfMemory → self.old.fault ≡ None → MayTake self.old line.now) }
-        ensures starved_at { IfErr result (λ fault. fault.cause ≡ OutOfMemory → self.old.fault ≡ None → fault.line ≡ number_of self.old.lexer) }
+        ensures starved_at { IfErr result (λ fault. fault.cause ≡ OutOfMemory → self.old.fault ≡ None
+            → fault.line ≡ number_of self.old.lexer) }
         ensures cause { IfErr result (λ fault. IsLineCause fault.cause) }
         ensures stays { IfErr result (λ fault. self.new.fault ≡ Some fault) }
         ensures ended { OnErr result (self.new.ended ≡ self.old.ended) }
@@ -122,7 +125,7 @@ impl Loader {
 
     /// The table, where the category has ended; otherwise the fault that is stored, or that of a text that ends here. It takes
     /// no memory.
-    #[tactic(auto, unfolding(coll_builder::specs::Loading::loaded))]
+    #[tactic(auto, unfolding(coll_texts::specs::Loading::loaded))]
     pub fn finish(self) -> Result<Table, LoadFault>
         ensures ok { IfOk result (λ table. loaded self ≡ Ok (collation table)) }
         ensures err { IfErr result (λ fault. loaded self ≡ Err fault) }
@@ -141,7 +144,7 @@ impl Loader {
     }
 
     // The fault that is stored, or that of a text that ends here; none where the category has ended.
-    #[tactic(auto, unfolding(coll_builder::specs::Loading::loaded))]
+    #[tactic(auto, unfolding(coll_texts::specs::Loading::loaded))]
     fn end_fault(&self) -> Option<LoadFault>
         ensures fault { IfSome result (λ fault. loaded self.now ≡ Err fault) }
         ensures none { IfNone result (loaded self.now ≡ Ok (table_of self.now.builder)) }
@@ -245,7 +248,8 @@ impl Loader {
         requires tokens { AreTokens line.now.tokens }
         requires going { self.old.ended ≡ false }
         ensures ok { OnOk result (by_read self.old line.now.number (table_line line.now.tokens) ≡ Ok self.new) }
-        ensures err { IfErr result (λ fault. fault.cause ≢ OutOfMemory → by_read self.old line.now.number (table_line line.now.tokens) ≡ Err fault) }
+        ensures err { IfErr result (λ fault. fault.cause ≢ OutOfMemory → by_read self.old line.now.number (table_line line.now.tokens)
+            ≡ Err fault) }
         ensures starved_at { IfErr result (λ fault. fault.cause ≡ OutOfMemory → fault.line ≡ line.now.number) }
         ensures cause { IfErr result (λ fault. IsLineCause fault.cause) }
         ensures ended { OnErr result (self.new.ended ≡ self.old.ended) }

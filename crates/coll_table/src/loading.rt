@@ -1,22 +1,22 @@
 //! A table text is read from a device, and made into a table.
 //!
-//! The answer is `reads` of coll_builder, `specs/Reading.antt`: the lines up to the category are looked at alone, those of the
+//! The answer is `reads` of coll_texts, `specs/Reading.antt`: the lines up to the category are looked at alone, those of the
 //! category as logical lines, each judged from the lines accepted before it, and the first line at fault decides. The lines
 //! come from a reader of physical lines, and a `Loader` takes them. A new cause of a refused load is a case of `reads` first.
 
 ghost use Rattle.std.specs.Prelude.{◌≡◌, None, Err, IfOk, IfErr, OnOk};
 ghost use Rattle.coll_devices.specs.LineReading.{no_line};
 ghost use Rattle.coll_table.specs.Loads.{Loads, AnswersText, CountsFault, stop_fault};
-ghost use Rattle.coll_builder.specs.Loading.{first_loader};
-ghost use Rattle.coll_builder.specs.Reading.{TextsAreWellFormed};
+ghost use Rattle.coll_texts.specs.Loading.{first_loader};
+ghost use Rattle.coll_texts.specs.Reading.{TextsAreWellFormed};
 ghost use Rattle.coll_nodes.specs.TableLayout.{collation};
 ghost use Rattle.coll_nodes.specs.WellFormed.{IsWellFormed};
 
 use crate::{Loader, Table};
-use coll_builder::{LoadCause, LoadFault};
 use coll_devices::{LineReader, ReadStop, Source};
 use coll_lex::LexFault;
 use coll_lookups::HashKeys;
+use coll_texts::{LoadCause, LoadFault};
 use std::alloc::Global;
 
 /// Reads a table text that one trusts, as `load_keyed` does: what it names is looked up under keys that anyone knows.

@@ -2,7 +2,9 @@
 //!
 //! They are what a history of statements rests on, each of which is taken back by its nodes' neighbours alone.
 
-ghost use Rattle.coll_table.specs.RecordLaws.{RecordsTurnBack, RecordsAddAlike, RecordsFitWider, RecordsFitWhereNamed, RecordsFitNarrower, WiderReadsAlike, UndonePutIn};
+ghost use Rattle.coll_table.specs.RecordLaws.{RecordsTurnBack, RecordsAddAlike, RecordsFitWider};
+ghost use Rattle.coll_table.specs.RecordLaws.{RecordsFitWhereNamed, RecordsFitNarrower, WiderReadsAlike};
+ghost use Rattle.coll_table.specs.RecordLaws.{UndonePutIn};
 
 /// Turning a record that fits gives a table, and turning it again gives back the first.
 pub fn lemma_records_turn_back()

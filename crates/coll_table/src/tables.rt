@@ -7,9 +7,11 @@
 ghost use Rattle.std.specs.Prelude.{◌≡◌, ℕ, List, chars, length, option_copied, option_map, IfOk, OnOk};
 ghost use Rattle.coll_syntax.specs.declared.identifiers.Id.TheVariants.{Named};
 
+use coll_devices::{Sink, WriteStop};
 use coll_lookups::{EntryNumbers, HashKeys, NamePlaces};
 use coll_nodes::{Body, Declared, Entry, Walk};
 use coll_syntax::{Id, Rule, Rules};
+use coll_texts::write_table;
 use std::alloc::{AllocError, Global};
 use std::marker::Model;
 
@@ -41,6 +43,7 @@ impl Model for Table {
 }
 
 impl Table {
+    ghost use Rattle.coll_devices.specs.Devices.{CountsErr, Sends};
     ghost use Rattle.coll_nodes.specs.ElementTexts.{element_entry};
     ghost use Rattle.coll_lookups.specs.NamePlaces.{place_named};
     ghost use Rattle.coll_nodes.specs.NodeNumbers.{AreNumbersOf};
@@ -51,6 +54,7 @@ impl Table {
     ghost use Rattle.coll_nodes.specs.TableLayout.{collation};
     ghost use Rattle.coll_nodes.specs.Walks.{visited};
     ghost use Rattle.coll_nodes.specs.WellFormed.{IsWellFormed};
+    ghost use Rattle.coll_texts.specs.CanonicalText.{text};
 
     /// The rules of its levels, one to four.
     #[tactic(auto, unfolding(coll_nodes::specs::TableLayout::collation))]
@@ -137,7 +141,8 @@ impl Table {
         numbers: EntryNumbers,
     ) -> Result<NamePlaces, AllocError>
         requires { AreNumbersOf numbers self.now.layout }
-        ensures { IfOk result (λ places. (name : List ℕ) → place_named places name ≡ place_among (entries_of (collation self.now)) (Named name)) }
+        ensures { IfOk result (λ places. (name : List ℕ)
+            → place_named places name ≡ place_among (entries_of (collation self.now)) (Named name)) }
     {
         self.body.name_places(alloc, numbers)
     }
@@ -163,6 +168,16 @@ impl Table {
         ensures { result ≡ (collation self.now).declared }
     {
         self.body.declared()
+    }
+
+    /// Writes the canonical text. It takes no memory.
+    ///
+    /// Where it stops, the device has taken a prefix of the text.
+    pub fn print<W: Sink>(&self, out: &mut W) -> Result<(), WriteStop>
+        ensures sent { Sends (W.taken out.old) (W.taken out.new) (text (collation self.now)) result }
+        ensures errors { CountsErr (W.failed out.old) (W.failed out.new) result }
+    {
+        write_table(out, self.rules(), self.declared(), self.walk())
     }
 
     /// The number of ring steps that its changes have taken, modulo 2 to the power 64.

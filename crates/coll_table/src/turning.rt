@@ -5,10 +5,13 @@
 //! does the items of a new statement by the same `do_items` by which `flip` does them again.
 
 ghost use Rattle.std.specs.Prelude.{◌≡◌, ◌<◌, ◌≤◌, ◌^◌, IsSome, length, not};
-ghost use Rattle.coll_table.specs.Record.{AreLoose, CanTurn, added_nodes, item_added, more_steps, turned_items, turned_layout, without_loose};
+ghost use Rattle.coll_table.specs.Record.{AreLoose, CanTurn, added_nodes, item_added, more_steps};
+ghost use Rattle.coll_table.specs.Record.{turned_items, turned_layout, without_loose};
 ghost use Rattle.coll_nodes.specs.TableLayout.{content_of};
 ghost use Rattle.coll_nodes.specs.Moving.{exchanged, moved_rings, weighed_nodes};
-ghost use Rattle.coll_table.specs.Turning.{CanDo, CanGoBack, CanGoOn, CanTurnBack, ItemGoes, item_back, item_on, item_steps, items_back, items_on, placed_item, placed_items, steps_between, steps_of, turned_back, turned_on, with_exchanged};
+ghost use Rattle.coll_table.specs.Turning.{CanDo, CanGoBack, CanGoOn, CanTurnBack, ItemGoes, item_back, item_on};
+ghost use Rattle.coll_table.specs.Turning.{item_steps, items_back, items_on, placed_item, placed_items};
+ghost use Rattle.coll_table.specs.Turning.{steps_between, steps_of, turned_back, turned_on, with_exchanged};
 
 use crate::{Item, Record, Table};
 use coll_lex::ListBuf;

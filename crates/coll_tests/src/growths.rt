@@ -1,4 +1,4 @@
-//! Tests that `tests/refuse_growths.py` runs anew with one growth of memory refused: the first that is counted, then the second, and
+//! Tests that `checkers/refuse_growths.py` runs anew with one growth of memory refused: the first that is counted, then the second, and
 //! so on, until none is left to be refused.
 //!
 //! A test counts the growths of the calls that it shows, and no others. Where such a call answers lack of memory, the test says so,

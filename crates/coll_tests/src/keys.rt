@@ -61,7 +61,7 @@ fn assert_order_by<R: Abort + Print>(rt: &R, alloc: Global, table: &Table, texts
     drop(ranks);
 }
 
-// `tests/refuse_growths.py` finds no growth in it that it could refuse.
+// `checkers/refuse_growths.py` finds no growth in it that it could refuse.
 #[test]
 fn a_comparison_at_forward_levels_takes_no_memory(rt: HostRuntime) {
     let table = BOTH_FORWARD.loaded(rt.alloc(), FRENCH_TABLE);

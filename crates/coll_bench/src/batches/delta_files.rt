@@ -10,7 +10,8 @@ ghost use Rattle.coll_syntax.specs.Proper.{IsProper};
 ghost use Rattle.coll_table.specs.Delta.{delta as delta_of};
 ghost use Rattle.coll_nodes.specs.TableLayout.{collation};
 ghost use Rattle.coll_bench.specs.BatchOutcome.{delta_fault_in, judged_at, rewritten};
-ghost use Rattle.coll_bench.specs.BatchReading.{ReadsDelta, CountsDelta, WritesNone, FailsAs, IsNumberOf, IsFaultNumber, line_taken, starved_in, stopped_in};
+ghost use Rattle.coll_bench.specs.BatchReading.{ReadsDelta, CountsDelta, WritesNone, FailsAs, IsNumberOf};
+ghost use Rattle.coll_bench.specs.BatchReading.{IsFaultNumber, line_taken, starved_in, stopped_in};
 ghost use Rattle.coll_bench.specs.BatchRuns.{ending_of};
 
 use crate::faults::{Fault, RunFault};
@@ -117,6 +118,7 @@ fn take_line(
 {
     match file.line(line) {
         Ok(given) => {
+            // Not `?`: behind its conversion this exit would need a lemma.
             if let Err(ended) = rewrite_if(input, table, given) {
                 return Err(ended);
             }
@@ -148,7 +150,8 @@ fn rewrite_if(input: usize, table: &mut Table, given: Option<StatementAt>) -> Re
 fn rewrite(input: usize, table: &mut Table, at: &StatementAt) -> Result<(), RunFault>
     requires proper { IsProper at.now.statement }
     ensures ok { OnOk result (judged_at input at.now.line (delta_of (collation table.old) at.now.statement) ≡ Ok (collation table.new)) }
-    ensures err { IfErr result (λ ended. FailsAs (ending_of ended) (judged_at input at.now.line (delta_of (collation table.old) at.now.statement)) ended) }
+    ensures err { IfErr result (λ ended.
+        FailsAs (ending_of ended) (judged_at input at.now.line (delta_of (collation table.old) at.now.statement)) ended) }
     ensures number { IfErr result (λ ended. ended.line ≡ at.now.line) }
     ensures input { IfErr result (λ ended. ended.input ≡ input) }
 {

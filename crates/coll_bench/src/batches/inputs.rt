@@ -8,10 +8,10 @@ ghost use Rattle.coll_bench.specs.BatchRuns.{CountsInputs};
 
 use super::delta_files::read_delta;
 use crate::faults::{Fault, RunFault};
-use coll_builder::LoadFault;
 use coll_devices::Source;
 use coll_lookups::HashKeys;
 use coll_table::{Table, load_keyed};
+use coll_texts::LoadFault;
 use std::alloc::Global;
 
 /// Reads the table and the delta files. The answer is the table after all of them, or the first fault met.
@@ -51,6 +51,7 @@ fn read_deltas<R: Source>(
     ensures reads { CountsDeltas (map R.failed deltas.old) (map R.failed deltas.new) result }
 {
     for (before, delta) in deltas.iter_mut().enumerate() {
+        // Not `?`: behind its conversion this exit would need a lemma.
         if let Err(ended) = read_delta(alloc, before + 1, table, delta) {
             return Err(ended);
         }

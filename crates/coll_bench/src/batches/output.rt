@@ -11,7 +11,7 @@ ghost use Rattle.coll_key.specs.TextOrder.{order_of};
 ghost use Rattle.coll_nodes.specs.TableLayout.{collation};
 ghost use Rattle.coll_bench.specs.BatchOutcome.{batch_output, texts_of, is_any_too_long, key_line};
 ghost use Rattle.coll_bench.specs.BatchWriting.{Outputs, CountsOutput, as_written, starved_key};
-ghost use Rattle.coll_print.specs.CanonicalText.{text};
+ghost use Rattle.coll_texts.specs.CanonicalText.{text};
 ghost use Rattle.coll_bench.specs.Replies.{checked_line, order_word};
 
 use super::Batch;
@@ -111,6 +111,7 @@ fn write_each_key<W: Sink>(
     ensures errors { CountsOutput (W.failed out.old) (W.failed out.new) result }
 {
     for text in texts {
+        // Not `?`: behind its conversion this exit would need a lemma.
         if let Err(fault) = write_text_key(alloc, text, table, ranks, out) {
             return Err(fault);
         }
@@ -150,7 +151,8 @@ fn write_comparison<W: Sink>(
     out: &mut W,
 ) -> Result<(), Fault>
     requires short { is_any_too_long (first.now ∷ second.now ∷ []) ≡ false }
-    ensures sent { Outputs (W.taken out.old) (W.taken out.new) (order_word (order_of (collation table.now) first.now second.now) ++ 10 ∷ []) result }
+    ensures sent { Outputs (W.taken out.old) (W.taken out.new) (order_word (order_of (collation table.now) first.now second.now) ++ 10 ∷ [])
+        result }
     ensures errors { CountsOutput (W.failed out.old) (W.failed out.new) result }
 {
     match Ranks::new(alloc, table) {
@@ -174,7 +176,8 @@ fn write_order_by<W: Sink>(
 ) -> Result<(), Fault>
     requires short { is_any_too_long (first.now ∷ second.now ∷ []) ≡ false }
     requires ranks { AreRanksOf ranks.now (collation table.now) }
-    ensures sent { Outputs (W.taken out.old) (W.taken out.new) (order_word (order_of (collation table.now) first.now second.now) ++ 10 ∷ []) result }
+    ensures sent { Outputs (W.taken out.old) (W.taken out.new) (order_word (order_of (collation table.now) first.now second.now) ++ 10 ∷ [])
+        result }
     ensures errors { CountsOutput (W.failed out.old) (W.failed out.new) result }
 {
     match compare(alloc, table, ranks, first.get(), second.get()) {

@@ -4,15 +4,15 @@
 
 ghost use Rattle.std.specs.Prelude.{◌++◌, ◌∷◌, [], codes, decimal};
 ghost use Rattle.coll_devices.specs.Devices.{CountsErr, Sends};
-ghost use Rattle.coll_print.specs.Pieces.{words_line};
-ghost use Rattle.coll_print.specs.PrintedParts.{id_bytes, symbol_bytes};
+ghost use Rattle.coll_texts.specs.Pieces.{words_line};
+ghost use Rattle.coll_texts.specs.PrintedParts.{id_bytes, symbol_bytes};
 ghost use Rattle.coll_bench.specs.Replies.{history_count, history_line, history_lines, history_listing};
 
 use coll_devices::{Sink, WriteStop};
 use coll_history::Session;
 use coll_lex::TextBuf;
-use coll_print::{Piece, write_pieces};
 use coll_syntax::{Id, Statement};
+use coll_texts::{Piece, write_pieces};
 
 /// Writes the statements that remain, from the first, and how many there are, and were taken back.
 #[tactic(auto, unfolding(crate::specs::Replies::history_listing))]
@@ -36,6 +36,7 @@ fn write_remaining<W: Sink>(out: &mut W, session: &Session) -> Result<(), WriteS
         let Some(statement) = session.remaining(number) else {
             unreachable!();
         };
+        // Not `?`: behind its conversion this exit would need a lemma.
         if let Err(stop) = write_remaining_line(out, number, statement) {
             return Err(stop);
         }
@@ -76,7 +77,8 @@ fn write_name<'a, W: Sink>(
     word: &'a [u8],
     name: &'a TextBuf,
 ) -> Result<(), WriteStop>
-    ensures sent { Sends (W.taken out.old) (W.taken out.new) (decimal number ++ (word.now ++ words_line (symbol_bytes name.now ∷ []))) result }
+    ensures sent { Sends (W.taken out.old) (W.taken out.new) (decimal number ++ (word.now ++ words_line (symbol_bytes name.now ∷ [])))
+        result }
     ensures errors { CountsErr (W.failed out.old) (W.failed out.new) result }
 {
     write_pieces(
@@ -98,7 +100,8 @@ fn write_names<'a, W: Sink>(
     first: &'a TextBuf,
     second: &'a TextBuf,
 ) -> Result<(), WriteStop>
-    ensures sent { Sends (W.taken out.old) (W.taken out.new) (decimal number ++ (word.now ++ words_line (symbol_bytes first.now ∷ symbol_bytes second.now ∷ []))) result }
+    ensures sent { Sends (W.taken out.old) (W.taken out.new)
+        (decimal number ++ (word.now ++ words_line (symbol_bytes first.now ∷ symbol_bytes second.now ∷ []))) result }
     ensures errors { CountsErr (W.failed out.old) (W.failed out.new) result }
 {
     write_pieces(
@@ -121,7 +124,8 @@ fn write_block<W: Sink>(
     target: &Id,
     lines: usize,
 ) -> Result<(), WriteStop>
-    ensures sent { Sends (W.taken out.old) (W.taken out.new) (words_line (decimal number ∷ codes "block" ∷ id_bytes target.now ∷ decimal lines ∷ [])) result }
+    ensures sent { Sends (W.taken out.old) (W.taken out.new)
+        (words_line (decimal number ∷ codes "block" ∷ id_bytes target.now ∷ decimal lines ∷ [])) result }
     ensures errors { CountsErr (W.failed out.old) (W.failed out.new) result }
 {
     write_pieces(
@@ -139,7 +143,8 @@ fn write_block<W: Sink>(
 
 // Writes the line of a statement that replaces weights: a number, and whose weights they are.
 fn write_reweight<W: Sink>(out: &mut W, number: u32, id: &Id) -> Result<(), WriteStop>
-    ensures sent { Sends (W.taken out.old) (W.taken out.new) (words_line (decimal number ∷ codes "reweight" ∷ id_bytes id.now ∷ [])) result }
+    ensures sent { Sends (W.taken out.old) (W.taken out.new) (words_line (decimal number ∷ codes "reweight" ∷ id_bytes id.now ∷ []))
+        result }
     ensures errors { CountsErr (W.failed out.old) (W.failed out.new) result }
 {
     write_pieces(

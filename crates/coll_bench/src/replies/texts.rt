@@ -24,7 +24,8 @@ pub(crate) fn answer_key<W: Sink>(
     text: &TextBuf,
     out: &mut W,
 ) -> Result<(), WriteStop>
-    ensures answered { (starved : Bool) × Sends (W.taken out.old) (W.taken out.new) (reply_if starved session.old.history (Command (Key text.now))) result }
+    ensures answered { (starved : Bool)
+        × Sends (W.taken out.old) (W.taken out.new) (reply_if starved session.old.history (Command (Key text.now))) result }
     ensures unchanged { session.new ≡ session.old }
     ensures errors { CountsErr (W.failed out.old) (W.failed out.new) result }
 {
@@ -56,7 +57,8 @@ pub(crate) fn answer_compare<W: Sink>(
     other: &TextBuf,
     out: &mut W,
 ) -> Result<(), WriteStop>
-    ensures answered { (starved : Bool) × Sends (W.taken out.old) (W.taken out.new) (reply_if starved session.old.history (Command (Compare text.now other.now))) result }
+    ensures answered { (starved : Bool)
+        × Sends (W.taken out.old) (W.taken out.new) (reply_if starved session.old.history (Command (Compare text.now other.now))) result }
     ensures unchanged { session.new ≡ session.old }
     ensures errors { CountsErr (W.failed out.old) (W.failed out.new) result }
 {

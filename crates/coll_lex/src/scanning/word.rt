@@ -93,7 +93,12 @@ impl Scan {
     // Ends the word so far, and begins a string after it.
     fn begin_text(&mut self) -> Result<(), AllocError>
         ensures { OnOk result
-            (self.new ≡ record self.old { mode = Mode.Text; partial = []; pieces = []; tokens = self.old.tokens ++ word_token self.old.partial }) }
+            (self.new ≡ record self.old {
+              mode = Mode.Text;
+              partial = [];
+              pieces = [];
+              tokens = self.old.tokens ++ word_token self.old.partial;
+            }) }
     {
         self.end_word()?;
         self.pieces = ListBuf::empty(self.alloc);

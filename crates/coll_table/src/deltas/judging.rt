@@ -10,10 +10,13 @@
 ghost use Rattle.std.specs.Prelude.{◌≡◌, ◌≢◌, ◌∷◌, [], true, IsOk, Ok, Err, Some, None, IfOk, IfErr, OnOk, OnErr, length, nat_le};
 ghost use Rattle.std.specs.List.{flat_map};
 ghost use Rattle.coll_syntax.specs.Proper.{IsProper};
-ghost use Rattle.coll_table.specs.Delta.{all_moved, block_delta, declaration_refusal, delta, ids_given, line_refusal, lines_refusal, own_delta, reweight_delta, reweight_refusal, reweighted, section_refusal, unless_refused, weights_refusal};
+ghost use Rattle.coll_table.specs.Delta.{all_moved, block_delta, declaration_refusal, delta, ids_given};
+ghost use Rattle.coll_table.specs.Delta.{line_refusal, lines_refusal, own_delta, reweight_delta, reweight_refusal};
+ghost use Rattle.coll_table.specs.Delta.{reweighted, section_refusal, unless_refused, weights_refusal};
 ghost use Rattle.coll_nodes.specs.Causes.{refused_if};
 ghost use Rattle.coll_nodes.specs.Entries.{given_weights, weight_ids};
-ghost use Rattle.coll_table.specs.Judging.{entries_added, HaveSame, id_refusal, ids_refusal, judging_takes_memory, line_ids, own_judging_takes_memory};
+ghost use Rattle.coll_table.specs.Judging.{entries_added, HaveSame, id_refusal, ids_refusal};
+ghost use Rattle.coll_table.specs.Judging.{judging_takes_memory, line_ids, own_judging_takes_memory};
 ghost use Rattle.coll_nodes.specs.Limits.{most_declarations};
 ghost use Rattle.coll_nodes.specs.Table.{is_placed};
 ghost use Rattle.coll_nodes.specs.TableLayout.{collation};
@@ -21,10 +24,9 @@ ghost use Rattle.coll_nodes.specs.declared.declarations.Declaration.TheVariants 
 ghost use Rattle.coll_table.specs.declared.refusals.Refusal.TheVariants.{Full, OutOfMemory};
 
 use crate::{Refusal, Table};
-use coll_builder::given_len;
 use coll_lex::TextBuf;
 use coll_nodes::{MOST_DECLARATIONS, MOST_ENTRIES};
-use coll_statements::IdSet;
+use coll_statements::{IdSet, given_len};
 use coll_syntax::{Id, OrderLine, Statement, Weight};
 use std::alloc::AllocError;
 
@@ -53,7 +55,8 @@ impl Table {
         requires proper { IsProper statement.now }
         ensures ok { OnOk result (IsOk (own_delta (collation self.now) statement.now)) }
         ensures err { IfErr result (λ refusal. refusal ≢ OutOfMemory → own_delta (collation self.now) statement.now ≡ Err refusal) }
-        ensures memory { IfErr result (λ refusal. refusal ≡ OutOfMemory → own_judging_takes_memory (collation self.now) statement.now ≡ true) }
+        ensures memory { IfErr result (λ refusal. refusal ≡ OutOfMemory → own_judging_takes_memory (collation self.now) statement.now
+            ≡ true) }
     {
         match statement {
             Statement::Symbol(name) => or_refused(self.symbol_refusal(name)),
@@ -186,7 +189,8 @@ impl Table {
 
     // Why a block is refused, if it is.
     fn block_refusal(&self, target: &Id, lines: &[OrderLine]) -> Result<Option<Refusal>, AllocError>
-        ensures refusal { IfOk result (λ refusal. block_delta (collation self.now) target.now lines.now ≡ unless_refused refusal (all_moved (collation self.now) target.now lines.now)) }
+        ensures refusal { IfOk result (λ refusal. block_delta (collation self.now) target.now lines.now
+            ≡ unless_refused refusal (all_moved (collation self.now) target.now lines.now)) }
         ensures placed { OnErr result (is_placed (collation self.now) target.now ≡ true) }
     {
         if !self.is_placed(target) {
@@ -207,7 +211,8 @@ impl Table {
     ) -> Result<Option<Refusal>, AllocError>
         requires none { ids.old ≡ [] }
         requires placed { is_placed (collation self.now) target.now ≡ true }
-        ensures { IfOk result (λ refusal. block_delta (collation self.now) target.now lines.now ≡ unless_refused refusal (all_moved (collation self.now) target.now lines.now)) }
+        ensures { IfOk result (λ refusal. block_delta (collation self.now) target.now lines.now
+            ≡ unless_refused refusal (all_moved (collation self.now) target.now lines.now)) }
     {
         if let Some(refusal) = self.lines_refusal(ids, target, lines)? {
             return Ok(Some(refusal));

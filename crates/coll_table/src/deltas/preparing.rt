@@ -8,7 +8,8 @@
 ghost use Rattle.std.specs.Prelude.{◌≡◌, ◌∷◌, [], Some, None, true, length, IfOk, OnOk, OnErr};
 ghost use Rattle.coll_syntax.specs.Identifier.{has_name};
 ghost use Rattle.coll_table.specs.Growth.{AddsLoose};
-ghost use Rattle.coll_table.specs.Prepared.{ArePrepared, IsPreparedBlock, IsPreparedDeclaration, IsPreparedLine, IsPreparedReweight, IsPreparedSection, made_entry, weights_to};
+ghost use Rattle.coll_table.specs.Prepared.{ArePrepared, IsPreparedBlock, IsPreparedDeclaration, IsPreparedLine};
+ghost use Rattle.coll_table.specs.Prepared.{IsPreparedReweight, IsPreparedSection, made_entry, weights_to};
 ghost use Rattle.coll_table.specs.Record.{AreLoose, added_by, added_nodes, without_nodes};
 ghost use Rattle.coll_nodes.specs.Table.{is_placed, is_symbol, section_names};
 ghost use Rattle.coll_nodes.specs.TableLayout.{collation, content_of};
@@ -16,10 +17,10 @@ ghost use Rattle.coll_nodes.specs.Moving.{MayBeLoose};
 ghost use Rattle.coll_nodes.specs.declared.contents.Content.TheVariants as content;
 
 use crate::{Item, Record, Table};
-use coll_builder::kept_weights;
 use coll_lex::{ListBuf, TextBuf};
 use coll_nodes::{Content, Declaration, Entry};
 use coll_order::{NodeId, Place};
+use coll_statements::kept_weights;
 use coll_syntax::{Id, OrderLine, Weight};
 use std::alloc::AllocError;
 
@@ -168,7 +169,8 @@ impl Table {
 
     // A loose node for an identifier that has none.
     fn make_entry(&mut self, id: &Id) -> Result<NodeId, AllocError>
-        ensures made { IfOk result (λ node. content_of self.new.layout node ≡ Some (content.Placed (made_entry (collation self.old) id.now))) }
+        ensures made { IfOk result (λ node. content_of self.new.layout node
+            ≡ Some (content.Placed (made_entry (collation self.old) id.now))) }
         ensures added { IfOk result (λ node. AddsLoose self.old self.new (node ∷ [])) }
         ensures unchanged { OnErr result (self.new ≡ self.old) }
     {

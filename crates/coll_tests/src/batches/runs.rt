@@ -46,7 +46,8 @@ const DONE: &[(Asked, &[&str], Lines)] = &[
     (
         Asked::Key(&[("c", 1)]),
         &[
-            "\u{FEFF}\nLC_COLLATE # now\nLC_COLLATE\ncopy \"iso14651_t1\"\nscript <Latn>\nreorder-after <U0061>\n# note\n<U0063>\nreorder-end\nEND LC_COLLATE\nbogus \\\n",
+            "\u{FEFF}\nLC_COLLATE # now\nLC_COLLATE\ncopy \"iso14651_t1\"\nscript <Latn>\nreorder-after <U0061>\n# note\n<U0063>\n\
+                reorder-end\nEND LC_COLLATE\nbogus \\\n",
         ],
         &["5 | 1 | 2 | |"],
     ),

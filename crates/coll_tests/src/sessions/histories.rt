@@ -275,7 +275,7 @@ fn assert_judged<R: Abort + Print>(
 
 const NO_MEMORY: Result<u32, BenchFault> = Err(BenchFault::Table(Refusal::OutOfMemory));
 
-// What is wrong with a session, for `tests/refuse_growths.py` to find.
+// What is wrong with a session, for `checkers/refuse_growths.py` to find.
 #[derive(Clone, Copy)]
 enum Wrong {
     Nothing,
@@ -445,7 +445,7 @@ const AFTER_AN_UNDO: &[Call] = &[
     States(&["collating-symbol <Y>"], Ok(1)),
 ];
 
-// These two pass as long as no growth is refused. `tests/refuse_growths.py` has them fail.
+// These two pass as long as no growth is refused. `checkers/refuse_growths.py` has them fail.
 #[test]
 fn a_session_may_lose_what_was_taken_back(rt: HostRuntime) {
     assert_calls(

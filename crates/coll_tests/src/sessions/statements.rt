@@ -12,7 +12,8 @@ pub const ON_FIRST: &[Worked] = &[
     Worked {
         text: ":undo\nreorder-after <Q>\n:list\nreorder-end\nreorder-after a\na\nreorder-end\nb\nreorder-end\n",
         replies: &[Told(
-            "refused 60 NothingToUndo\nrefused 62 BlockOpen\nrefused 50 TargetNotPlaced\nrefused 51 TwiceInBlock\nrefused 55 NoWeights\nrefused 69 NoBlock\n",
+            "refused 60 NothingToUndo\nrefused 62 BlockOpen\nrefused 50 TargetNotPlaced\nrefused 51 TwiceInBlock\n\
+                refused 55 NoWeights\nrefused 69 NoBlock\n",
         )],
     },
     Worked {
@@ -100,7 +101,8 @@ pub const ON_BASE: &[Worked] = &[
     Worked {
         text: "<U0062>\n<U007A> <U0061>\n<MIN> IGNORE\n<U0062> <U0062>;;;;\nreorder-end\n:frob\n:key\n:undo\n",
         replies: &[Told(
-            "refused 55 NoWeights\nrefused 54 NotPlaced\nrefused 36 SymbolWithWeights\nrefused 37 TooManyWeights\nrefused 69 NoBlock\nrefused 64 UnknownCommand\nrefused 21 MissingOperand\nrefused 60 NothingToUndo\n",
+            "refused 55 NoWeights\nrefused 54 NotPlaced\nrefused 36 SymbolWithWeights\nrefused 37 TooManyWeights\n\
+                refused 69 NoBlock\nrefused 64 UnknownCommand\nrefused 21 MissingOperand\nrefused 60 NothingToUndo\n",
         )],
     },
     Worked {
@@ -121,16 +123,22 @@ pub const ON_BASE: &[Worked] = &[
     },
     // A second name stands for its symbol, wherever it is given.
     Worked {
-        text: "symbol-equivalence <LOW> <MIN>\nsymbol-equivalence <SMALL> <LOW>\nsymbol-equivalence <LOW> <CAP>\nsymbol-equivalence <Z> <Q>\nreorder-after <CAP>\n<LOW>\n<MIN>\nreorder-end\n<LOW> IGNORE\nreorder-after <CAP>\n<SMALL>\nreorder-end\n<U0062> <U0062>;<LOW>\n:key \"b\"\n:check\n:history\n:undo\n:undo\n:undo\n:undo\n:print\n",
+        text: "symbol-equivalence <LOW> <MIN>\nsymbol-equivalence <SMALL> <LOW>\nsymbol-equivalence <LOW> <CAP>\n\
+            symbol-equivalence <Z> <Q>\nreorder-after <CAP>\n<LOW>\n<MIN>\nreorder-end\n<LOW> IGNORE\nreorder-after <CAP>\n\
+            <SMALL>\nreorder-end\n<U0062> <U0062>;<LOW>\n:key \"b\"\n:check\n:history\n:undo\n:undo\n:undo\n:undo\n:print\n",
         replies: &[
             Told(
-                "ok 1\nok 2\nrefused 33 DeclaredTwice\nrefused 34 NotDeclared\nrefused 51 TwiceInBlock\nrefused 36 SymbolWithWeights\nok 3\nok 4\n6 | 3 | 6 | @1 6 |\ntable entries 9 declared 5 sections 2 levels 4\n1 equivalence <LOW> <MIN>\n2 equivalence <SMALL> <LOW>\n3 block <CAP> 1\n4 reweight <U0062>\nhistory 4 0\nundone 3\nundone 2\nundone 1\nundone 0\n",
+                "ok 1\nok 2\nrefused 33 DeclaredTwice\nrefused 34 NotDeclared\nrefused 51 TwiceInBlock\n\
+                    refused 36 SymbolWithWeights\nok 3\nok 4\n6 | 3 | 6 | @1 6 |\ntable entries 9 declared 5 sections 2 levels 4\n\
+                    1 equivalence <LOW> <MIN>\n2 equivalence <SMALL> <LOW>\n3 block <CAP> 1\n4 reweight <U0062>\nhistory 4 0\n\
+                    undone 3\nundone 2\nundone 1\nundone 0\n",
             ),
             Base,
         ],
     },
     Worked {
-        text: "symbol-equivalence <LOW> <MIN>\nsymbol-equivalence <SMALL> <LOW>\nreorder-after <CAP>\n<SMALL>\nreorder-end\n<U0062> <U0062>;<LOW>\n:print\n",
+        text: "symbol-equivalence <LOW> <MIN>\nsymbol-equivalence <SMALL> <LOW>\nreorder-after <CAP>\n<SMALL>\nreorder-end\n\
+            <U0062> <U0062>;<LOW>\n:print\n",
         replies: &[
             Told("ok 1\nok 2\nok 3\nok 4\n"),
             Printed(Change {
@@ -156,14 +164,20 @@ pub const ON_BASE: &[Worked] = &[
     },
     // A statement is withdrawn unless another one needs it, and is no more to be put again.
     Worked {
-        text: "collating-symbol <X>\nreorder-after <CAP>\n<X>\nreorder-end\nreorder-after <U0061>\n<U0063>\nreorder-end\n<U0062> <U0062>;<X>\n:withdraw 2\n:withdraw 1\n:withdraw 3\n:history\n:withdraw 0\n:withdraw 4\n:withdraw x\n:withdraw\n:key \"b\"\n:undo\n:key \"b\"\n:withdraw 2\n:redo\n",
+        text: "collating-symbol <X>\nreorder-after <CAP>\n<X>\nreorder-end\nreorder-after <U0061>\n<U0063>\nreorder-end\n\
+            <U0062> <U0062>;<X>\n:withdraw 2\n:withdraw 1\n:withdraw 3\n:history\n:withdraw 0\n:withdraw 4\n:withdraw x\n\
+            :withdraw\n:key \"b\"\n:undo\n:key \"b\"\n:withdraw 2\n:redo\n",
         replies: &[Told(
-            "ok 1\nok 2\nok 3\nok 4\nrefused 71 StillNeeded 4 38 WeightNotPlaced\nrefused 71 StillNeeded 2 34 NotDeclared\nwithdrawn 3\n1 symbol <X>\n2 block <CAP> 1\n3 reweight <U0062>\nhistory 3 0\nrefused 72 NoSuchStatement\nrefused 72 NoSuchStatement\nrefused 29 BadOperand\nrefused 21 MissingOperand\n7 | 4 | 7 | @1 7 |\nundone 2\n7 | 1 | 2 | |\nwithdrawn 1\nrefused 61 NothingToRedo\n",
+            "ok 1\nok 2\nok 3\nok 4\nrefused 71 StillNeeded 4 38 WeightNotPlaced\nrefused 71 StillNeeded 2 34 NotDeclared\n\
+                withdrawn 3\n1 symbol <X>\n2 block <CAP> 1\n3 reweight <U0062>\nhistory 3 0\nrefused 72 NoSuchStatement\n\
+                refused 72 NoSuchStatement\nrefused 29 BadOperand\nrefused 21 MissingOperand\n7 | 4 | 7 | @1 7 |\nundone 2\n\
+                7 | 1 | 2 | |\nwithdrawn 1\nrefused 61 NothingToRedo\n",
         )],
     },
     // The order changes with each statement, and with each that is taken back or put again.
     Worked {
-        text: ":compare \"b\" \"c\"\nreorder-after <U0061>\n<U0063>\nreorder-end\n:compare \"b\" \"c\"\nreorder-after <U0061>\n<X>\nreorder-end\n:compare \"b\" \"c\"\n:undo\n:compare \"b\" \"c\"\n:redo\n:compare \"b\" \"c\"\n",
+        text: ":compare \"b\" \"c\"\nreorder-after <U0061>\n<U0063>\nreorder-end\n:compare \"b\" \"c\"\nreorder-after <U0061>\n\
+            <X>\nreorder-end\n:compare \"b\" \"c\"\n:undo\n:compare \"b\" \"c\"\n:redo\n:compare \"b\" \"c\"\n",
         replies: &[Told(
             "less\nok 1\ngreater\nrefused 34 NotDeclared\ngreater\nundone 0\nless\nredone 1\ngreater\n",
         )],
@@ -172,8 +186,11 @@ pub const ON_BASE: &[Worked] = &[
 
 /// Sessions over the table of sections.
 pub const ON_SECTIONS: &[Worked] = &[Worked {
-    text: "reorder-section-after <S2> <S1>\n:undo\nreorder-section-after <S1> <S3>\n:list\nreorder-section-after <S1> <S1>\nreorder-section-after <S1> <Q>\nreorder-section-after <Q> <Q>\n:history\n:undo\n:key \"b\"\n",
+    text: "reorder-section-after <S2> <S1>\n:undo\nreorder-section-after <S1> <S3>\n:list\nreorder-section-after <S1> <S1>\n\
+        reorder-section-after <S1> <Q>\nreorder-section-after <Q> <Q>\n:history\n:undo\n:key \"b\"\n",
     replies: &[Told(
-        "ok 1\nundone 0\nok 1\n1 <U0061>\nsection <S2>\n2 <U0063>\nsection <S3>\n3 <U0064>\nsection <S1>\n4 <U0062>\nlisted 4\nrefused 53 SectionAfterItself\nrefused 52 NoSuchSection\nrefused 52 NoSuchSection\n1 section <S1> <S3>\nhistory 1 0\nundone 0\n2 |\n",
+        "ok 1\nundone 0\nok 1\n1 <U0061>\nsection <S2>\n2 <U0063>\nsection <S3>\n3 <U0064>\nsection <S1>\n4 <U0062>\nlisted 4\n\
+            refused 53 SectionAfterItself\nrefused 52 NoSuchSection\nrefused 52 NoSuchSection\n1 section <S1> <S3>\nhistory 1 0\n\
+            undone 0\n2 |\n",
     )],
 }];

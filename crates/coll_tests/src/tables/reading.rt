@@ -58,13 +58,16 @@ const READ: &[Read] = &[
 ];
 
 const BASE_SHOWN: &str =
-    "rules forward backward forward forward,position\nsymbol <BASE>\nsymbol <MIN>\nsymbol <CAP>\n<BASE>\n<MIN>\n<CAP>\na - (<BASE>) (<MIN>) I\nA (a) (<BASE>) (<CAP>) I\nb - (<BASE>) (<MIN>) I\nc - (<BASE>) (<MIN>) I\nd - (<BASE>) (<MIN>) I\nsection <PUNCT>\n- I I I -\n";
+    "rules forward backward forward forward,position\nsymbol <BASE>\nsymbol <MIN>\nsymbol <CAP>\n<BASE>\n<MIN>\n<CAP>\n\
+        a - (<BASE>) (<MIN>) I\nA (a) (<BASE>) (<CAP>) I\nb - (<BASE>) (<MIN>) I\nc - (<BASE>) (<MIN>) I\nd - (<BASE>) (<MIN>) I\n\
+        section <PUNCT>\n- I I I -\n";
 
 const TWO_SECTIONS_SHOWN: &str =
     "rules forward forward,position\nelement <ch> ch\nsection <L>\na - -\nsection <M>\n<ch> - -\nUNDEFINED I -\n";
 
 const SECOND_NAMES_SHOWN: &str =
-    "rules forward forward\nsymbol <MIN>\nequivalence <LOW> <MIN>\nequivalence <SMALL> <MIN>\nelement <ch> ch\nequivalence <LATE> <MIN>\n<MIN>\na - (<MIN>)\n<ch> (<MIN>a) (<MIN>)\n";
+    "rules forward forward\nsymbol <MIN>\nequivalence <LOW> <MIN>\nequivalence <SMALL> <MIN>\nelement <ch> ch\n\
+        equivalence <LATE> <MIN>\n<MIN>\na - (<MIN>)\n<ch> (<MIN>a) (<MIN>)\n";
 
 // The text of other spellings with a carriage return before each line feed.
 const SPELLED_WITH_RETURNS: Lines = &[

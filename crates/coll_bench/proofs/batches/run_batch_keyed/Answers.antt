@@ -14,9 +14,11 @@ returns-in-Ok-clause-input g c = output_input (length c.args.deltas.now) c.answe
 pub returns-in-Ok-clause-reads : goal.returns-in-Ok-clause-reads
 returns-in-Ok-clause-reads g c =
     let failed = g.R.Source.failed in
-    output_reads (failed c.args.table.now ∷ map failed c.args.deltas.now) (failed c.read_inputs.new.table ∷ map failed c.read_inputs.new.deltas) c.answer_batch-answer.result c.in-Ok.ensures.reads c.answer_batch-answer.ensures.reads
+    output_reads (failed c.args.table.now ∷ map failed c.args.deltas.now) (failed c.read_inputs.new.table ∷ map failed c.read_inputs.new.deltas) c.answer_batch-answer.result c.in-Ok.ensures.reads
+    c.answer_batch-answer.ensures.reads
 
 pub returns-in-Err-clause-run : goal.returns-in-Err-clause-run
 returns-in-Err-clause-run g c =
     let left = g.R.Source.left in
-    inputs_fail c.args.batch (left c.args.table.now) (left c.read_inputs.new.table) (map left c.args.deltas.now) (map left c.read_inputs.new.deltas) (g.W.Sink.taken c.args.output.now) c.in-Err.ended c.in-Err.ensures.inputs
+    inputs_fail c.args.batch (left c.args.table.now) (left c.read_inputs.new.table) (map left c.args.deltas.now) (map left c.read_inputs.new.deltas) (g.W.Sink.taken c.args.output.now) c.in-Err.ended
+    c.in-Err.ensures.inputs

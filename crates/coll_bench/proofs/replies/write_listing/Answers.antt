@@ -10,8 +10,10 @@ unfolding listing
 returns-in_err-write_walk-clause-sent g c =
     let taken = g.W.Sink.taken in
     let table = collation c.args.table.now in
-    Sends-stopped (taken c.args.out.now) (taken c.write_walk.new.out) (listed_sections 1 table.sections ++ counted_line (codes "listed") (length (entries_of table))) c.from_residual.result c.from_residual.ensures.0
-    (AppendsPrefix-before (taken c.args.out.now) (taken c.write_walk.new.out) (listed_sections 1 table.sections) (counted_line (codes "listed") (length (entries_of table))) c.in_err-write_walk.ensures.sent)
+    Sends-stopped (taken c.args.out.now) (taken c.write_walk.new.out) (listed_sections 1 table.sections ++ counted_line (codes "listed") (length (entries_of table))) c.from_residual.result
+    c.from_residual.ensures.0
+    (AppendsPrefix-before (taken c.args.out.now) (taken c.write_walk.new.out) (listed_sections 1 table.sections) (counted_line (codes "listed") (length (entries_of table)))
+    c.in_err-write_walk.ensures.sent)
 
 pub returns-clause-sent : goal.returns-clause-sent
 unfolding listing
@@ -19,4 +21,5 @@ returns-clause-sent g c =
     let taken = g.W.Sink.taken in
     let table = collation c.args.table.now in
     let last = rw c.len.ensures at c.write_counted.ensures.sent in
-    Sends-after (taken c.args.out.now) (taken c.write_walk.new.out) (taken c.write_counted.new.out) (listed_sections 1 table.sections) (counted_line (codes "listed") (length (entries_of table))) c.write_counted.result c.in_ok-write_walk.ensures.sent last
+    Sends-after (taken c.args.out.now) (taken c.write_walk.new.out) (taken c.write_counted.new.out) (listed_sections 1 table.sections) (counted_line (codes "listed") (length (entries_of table)))
+    c.write_counted.result c.in_ok-write_walk.ensures.sent last

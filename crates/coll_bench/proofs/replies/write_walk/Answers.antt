@@ -18,7 +18,8 @@ loop-item-init g c =
     record {
       sent = ([], sym (ap (listed_visited 1) all ∙ sections_listed 1 sections), Appends-nil _);
       count = refl;
-      bound = subst (λ (ms : List Visited). 1 + length ms ≤ 263169) (sym all) (omega (arith, length-visited sections, c.lemma_well_formed.ensures.well_formed.built.few_entries, c.lemma_well_formed.ensures.well_formed.built.few_sections));
+      bound = subst (λ (ms : List Visited). 1 + length ms ≤ 263169) (sym all)
+          (omega (arith, length-visited sections, c.lemma_well_formed.ensures.well_formed.built.few_entries, c.lemma_well_formed.ensures.well_formed.built.few_sections));
     }
 
 pub write_visited-requires : goal.write_visited-requires
@@ -49,7 +50,8 @@ returns-in-Err-clause-sent g c =
     let first = visited_by c.in-Some.item in
     let line = visited_line c.loop-item.rank first in
     let later = listed_visited (rank_after c.loop-item.rank first) c.next.new.self in
-    let whole = done.1 ∙ ap (λ (l : List ℕ). done.0 ++ l) (visited_more c.loop-item.rank (rank_after c.loop-item.rank first) first c.loop-item.item-iterator c.next.new.self c.in-Some.ensures.steps refl) in
+    let whole = done.1 ∙ ap (λ (l : List ℕ). done.0 ++ l)
+    (visited_more c.loop-item.rank (rank_after c.loop-item.rank first) first c.loop-item.item-iterator c.next.new.self c.in-Some.ensures.steps refl) in
     subst (AppendsPrefix (taken c.args.out.now) (taken c.write_visited.new.out)) (sym whole)
     (AppendsPrefix-after (taken c.args.out.now) (taken c.loop-item.out) (taken c.write_visited.new.out) done.0 (line ++ later) done.2
     (AppendsPrefix-before (taken c.loop-item.out) (taken c.write_visited.new.out) line later c.in-Err.ensures.sent))
@@ -58,5 +60,6 @@ pub returns-clause-sent : goal.returns-clause-sent
 returns-clause-sent g c =
     let taken = g.W.Sink.taken in
     let done = c.loop-item.invariant.sent in
-    let whole : listed_sections 1 (collation c.args.table.now).sections ≡ done.0 = done.1 ∙ ap (λ (l : List ℕ). done.0 ++ l) (visited_none c.loop-item.rank c.loop-item.item-iterator c.in-None.ensures.steps.0) ∙ append-nil done.0 in
+    let whole : listed_sections 1 (collation c.args.table.now).sections ≡ done.0 =
+    done.1 ∙ ap (λ (l : List ℕ). done.0 ++ l) (visited_none c.loop-item.rank c.loop-item.item-iterator c.in-None.ensures.steps.0) ∙ append-nil done.0 in
     rw whole done.2

@@ -11,7 +11,8 @@ pub returns-in-Ok-clause-sent : goal.returns-in-Ok-clause-sent
 unfolding fault_line
 returns-in-Ok-clause-sent g c =
     let taken = g.W.Sink.taken in
-    let at = got-map string_bytes c.args.names.now c.args.fault.now.input c.index-names-fault.result (got c.args.names.now c.args.fault.now.input c.index-names-fault.result c.requires.named c.index-names-fault.is) in
+    let at = got-map string_bytes c.args.names.now c.args.fault.now.input c.index-names-fault.result
+    (got c.args.names.now c.args.fault.now.input c.index-names-fault.result c.requires.named c.index-names-fault.is) in
     let line = ap (λ (o : Option (List ℕ)). name_written o ++ placed c.args.fault.now) at ∙ ap (λ (l : List ℕ). l ++ placed c.args.fault.now) (sym c.as_str.ensures.value) in
     subst (Appends (taken c.args.out.now) (taken c.write_named.new.out)) (sym line) c.in-Ok.ensures.sent
 
@@ -19,6 +20,7 @@ pub returns-in-Err-clause-sent : goal.returns-in-Err-clause-sent
 unfolding fault_line
 returns-in-Err-clause-sent g c =
     let taken = g.W.Sink.taken in
-    let at = got-map string_bytes c.args.names.now c.args.fault.now.input c.index-names-fault.result (got c.args.names.now c.args.fault.now.input c.index-names-fault.result c.requires.named c.index-names-fault.is) in
+    let at = got-map string_bytes c.args.names.now c.args.fault.now.input c.index-names-fault.result
+    (got c.args.names.now c.args.fault.now.input c.index-names-fault.result c.requires.named c.index-names-fault.is) in
     let line = ap (λ (o : Option (List ℕ)). name_written o ++ placed c.args.fault.now) at ∙ ap (λ (l : List ℕ). l ++ placed c.args.fault.now) (sym c.as_str.ensures.value) in
     subst (AppendsPrefix (taken c.args.out.now) (taken c.write_named.new.out)) (sym line) c.in-Err.ensures.sent

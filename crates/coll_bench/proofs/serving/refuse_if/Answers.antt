@@ -9,7 +9,8 @@ pub returns-in-Some-clause-sent : goal.returns-in-Some-clause-sent
 unfolding refused_lines
 returns-in-Some-clause-sent g c =
     let taken = g.W.Sink.taken in
-    rw c.in-Some.is (subst (λ (bytes : List ℕ). Sends (taken c.args.output.now) (taken c.refuse.new.out) bytes c.refuse.result) (ap refused_line c.from.ensures ∙ sym (append-nil (refused_line (fault_of c.in-Some.at.fault)))) c.refuse.ensures.sent)
+    rw c.in-Some.is (subst (λ (bytes : List ℕ). Sends (taken c.args.output.now) (taken c.refuse.new.out) bytes c.refuse.result)
+    (ap refused_line c.from.ensures ∙ sym (append-nil (refused_line (fault_of c.in-Some.at.fault)))) c.refuse.ensures.sent)
 
 pub returns-in-None-clause-sent : goal.returns-in-None-clause-sent
 unfolding refused_lines

@@ -28,10 +28,12 @@ pub returns-in-None-clause-element : goal.returns-in-None-clause-element
 returns-in-None-clause-element c =
     let table = collation c.args.table.now in
     let rest = chars c.next.new.self.rest.now in
-    let first : chars c.args.text.now ≡ c.in_ok-first.first ∷ rest = chars_past_char c.args.text.now c.next.new.self.rest.now c.in_ok-first.first c.utf8.text (sym c.chars-letters.ensures.rest ∙ c.in_ok-first.ensures.steps.0) in
+    let first : chars c.args.text.now ≡ c.in_ok-first.first ∷ rest =
+    chars_past_char c.args.text.now c.next.new.self.rest.now c.in_ok-first.first c.utf8.text (sym c.chars-letters.ensures.rest ∙ c.in_ok-first.ensures.steps.0) in
     let none : FindsPrefix (c.in_ok-first.first ∷ rest) (longest_prefix (element_entry table) (c.in_ok-first.first ∷ rest) (length (c.in_ok-first.first ∷ rest))) None =
     subst (λ t. FindsPrefix t (longest_prefix (element_entry table) t (length t)) None) first c.in-None.ensures in (
       Char c.in_ok-first.first,
-      ap (elements_of table) first ∙ (begins_alone table c.lemma_well_formed.ensures.well_formed c.in_ok-first.first rest none ∙ ap (λ t. Char c.in_ok-first.first ∷ elements_of table (chars t)) (sym c.as_str.ensures)),
+      ap (elements_of table) first ∙ (begins_alone table c.lemma_well_formed.ensures.well_formed c.in_ok-first.first rest none
+          ∙ ap (λ t. Char c.in_ok-first.first ∷ elements_of table (chars t)) (sym c.as_str.ensures)),
       c.character.ensures,
     )

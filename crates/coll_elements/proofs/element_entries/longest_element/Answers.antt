@@ -21,7 +21,8 @@ prefixes-preserved c =
       prefix = (before.0 ++ here.0, before.1 ∙ (ap (λ t. before.0 ++ t) here.1 ∙ sym (append_assoc before.0 here.0 c.in-Some.later.now)));
       fits = omega (arith, one, c.prefixes.invariant.fits);
       found = λ size.
-          elim size as (λ n. n + length (chars c.in-Some.later.now) ≡ length (chars c.args.text.now) → FindsPrefix (chars c.args.text.now) (longest_prefix (element_entry (collation c.args.table.now)) (chars c.args.text.now) n) c.longer_prefix-longest.result) [
+          elim size as (λ n. n + length (chars c.in-Some.later.now) ≡ length (chars c.args.text.now)
+          → FindsPrefix (chars c.args.text.now) (longest_prefix (element_entry (collation c.args.table.now)) (chars c.args.text.now) n) c.longer_prefix-longest.result) [
             | zero ↦ λ counted. absurd (omega (arith, counted, one, c.prefixes.invariant.fits))
             | suc n ↦ λ counted. c.longer_prefix-longest.ensures n counted (c.prefixes.invariant.found n (omega (arith, counted, one)))
           ];

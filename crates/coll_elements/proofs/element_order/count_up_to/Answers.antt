@@ -11,7 +11,8 @@ halves-preserved-then-is_lt c =
       order = omega arith;
       to = omega (arith, half, c.halves.invariant.to);
       reached = c.halves.invariant.reached;
-      behind = halves_down _ c.index-ordered-middle.result _ _ _ _ _ _ _ c.requires.within c.requires.ascending (omega (arith, half, c.halves.invariant.to, c.requires.within)) c.index-ordered-middle.is c.get.ensures.bytes c.cmp.ensures c.is_lt.ensures c.if-is_lt.true c.halves.invariant.behind;
+      behind = halves_down _ c.index-ordered-middle.result _ _ _ _ _ _ _ c.requires.within c.requires.ascending (omega (arith, half, c.halves.invariant.to, c.requires.within))
+          c.index-ordered-middle.is c.get.ensures.bytes c.cmp.ensures c.is_lt.ensures c.if-is_lt.true c.halves.invariant.behind;
     }
 
 pub halves-preserved : goal.halves-preserved
@@ -21,6 +22,7 @@ halves-preserved c =
       from = omega (arith, c.halves.invariant.from);
       order = omega (arith, half);
       to = c.halves.invariant.to;
-      reached = λ _. halves_up _ c.index-ordered-middle.result _ _ _ _ _ c.requires.ascending (omega (arith, half, c.halves.invariant.to, c.requires.within)) c.index-ordered-middle.is c.get.ensures.bytes c.cmp.ensures c.is_lt.ensures c.if-is_lt.false;
+      reached = λ _. halves_up _ c.index-ordered-middle.result _ _ _ _ _ c.requires.ascending (omega (arith, half, c.halves.invariant.to, c.requires.within)) c.index-ordered-middle.is
+          c.get.ensures.bytes c.cmp.ensures c.is_lt.ensures c.if-is_lt.false;
       behind = c.halves.invariant.behind;
     }

@@ -16,7 +16,8 @@ give_up_one-requires c = record {
 pub loop-kept-preserved : goal.loop-kept-preserved
 loop-kept-preserved c = record {
   table = subst (Extends c.args.table.now) (sym c.give_up_one.ensures) (extends_on _ _ _ c.loop-kept.invariant.table (extends_without c.loop-kept.table (dropped_nodes c.in-Some.kept.change)));
-  dropped = without_first c.loop-kept.table c.give_up_one.new.table c.loop-kept.undone.items c.pop.new.self.items c.in-Some.kept c.in-Some.ensures.items c.give_up_one.ensures ∙ c.loop-kept.invariant.dropped;
+  dropped = without_first c.loop-kept.table c.give_up_one.new.table c.loop-kept.undone.items c.pop.new.self.items c.in-Some.kept c.in-Some.ensures.items c.give_up_one.ensures
+      ∙ c.loop-kept.invariant.dropped;
   steps = ap (λ (t : TableValue). t.steps) c.give_up_one.ensures ∙ steps_without c.loop-kept.table _ ∙ c.loop-kept.invariant.steps;
   loose = subst (λ (t : TableValue). AreLoose t.layout (added_by_all (reverse c.pop.new.self.items))) (sym c.give_up_one.ensures)
       (loose_later c.loop-kept.table (dropped_nodes c.in-Some.kept.change) (added_by_all (reverse c.pop.new.self.items))

@@ -13,7 +13,8 @@ renew-kept-requires c =
     let k = c.take_last.result in
     let rest = c.take_last.new.self.items in
     record {
-      loose = loose_first c.pairs.table.layout (dropped_nodes k.change) (added_by_all (reverse rest)) (in_order c.pairs.table.layout c.pairs.undone.items rest k c.take_last.ensures.items c.pairs.invariant.loose);
+      loose = loose_first c.pairs.table.layout (dropped_nodes k.change) (added_by_all (reverse rest))
+          (in_order c.pairs.table.layout c.pairs.undone.items rest k c.take_last.ensures.items c.pairs.invariant.loose);
     }
 
 pub pairs-preserved : goal.pairs-preserved
@@ -24,8 +25,10 @@ pairs-preserved c =
       table = subst (Extends c.args.table.now) (sym c.renew-kept.ensures.table) (extends_on _ _ _ c.pairs.invariant.table (extends_without c.pairs.table (dropped_nodes k.change)));
       dropped = without_first c.pairs.table c.renew-kept.new.table c.pairs.undone.items rest k c.take_last.ensures.items c.renew-kept.ensures.table ∙ c.pairs.invariant.dropped;
       loose = subst (λ (t : TableValue). AreLoose t.layout (added_by_all (reverse rest))) (sym c.renew-kept.ensures.table)
-          (loose_later c.pairs.table (dropped_nodes k.change) (added_by_all (reverse rest)) (in_order c.pairs.table.layout c.pairs.undone.items rest k c.take_last.ensures.items c.pairs.invariant.loose));
-      whole = paired_next c.pairs.remaining.items c.push_reserved.new.self.items c.pairs.undone.items rest c.pairs.fresh.items c.pop.new.self.items k c.renew-kept.result c.in-Some.change c.take_last.ensures.items c.in-Some.ensures.items c.renew-kept.ensures.kept c.push_reserved.ensures.items
+          (loose_later c.pairs.table (dropped_nodes k.change) (added_by_all (reverse rest))
+          (in_order c.pairs.table.layout c.pairs.undone.items rest k c.take_last.ensures.items c.pairs.invariant.loose));
+      whole = paired_next c.pairs.remaining.items c.push_reserved.new.self.items c.pairs.undone.items rest c.pairs.fresh.items c.pop.new.self.items k c.renew-kept.result c.in-Some.change
+          c.take_last.ensures.items c.in-Some.ensures.items c.renew-kept.ensures.kept c.push_reserved.ensures.items
           ∙ c.pairs.invariant.whole;
       count = omega (arith, c.pairs.invariant.count, c.in-Some.ensures.cases, c.take_last.ensures.len);
       len = omega (arith, c.pairs.invariant.len, c.in-Some.ensures.cases, c.push_reserved.ensures.len);

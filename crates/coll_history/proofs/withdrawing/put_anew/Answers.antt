@@ -9,7 +9,8 @@ use Rattle.coll_history.specs.Kept.{uncounted}
 use Rattle.coll_history.specs.Withdrawing.{CanGiveBack, IsRebuilt, given_back, paired, with_record}
 use Rattle.coll_history.proofs.GivenUp.{extends_self}
 use Rattle.coll_history.proofs.HistorySteps.{accepts, collation_uncounted, Accepts}
-use Rattle.coll_history.proofs.RebuiltTables.{back_more, back_none, can_more, can_none, comes_first, first_proper, goes_on_with, is_made, none_left, paired_more, paired_none, rebuilt_more, rebuilt_none, stops_at, unpaired, unpaired_all, unpaired_less}
+use Rattle.coll_history.proofs.RebuiltTables.{back_more, back_none, can_more, can_none, comes_first, first_proper, goes_on_with, is_made, none_left}
+use Rattle.coll_history.proofs.RebuiltTables.{paired_more, paired_none, rebuilt_more, rebuilt_none, stops_at, unpaired, unpaired_all, unpaired_less}
 use Rattle.coll_history.proofs.withdrawing.put_anew.Goals as goal
 
 pub anew-init : goal.anew-init
@@ -51,20 +52,24 @@ anew-preserved c =
     let grown = c.push_reserved.ensures.items in
     let proper = first_proper c.anew.left.now rest k c.in-Some.ensures.cases.0 c.anew.invariant.proper in
     let a : Accepts (uncounted table) (uncounted after) (uncounted after) (with_record k change) =
-    accepts table after after (with_record k change) c.lemma_well_formed.ensures.table c.lemma_well_formed-in-Some.ensures.table c.lemma_well_formed-in-Some.ensures.table proper.0 c.in-Ok.ensures.ok c.in-Ok.ensures.in_force c.in-Ok.ensures.fits c.in-Ok.ensures.back c.in-Ok.ensures.steps (extends_self after) in
+    accepts table after after (with_record k change) c.lemma_well_formed.ensures.table c.lemma_well_formed-in-Some.ensures.table c.lemma_well_formed-in-Some.ensures.table proper.0 c.in-Ok.ensures.ok
+    c.in-Ok.ensures.in_force c.in-Ok.ensures.fits c.in-Ok.ensures.back c.in-Ok.ensures.steps (extends_self after) in
     let next : unpaired all fresh ≡ k ∷ reverse rest = c.anew.invariant.unpaired ∙ comes_first c.anew.left.now rest k c.in-Some.ensures.cases.0 in
     record {
-      can = subst (λ (rs : List Record). CanGiveBack (uncounted after) (reverse rs)) (sym grown) (can_more table after fresh change c.in-Ok.ensures.in_force c.in-Ok.ensures.fits c.in-Ok.ensures.added c.anew.invariant.can);
+      can = subst (λ (rs : List Record). CanGiveBack (uncounted after) (reverse rs)) (sym grown)
+          (can_more table after fresh change c.in-Ok.ensures.in_force c.in-Ok.ensures.fits c.in-Ok.ensures.added c.anew.invariant.can);
       back = ap (λ (rs : List Record). given_back (uncounted after) (reverse rs)) grown ∙ back_more table after fresh change c.in-Ok.ensures.added ∙ c.anew.invariant.back;
       rebuilt = subst (IsRebuilt old (uncounted after)) (sym (ap (paired all) grown ∙ paired_more all (reverse rest) fresh k change next))
-          (rebuilt_more c.lemma_records_turn_back.ensures c.lemma_records_fit_wider.ensures c.lemma_records_fit_narrower.ensures c.lemma_wider_tables_read_alike.ensures old (uncounted table) (uncounted after) (paired all fresh) (with_record k change) c.anew.invariant.rebuilt a c.in-Ok.ensures.loose);
+          (rebuilt_more c.lemma_records_turn_back.ensures c.lemma_records_fit_wider.ensures c.lemma_records_fit_narrower.ensures c.lemma_wider_tables_read_alike.ensures old (uncounted table)
+          (uncounted after) (paired all fresh) (with_record k change) c.anew.invariant.rebuilt a c.in-Ok.ensures.loose);
       unpaired = ap (unpaired all) grown ∙ unpaired_less all (reverse rest) fresh k change next;
       proper = proper.1;
       count = omega (arith, c.push_reserved.ensures.len, c.in-Some.ensures.cases.1, c.anew.invariant.count);
       number = omega (arith, c.push_reserved.ensures.len, c.anew.invariant.number);
       same = λ left_out below.
           c.anew.invariant.same left_out below
-          ∙ goes_on_with left_out c.anew.number (collation (uncounted table)) (collation (uncounted after)) c.anew.left.now rest k c.in-Some.ensures.cases.0 (omega (arith, c.anew.invariant.number, below)) a.accepted;
+          ∙ goes_on_with left_out c.anew.number (collation (uncounted table)) (collation (uncounted after)) c.anew.left.now rest k c.in-Some.ensures.cases.0
+          (omega (arith, c.anew.invariant.number, below)) a.accepted;
       room = c.push_reserved.ensures.capacity ∙ c.anew.invariant.room;
     }
 

@@ -17,7 +17,8 @@ invariant-anew l = record {
   proper : AreProper (reverse l.left);
   count : vec_len l.fresh + length l.left ≡ length l.later;
   number : l.number ≡ l.first + vec_len l.fresh;
-  same : (left_out : ℕ) → left_out < l.first → withdrawn_from left_out l.first (collation (uncounted l.initial.table)) (statements_of (reverse l.later)) ≡ withdrawn_from left_out l.number (collation (uncounted l.table)) (statements_of (reverse l.left));
+  same : (left_out : ℕ) → left_out < l.first → withdrawn_from left_out l.first (collation (uncounted l.initial.table)) (statements_of (reverse l.later))
+      ≡ withdrawn_from left_out l.number (collation (uncounted l.table)) (statements_of (reverse l.left));
   room : vec_capacity l.fresh ≡ vec_capacity l.initial.fresh;
 }
 

@@ -11,7 +11,8 @@ invariant-up l = record {
   within : l.left ≤ l.count;
   leads : Leads (uncounted l.table) l.remaining.items;
   leads_on : LeadsOn (uncounted l.table) (reverse l.undone.items);
-  lowered : (high : History) → IsLowered high (history_of (uncounted l.initial.table) l.initial.remaining.items l.initial.undone.items) l.count → IsLowered high (history_of (uncounted l.table) l.remaining.items l.undone.items) l.left;
+  lowered : (high : History) → IsLowered high (history_of (uncounted l.initial.table) l.initial.remaining.items l.initial.undone.items) l.count
+      → IsLowered high (history_of (uncounted l.table) l.remaining.items l.undone.items) l.left;
   up : raised l.left (uncounted l.table) (reverse l.undone.items) ≡ raised l.count (uncounted l.initial.table) (reverse l.initial.undone.items);
   remaining_len : vec_len l.remaining + l.left ≡ vec_len l.initial.remaining + l.count;
   undone_len : vec_len l.undone + l.count ≡ vec_len l.initial.undone + l.left;

@@ -16,7 +16,8 @@ give_up_one-requires c =
     let k = c.take_last.result in
     let rest = c.take_last.new.self.items in
     record {
-      loose = loose_first c.args.table.now.layout (dropped_nodes k.change) (added_by_all (reverse rest)) (in_order c.args.table.now.layout c.args.undone.now.items rest k c.take_last.ensures.items c.requires.loose);
+      loose = loose_first c.args.table.now.layout (dropped_nodes k.change) (added_by_all (reverse rest))
+          (in_order c.args.table.now.layout c.args.undone.now.items rest k c.take_last.ensures.items c.requires.loose);
     }
 
 pub pair-requires-clause-loose : goal.pair-requires-clause-loose
@@ -35,7 +36,8 @@ returns-clause-table c =
 pub returns-clause-remaining : goal.returns-clause-remaining
 returns-clause-remaining c = λ rest last e.
     c.pair.ensures.remaining
-    ∙ ap (λ (ks : List Kept). c.args.remaining.now.items ++ paired ks (reverse c.reverse.new.self.items)) (same_prefix c.take_last.new.self.items rest c.take_last.result last (sym c.take_last.ensures.items ∙ e))
+    ∙ ap (λ (ks : List Kept). c.args.remaining.now.items ++ paired ks (reverse c.reverse.new.self.items))
+    (same_prefix c.take_last.new.self.items rest c.take_last.result last (sym c.take_last.ensures.items ∙ e))
     ∙ ap (λ (rs : List Record). c.args.remaining.now.items ++ paired (reverse rest) rs) (ap reverse c.reverse.ensures.items ∙ reverse-reverse c.args.fresh.now.items)
 
 pub returns-clause-dropped : goal.returns-clause-dropped

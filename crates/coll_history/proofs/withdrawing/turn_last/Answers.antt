@@ -18,5 +18,6 @@ returns-clause-turned c =
       kept_turned = k1;
       from_is = c.take_last-kept.ensures.items;
       onto_is = c.push_reserved.ensures.items;
-      is_turned = is_turned c.lemma_records_turn_back.ensures c.args.table.now c.flip.new.self k k1 c.lemma_well_formed.ensures.table (c.requires.fits c.take_last-kept.new.self.items k c.take_last-kept.ensures.items) refl c.flip.ensures.turned c.flip.ensures.record;
+      is_turned = is_turned c.lemma_records_turn_back.ensures c.args.table.now c.flip.new.self k k1 c.lemma_well_formed.ensures.table
+          (c.requires.fits c.take_last-kept.new.self.items k c.take_last-kept.ensures.items) refl c.flip.ensures.turned c.flip.ensures.record;
     }

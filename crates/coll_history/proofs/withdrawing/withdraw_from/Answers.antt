@@ -16,8 +16,10 @@ rebuild-requires-clause-proper c = later_proper (uncounted c.take_down.new.table
 
 pub returns-in-Err-clause-refused : goal.returns-in-Err-clause-refused
 returns-in-Err-clause-refused c = λ other.
-    judged_anew (history_of (uncounted c.args.table.now) c.args.remaining.now.items c.args.undone.now.items) (uncounted c.take_down.new.table) c.take_down.new.remaining.items c.take_down.new.undone.items c.before_last.result.now c.args.number c.args.later (Err c.in-Err.fault)
-    c.take_down.ensures.leads c.take_down.ensures.lowered c.before_last.ensures.count (subst (λ (ks : List Kept). StandsBeforeLast ks c.before_last.result.now) c.deref.ensures.value c.before_last.ensures.parts)
+    judged_anew (history_of (uncounted c.args.table.now) c.args.remaining.now.items c.args.undone.now.items) (uncounted c.take_down.new.table) c.take_down.new.remaining.items
+    c.take_down.new.undone.items c.before_last.result.now c.args.number c.args.later (Err c.in-Err.fault)
+    c.take_down.ensures.leads c.take_down.ensures.lowered c.before_last.ensures.count
+    (subst (λ (ks : List Kept). StandsBeforeLast ks c.before_last.result.now) c.deref.ensures.value c.before_last.ensures.parts)
     (omega (arith, c.take_down.ensures.remaining_len, c.requires.later, c.take_down.new.remaining.ok.0))
     (c.in-Err.ensures.refused other c.args.number (lt-add-one c.args.number))
 
@@ -25,11 +27,13 @@ pub returns-in-Err-clause-unchanged : goal.returns-in-Err-clause-unchanged
 returns-in-Err-clause-unchanged c =
     let high = history_of (uncounted c.args.table.now) c.args.remaining.now.items c.args.undone.now.items in
     c.put_up.ensures.lowered high
-    (subst (λ (t : TableValue). IsLowered high (history_of t c.take_down.new.remaining.items c.take_down.new.undone.items) (c.args.later + 1)) (sym c.in-Err.ensures.unchanged) c.take_down.ensures.lowered)
+    (subst (λ (t : TableValue). IsLowered high (history_of t c.take_down.new.remaining.items c.take_down.new.undone.items) (c.args.later + 1)) (sym c.in-Err.ensures.unchanged)
+    c.take_down.ensures.lowered)
 
 pub settle-requires-clause-loose : goal.settle-requires-clause-loose
 settle-requires-clause-loose c =
-    loose_rebuilt c.lemma_records_turn_back.ensures c.lemma_undone_records_put_in.ensures (uncounted c.take_down.new.table) (uncounted c.rebuild.new.table) c.take_down.new.undone.items _ (table_uncounted c.take_down.new.table c.lemma_well_formed.ensures.table) c.take_down.ensures.leads_on c.in_default.ensures.rebuilt
+    loose_rebuilt c.lemma_records_turn_back.ensures c.lemma_undone_records_put_in.ensures (uncounted c.take_down.new.table) (uncounted c.rebuild.new.table) c.take_down.new.undone.items _
+    (table_uncounted c.take_down.new.table c.lemma_well_formed.ensures.table) c.take_down.ensures.leads_on c.in_default.ensures.rebuilt
 
 -- the later statements stand before the last one that was taken back
 parts_of : (c : goal.After-lemma_well_formed-3) → StandsBeforeLast c.take_down.new.undone.items c.before_last.result.now
@@ -40,7 +44,8 @@ remaining_is : (c : goal.After-lemma_well_formed-3) → c.settle.new.remaining.i
 remaining_is c =
     let p = parts_of c in
     c.settle.ensures.remaining (p.earlier ++ c.before_last.result.now) p.last p.parts
-    ∙ ap (λ (ks : List Kept). c.take_down.new.remaining.items ++ ks) (paired_later c.before_last.result.now p.earlier c.rebuild.new.fresh.items (omega (arith, c.in_default.ensures.count, c.rebuild.new.fresh.ok.0)))
+    ∙ ap (λ (ks : List Kept). c.take_down.new.remaining.items ++ ks)
+    (paired_later c.before_last.result.now p.earlier c.rebuild.new.fresh.items (omega (arith, c.in_default.ensures.count, c.rebuild.new.fresh.ok.0)))
 
 settled : (c : goal.After-lemma_well_formed-3) → LeadsSettled (uncounted c.settle.new.table) (uncounted c.take_down.new.table) c.settle.new.remaining.items c.take_down.new.remaining.items
 settled c =
@@ -66,5 +71,6 @@ returns-clause-withdrawn c =
     judged_anew high low c.take_down.new.remaining.items c.take_down.new.undone.items c.before_last.result.now c.args.number c.args.later (Ok (collation (uncounted c.rebuild.new.table)))
     c.take_down.ensures.leads c.take_down.ensures.lowered c.before_last.ensures.count (parts_of c) place
     (c.in_default.ensures.accepted c.args.number (lt-add-one c.args.number))
-    ∙ ap Ok (sym (settled_history high low (uncounted c.settle.new.table) c.take_down.new.remaining.items c.take_down.new.undone.items c.before_last.result.now c.settle.new.remaining.items c.settle.new.undone.items c.rebuild.new.fresh.items c.args.number c.args.later
+    ∙ ap Ok (sym (settled_history high low (uncounted c.settle.new.table) c.take_down.new.remaining.items c.take_down.new.undone.items c.before_last.result.now c.settle.new.remaining.items
+    c.settle.new.undone.items c.rebuild.new.fresh.items c.args.number c.args.later
     c.take_down.ensures.lowered c.before_last.ensures.count (parts_of c) place fresh_len (remaining_is c) c.settle.ensures.undone (settled c).start))

@@ -19,7 +19,8 @@ level_order-requires-clause-few_others c =
 pub loop-level-preserved : goal.loop-level-preserved
 loop-level-preserved c =
     let ranks = c.args.ranks.now in
-    order_goes_on (part_numbers ranks.compiled) (parts_of ranks (chars c.args.text.now)) (parts_of ranks (chars c.args.other.now)) c.loop-level.level c.rules-rule-items.result.now _ _ c.in_ok-order.order _ c.rules-rule-items.ensures c.loop-level-test.true c.if-is_ne.ensures c.in_ok-order.ensures.ok c.loop-level.invariant
+    order_goes_on (part_numbers ranks.compiled) (parts_of ranks (chars c.args.text.now)) (parts_of ranks (chars c.args.other.now)) c.loop-level.level c.rules-rule-items.result.now _ _
+    c.in_ok-order.order _ c.rules-rule-items.ensures c.loop-level-test.true c.if-is_ne.ensures c.in_ok-order.ensures.ok c.loop-level.invariant
 
 pub returns-then-is_ne-clause-ok : goal.returns-then-is_ne-clause-ok
 returns-then-is_ne-clause-ok c =
@@ -28,7 +29,8 @@ returns-then-is_ne-clause-ok c =
     let parts = parts_of ranks (chars c.args.text.now) in
     let others = parts_of ranks (chars c.args.other.now) in
     let by_parts = order_by_parts ranks table c.requires c.lemma_well_formed.ensures.well_formed (chars c.args.text.now) (chars c.args.other.now) in
-    let decided = order_decided (part_numbers ranks.compiled) parts others c.loop-level.level c.rules-rule-items.result.now table.rules _ c.in_ok-order.order c.rules-rule-items.ensures c.loop-level-test.true c.if-is_ne.ensures c.in_ok-order.ensures.ok in
+    let decided = order_decided (part_numbers ranks.compiled) parts others c.loop-level.level c.rules-rule-items.result.now table.rules _ c.in_ok-order.order c.rules-rule-items.ensures
+    c.loop-level-test.true c.if-is_ne.ensures c.in_ok-order.ensures.ok in
     sym (by_parts ∙ c.loop-level.invariant ∙ decided)
 
 pub returns-clause-ok : goal.returns-clause-ok

@@ -16,7 +16,12 @@ use Rattle.coll_key.proofs.keys.key.Goals as goal
 pub key_of_rows-requires : goal.key_of_rows-requires
 key_of_rows-requires c =
     let ranks = c.args.ranks.now in
-    omega (arith, ap length (c.deref.ensures.value ∙ c.in_ok-rows.ensures.ok), length-map (parts_of ranks (chars c.args.text.now)) (row_of ranks.compiled), few_parts ranks (chars c.args.text.now) c.in_ok-rows.ensures.short)
+    omega (
+      arith,
+      ap length (c.deref.ensures.value ∙ c.in_ok-rows.ensures.ok),
+      length-map (parts_of ranks (chars c.args.text.now)) (row_of ranks.compiled),
+      few_parts ranks (chars c.args.text.now) c.in_ok-rows.ensures.short,
+    )
 
 pub returns-clause-ok : goal.returns-clause-ok
 returns-clause-ok c =
@@ -24,7 +29,8 @@ returns-clause-ok c =
     let parts = parts_of ranks (chars c.args.text.now) in
     let are : c.deref.result.now ≡ map (row_of c.weights.result.now) parts = c.deref.ensures.value ∙ c.in_ok-rows.ensures.ok ∙ ap (λ w. map (row_of w) parts) (sym c.weights.ensures) in
     let made = c.in_ok-key-2.ensures ∙ ap (flat_map ended) (lists_by_rows c.weights.result.now c.deref.result.now parts are c.rules-2.result.now) in
-    key_is_made ranks (collation c.args.table.now) c.requires c.lemma_well_formed.ensures.well_formed (chars c.args.text.now) c.weights.result.now c.rules-2.result.now parts c.in_ok-key-2.key.items c.weights.ensures c.rules-2.ensures refl made
+    key_is_made ranks (collation c.args.table.now) c.requires c.lemma_well_formed.ensures.well_formed (chars c.args.text.now) c.weights.result.now c.rules-2.result.now parts c.in_ok-key-2.key.items
+    c.weights.ensures c.rules-2.ensures refl made
 
 pub returns-clause-form : goal.returns-clause-form
 returns-clause-form c =
@@ -35,7 +41,8 @@ pub returns-then-text-le-MOST_WORD_BYTES-clause-ok : goal.returns-then-text-le-M
 returns-then-text-le-MOST_WORD_BYTES-clause-ok c =
     let ranks = c.args.ranks.now in
     let text = chars c.args.text.now in
-    key_is_made ranks (collation c.args.table.now) c.requires c.lemma_well_formed.ensures.well_formed text ranks.compiled c.rules.result.now (parts_of ranks text) c.in_ok-key.key.items refl c.rules.ensures refl c.in_ok-key.ensures
+    key_is_made ranks (collation c.args.table.now) c.requires c.lemma_well_formed.ensures.well_formed text ranks.compiled c.rules.result.now (parts_of ranks text) c.in_ok-key.key.items refl
+    c.rules.ensures refl c.in_ok-key.ensures
 
 pub returns-then-text-le-MOST_WORD_BYTES-clause-form : goal.returns-then-text-le-MOST_WORD_BYTES-clause-form
 returns-then-text-le-MOST_WORD_BYTES-clause-form c =

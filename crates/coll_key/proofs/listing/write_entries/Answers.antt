@@ -2,7 +2,7 @@
 use Rattle.std.proofs.Common.{List, ℕ, ◌++◌, codes, ap}
 use Rattle.coll_nodes.specs.TableLayout.{collation}
 use Rattle.coll_nodes.specs.Walks.{entries_visited}
-use Rattle.coll_print.proofs.PrintedParts.{stops_first, writes_rest}
+use Rattle.coll_texts.proofs.PrintedParts.{stops_first, writes_rest}
 use Rattle.coll_key.specs.CompiledListing.{listed_undefined}
 use Rattle.coll_key.specs.ListingParts.{entries_part, ranked_lines}
 use Rattle.coll_key.proofs.ListedLines.{fit_visited, lines_are_listed}
@@ -21,12 +21,15 @@ returns-in_err-write_walk-clause-sent g c =
     let table = collation c.args.table.now in
     let rest = listed_undefined table ++ codes "end\n" in
     stops_first (taken c.args.out.now) (taken c.write_walk.new.out) (entries_part table) (ranked_lines c.args.ranks.now 1 (entries_visited c.walk.result)) rest c.from_residual.result
-    (ap (λ (lines : List ℕ). lines ++ rest) (lines_are_listed c.args.ranks.now table c.requires c.lemma_well_formed.ensures.well_formed c.walk.result c.walk.ensures)) c.from_residual.ensures.0 c.in_err-write_walk.ensures.sent
+    (ap (λ (lines : List ℕ). lines ++ rest) (lines_are_listed c.args.ranks.now table c.requires c.lemma_well_formed.ensures.well_formed c.walk.result c.walk.ensures)) c.from_residual.ensures.0
+    c.in_err-write_walk.ensures.sent
 
 pub returns-clause-sent : goal.returns-clause-sent
 returns-clause-sent g c =
     let taken = g.W.Sink.taken in
     let table = collation c.args.table.now in
     let rest = listed_undefined table ++ codes "end\n" in
-    writes_rest (taken c.args.out.now) (taken c.write_walk.new.out) (taken c.write_end.new.out) (entries_part table) (ranked_lines c.args.ranks.now 1 (entries_visited c.walk.result)) rest c.write_end.result
-    (ap (λ (lines : List ℕ). lines ++ rest) (lines_are_listed c.args.ranks.now table c.requires c.lemma_well_formed.ensures.well_formed c.walk.result c.walk.ensures)) c.in_ok-write_walk.ensures.sent c.write_end.ensures.sent
+    writes_rest (taken c.args.out.now) (taken c.write_walk.new.out) (taken c.write_end.new.out) (entries_part table) (ranked_lines c.args.ranks.now 1 (entries_visited c.walk.result)) rest
+    c.write_end.result
+    (ap (λ (lines : List ℕ). lines ++ rest) (lines_are_listed c.args.ranks.now table c.requires c.lemma_well_formed.ensures.well_formed c.walk.result c.walk.ensures)) c.in_ok-write_walk.ensures.sent
+    c.write_end.ensures.sent

@@ -1,7 +1,7 @@
 -- What is written and what is left are the whole.
 use Rattle.std.proofs.Common.{◌≡◌, drop}
 use Rattle.coll_key.specs.ListingParts.{spaced_number}
-use Rattle.coll_print.proofs.PrintedParts.{HasWritten}
+use Rattle.coll_texts.proofs.PrintedParts.{HasWritten}
 use Rattle.coll_key.proofs.listing.write_numbers.Given as goal
 
 abbrev pub invariant-loop-number : goal.invariant-loop-number

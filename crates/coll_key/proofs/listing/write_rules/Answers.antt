@@ -3,7 +3,7 @@ use Rattle.std.proofs.Common.{◌+◌, drop, get_or, false, ◌∙◌}
 use Rattle.std.proofs.lemmas.List.{drop_more}
 use Rattle.coll_key.specs.CompiledListing.{listed_rule}
 use Rattle.coll_syntax.specs.declared.rules.Rule.{Rule}
-use Rattle.coll_print.proofs.PrintedParts.{written_prefix, written_more}
+use Rattle.coll_texts.proofs.PrintedParts.{written_prefix, written_more}
 use Rattle.coll_key.proofs.listing.write_rules.Goals as goal
 
 pub returns-in-Err-clause-sent : goal.returns-in-Err-clause-sent

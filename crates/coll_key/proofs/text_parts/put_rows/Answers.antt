@@ -28,7 +28,8 @@ pub parts-preserved : goal.parts-preserved
 parts-preserved c =
     let bytes = length-le-encodes (chars c.args.text.now) in
     let all = ap length (encodes-chars c.args.text.now c.utf8.text) in
-    let below : c.parts.count < length c.parts.rows = omega (arith, bytes, all, c.requires.places, c.parts.invariant.places, c.parts.invariant.few, c.in-Some.ensures.characters, c.in-Some.ensures.some) in
+    let below : c.parts.count < length c.parts.rows =
+    omega (arith, bytes, all, c.requires.places, c.parts.invariant.places, c.parts.invariant.few, c.in-Some.ensures.characters, c.in-Some.ensures.some) in
     let rows = map (row_of c.args.ranks.now.compiled) in
     let rest = rows (parts_of c.args.ranks.now (chars c.in-Some.first.rest.now)) in
     let before = take c.parts.count c.parts.rows in

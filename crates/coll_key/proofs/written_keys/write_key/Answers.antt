@@ -28,4 +28,5 @@ returns-clause-sent g c =
     let begins = joined_by_spaces (level_words first.position level) in
     let rest = flat_map behind_space (key_words later left) in
     let parts = key_parts c.args.rules.now later first c.args.key.now level left c.in-Some.ensures.cases.0 c.split_level.ensures.level c.split_level.ensures.later in
-    writes_rest (taken c.args.out.now) (taken c.write_level.new.out) (taken c.write_later_levels.new.out) whole begins rest c.write_later_levels.result parts c.in_ok-write_level.ensures.sent c.write_later_levels.ensures.sent
+    writes_rest (taken c.args.out.now) (taken c.write_level.new.out) (taken c.write_later_levels.new.out) whole begins rest c.write_later_levels.result parts c.in_ok-write_level.ensures.sent
+    c.write_later_levels.ensures.sent

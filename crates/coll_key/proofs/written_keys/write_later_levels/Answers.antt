@@ -17,7 +17,9 @@ returns-in-Err-clause-sent g c =
     let level = c.split_level.result.0.now in
     let later = c.split_level.result.1.now in
     let none : Rule = record { backward = false; position = false } in
-    left_prefix (flat_map behind_space (key_words rules c.args.key.now)) (flat_map behind_space (key_words (drop i rules) left)) (space ∷ joined_by_spaces (level_words (get_or rules i none).position level)) (flat_map behind_space (key_words (drop (i + 1) rules) later)) (taken c.args.out.now) (taken c.loop-rule.out) (taken c.write_level_behind.new.out)
+    left_prefix (flat_map behind_space (key_words rules c.args.key.now)) (flat_map behind_space (key_words (drop i rules) left))
+    (space ∷ joined_by_spaces (level_words (get_or rules i none).position level)) (flat_map behind_space (key_words (drop (i + 1) rules) later)) (taken c.args.out.now) (taken c.loop-rule.out)
+    (taken c.write_level_behind.new.out)
     (levels_left rules i none c.loop-rule-test.true left level later c.split_level.ensures.level c.split_level.ensures.later) c.loop-rule.invariant.sent c.in-Err.ensures.sent
 
 pub loop-rule-preserved : goal.loop-rule-preserved
@@ -30,7 +32,9 @@ loop-rule-preserved g c =
     let later = c.split_level.result.1.now in
     let none : Rule = record { backward = false; position = false } in
     record {
-      sent = left_less (flat_map behind_space (key_words rules c.args.key.now)) (flat_map behind_space (key_words (drop i rules) left)) (space ∷ joined_by_spaces (level_words (get_or rules i none).position level)) (flat_map behind_space (key_words (drop (i + 1) rules) later)) (taken c.args.out.now) (taken c.loop-rule.out) (taken c.write_level_behind.new.out)
+      sent = left_less (flat_map behind_space (key_words rules c.args.key.now)) (flat_map behind_space (key_words (drop i rules) left))
+          (space ∷ joined_by_spaces (level_words (get_or rules i none).position level)) (flat_map behind_space (key_words (drop (i + 1) rules) later)) (taken c.args.out.now) (taken c.loop-rule.out)
+          (taken c.write_level_behind.new.out)
           (levels_left rules i none c.loop-rule-test.true left level later c.split_level.ensures.level c.split_level.ensures.later) c.loop-rule.invariant.sent c.in_default.ensures.sent;
       count = c.in_default.ensures.errors ∙ c.loop-rule.invariant.count;
     }

@@ -14,4 +14,5 @@ pub returns-clause-sent : goal.returns-clause-sent
 returns-clause-sent g c =
     let taken = g.W.Sink.taken in
     let level = joined_by_spaces (level_words c.args.position c.args.level.now) in
-    writes_rest (taken c.args.out.now) (taken c.write_bytes.new.out) (taken c.write_level.new.out) (space ∷ level) (codes " ") level c.write_level.result refl c.in_ok-write_bytes.ensures.sent c.write_level.ensures.sent
+    writes_rest (taken c.args.out.now) (taken c.write_bytes.new.out) (taken c.write_level.new.out) (space ∷ level) (codes " ") level c.write_level.result refl c.in_ok-write_bytes.ensures.sent
+    c.write_level.ensures.sent

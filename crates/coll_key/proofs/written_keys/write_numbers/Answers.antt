@@ -13,7 +13,8 @@ returns-in-Err-clause-sent g c =
     let i = c.loop-number.number-index in
     let position = c.args.position in
     let at = c.loop-number.at_position in
-    left_prefix (flat_map before_space (words_of position position numbers)) (flat_map before_space (words_of position at (drop i numbers))) (before_space (word_of at (get_or numbers i 0))) (flat_map before_space (words_of position (position && not at) (drop (i + 1) numbers))) (taken c.args.out.now) (taken c.loop-number.out) (taken c.write_word.new.out)
+    left_prefix (flat_map before_space (words_of position position numbers)) (flat_map before_space (words_of position at (drop i numbers))) (before_space (word_of at (get_or numbers i 0)))
+    (flat_map before_space (words_of position (position && not at) (drop (i + 1) numbers))) (taken c.args.out.now) (taken c.loop-number.out) (taken c.write_word.new.out)
     (numbers_left position at numbers i c.loop-number-test.true) c.loop-number.invariant.sent c.in-Err.ensures.sent
 
 pub loop-number-preserved : goal.loop-number-preserved
@@ -25,7 +26,8 @@ loop-number-preserved g c =
     let at = c.loop-number.at_position in
     record {
       sent = rw c.is_next_position-at_position.ensures
-          (left_less (flat_map before_space (words_of position position numbers)) (flat_map before_space (words_of position at (drop i numbers))) (before_space (word_of at (get_or numbers i 0))) (flat_map before_space (words_of position (position && not at) (drop (i + 1) numbers))) (taken c.args.out.now) (taken c.loop-number.out) (taken c.write_word.new.out)
+          (left_less (flat_map before_space (words_of position position numbers)) (flat_map before_space (words_of position at (drop i numbers))) (before_space (word_of at (get_or numbers i 0)))
+          (flat_map before_space (words_of position (position && not at) (drop (i + 1) numbers))) (taken c.args.out.now) (taken c.loop-number.out) (taken c.write_word.new.out)
           (numbers_left position at numbers i c.loop-number-test.true) c.loop-number.invariant.sent c.in_default.ensures.sent);
       count = c.in_default.ensures.errors ∙ c.loop-number.invariant.count;
     }

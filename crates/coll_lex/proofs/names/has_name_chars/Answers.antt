@@ -11,5 +11,6 @@ use Rattle.coll_lex.proofs.names.has_name_chars.Goals as goal
 
 pub returns : goal.returns
 returns c =
-    let all = all_from_yields_List (λ x. not (is_blank x || is_control x)) _ _ c.all.result c.all.ensures.ran (YieldsList-from_chars c.args.text.now c.utf8.text cc) (λ x b q k. search (rules, tests)) in
+    let all = all_from_yields_List (λ x. not (is_blank x || is_control x)) _ _ c.all.result c.all.ensures.ran (YieldsList-from_chars c.args.text.now c.utf8.text cc)
+    (λ x b q k. search (rules, tests)) in
     all ∙ short_is_name (chars c.args.text.now) (ltb-false most_name_chars (length (chars c.args.text.now)) (sym c.is_long.ensures ∙ c.if-is_long.false))

@@ -16,4 +16,5 @@ pub returns-else-text-gt-MOST_NAME_CHARS : goal.returns-else-text-gt-MOST_NAME_C
 returns-else-text-gt-MOST_NAME_CHARS c =
     let text = c.args.text.now in
     let few : length (chars text) ≤ length text = rw (← ap length (encodes-chars text c.utf8.text)) (length-le-encodes (chars text)) in
-    le-ltb most_name_chars (length text) (omega (arith, c.if-text-gt-MOST_NAME_CHARS.false)) ∙ sym (le-ltb most_name_chars (length (chars text)) (omega (arith, few, c.if-text-gt-MOST_NAME_CHARS.false)))
+    le-ltb most_name_chars (length text) (omega (arith, c.if-text-gt-MOST_NAME_CHARS.false))
+    ∙ sym (le-ltb most_name_chars (length (chars text)) (omega (arith, few, c.if-text-gt-MOST_NAME_CHARS.false)))

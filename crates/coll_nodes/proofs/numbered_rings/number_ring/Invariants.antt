@@ -12,7 +12,8 @@ invariant-entries l =
     record {
       stands : StandsIfAny l.fn.nodes.layout l.fn.ring l.left;
       count : l.last + length (left_of l.fn.nodes.layout l.fn.ring l.left) ≡ l.fn.before + length (nodes_in l.fn.nodes.layout l.fn.ring);
-      numbers : (node : NodeId) → unwrap_or (last_number l.last (left_of l.fn.nodes.layout l.fn.ring l.left) node) (number_at l.numbers node) ≡ unwrap_or (last_number l.fn.before (nodes_in l.fn.nodes.layout l.fn.ring) node) (number_at l.fn.numbers node);
+      numbers : (node : NodeId) → unwrap_or (last_number l.last (left_of l.fn.nodes.layout l.fn.ring l.left) node) (number_at l.numbers node)
+          ≡ unwrap_or (last_number l.fn.before (nodes_in l.fn.nodes.layout l.fn.ring) node) (number_at l.fn.numbers node);
     }
 
 abbrev pub decreases-entries : goal.decreases-entries

@@ -33,10 +33,12 @@ sections-preserved c =
     let here = read_at (entry_nodes_in layout) layout c.in-Some.section in
     let later = entry_nodes_of layout (left_of layout sections_ring c.next-left.result) in
     let left : entry_nodes_of layout (left_of layout sections_ring c.sections.left) ≡ here ++ later =
-    ap (entry_nodes_of layout) (ap (left_of layout sections_ring) c.in-Some.is ∙ left_next layout sections_ring c.in-Some.section c.next-left.result c.lemma_layout.ensures there c.next-left.ensures) in
+    ap (entry_nodes_of layout) (ap (left_of layout sections_ring) c.in-Some.is
+    ∙ left_next layout sections_ring c.in-Some.section c.next-left.result c.lemma_layout.ensures there c.next-left.ensures) in
     let counted = ap length left ∙ length-append here later in
     record {
       stands = stands_next layout sections_ring c.in-Some.section c.next-left.result c.lemma_layout.ensures there c.next-left.ensures;
       count = omega (arith, counted, c.in_ok-last.ensures.count, c.sections.invariant.count);
-      numbers = λ node. section_numbered _ here later c.sections.last c.in_ok-last.last c.sections.numbers c.number_section.new.numbers left c.in_ok-last.ensures.count c.in_ok-last.ensures.numbers node ∙ c.sections.invariant.numbers node;
+      numbers = λ node. section_numbered _ here later c.sections.last c.in_ok-last.last c.sections.numbers c.number_section.new.numbers left c.in_ok-last.ensures.count c.in_ok-last.ensures.numbers
+          node ∙ c.sections.invariant.numbers node;
     }

@@ -12,7 +12,8 @@ invariant-sections l =
     record {
       stands : StandsIfAny l.fn.nodes.layout sections_ring l.left;
       count : l.last + length (entry_nodes_of l.fn.nodes.layout (left_of l.fn.nodes.layout sections_ring l.left)) ≡ length (entry_nodes l.fn.nodes.layout);
-      numbers : (node : NodeId) → unwrap_or (last_number l.last (entry_nodes_of l.fn.nodes.layout (left_of l.fn.nodes.layout sections_ring l.left)) node) (number_at l.numbers node) ≡ unwrap_or (last_number 0 (entry_nodes l.fn.nodes.layout) node) (number_at l.fn.numbers node);
+      numbers : (node : NodeId) → unwrap_or (last_number l.last (entry_nodes_of l.fn.nodes.layout (left_of l.fn.nodes.layout sections_ring l.left)) node) (number_at l.numbers node)
+          ≡ unwrap_or (last_number 0 (entry_nodes l.fn.nodes.layout) node) (number_at l.fn.numbers node);
     }
 
 abbrev pub decreases-sections : goal.decreases-sections

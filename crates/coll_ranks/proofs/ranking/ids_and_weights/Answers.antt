@@ -12,4 +12,5 @@ use Rattle.coll_ranks.proofs.ranking.ids_and_weights.Goals as goal
 pub returns-clause-ids : goal.returns-clause-ids
 returns-clause-ids c =
     subst (λ (ids : RanksById). AreIdRanksOf ids (collation c.args.table.now)) (sym c.new.ensures)
-    (ranks_of_table (collation c.args.table.now) _ c.in_ok-names.ensures c.in_ok-characters.ensures.characters (c.known_rank-undefined.ensures ∙ ap (λ (t : Collation). known_rank t Undefined) c.new-ranks.ensures))
+    (ranks_of_table (collation c.args.table.now) _ c.in_ok-names.ensures c.in_ok-characters.ensures.characters
+    (c.known_rank-undefined.ensures ∙ ap (λ (t : Collation). known_rank t Undefined) c.new-ranks.ensures))

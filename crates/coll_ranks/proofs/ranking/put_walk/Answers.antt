@@ -17,10 +17,12 @@ put_visited-requires-clause-next c =
 pub walk-preserved : goal.walk-preserved
 walk-preserved c = record {
   count = counted_visited c.walk.left c.next.new.self (visited_by c.in-Some.item) c.walk.rank _ _ c.in-Some.ensures.steps c.in_ok-rank.ensures.count c.walk.invariant.count;
-  ranks = λ character. ranked_visited c.walk.left c.next.new.self (visited_by c.in-Some.item) c.walk.rank _ (Char character) (rank_of_char c.walk.characters character) (rank_of_char c.put_visited.new.characters character) c.in-Some.ensures.steps c.in_ok-rank.ensures.count (c.in_ok-rank.ensures.ranks character) ∙ c.walk.invariant.ranks character;
+  ranks = λ character. ranked_visited c.walk.left c.next.new.self (visited_by c.in-Some.item) c.walk.rank _ (Char character) (rank_of_char c.walk.characters character)
+      (rank_of_char c.put_visited.new.characters character) c.in-Some.ensures.steps c.in_ok-rank.ensures.count (c.in_ok-rank.ensures.ranks character) ∙ c.walk.invariant.ranks character;
   levels = c.in_ok-rank.ensures.rows.levels_are ∙ c.walk.invariant.levels;
   own = c.in_ok-rank.ensures.rows.own_are ∙ c.walk.invariant.own;
-  lists = rows_more c.args.ranks.now c.walk.ranks _ c.walk.left c.next.new.self (visited_by c.in-Some.item) c.walk.weights c.put_visited.new.weights _ c.walk.invariant.same c.walk.invariant.levels c.in-Some.ensures.steps c.in_ok-rank.ensures.rows c.walk.invariant.lists;
+  lists = rows_more c.args.ranks.now c.walk.ranks _ c.walk.left c.next.new.self (visited_by c.in-Some.item) c.walk.weights c.put_visited.new.weights _ c.walk.invariant.same c.walk.invariant.levels
+      c.in-Some.ensures.steps c.in_ok-rank.ensures.rows c.walk.invariant.lists;
   same = c.put_visited.ensures.same ∙ c.walk.invariant.same;
   places = left_behind c.args.ranks.now c.walk.rank _ c.walk.left c.next.new.self (visited_by c.in-Some.item) c.in-Some.ensures.steps c.in_ok-rank.ensures.count c.walk.invariant.places;
 }

@@ -17,7 +17,8 @@ invariant-walk l =
       ranks : (c : ℕ) → option_or (last_place l.rank (entries_visited l.left) (Char c)) (rank_of_char l.characters c) ≡ last_place 0 (entries_visited l.initial.left) (Char c);
       levels : l.weights.levels ≡ l.initial.weights.levels;
       own : l.weights.own ≡ l.initial.weights.own;
-      lists : l.weights.lists ++ flat_map (compiled_entry (known_rank l.initial.ranks) l.initial.weights.levels) (entries_visited l.left) ≡ l.initial.weights.lists ++ flat_map (compiled_entry (known_rank l.initial.ranks) l.initial.weights.levels) (entries_visited l.initial.left);
+      lists : l.weights.lists ++ flat_map (compiled_entry (known_rank l.initial.ranks) l.initial.weights.levels) (entries_visited l.left)
+          ≡ l.initial.weights.lists ++ flat_map (compiled_entry (known_rank l.initial.ranks) l.initial.weights.levels) (entries_visited l.initial.left);
       same : l.ranks ≡ l.initial.ranks;
       places : entries_visited l.left ≡ drop l.rank (entries_of l.initial.ranks);
     }

@@ -6,7 +6,7 @@ use Rattle.coll_nodes.specs.Table.{Collation, entries_of, ids_of}
 use Rattle.coll_nodes.specs.TableLayout.{collation}
 use Rattle.coll_nodes.specs.Walks.{entries_visited}
 use Rattle.coll_nodes.specs.WellFormed.{AreDistinct}
-use Rattle.coll_builder.proofs.VisitedEntries.{visited_all}
+use Rattle.coll_texts.proofs.VisitedEntries.{visited_all}
 use Rattle.coll_elements.specs.Rank.{known_rank}
 use Rattle.coll_ranks.specs.Ranks.{compiled_row_by}
 use Rattle.coll_ranks.specs.WeightNumbers.{undefined_weights}
@@ -30,5 +30,7 @@ returns-clause-characters c =
 
 pub returns-clause-lists : goal.returns-clause-lists
 returns-clause-lists c =
-    let same = ap (λ (t : Collation). compiled_row_by (known_rank t) (length (collation c.args.table.now).rules) Undefined (undefined_weights (collation c.args.table.now))) (sym c.in_ok-recent.ensures) in
-    weights_of_table (collation c.args.table.now) c.in_ok-recent.recent c.walk.result _ _ _ (c.in_ok-recent.ensures ∙ c.requires) c.walk.ensures c.in_ok-weights.ensures.levels (c.in_ok-weights.ensures.lists ∙ same) c.in_ok-characters.ensures.rows.lists_are
+    let same = ap (λ (t : Collation). compiled_row_by (known_rank t) (length (collation c.args.table.now).rules) Undefined (undefined_weights (collation c.args.table.now)))
+    (sym c.in_ok-recent.ensures) in
+    weights_of_table (collation c.args.table.now) c.in_ok-recent.recent c.walk.result _ _ _ (c.in_ok-recent.ensures ∙ c.requires) c.walk.ensures c.in_ok-weights.ensures.levels
+    (c.in_ok-weights.ensures.lists ∙ same) c.in_ok-characters.ensures.rows.lists_are

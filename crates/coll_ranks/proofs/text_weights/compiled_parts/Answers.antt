@@ -14,10 +14,14 @@ loop-element-preserved c =
     let added = c.in_ok-row.ensures.rows in
     record {
       few = omega (arith, c.loop-element.invariant.few, c.in_ok-row.ensures.few);
-      parts = parts_go_on c.args.elements.now c.element-item.result c.loop-element.element-index c.loop-element.row c.in_ok-row.row c.loop-element.parts.items c.push_element.new.parts.items _ c.loop-element-test.true c.element-item.is c.in_ok-row.ensures.parts c.loop-element.invariant.parts;
+      parts = parts_go_on c.args.elements.now c.element-item.result c.loop-element.element-index c.loop-element.row c.in_ok-row.row c.loop-element.parts.items c.push_element.new.parts.items _
+          c.loop-element-test.true c.element-item.is c.in_ok-row.ensures.parts c.loop-element.invariant.parts;
       levels = added.levels_are ∙ c.loop-element.invariant.levels;
       own = added.own_are ∙ c.loop-element.invariant.own;
-      lists = rows_go_on (element_row (known_rank c.args.ranks.now) c.args.weights.now.levels) c.args.elements.now c.element-item.result c.loop-element.element-index c.loop-element.weights.lists c.push_element.new.weights.lists _ c.loop-element-test.true c.element-item.is (added.lists_are ∙ ap₂ (λ (t : Collation) (n : ℕ). c.loop-element.weights.lists ++ element_row (known_rank t) n c.element-item.result) c.loop-element.invariant.same c.loop-element.invariant.levels) c.loop-element.invariant.lists;
+      lists = rows_go_on (element_row (known_rank c.args.ranks.now) c.args.weights.now.levels) c.args.elements.now c.element-item.result c.loop-element.element-index c.loop-element.weights.lists
+          c.push_element.new.weights.lists _ c.loop-element-test.true c.element-item.is
+          (added.lists_are ∙ ap₂ (λ (t : Collation) (n : ℕ). c.loop-element.weights.lists ++ element_row (known_rank t) n c.element-item.result) c.loop-element.invariant.same
+          c.loop-element.invariant.levels) c.loop-element.invariant.lists;
       same = c.push_element.ensures.same ∙ c.loop-element.invariant.same;
     }
 
@@ -28,6 +32,7 @@ returns-clause-parts c =
 pub returns-clause-rows : goal.returns-clause-rows
 returns-clause-rows c = record {
   levels_are = c.loop-element.invariant.levels;
-  lists_are = rows_done (element_row (known_rank c.args.ranks.now) c.args.weights.now.levels) c.args.elements.now c.loop-element.element-index c.loop-element.weights.lists _ c.loop-element-test.false c.loop-element.invariant.lists;
+  lists_are = rows_done (element_row (known_rank c.args.ranks.now) c.args.weights.now.levels) c.args.elements.now c.loop-element.element-index c.loop-element.weights.lists _ c.loop-element-test.false
+      c.loop-element.invariant.lists;
   own_are = c.loop-element.invariant.own;
 }

@@ -12,6 +12,7 @@ invariant-loop-element l =
       parts : l.parts.items ++ element_parts l.row (drop l.element-index l.elements) ≡ element_parts 1 l.elements;
       levels : l.weights.levels ≡ l.initial.weights.levels;
       own : l.weights.own ≡ l.initial.weights.own;
-      lists : l.weights.lists ++ flat_map (element_row (known_rank l.initial.ranks) l.initial.weights.levels) (drop l.element-index l.elements) ≡ l.initial.weights.lists ++ flat_map (element_row (known_rank l.initial.ranks) l.initial.weights.levels) l.elements;
+      lists : l.weights.lists ++ flat_map (element_row (known_rank l.initial.ranks) l.initial.weights.levels) (drop l.element-index l.elements)
+          ≡ l.initial.weights.lists ++ flat_map (element_row (known_rank l.initial.ranks) l.initial.weights.levels) l.elements;
       same : l.ranks ≡ l.initial.ranks;
     }

@@ -15,5 +15,7 @@ returns-in-Ok-clause-taken c =
 pub returns-in-Err-clause-taken : goal.returns-in-Err-clause-taken
 returns-in-Err-clause-taken c =
     taken_starved (Some c.args.block) c.refused_inside.result.0 c.refused_inside.result.1 c.args.number c.args.order c.args.opening
-    (c.refused_inside.ensures.block ∙ ap (λ (at : FaultAt). kept_by (Some c.join.new.self) at.line (parsed.Refused c.args.opening at.fault)) c.starved_at.ensures ∙ ap (λ (b : OpenBlock). kept_by (Some b) c.args.number (no_memory c.args.opening)) c.in-Err.ensures.err)
-    (c.refused_inside.ensures.request ∙ ap (λ (at : FaultAt). kept_requests_by (Some c.join.new.self) at.line (parsed.Refused c.args.opening at.fault)) c.starved_at.ensures ∙ ap (λ (b : OpenBlock). kept_requests_by (Some b) c.args.number (no_memory c.args.opening)) c.in-Err.ensures.err)
+    (c.refused_inside.ensures.block ∙ ap (λ (at : FaultAt). kept_by (Some c.join.new.self) at.line (parsed.Refused c.args.opening at.fault)) c.starved_at.ensures
+    ∙ ap (λ (b : OpenBlock). kept_by (Some b) c.args.number (no_memory c.args.opening)) c.in-Err.ensures.err)
+    (c.refused_inside.ensures.request ∙ ap (λ (at : FaultAt). kept_requests_by (Some c.join.new.self) at.line (parsed.Refused c.args.opening at.fault)) c.starved_at.ensures
+    ∙ ap (λ (b : OpenBlock). kept_requests_by (Some b) c.args.number (no_memory c.args.opening)) c.in-Err.ensures.err)

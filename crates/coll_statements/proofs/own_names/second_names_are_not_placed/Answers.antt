@@ -10,5 +10,6 @@ use Rattle.coll_statements.proofs.own_names.second_names_are_not_placed.Goals as
 
 pub returns : goal.returns
 returns c = λ table id well second. by_test (λ b. is_placed table id ≡ b → b ≡ false) (is_placed table id)
-    (λ _ there. not_both second (known_not_second table.declared id well.built.distinct_names (found_holds same_id same_id_decides (IsKnown table.declared) (ids_of (entries_of table)) id well.built.known there)))
+    (λ _ there. not_both second (known_not_second table.declared id well.built.distinct_names
+    (found_holds same_id same_id_decides (IsKnown table.declared) (ids_of (entries_of table)) id well.built.known there)))
     (λ _ _. refl) refl

@@ -6,4 +6,5 @@ use Rattle.coll_statements.proofs.OwnStatements.{statement_same}
 use Rattle.coll_statements.proofs.own_statements.own_block.Goals as goal
 
 pub returns-then-not-block_uses_second-clause-own : goal.returns-then-not-block_uses_second-clause-own
-returns-then-not-block_uses_second-clause-own c = sym (statement_same (declared_at c.args.body.now.layout) (statement.Block c.args.target.now c.args.lines.now) (sym c.block_uses_second.ensures ∙ c.if-not-block_uses_second.true))
+returns-then-not-block_uses_second-clause-own c =
+    sym (statement_same (declared_at c.args.body.now.layout) (statement.Block c.args.target.now c.args.lines.now) (sym c.block_uses_second.ensures ∙ c.if-not-block_uses_second.true))

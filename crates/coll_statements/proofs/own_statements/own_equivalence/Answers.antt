@@ -20,9 +20,11 @@ returns-in_err-name-in-Some-clause-memory c =
 pub returns-in_ok-name-in-Some-clause-kept : goal.returns-in_ok-name-in-Some-clause-kept
 returns-in_ok-name-in-Some-clause-kept c =
     let declared = declared_at c.args.body.now.layout in
-    λ absent. not_both (meant_second declared c.args.symbol.now c.in-Some.own.now (told declared c.args.symbol.now _ _ c.get.ensures.characters c.symbol_meant.ensures ∙ ap option_copied c.in-Some.is)) absent
+    λ absent. not_both (meant_second declared c.args.symbol.now c.in-Some.own.now (told declared c.args.symbol.now _ _ c.get.ensures.characters c.symbol_meant.ensures ∙ ap option_copied c.in-Some.is))
+    absent
 
 pub returns-in-None-clause-own : goal.returns-in-None-clause-own
 returns-in-None-clause-own c =
     let declared = declared_at c.args.body.now.layout in
-    sym (ap (statement.Equivalence c.args.name.now) (not_meant_own declared c.args.symbol.now (told declared c.args.symbol.now _ _ c.get.ensures.characters c.symbol_meant.ensures ∙ ap option_copied c.in-None.is)))
+    sym (ap (statement.Equivalence c.args.name.now)
+    (not_meant_own declared c.args.symbol.now (told declared c.args.symbol.now _ _ c.get.ensures.characters c.symbol_meant.ensures ∙ ap option_copied c.in-None.is)))

@@ -6,4 +6,5 @@ use Rattle.coll_statements.proofs.OwnStatements.{statement_same}
 use Rattle.coll_statements.proofs.own_statements.own_reweight.Goals as goal
 
 pub returns-then-not-line_uses_second-clause-own : goal.returns-then-not-line_uses_second-clause-own
-returns-then-not-line_uses_second-clause-own c = sym (statement_same (declared_at c.args.body.now.layout) (statement.Reweight c.args.line.now) (sym c.line_uses_second.ensures ∙ c.if-not-line_uses_second.true))
+returns-then-not-line_uses_second-clause-own c =
+    sym (statement_same (declared_at c.args.body.now.layout) (statement.Reweight c.args.line.now) (sym c.line_uses_second.ensures ∙ c.if-not-line_uses_second.true))

@@ -12,4 +12,5 @@ loop-piece-init c = rw (c.new-text.ensures.bytes, chars-nil) (prefixed-nil (char
 pub loop-piece-preserved : goal.loop-piece-preserved
 loop-piece-preserved c =
     let e = rw c.in-Char.is at c.piece-item.is in
-    takes_char c.args.pieces.now (chars (string_bytes c.loop-piece.text)) (chars (string_bytes c.push.new.text)) c.loop-piece.piece-index c.in-Char.c c.loop-piece.invariant c.loop-piece-test.true (sym e) c.in_ok-push-in-Char.ensures
+    takes_char c.args.pieces.now (chars (string_bytes c.loop-piece.text)) (chars (string_bytes c.push.new.text)) c.loop-piece.piece-index c.in-Char.c c.loop-piece.invariant c.loop-piece-test.true
+    (sym e) c.in_ok-push-in-Char.ensures

@@ -10,18 +10,23 @@ use Rattle.coll_syntax.proofs.weight_lists.weights.Goals as goal
 
 pub loop-operand-preserved : goal.loop-operand-preserved
 loop-operand-preserved c =
-    let t = YieldsList-turn (YieldsList-from_slice_split _ is_semicolon c.args.tokens.now (cc) (cc) (cc) (λ x r q k. search (rules, tests))) c.loop-operand.yielded _ c.loop-operand.yielded_by _ _ c.in-Some.operand c.in-Some.is c.next.ensures.steps in
+    let t = YieldsList-turn (YieldsList-from_slice_split _ is_semicolon c.args.tokens.now (cc) (cc) (cc) (λ x r q k. search (rules, tests))) c.loop-operand.yielded _ c.loop-operand.yielded_by _ _
+    c.in-Some.operand c.in-Some.is c.next.ensures.steps in
     rw (length_push c.loop-operand.yielded c.in-Some.operand, c.in_ok-push.ensures.items)
-    (weights_more c.args.tokens.now c.loop-operand.weights.items (length c.loop-operand.yielded) c.in-Some.operand.now c.in_ok-weight.weight c.loop-operand.invariant (stands_at _ _ _ t.0 t.1) c.in_ok-weight.ensures.ok)
+    (weights_more c.args.tokens.now c.loop-operand.weights.items (length c.loop-operand.yielded) c.in-Some.operand.now c.in_ok-weight.weight c.loop-operand.invariant (stands_at _ _ _ t.0 t.1)
+    c.in_ok-weight.ensures.ok)
 
 pub returns-in_err-weight-clause-err : goal.returns-in_err-weight-clause-err
 returns-in_err-weight-clause-err c =
-    let t = YieldsList-turn (YieldsList-from_slice_split _ is_semicolon c.args.tokens.now (cc) (cc) (cc) (λ x r q k. search (rules, tests))) c.loop-operand.yielded _ c.loop-operand.yielded_by _ _ c.in-Some.operand c.in-Some.is c.next.ensures.steps in
+    let t = YieldsList-turn (YieldsList-from_slice_split _ is_semicolon c.args.tokens.now (cc) (cc) (cc) (λ x r q k. search (rules, tests))) c.loop-operand.yielded _ c.loop-operand.yielded_by _ _
+    c.in-Some.operand c.in-Some.is c.next.ensures.steps in
     let p = err_from_is_err_and c.from_residual.result c.from_residual.ensures.1 in
     rw (p.1, p.2)
-    (λ no. weights_fault c.args.tokens.now c.loop-operand.weights.items (length c.loop-operand.yielded) c.in-Some.operand.now c.in_err-weight.field-0.0 c.loop-operand.invariant (stands_at _ _ _ t.0 t.1) (c.in_err-weight.ensures.err no))
+    (λ no. weights_fault c.args.tokens.now c.loop-operand.weights.items (length c.loop-operand.yielded) c.in-Some.operand.now c.in_err-weight.field-0.0 c.loop-operand.invariant
+    (stands_at _ _ _ t.0 t.1) (c.in_err-weight.ensures.err no))
 
 pub returns-clause-ok : goal.returns-clause-ok
 returns-clause-ok c =
-    let t = YieldsList-end (YieldsList-from_slice_split _ is_semicolon c.args.tokens.now (cc) (cc) (cc) (λ x r q k. search (rules, tests))) c.loop-operand.yielded _ c.loop-operand.yielded_by _ _ c.in-None.is c.next.ensures.steps in
+    let t = YieldsList-end (YieldsList-from_slice_split _ is_semicolon c.args.tokens.now (cc) (cc) (cc) (λ x r q k. search (rules, tests))) c.loop-operand.yielded _ c.loop-operand.yielded_by _ _
+    c.in-None.is c.next.ensures.steps in
     rw (c.new.ensures, c.shrink_to_fit.ensures.items) (weights_all c.args.tokens.now c.loop-operand.weights.items (length c.loop-operand.yielded) c.loop-operand.invariant (omega (arith, t.1)))

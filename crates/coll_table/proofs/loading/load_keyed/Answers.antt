@@ -5,7 +5,8 @@ use Rattle.coll_table.proofs.loading.load_keyed.Goals as goal
 pub returns-in-Ok-clause-loaded : goal.returns-in-Ok-clause-loaded
 returns-in-Ok-clause-loaded g c =
     let left = g.R.Source.left in
-    loads (left c.args.input.now) (left c.read_text.new.input) c.read_text.new.loader c.finish.result c.in-Ok.ensures.faultless c.in-Ok.ensures.read c.finish.ensures.ok c.finish.ensures.err c.finish.ensures.cause c.finish.ensures.spared
+    loads (left c.args.input.now) (left c.read_text.new.input) c.read_text.new.loader c.finish.result c.in-Ok.ensures.faultless c.in-Ok.ensures.read c.finish.ensures.ok c.finish.ensures.err
+    c.finish.ensures.cause c.finish.ensures.spared
 
 pub returns-in-Ok-clause-errors : goal.returns-in-Ok-clause-errors
 returns-in-Ok-clause-errors g c =

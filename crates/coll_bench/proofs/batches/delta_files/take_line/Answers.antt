@@ -11,16 +11,19 @@ use Rattle.coll_bench.proofs.batches.delta_files.take_line.Goals as goal
 
 pub returns-in-Err-rewrite_if-clause-err : goal.returns-in-Err-rewrite_if-clause-err
 returns-in-Err-rewrite_if-clause-err c =
-    fails_so c.args.input (collation c.args.table.now) c.args.file.now c.args.line.now (option_to_list c.in-Ok.given) c.line.new.self c.in-Ok.ensures.ok (ending_of c.in-Err-rewrite_if.ended) c.in-Err-rewrite_if.ended c.in-Err-rewrite_if.ensures.err
+    fails_so c.args.input (collation c.args.table.now) c.args.file.now c.args.line.now (option_to_list c.in-Ok.given) c.line.new.self c.in-Ok.ensures.ok (ending_of c.in-Err-rewrite_if.ended)
+    c.in-Err-rewrite_if.ended c.in-Err-rewrite_if.ensures.err
 
 pub returns-in-Some-clause-err : goal.returns-in-Some-clause-err
 returns-in-Some-clause-err c =
     subst (λ (ended : RunFault). FailsAs (ending_of ended) (line_taken c.args.input (collation c.args.table.now) c.args.file.now c.args.line.now) ended) (sym c.delta_fault-in-Some.ensures)
-    (stored_fails c.args.input (collation c.args.table.now) c.args.file.now c.args.line.now (option_to_list c.in-Ok.given) c.line.new.self c.in-Ok.ensures.ok (collation c.rewrite_if.new.table) c.in-Some.fault c.in_default.ensures.ok (sym c.fault.ensures ∙ c.in-Some.is))
+    (stored_fails c.args.input (collation c.args.table.now) c.args.file.now c.args.line.now (option_to_list c.in-Ok.given) c.line.new.self c.in-Ok.ensures.ok (collation c.rewrite_if.new.table)
+    c.in-Some.fault c.in_default.ensures.ok (sym c.fault.ensures ∙ c.in-Some.is))
 
 pub returns-in-None-clause-ok : goal.returns-in-None-clause-ok
 returns-in-None-clause-ok c =
-    by_stored c.args.input (collation c.args.table.now) c.args.file.now c.args.line.now (option_to_list c.in-Ok.given) c.line.new.self c.in-Ok.ensures.ok (collation c.rewrite_if.new.table) None c.in_default.ensures.ok (sym c.fault.ensures ∙ c.in-None.is)
+    by_stored c.args.input (collation c.args.table.now) c.args.file.now c.args.line.now (option_to_list c.in-Ok.given) c.line.new.self c.in-Ok.ensures.ok (collation c.rewrite_if.new.table) None
+    c.in_default.ensures.ok (sym c.fault.ensures ∙ c.in-None.is)
 
 pub returns-in-Err-clause-err : goal.returns-in-Err-clause-err
 returns-in-Err-clause-err c =

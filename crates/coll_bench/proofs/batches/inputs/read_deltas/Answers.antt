@@ -18,15 +18,18 @@ returns-in-Err-clause-inputs g c texts e =
     let now = got c.loop-before.deltas i c.index-deltas-before.result (omega (arith, c.loop-before-test.true, c.loop-before.auto.deltas)) c.index-deltas-before.is in
     let start = got-drop c.args.deltas.now i ∙ (ap (λ l. slice_get l 0) (sym c.loop-before.invariant.rest) ∙ (sym (got-drop c.loop-before.deltas i) ∙ now)) in
     let text = text_got (map left c.args.deltas.now) texts i (left c.index-deltas-before.result) e (got-map left c.args.deltas.now i c.index-deltas-before.result start) in
-    fails_all (collation c.args.table.now) (collation c.loop-before.table) texts i text.0 text.1 (c.loop-before.invariant.taken texts e) (ending_of c.in-Err.ended) (left c.read_delta.new.delta) (map left (slice_set c.loop-before.deltas i c.read_delta.new.delta)) c.in-Err.ended
-    (got-map left (slice_set c.loop-before.deltas i c.read_delta.new.delta) i c.read_delta.new.delta (got-set c.loop-before.deltas i c.index-deltas-before.result c.read_delta.new.delta now)) c.in-Err.ensures.input (c.in-Err.ensures.file text.0 (ap left (sym c.index-deltas-before.is) ∙ text.2))
+    fails_all (collation c.args.table.now) (collation c.loop-before.table) texts i text.0 text.1 (c.loop-before.invariant.taken texts e) (ending_of c.in-Err.ended) (left c.read_delta.new.delta)
+    (map left (slice_set c.loop-before.deltas i c.read_delta.new.delta)) c.in-Err.ended
+    (got-map left (slice_set c.loop-before.deltas i c.read_delta.new.delta) i c.read_delta.new.delta (got-set c.loop-before.deltas i c.index-deltas-before.result c.read_delta.new.delta now))
+    c.in-Err.ensures.input (c.in-Err.ensures.file text.0 (ap left (sym c.index-deltas-before.is) ∙ text.2))
 
 pub returns-in-Err-clause-reads : goal.returns-in-Err-clause-reads
 returns-in-Err-clause-reads g c =
     let failed = g.R.Source.failed in
     let i = c.loop-before.before in
     let now = got c.loop-before.deltas i c.index-deltas-before.result (omega (arith, c.loop-before-test.true, c.loop-before.auto.deltas)) c.index-deltas-before.is in
-    counts_all failed c.args.deltas.now c.loop-before.deltas i c.index-deltas-before.result c.read_delta.new.delta c.in-Err.ended c.loop-before.invariant.errors now c.in-Err.ensures.input (subst (λ d. CountsDelta (failed d) (failed c.read_delta.new.delta) (Err c.in-Err.ended)) (sym c.index-deltas-before.is) c.in-Err.ensures.reads)
+    counts_all failed c.args.deltas.now c.loop-before.deltas i c.index-deltas-before.result c.read_delta.new.delta c.in-Err.ended c.loop-before.invariant.errors now c.in-Err.ensures.input
+    (subst (λ d. CountsDelta (failed d) (failed c.read_delta.new.delta) (Err c.in-Err.ended)) (sym c.index-deltas-before.is) c.in-Err.ensures.reads)
 
 pub loop-before-preserved : goal.loop-before-preserved
 loop-before-preserved g c =
@@ -38,6 +41,8 @@ loop-before-preserved g c =
       rest = drop-set c.loop-before.deltas i c.read_delta.new.delta ∙ drop-one c.loop-before.deltas c.args.deltas.now i c.loop-before.invariant.rest;
       taken = λ texts e.
           let text = text_got (map left c.args.deltas.now) texts i (left c.index-deltas-before.result) e (got-map left c.args.deltas.now i c.index-deltas-before.result start) in
-          one_more (collation c.args.table.now) (collation c.loop-before.table) texts i text.0 text.1 (c.loop-before.invariant.taken texts e) (collation c.read_delta.new.table) (c.in_default.ensures.file text.0 (ap left (sym c.index-deltas-before.is) ∙ text.2));
-      errors = set-same g.R.Source.failed c.loop-before.deltas i c.index-deltas-before.result c.read_delta.new.delta now (c.in_default.ensures.reads ∙ ap g.R.Source.failed (sym c.index-deltas-before.is)) ∙ c.loop-before.invariant.errors;
+          one_more (collation c.args.table.now) (collation c.loop-before.table) texts i text.0 text.1 (c.loop-before.invariant.taken texts e) (collation c.read_delta.new.table)
+          (c.in_default.ensures.file text.0 (ap left (sym c.index-deltas-before.is) ∙ text.2));
+      errors = set-same g.R.Source.failed c.loop-before.deltas i c.index-deltas-before.result c.read_delta.new.delta now
+          (c.in_default.ensures.reads ∙ ap g.R.Source.failed (sym c.index-deltas-before.is)) ∙ c.loop-before.invariant.errors;
     }

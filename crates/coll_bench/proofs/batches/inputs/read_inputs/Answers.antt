@@ -16,4 +16,5 @@ returns-in-Ok-read_deltas-clause-inputs g c table_text delta_texts e es =
 pub returns-in-Err-read_deltas-clause-inputs : goal.returns-in-Err-read_deltas-clause-inputs
 returns-in-Err-read_deltas-clause-inputs g c =
     let left = g.R.Source.left in
-    deltas_fail (left c.args.table.now) (left c.load_keyed.new.input) (map left c.args.deltas.now) (map left c.read_deltas.new.deltas) (collation c.in-Ok.first) (collation c.read_deltas.new.table) c.in-Err-read_deltas.ended c.in-Ok.ensures.loaded c.in-Err-read_deltas.ensures.first c.in-Err-read_deltas.ensures.inputs
+    deltas_fail (left c.args.table.now) (left c.load_keyed.new.input) (map left c.args.deltas.now) (map left c.read_deltas.new.deltas) (collation c.in-Ok.first) (collation c.read_deltas.new.table)
+    c.in-Err-read_deltas.ended c.in-Ok.ensures.loaded c.in-Err-read_deltas.ensures.first c.in-Err-read_deltas.ensures.inputs

@@ -1,7 +1,7 @@
 -- What is written and what is left are the whole.
 use Rattle.std.proofs.Common.{◌≡◌, drop}
 use Rattle.coll_nodes.specs.TableLayout.{collation}
-use Rattle.coll_print.proofs.PrintedParts.{HasWritten}
+use Rattle.coll_texts.proofs.PrintedParts.{HasWritten}
 use Rattle.coll_bench.specs.BatchOutcome.{key_line}
 use Rattle.coll_bench.proofs.batches.output.write_each_key.Given as goal
 

@@ -18,7 +18,8 @@ pub returns-in-Err-clause-sent : goal.returns-in-Err-clause-sent
 returns-in-Err-clause-sent g c =
     let taken = g.W.Sink.taken in
     let done = c.loop-number.invariant.sent in
-    past_stopped (taken c.args.out.now) (taken c.loop-number.out) (taken c.write_remaining_line.new.out) c.loop-number.number c.args.session.now.history.remaining c.in-Some.statement.now done.0 _ c.in-Some.ensures done.1 done.2 c.in-Err.ensures.sent
+    past_stopped (taken c.args.out.now) (taken c.loop-number.out) (taken c.write_remaining_line.new.out) c.loop-number.number c.args.session.now.history.remaining c.in-Some.statement.now done.0 _
+    c.in-Some.ensures done.1 done.2 c.in-Err.ensures.sent
 
 pub returns-in-Err-clause-errors : goal.returns-in-Err-clause-errors
 returns-in-Err-clause-errors g c = subst (λ (failed : ℕ). g.W.Sink.failed c.write_remaining_line.new.out ≡ raised failed) c.loop-number.invariant.errors c.in-Err.ensures.errors

@@ -9,7 +9,8 @@ decreases-loop-number g l = l.count - l.number
 abbrev pub invariant-loop-number : goal.invariant-loop-number
 invariant-loop-number g l =
     record {
-      sent : (done : List ℕ) × (history_lines 1 l.session.history.remaining ≡ done ++ history_lines (l.number + 1) (drop l.number l.session.history.remaining)) × Appends (g.W.Sink.taken l.initial.out) (g.W.Sink.taken l.out) done;
+      sent : (done : List ℕ) × (history_lines 1 l.session.history.remaining ≡ done ++ history_lines (l.number + 1) (drop l.number l.session.history.remaining))
+          × Appends (g.W.Sink.taken l.initial.out) (g.W.Sink.taken l.out) done;
       errors : g.W.Sink.failed l.out ≡ g.W.Sink.failed l.initial.out;
       within : l.number ≤ l.count;
       count : l.count ≡ length l.session.history.remaining;

@@ -14,4 +14,5 @@ pub returns-in-Err-clause-answered : goal.returns-in-Err-clause-answered
 returns-in-Err-clause-answered g c =
     let taken = g.W.Sink.taken in
     let long = rw (c.get.ensures.characters, c.get-2.ensures.characters) at c.in-Err.ensures.err in
-    refuses_order (taken c.args.out.now) (taken c.write_refused.new.out) c.args.session.now.history c.args.text.now c.args.other.now c.in-Err.fault c.write_refused.result long c.write_refused.ensures.sent
+    refuses_order (taken c.args.out.now) (taken c.write_refused.new.out) c.args.session.now.history c.args.text.now c.args.other.now c.in-Err.fault c.write_refused.result long
+    c.write_refused.ensures.sent

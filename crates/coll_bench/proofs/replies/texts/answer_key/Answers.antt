@@ -11,10 +11,12 @@ pub returns-in-Ok-clause-answered : goal.returns-in-Ok-clause-answered
 returns-in-Ok-clause-answered g c =
     let taken = g.W.Sink.taken in
     let h = c.args.session.now.history in
-    let rules_are : c.rules.result.now ≡ (table_now h).rules = c.rules.ensures ∙ ap (λ (table : Collation). table.rules) (c.table.ensures.table ∙ ap (λ (v : SessionValue). table_now v.history) (c.session.ensures ∙ c.key.ensures.unchanged)) in
+    let rules_are : c.rules.result.now ≡ (table_now h).rules =
+    c.rules.ensures ∙ ap (λ (table : Collation). table.rules) (c.table.ensures.table ∙ ap (λ (v : SessionValue). table_now v.history) (c.session.ensures ∙ c.key.ensures.unchanged)) in
     let key_is = c.deref.ensures.value ∙ c.in-Ok.ensures.ok ∙ ap (key_of (table_now h)) c.get.ensures.characters in
     let short = ap is_too_long (sym c.get.ensures.characters) ∙ c.in-Ok.ensures.short in
-    sends_key (taken c.args.out.now) (taken c.write_key_ended-wrote.new.out) h c.args.text.now c.rules.result.now c.deref.result.now c.write_key_ended-wrote.result rules_are key_is short c.write_key_ended-wrote.ensures.sent
+    sends_key (taken c.args.out.now) (taken c.write_key_ended-wrote.new.out) h c.args.text.now c.rules.result.now c.deref.result.now c.write_key_ended-wrote.result rules_are key_is short
+    c.write_key_ended-wrote.ensures.sent
 
 pub returns-in-Err-clause-answered : goal.returns-in-Err-clause-answered
 returns-in-Err-clause-answered g c =

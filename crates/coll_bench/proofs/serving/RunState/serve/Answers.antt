@@ -14,7 +14,8 @@ returns-in-Err-clause-served g c =
 pub returns-in-Ok-answer_if-clause-served : goal.returns-in-Ok-answer_if-clause-served
 returns-in-Ok-answer_if-clause-served g c =
     let taken = g.W.Sink.taken in
-    serves_taken {E = WriteStop} c.args.self.now c.answer_if.new.self c.take.new.self c.take.new.block c.args.line.now c.in-Ok.request (taken c.args.output.now) (taken c.answer_if.new.output) (Ok c.in-Ok-answer_if.field-0)
+    serves_taken {E = WriteStop} c.args.self.now c.answer_if.new.self c.take.new.self c.take.new.block c.args.line.now c.in-Ok.request (taken c.args.output.now) (taken c.answer_if.new.output)
+    (Ok c.in-Ok-answer_if.field-0)
     c.in-Ok.ensures.taken c.answer_if.ensures.parser c.answer_if.ensures.block c.in-Ok-answer_if.ensures.answered
 
 pub returns-in-Ok-answer_if-clause-counts : goal.returns-in-Ok-answer_if-clause-counts
@@ -30,5 +31,6 @@ pub returns-in-Err-answer_if-clause-served : goal.returns-in-Err-answer_if-claus
 returns-in-Err-answer_if-clause-served g c =
     let taken = g.W.Sink.taken in
     serves_failed c.args.self.now c.answer_if.new.self c.args.line.now (taken c.args.output.now) (taken c.answer_if.new.output) c.write_failed.result c.write_failed.ensures.fault
-    (serves_taken {E = WriteStop} c.args.self.now c.answer_if.new.self c.take.new.self c.take.new.block c.args.line.now c.in-Ok.request (taken c.args.output.now) (taken c.answer_if.new.output) (Err c.in-Err-answer_if.stop)
+    (serves_taken {E = WriteStop} c.args.self.now c.answer_if.new.self c.take.new.self c.take.new.block c.args.line.now c.in-Ok.request (taken c.args.output.now) (taken c.answer_if.new.output)
+    (Err c.in-Err-answer_if.stop)
     c.in-Ok.ensures.taken c.answer_if.ensures.parser c.answer_if.ensures.block c.in-Err-answer_if.ensures.answered)

@@ -33,5 +33,10 @@ returns-clause-filled g c =
     let was : slice_range room at (at + h) ≡ c.args.self.now.held = (rw value at c.make_room-start.ensures.kept) ∙ ap (λ (r : ReaderState). r.held) c.self.view_is in
     let more = slice_range new (at + h) (at + h + n) in
     let held : slice_range (with_items c.self.inside.buffer new).items at (at + h + n) ≡ c.args.self.now.held ++ more =
-    ap (λ l. slice_range l at (at + h + n)) items ∙ part-grown room new at h n c.in_ok-count.ensures.prefix ∙ ap (λ l. l ++ more) was in
-    (more, same_reader _ _ _ _ _ _ _ _ refl held (ap (λ (r : ReaderState). r.stop) c.self.view_is) (ap (λ (r : ReaderState). r.ended) c.self.view_is), omega (arith, length-between new (at + h) (at + h + n) c.in_ok-count.ensures.bound), c.in_ok-count.ensures.bytes, c.in_ok-count.ensures.end)
+    ap (λ l. slice_range l at (at + h + n)) items ∙ part-grown room new at h n c.in_ok-count.ensures.prefix ∙ ap (λ l. l ++ more) was in (
+      more,
+      same_reader _ _ _ _ _ _ _ _ refl held (ap (λ (r : ReaderState). r.stop) c.self.view_is) (ap (λ (r : ReaderState). r.ended) c.self.view_is),
+      omega (arith, length-between new (at + h) (at + h + n) c.in_ok-count.ensures.bound),
+      c.in_ok-count.ensures.bytes,
+      c.in_ok-count.ensures.end,
+    )

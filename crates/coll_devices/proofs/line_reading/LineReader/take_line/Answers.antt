@@ -41,4 +41,5 @@ returns-in-None-clause-not_found c =
     let fits : e ≤ length buffer = omega (arith, c.self.invariant, c.self.inside.buffer.ok.0) in
     let back : IsInLine (slice_range buffer (s + k) limit) = rw value at c.in-None.ensures.none in
     let prefix : take 65537 (slice_range buffer s e) ≡ slice_range buffer s limit = part-prefix_min buffer s e _ 65537 limit c.min-limit.ensures (omega arith) (omega (arith, c.self.invariant)) fits in
-    subst IsInLine (sym prefix ∙ ap (take 65537) (sym is)) (part-in_line buffer c.args.self.now.held s e k limit is (omega (arith, c.requires.held, ap length is, length-between buffer s e fits)) (omega arith) fits c.requires.none back)
+    subst IsInLine (sym prefix ∙ ap (take 65537) (sym is))
+    (part-in_line buffer c.args.self.now.held s e k limit is (omega (arith, c.requires.held, ap length is, length-between buffer s e fits)) (omega arith) fits c.requires.none back)

@@ -16,5 +16,6 @@ returns c =
     let h = c.in_ok-rest.ensures.cases in
     let goes_on = begun c.args.text.now c.get.result.now c.args.self.now.text c.in_ok-rest.rest.now _ c.get.utf8 c.get.ensures.characters h.1.1 h.2 in
     let begins = ap (λ text. begins_with text c.args.self.now.text) goes_on ∙ begins_so c.args.self.now.text (chars c.in_ok-rest.rest.now) in
-    subst (λ (b : Bool). Finds (cond b (Some (kept_element c.args.self.now)) None) (chars c.args.text.now) (Some (record { rank = c.args.self.now.rank; length = c.args.self.now.length; rest = c.in_ok-rest.rest }))) (sym begins)
+    subst (λ (b : Bool). Finds (cond b (Some (kept_element c.args.self.now)) None) (chars c.args.text.now)
+    (Some (record { rank = c.args.self.now.rank; length = c.args.self.now.length; rest = c.in_ok-rest.rest }))) (sym begins)
     (record { rank = refl; length_is = c.requires.length_is; some = c.requires.some; goes_on = goes_on })

@@ -27,12 +27,16 @@ turned_record c =
 pub flip-requires : goal.flip-requires
 flip-requires c =
     let s = c.self.inside in
-    record { fits = fits_counted s.table c.in-Some.kept (leads_next (uncounted s.table) c.pop.new.self.items c.in-Some.kept (subst (λ (ks : List Kept). LeadsOn (uncounted s.table) (reverse ks)) c.in-Some.ensures.items c.self.invariant.leads_on)).fits }
+    record {
+      fits = fits_counted s.table c.in-Some.kept (leads_next (uncounted s.table) c.pop.new.self.items c.in-Some.kept
+          (subst (λ (ks : List Kept). LeadsOn (uncounted s.table) (reverse ks)) c.in-Some.ensures.items c.self.invariant.leads_on)).fits;
+    }
 
 pub invariant_of-self-2 : goal.invariant_of-self-2
 invariant_of-self-2 c =
     let s = c.self.inside in
-    let leads_on : LeadsOn (uncounted s.table) (reverse (c.pop.new.self.items ++ c.in-Some.kept ∷ [])) = subst (λ (ks : List Kept). LeadsOn (uncounted s.table) (reverse ks)) c.in-Some.ensures.items c.self.invariant.leads_on in
+    let leads_on : LeadsOn (uncounted s.table) (reverse (c.pop.new.self.items ++ c.in-Some.kept ∷ [])) =
+    subst (λ (ks : List Kept). LeadsOn (uncounted s.table) (reverse ks)) c.in-Some.ensures.items c.self.invariant.leads_on in
     record {
       leads = subst (Leads (uncounted c.flip.new.self)) (sym c.push_reserved.ensures.items)
           (leads_longer (uncounted s.table) (uncounted c.flip.new.self) s.remaining.items c.pop.new.self.items c.in-Some.kept _ (turned_record c) leads_on c.self.invariant.leads);
@@ -53,7 +57,8 @@ returns-clause-redone c =
 pub returns-clause-steps : goal.returns-clause-steps
 returns-clause-steps c =
     let s = c.self.inside in
-    let leads_on : LeadsOn (uncounted s.table) (reverse (c.pop.new.self.items ++ c.in-Some.kept ∷ [])) = subst (λ (ks : List Kept). LeadsOn (uncounted s.table) (reverse ks)) c.in-Some.ensures.items c.self.invariant.leads_on in
+    let leads_on : LeadsOn (uncounted s.table) (reverse (c.pop.new.self.items ++ c.in-Some.kept ∷ [])) =
+    subst (λ (ks : List Kept). LeadsOn (uncounted s.table) (reverse ks)) c.in-Some.ensures.items c.self.invariant.leads_on in
     subst (λ (v : SessionValue). c.flip.new.self.steps ≡ more_steps v.steps (redo_steps v.history)) c.self.view_is
     (c.flip.ensures.steps ∙ ap (more_steps s.table.steps) (c.flip.ensures.count
     ∙ steps_redone (uncounted s.table) s.remaining.items c.pop.new.self.items c.in-Some.kept c.self.invariant.leads leads_on

@@ -31,9 +31,11 @@ pub give_up-requires : goal.give_up-requires
 give_up-requires c =
     let s = c.self.inside in
     let loose : AreLoose s.table.layout (added_by_all (reverse s.undone.items)) =
-    undone_loose c.lemma_records_turn_back.ensures c.lemma_undone_records_put_in.ensures (uncounted s.table) (table_uncounted s.table c.lemma_well_formed.ensures.table) (reverse s.undone.items) c.self.invariant.leads_on in
+    undone_loose c.lemma_records_turn_back.ensures c.lemma_undone_records_put_in.ensures (uncounted s.table) (table_uncounted s.table c.lemma_well_formed.ensures.table) (reverse s.undone.items)
+    c.self.invariant.leads_on in
     record {
-      loose = subst (λ (ks : List Kept). AreLoose c.apply.new.self.layout (added_by_all (reverse ks))) (sym c.make_room.ensures.undone) (loose_kept s.table.layout c.apply.new.self.layout _ c.in-Ok.ensures.loose loose);
+      loose = subst (λ (ks : List Kept). AreLoose c.apply.new.self.layout (added_by_all (reverse ks))) (sym c.make_room.ensures.undone)
+          (loose_kept s.table.layout c.apply.new.self.layout _ c.in-Ok.ensures.loose loose);
     }
 
 pub invariant_of-self-2 : goal.invariant_of-self-2
@@ -41,8 +43,10 @@ invariant_of-self-2 c =
     let s = c.self.inside in
     let k : Kept = record { statement = c.args.statement; change = c.in-Ok.change } in
     let a : Accepts (uncounted s.table) (uncounted c.apply.new.self) (uncounted c.give_up.new.table) k =
-    accepts s.table c.apply.new.self c.give_up.new.table k c.lemma_well_formed.ensures.table c.lemma_well_formed-2.ensures.table c.lemma_well_formed-3.ensures.table c.requires.proper c.in-Ok.ensures.ok c.in-Ok.ensures.in_force c.in-Ok.ensures.fits c.in-Ok.ensures.back c.in-Ok.ensures.steps c.give_up.ensures.table in
-    let then = leads_with c.lemma_records_turn_back.ensures c.lemma_records_fit_wider.ensures c.lemma_records_fit_narrower.ensures c.lemma_wider_tables_read_alike.ensures (uncounted s.table) (uncounted c.apply.new.self) (uncounted c.give_up.new.table) s.remaining.items k a c.self.invariant.leads in
+    accepts s.table c.apply.new.self c.give_up.new.table k c.lemma_well_formed.ensures.table c.lemma_well_formed-2.ensures.table c.lemma_well_formed-3.ensures.table c.requires.proper
+    c.in-Ok.ensures.ok c.in-Ok.ensures.in_force c.in-Ok.ensures.fits c.in-Ok.ensures.back c.in-Ok.ensures.steps c.give_up.ensures.table in
+    let then = leads_with c.lemma_records_turn_back.ensures c.lemma_records_fit_wider.ensures c.lemma_records_fit_narrower.ensures c.lemma_wider_tables_read_alike.ensures (uncounted s.table)
+    (uncounted c.apply.new.self) (uncounted c.give_up.new.table) s.remaining.items k a c.self.invariant.leads in
     record {
       leads = subst (Leads (uncounted c.give_up.new.table)) (sym (c.push_reserved.ensures.items ∙ ap (λ (ks : List Kept). ks ++ k ∷ []) c.make_room.ensures.remaining)) then.leads;
       leads_on = LeadsOn_none (uncounted c.give_up.new.table) _ c.give_up.ensures.undone;
@@ -56,12 +60,15 @@ returns-clause-accepted c =
     let s = c.self.inside in
     let k : Kept = record { statement = c.args.statement; change = c.in-Ok.change } in
     let a : Accepts (uncounted s.table) (uncounted c.apply.new.self) (uncounted c.give_up.new.table) k =
-    accepts s.table c.apply.new.self c.give_up.new.table k c.lemma_well_formed.ensures.table c.lemma_well_formed-2.ensures.table c.lemma_well_formed-3.ensures.table c.requires.proper c.in-Ok.ensures.ok c.in-Ok.ensures.in_force c.in-Ok.ensures.fits c.in-Ok.ensures.back c.in-Ok.ensures.steps c.give_up.ensures.table in
-    let then = leads_with c.lemma_records_turn_back.ensures c.lemma_records_fit_wider.ensures c.lemma_records_fit_narrower.ensures c.lemma_wider_tables_read_alike.ensures (uncounted s.table) (uncounted c.apply.new.self) (uncounted c.give_up.new.table) s.remaining.items k a c.self.invariant.leads in
+    accepts s.table c.apply.new.self c.give_up.new.table k c.lemma_well_formed.ensures.table c.lemma_well_formed-2.ensures.table c.lemma_well_formed-3.ensures.table c.requires.proper
+    c.in-Ok.ensures.ok c.in-Ok.ensures.in_force c.in-Ok.ensures.fits c.in-Ok.ensures.back c.in-Ok.ensures.steps c.give_up.ensures.table in
+    let then = leads_with c.lemma_records_turn_back.ensures c.lemma_records_fit_wider.ensures c.lemma_records_fit_narrower.ensures c.lemma_wider_tables_read_alike.ensures (uncounted s.table)
+    (uncounted c.apply.new.self) (uncounted c.give_up.new.table) s.remaining.items k a c.self.invariant.leads in
     let grown = c.push_reserved.ensures.items ∙ ap (λ (ks : List Kept). ks ++ k ∷ []) c.make_room.ensures.remaining in
     let accepted = judged_accepted (history_of (uncounted s.table) s.remaining.items s.undone.items) c.args.statement (collation (uncounted c.apply.new.self))
     (omega (arith, length-remaining (uncounted s.table) s.remaining.items s.undone.items, c.if-len-ge-MOST_REMAINING.false, c.len.ensures, s.remaining.ok.0))
     (ap (λ (t : Collation). delta t c.args.statement) (replayed (uncounted s.table) s.remaining.items c.self.invariant.leads) ∙ a.accepted) in
-    let start = subst (λ (ks : List Kept). collation (Rattle.coll_history.specs.Kept.undone_by (uncounted c.give_up.new.table) ks) ≡ collation (Rattle.coll_history.specs.Kept.undone_by (uncounted s.table) s.remaining.items)) (sym grown) then.start in
+    let start = subst (λ (ks : List Kept). collation (Rattle.coll_history.specs.Kept.undone_by (uncounted c.give_up.new.table) ks)
+    ≡ collation (Rattle.coll_history.specs.Kept.undone_by (uncounted s.table) s.remaining.items)) (sym grown) then.start in
     subst (λ (v : SessionValue). judged v.history c.args.statement ≡ Ok (history_of (uncounted c.give_up.new.table) c.push_reserved.new.self.items c.give_up.new.undone.items)) c.self.view_is
     (accepted ∙ ap Ok (sym (history_with _ _ s.remaining.items s.undone.items _ c.give_up.new.undone.items k grown c.give_up.ensures.undone start)))

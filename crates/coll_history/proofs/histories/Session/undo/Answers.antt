@@ -27,7 +27,10 @@ turned_record c =
 pub flip-requires : goal.flip-requires
 flip-requires c =
     let s = c.self.inside in
-    record { fits = fits_counted s.table c.in-Some.kept (Leads-last (uncounted s.table) c.pop.new.self.items c.in-Some.kept (subst (Leads (uncounted s.table)) c.in-Some.ensures.items c.self.invariant.leads)).fits }
+    record {
+      fits = fits_counted s.table c.in-Some.kept
+          (Leads-last (uncounted s.table) c.pop.new.self.items c.in-Some.kept (subst (Leads (uncounted s.table)) c.in-Some.ensures.items c.self.invariant.leads)).fits;
+    }
 
 pub invariant_of-self-2 : goal.invariant_of-self-2
 invariant_of-self-2 c =

@@ -11,7 +11,8 @@ pub returns-in_default-clause-refused : goal.returns-in_default-clause-refused
 returns-in_default-clause-refused c = λ other.
     let s = c.self.inside in
     subst (λ (v : SessionValue). withdrawn v.history c.args.number ≡ Err NoSuchStatement) c.self.view_is
-    (is_missing _ c.args.number (numbered_here (uncounted s.table) s.remaining.items s.undone.items c.args.number c.len.result false (omega (arith, c.len.ensures, s.remaining.ok.0)) c.in_default.ensures.numbered))
+    (is_missing _ c.args.number (numbered_here (uncounted s.table) s.remaining.items s.undone.items c.args.number c.len.result false (omega (arith, c.len.ensures, s.remaining.ok.0))
+    c.in_default.ensures.numbered))
 
 pub returns-in-Err-clause-missing : goal.returns-in-Err-clause-missing
 returns-in-Err-clause-missing c = λ missing.

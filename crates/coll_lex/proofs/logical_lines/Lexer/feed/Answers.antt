@@ -87,7 +87,8 @@ returns-in_ok-text-in-None-clause-memory c =
 
 pub returns-in_ok-text-in-Some-clause-tokens : goal.returns-in_ok-text-in-Some-clause-tokens
 returns-in_ok-text-in-Some-clause-tokens c =
-    answered_tokens c.args.self.now _ c.args.line.now c.feed_text.result (open_text c.args.self.now c.in-Some.open c.in-Some.ensures.line c.in-Some.ensures.sound.text) (returns-in_ok-text-in-Some-clause-ok c)
+    answered_tokens c.args.self.now _ c.args.line.now c.feed_text.result (open_text c.args.self.now c.in-Some.open c.in-Some.ensures.line c.in-Some.ensures.sound.text)
+    (returns-in_ok-text-in-Some-clause-ok c)
 
 pub returns-in_ok-text-in-None-clause-tokens : goal.returns-in_ok-text-in-None-clause-tokens
 returns-in_ok-text-in-None-clause-tokens c =

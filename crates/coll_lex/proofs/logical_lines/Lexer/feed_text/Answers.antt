@@ -15,7 +15,8 @@ returns-in_err-tokens-clause-err c =
     let p = err_from_is_err_and c.from_residual-in_err-tokens.result c.from_residual-in_err-tokens.ensures.1 in
     let sound = rw (← c.self.view_is) at c.requires.sound in
     rw (p.1, p.2, ← c.self.view_is)
-    (λ cause. text_ends_open _ c.args.logical c.args.line.now c.args.bytes c.take_line.new.self c.in_err-tokens.field-0.0 sound c.in_ok-take_line.ensures.ok (sym c.if-not-goes_on.ensures) (c.in_err-tokens.ensures.err cause))
+    (λ cause. text_ends_open _ c.args.logical c.args.line.now c.args.bytes c.take_line.new.self c.in_err-tokens.field-0.0 sound c.in_ok-take_line.ensures.ok (sym c.if-not-goes_on.ensures)
+    (c.in_err-tokens.ensures.err cause))
 
 pub returns-then-not-goes_on-clause-ok : goal.returns-then-not-goes_on-clause-ok
 returns-then-not-goes_on-clause-ok c =
@@ -29,7 +30,8 @@ invariant_of-self c =
     let line = rw c.as_bytes.ensures.value at c.in_ok-keep.ensures.line in
     record {
       counted = c.self.invariant.counted;
-      opened = some_open c.keep.new.self _ (sound_more c.self.inside.special c.args.logical c.keep.new.self c.args.line.now c.args.bytes c.take_line.new.self sound c.in_ok-take_line.ensures.ok c.utf8.line line c.in_ok-keep.ensures.scan c.requires.short);
+      opened = some_open c.keep.new.self _ (sound_more c.self.inside.special c.args.logical c.keep.new.self c.args.line.now c.args.bytes c.take_line.new.self sound c.in_ok-take_line.ensures.ok
+          c.utf8.line line c.in_ok-keep.ensures.scan c.requires.short);
     }
 
 pub returns-clause-ok : goal.returns-clause-ok

@@ -18,7 +18,8 @@ returns-in_err-take-clause-err c =
     let t = YieldsList-turn (YieldsList-from_chars c.args.line.now c.utf8.line cc) c.loop-c.yielded _ c.loop-c.yielded_by _ _ c.in-Some.c c.in-Some.is c.next.ensures.steps in
     let p = err_from_is_err_and c.from_residual.result c.from_residual.ensures.1 in
     rw (p.1, p.2)
-    (λ no. prefix_refused c.args.special c.args.self.now c.loop-c.self (chars c.args.line.now) (length c.loop-c.yielded) c.in-Some.c c.in_err-take.field-0.0 c.loop-c.invariant t (c.in_err-take.ensures.err no))
+    (λ no. prefix_refused c.args.special c.args.self.now c.loop-c.self (chars c.args.line.now) (length c.loop-c.yielded) c.in-Some.c c.in_err-take.field-0.0 c.loop-c.invariant t
+    (c.in_err-take.ensures.err no))
 
 pub returns-in_err-take-clause-memory : goal.returns-in_err-take-clause-memory
 returns-in_err-take-clause-memory c =

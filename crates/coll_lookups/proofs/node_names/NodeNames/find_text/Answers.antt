@@ -8,7 +8,8 @@ use Rattle.coll_lookups.proofs.node_names.NodeNames.find_text.Goals as goal
 pub returns-in-Some : goal.returns-in-Some
 returns-in-Some c =
     rw (← c.self.view_is)
-    (paired_node _ c.self.inside.names.value.keys c.self.inside.nodes.items c.in-Some.place c.index.result.now c.self.invariant.0 (sym (rw c.deref.ensures at c.get_index_of.ensures.index) ∙ c.in-Some.is) c.index.ensures
+    (paired_node _ c.self.inside.names.value.keys c.self.inside.nodes.items c.in-Some.place c.index.result.now c.self.invariant.0 (sym (rw c.deref.ensures at c.get_index_of.ensures.index)
+    ∙ c.in-Some.is) c.index.ensures
     ∙ sym (found_name_node _ _ (encodes-chars _ c.utf8.name) refl _ c.self.invariant.1))
 
 pub returns-in-None : goal.returns-in-None

@@ -11,7 +11,10 @@ pub with-self-inside-requires : goal.with-self-inside-requires
 with-self-inside-requires c =
     let layout = c.self.inside.nodes.layout in
     let loose = rw (← c.self.view_is) at c.requires.loose in
-    record { room = subst (HasRoomFor c.content-content.result.now) (sym c.self.invariant.counted) (has_room layout c.args.node c.lemma_layout.ensures c.self.invariant.shaped c.lemma_few.ensures loose c.content-content.result.now) }
+    record {
+      room = subst (HasRoomFor c.content-content.result.now) (sym c.self.invariant.counted)
+          (has_room layout c.args.node c.lemma_layout.ensures c.self.invariant.shaped c.lemma_few.ensures loose c.content-content.result.now);
+    }
 
 pub link-requires-clause-place : goal.link-requires-clause-place
 link-requires-clause-place c =

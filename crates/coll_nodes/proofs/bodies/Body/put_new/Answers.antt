@@ -26,7 +26,8 @@ with-self-inside-requires c =
     let mid = c.make.new.self.layout in
     let known = made_known old mid c.in_ok-made.made c.args.content c.in_ok-made.ensures.made c.in_ok-made.ensures.apart c.make.ensures.rings in
     let it : c.args.content ≡ c.content-2.result.now = (let f = sym known ∙ c.content-2.ensures in cc) in
-    let room = made_room old mid c.in_ok-made.made c.args.content c.in_ok-made.ensures.made c.in_ok-made.ensures.apart c.make.ensures.rings c.self.invariant.shaped c.lemma_layout.ensures c.lemma_few.ensures in
+    let room = made_room old mid c.in_ok-made.made c.args.content c.in_ok-made.ensures.made c.in_ok-made.ensures.apart c.make.ensures.rings c.self.invariant.shaped c.lemma_layout.ensures
+    c.lemma_few.ensures in
     record { room = subst (λ (it : Content). HasRoomFor it p.counts) it (subst (HasRoomFor c.args.content) (sym c.self.invariant.counted) room) }
 
 pub link-requires-clause-place : goal.link-requires-clause-place
@@ -46,7 +47,8 @@ invariant_of-self-2 c =
     let known = made_known old mid node c.args.content c.in_ok-made.ensures.made c.in_ok-made.ensures.apart c.make.ensures.rings in
     let it : c.content.result.now ≡ c.args.content = (let f = sym known ∙ c.content.ensures in cc) in
     let it_too : c.content-2.result.now ≡ c.args.content = (let f = sym known ∙ c.content-2.ensures in cc) in
-    rw (c.link.ensures.layout) (put_new_sound old mid node c.args.content c.in_ok-made.ensures.made c.in_ok-made.ensures.apart c.make.ensures.rings c.args.place p.declarations p.sections p.keys c.put.new.self p.counts c.with-self-inside.result
+    rw (c.link.ensures.layout) (put_new_sound old mid node c.args.content c.in_ok-made.ensures.made c.in_ok-made.ensures.apart c.make.ensures.rings c.args.place p.declarations p.sections p.keys
+    c.put.new.self p.counts c.with-self-inside.result
     c.self.invariant (subst StandOnce c.make.ensures.rings c.lemma_layout.ensures.once) fits free (no_ring c.args.content _ c.requires.may)
     (subst (λ (x : Content). SetsKeys p.keys c.put.new.self x (Some node)) it c.in_default.ensures.ok)
     (subst (HasKeysOf c.put.new.self) it c.in_default.ensures.keys) c.put.ensures.keeps

@@ -9,9 +9,11 @@ without-self-inside-requires c =
     let layout = c.self.inside.nodes.layout in
     let linked = rw (← c.self.view_is) at c.requires.linked in
     let suits = rw (← c.self.view_is) at c.requires.suits in
-    let known : content_of layout c.args.node ≡ Some c.content-content.result.now = ap (λ (l : TableLayout). content_of l c.args.node) (sym c.unlink-place.ensures.layout) ∙ c.content-content.ensures in
+    let known : content_of layout c.args.node ≡ Some c.content-content.result.now =
+    ap (λ (l : TableLayout). content_of l c.args.node) (sym c.unlink-place.ensures.layout) ∙ c.content-content.ensures in
     record {
-      one = one_there c.content-content.result.now c.self.inside.counts _ (c.self.invariant.counted ∙ counts_taken layout c.args.node c.content-content.result.now c.unlink-place.result known c.unlink-place.ensures.place
+      one = one_there c.content-content.result.now c.self.inside.counts _
+          (c.self.invariant.counted ∙ counts_taken layout c.args.node c.content-content.result.now c.unlink-place.result known c.unlink-place.ensures.place
           c.lemma_layout.ensures.once c.self.invariant.shaped linked (may_be_loose layout c.args.node c.content-content.result.now known suits));
     }
 
@@ -21,7 +23,9 @@ invariant_of-self c =
     let layout = p.nodes.layout in
     let linked = rw (← c.self.view_is) at c.requires.linked in
     let suits = rw (← c.self.view_is) at c.requires.suits in
-    let known : content_of layout c.args.node ≡ Some c.content-content.result.now = ap (λ (l : TableLayout). content_of l c.args.node) (sym c.unlink-place.ensures.layout) ∙ c.content-content.ensures in
-    rw (c.unlink-place.ensures.layout) (taken_sound layout c.args.node c.content-content.result.now c.unlink-place.result p.declarations p.sections p.keys c.set.new.self p.counts c.without-self-inside.result
+    let known : content_of layout c.args.node ≡ Some c.content-content.result.now =
+    ap (λ (l : TableLayout). content_of l c.args.node) (sym c.unlink-place.ensures.layout) ∙ c.content-content.ensures in
+    rw (c.unlink-place.ensures.layout)
+    (taken_sound layout c.args.node c.content-content.result.now c.unlink-place.result p.declarations p.sections p.keys c.set.new.self p.counts c.without-self-inside.result
     c.self.invariant c.lemma_layout.ensures.once known c.unlink-place.ensures.place linked (may_be_loose layout c.args.node c.content-content.result.now known suits)
     c.set.ensures.set c.set.ensures.keeps c.without-self-inside.ensures)

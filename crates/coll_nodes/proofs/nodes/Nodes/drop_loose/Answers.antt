@@ -11,9 +11,11 @@ tag-tag-requires c =
 pub invariant_of-self : goal.invariant_of-self
 invariant_of-self c =
     let p = c.self.inside in
-    rw (c.drop_node.ensures) (made_less p.rings.layout p.contents.slots c.args.node c.tag-tag.result c.self.invariant c.tag-tag.ensures c.remove.new.self.slots c.remove.ensures.updates.others c.remove.ensures.updates.changed)
+    rw (c.drop_node.ensures) (made_less p.rings.layout p.contents.slots c.args.node c.tag-tag.result c.self.invariant c.tag-tag.ensures c.remove.new.self.slots c.remove.ensures.updates.others
+    c.remove.ensures.updates.changed)
 
 pub returns-clause-layout : goal.returns-clause-layout
 returns-clause-layout c =
     let p = c.self.inside in
-    rw (← c.self.view_is, c.drop_node.ensures) (layout_dropped p.rings.layout p.contents.slots c.args.node c.tag-tag.result c.self.invariant c.tag-tag.ensures c.remove.new.self.slots c.remove.ensures.updates.others)
+    rw (← c.self.view_is, c.drop_node.ensures)
+    (layout_dropped p.rings.layout p.contents.slots c.args.node c.tag-tag.result c.self.invariant c.tag-tag.ensures c.remove.new.self.slots c.remove.ensures.updates.others)

@@ -29,7 +29,8 @@ returns-clause-nodes c =
     let there = c.self.invariant.lead c.args.node.key tag c.tag-tag.ensures in
     let changed : Some c.exchange.new.self ≡ reweighed (Some c.args.weights.now) (slot_of slots tag) = ap Some c.exchange.ensures.content ∙ ap (reweighed (Some c.args.weights.now)) now in
     rw (← c.self.view_is) (layout_weighed p.rings.layout slots c.args.node tag c.self.invariant c.tag-tag.ensures (set slots tag (Some c.exchange.new.self))
-    (λ other differ. get_or-set_other slots tag other (Some c.exchange.new.self) None differ) (Some c.args.weights.now) (get_or-set_same slots tag (Some c.exchange.new.self) None (within slots tag there) ∙ changed))
+    (λ other differ. get_or-set_other slots tag other (Some c.exchange.new.self) None differ) (Some c.args.weights.now)
+    (get_or-set_same slots tag (Some c.exchange.new.self) None (within slots tag there) ∙ changed))
 
 pub returns-clause-weights : goal.returns-clause-weights
 returns-clause-weights c =

@@ -27,7 +27,8 @@ others : (c : goal.After-insert_reserved) → (other : ℕ) → other ≢ c.vaca
 others c other differ = c.insert_reserved.ensures.updates.others other (λ same. differ (same ∙ tag_is c)) ∙ ap (λ slots. slot_of slots other) (kept c)
 
 -- the node is made, whatever the rings
-made : (c : goal.After-insert_reserved) → Makes (layout_with c.self.inside.rings.layout c.self.inside.contents.slots) (layout_with (with_node c.self.inside.rings.layout c.in_ok-node.node c.vacant_key.result) c.insert_reserved.new.self.slots) c.in_ok-node.node (Begun c.args.name c.in_ok-node.ring)
+made : (c : goal.After-insert_reserved) → Makes (layout_with c.self.inside.rings.layout c.self.inside.contents.slots)
+    (layout_with (with_node c.self.inside.rings.layout c.in_ok-node.node c.vacant_key.result) c.insert_reserved.new.self.slots) c.in_ok-node.node (Begun c.args.name c.in_ok-node.ring)
 made c = made_contents c.self.inside.rings.layout c.self.inside.contents.slots c.insert_reserved.new.self.slots c.in_ok-node.node c.vacant_key.result (Begun c.args.name c.in_ok-node.ring)
     c.self.invariant c.in_ok-node.ensures.fresh (free c) (filled c) (others c)
 

@@ -19,10 +19,13 @@ pub returns-clause-steps : goal.returns-clause-steps
 returns-clause-steps c =
     let layout = c.self.inside.nodes.now.layout in
     let on = at_declaration layout c.self.inside.next c.in_ok-node.node c.in_ok-node.was c.self.invariant in
-    sym c.self.view_is ∙ (ap (declared_left layout) c.in_ok-node.was ∙ visited_declared layout c.in_ok-node.node on c.next-self-inside.result c.next-self-inside.ensures (declared_by c.declaration_of.result) c.declaration_of.ensures)
+    sym c.self.view_is ∙ (ap (declared_left layout) c.in_ok-node.was
+    ∙ visited_declared layout c.in_ok-node.node on c.next-self-inside.result c.next-self-inside.ensures (declared_by c.declaration_of.result) c.declaration_of.ensures)
 
 pub returns-clause-goes : goal.returns-clause-goes
 returns-clause-goes c =
     let layout = c.self.inside.nodes.now.layout in
     let on = at_declaration layout c.self.inside.next c.in_ok-node.node c.in_ok-node.was c.self.invariant in
-    goes_on _ _ _ (declared_by c.declaration_of.result) (sym c.self.view_is ∙ (ap (declared_left layout) c.in_ok-node.was ∙ visited_declared layout c.in_ok-node.node on c.next-self-inside.result c.next-self-inside.ensures (declared_by c.declaration_of.result) c.declaration_of.ensures))
+    goes_on _ _ _ (declared_by c.declaration_of.result)
+    (sym c.self.view_is ∙ (ap (declared_left layout) c.in_ok-node.was ∙ visited_declared layout c.in_ok-node.node on c.next-self-inside.result c.next-self-inside.ensures
+    (declared_by c.declaration_of.result) c.declaration_of.ensures))

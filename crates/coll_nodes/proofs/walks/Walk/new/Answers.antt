@@ -15,4 +15,5 @@ pub returns : goal.returns
 returns c =
     let layout = c.args.nodes.now.layout in
     let stands : first_in (nodes_in layout sections_ring) ≡ Some c.in-Some.first = sym (ap (λ ring. first_in (nodes_in layout ring)) c.requires.ring) ∙ (sym c.first.ensures ∙ c.in-Some.is) in
-    visited_first layout c.lemma_layout.ensures c.requires.sections c.in-Some.first stands c.first_ring-ring.result c.first_ring-ring.ensures c.next.result c.next.ensures c.first-2.result c.first-2.ensures
+    visited_first layout c.lemma_layout.ensures c.requires.sections c.in-Some.first stands c.first_ring-ring.result c.first_ring-ring.ensures c.next.result c.next.ensures c.first-2.result
+    c.first-2.ensures

@@ -38,23 +38,28 @@ section_of-requires c =
 pub first-self-inside-requires : goal.first-self-inside-requires
 first-self-inside-requires c =
     let p = c.self.inside in let layout = p.nodes.now.layout in
-    ring_is layout p.ring c.in_ok-node.node (at_section layout p.ring p.entry p.section c.in_ok-node.node c.in_default.is c.in_ok-node.was c.self.invariant) _ c.section_of.result.1 c.section_of.ensures
+    ring_is layout p.ring c.in_ok-node.node (at_section layout p.ring p.entry p.section c.in_ok-node.node c.in_default.is c.in_ok-node.was c.self.invariant) _ c.section_of.result.1
+    c.section_of.ensures
 
 pub invariant_of-self-2 : goal.invariant_of-self-2
 invariant_of-self-2 c =
     let p = c.self.inside in let layout = p.nodes.now.layout in
-    on_section layout p.ring c.in_ok-node.node (at_section layout p.ring p.entry p.section c.in_ok-node.node c.in_default.is c.in_ok-node.was c.self.invariant) _ c.section_of.result.1 c.section_of.ensures c.next-self-inside-2.result c.next-self-inside-2.ensures c.first-self-inside.result c.first-self-inside.ensures
+    on_section layout p.ring c.in_ok-node.node (at_section layout p.ring p.entry p.section c.in_ok-node.node c.in_default.is c.in_ok-node.was c.self.invariant) _ c.section_of.result.1
+    c.section_of.ensures c.next-self-inside-2.result c.next-self-inside-2.ensures c.first-self-inside.result c.first-self-inside.ensures
 
 pub returns-clause-steps : goal.returns-clause-steps
 returns-clause-steps c =
     let p = c.self.inside in let layout = p.nodes.now.layout in
     let on = at_section layout p.ring p.entry p.section c.in_ok-node.node c.in_default.is c.in_ok-node.was c.self.invariant in
     sym c.self.view_is ∙ (ap (λ entry. visited_left layout p.ring entry p.section) c.in_default.is ∙ (ap (visited_left layout p.ring None) c.in_ok-node.was
-    ∙ visited_section layout p.ring c.in_ok-node.node on (chars c.section_of.result.0.now) c.section_of.result.1 c.section_of.ensures c.next-self-inside-2.result c.next-self-inside-2.ensures c.first-self-inside.result c.first-self-inside.ensures))
+    ∙ visited_section layout p.ring c.in_ok-node.node on (chars c.section_of.result.0.now) c.section_of.result.1 c.section_of.ensures c.next-self-inside-2.result c.next-self-inside-2.ensures
+    c.first-self-inside.result c.first-self-inside.ensures))
 
 pub returns-clause-goes : goal.returns-clause-goes
 returns-clause-goes c =
     let p = c.self.inside in let layout = p.nodes.now.layout in
     let on = at_section layout p.ring p.entry p.section c.in_ok-node.node c.in_default.is c.in_ok-node.was c.self.invariant in
-    goes_on _ _ _ (VisitedSection (chars c.section_of.result.0.now)) (sym c.self.view_is ∙ (ap (λ entry. visited_left layout p.ring entry p.section) c.in_default.is ∙ (ap (visited_left layout p.ring None) c.in_ok-node.was
-    ∙ visited_section layout p.ring c.in_ok-node.node on (chars c.section_of.result.0.now) c.section_of.result.1 c.section_of.ensures c.next-self-inside-2.result c.next-self-inside-2.ensures c.first-self-inside.result c.first-self-inside.ensures)))
+    goes_on _ _ _ (VisitedSection (chars c.section_of.result.0.now))
+    (sym c.self.view_is ∙ (ap (λ entry. visited_left layout p.ring entry p.section) c.in_default.is ∙ (ap (visited_left layout p.ring None) c.in_ok-node.was
+    ∙ visited_section layout p.ring c.in_ok-node.node on (chars c.section_of.result.0.now) c.section_of.result.1 c.section_of.ensures c.next-self-inside-2.result c.next-self-inside-2.ensures
+    c.first-self-inside.result c.first-self-inside.ensures)))

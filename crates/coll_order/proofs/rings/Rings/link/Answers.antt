@@ -42,16 +42,20 @@ pub invariant_of-self : goal.invariant_of-self
 invariant_of-self c =
     let loose = rw (← c.self.view_is) at c.requires.loose in
     let there = rw (← c.self.view_is) at c.requires.place in
-    (link_done (links_of c.self.inside.store) (links_of c.join.new.self) (links_of c.join-2.new.self) (links_of c.set_ring.new.self) (links_of c.move_end.new.self) c.args.node c.args.place c.ring-ring.result c.next-after.result c.self.invariant loose there c.ring-ring.ensures c.next-after.ensures c.join.ensures c.join-2.ensures c.set_ring.ensures c.move_end.ensures).kept
+    (link_done (links_of c.self.inside.store) (links_of c.join.new.self) (links_of c.join-2.new.self) (links_of c.set_ring.new.self) (links_of c.move_end.new.self) c.args.node c.args.place
+    c.ring-ring.result c.next-after.result c.self.invariant loose there c.ring-ring.ensures c.next-after.ensures c.join.ensures c.join-2.ensures c.set_ring.ensures c.move_end.ensures).kept
 
 pub returns-clause-layout : goal.returns-clause-layout
 returns-clause-layout c =
     let loose = rw (← c.self.view_is) at c.requires.loose in
     let there = rw (← c.self.view_is) at c.requires.place in
-    rw (← c.self.view_is) (link_done (links_of c.self.inside.store) (links_of c.join.new.self) (links_of c.join-2.new.self) (links_of c.set_ring.new.self) (links_of c.move_end.new.self) c.args.node c.args.place c.ring-ring.result c.next-after.result c.self.invariant loose there c.ring-ring.ensures c.next-after.ensures c.join.ensures c.join-2.ensures c.set_ring.ensures c.move_end.ensures).layout
+    rw (← c.self.view_is) (link_done (links_of c.self.inside.store) (links_of c.join.new.self) (links_of c.join-2.new.self) (links_of c.set_ring.new.self) (links_of c.move_end.new.self) c.args.node
+    c.args.place c.ring-ring.result c.next-after.result c.self.invariant loose there c.ring-ring.ensures c.next-after.ensures c.join.ensures c.join-2.ensures c.set_ring.ensures
+    c.move_end.ensures).layout
 
 pub returns-clause-linked : goal.returns-clause-linked
 returns-clause-linked c =
     let loose = rw (← c.self.view_is) at c.requires.loose in
     let there = rw (← c.self.view_is) at c.requires.place in
-    (link_done (links_of c.self.inside.store) (links_of c.join.new.self) (links_of c.join-2.new.self) (links_of c.set_ring.new.self) (links_of c.move_end.new.self) c.args.node c.args.place c.ring-ring.result c.next-after.result c.self.invariant loose there c.ring-ring.ensures c.next-after.ensures c.join.ensures c.join-2.ensures c.set_ring.ensures c.move_end.ensures).there
+    (link_done (links_of c.self.inside.store) (links_of c.join.new.self) (links_of c.join-2.new.self) (links_of c.set_ring.new.self) (links_of c.move_end.new.self) c.args.node c.args.place
+    c.ring-ring.result c.next-after.result c.self.invariant loose there c.ring-ring.ensures c.next-after.ensures c.join.ensures c.join-2.ensures c.set_ring.ensures c.move_end.ensures).there

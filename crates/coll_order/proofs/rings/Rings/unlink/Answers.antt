@@ -36,16 +36,21 @@ move_end-requires c =
     (own_ring_there (links_of c.self.inside.store) c.args.node c.node-found.result c.self.invariant there c.node-found.ensures)
 
 pub invariant_of-self : goal.invariant_of-self
-invariant_of-self c = (unlink_done (links_of c.self.inside.store) (links_of c.join.new.self) (links_of c.detach.new.self) (links_of c.move_end.new.self) c.args.node c.node-found.result c.in-Some.place c.self.invariant c.node-found.ensures c.in-Some.is c.join.ensures c.detach.ensures c.move_end.ensures).kept
+invariant_of-self c = (unlink_done (links_of c.self.inside.store) (links_of c.join.new.self) (links_of c.detach.new.self) (links_of c.move_end.new.self) c.args.node c.node-found.result c.in-Some.place
+    c.self.invariant c.node-found.ensures c.in-Some.is c.join.ensures c.detach.ensures c.move_end.ensures).kept
 
 pub returns-clause-place : goal.returns-clause-place
-returns-clause-place c = rw (← c.self.view_is) (unlink_done (links_of c.self.inside.store) (links_of c.join.new.self) (links_of c.detach.new.self) (links_of c.move_end.new.self) c.args.node c.node-found.result c.in-Some.place c.self.invariant c.node-found.ensures c.in-Some.is c.join.ensures c.detach.ensures c.move_end.ensures).stood
+returns-clause-place c = rw (← c.self.view_is) (unlink_done (links_of c.self.inside.store) (links_of c.join.new.self) (links_of c.detach.new.self) (links_of c.move_end.new.self) c.args.node
+    c.node-found.result c.in-Some.place c.self.invariant c.node-found.ensures c.in-Some.is c.join.ensures c.detach.ensures c.move_end.ensures).stood
 
 pub returns-clause-layout : goal.returns-clause-layout
-returns-clause-layout c = rw (← c.self.view_is) (unlink_done (links_of c.self.inside.store) (links_of c.join.new.self) (links_of c.detach.new.self) (links_of c.move_end.new.self) c.args.node c.node-found.result c.in-Some.place c.self.invariant c.node-found.ensures c.in-Some.is c.join.ensures c.detach.ensures c.move_end.ensures).layout
+returns-clause-layout c = rw (← c.self.view_is) (unlink_done (links_of c.self.inside.store) (links_of c.join.new.self) (links_of c.detach.new.self) (links_of c.move_end.new.self) c.args.node
+    c.node-found.result c.in-Some.place c.self.invariant c.node-found.ensures c.in-Some.is c.join.ensures c.detach.ensures c.move_end.ensures).layout
 
 pub returns-clause-loose : goal.returns-clause-loose
-returns-clause-loose c = (unlink_done (links_of c.self.inside.store) (links_of c.join.new.self) (links_of c.detach.new.self) (links_of c.move_end.new.self) c.args.node c.node-found.result c.in-Some.place c.self.invariant c.node-found.ensures c.in-Some.is c.join.ensures c.detach.ensures c.move_end.ensures).loose
+returns-clause-loose c = (unlink_done (links_of c.self.inside.store) (links_of c.join.new.self) (links_of c.detach.new.self) (links_of c.move_end.new.self) c.args.node c.node-found.result
+    c.in-Some.place c.self.invariant c.node-found.ensures c.in-Some.is c.join.ensures c.detach.ensures c.move_end.ensures).loose
 
 pub returns-clause-back : goal.returns-clause-back
-returns-clause-back c = (unlink_done (links_of c.self.inside.store) (links_of c.join.new.self) (links_of c.detach.new.self) (links_of c.move_end.new.self) c.args.node c.node-found.result c.in-Some.place c.self.invariant c.node-found.ensures c.in-Some.is c.join.ensures c.detach.ensures c.move_end.ensures).back
+returns-clause-back c = (unlink_done (links_of c.self.inside.store) (links_of c.join.new.self) (links_of c.detach.new.self) (links_of c.move_end.new.self) c.args.node c.node-found.result
+    c.in-Some.place c.self.invariant c.node-found.ensures c.in-Some.is c.join.ensures c.detach.ensures c.move_end.ensures).back

@@ -2,7 +2,7 @@
 use Rattle.std.proofs.Common.{◌∙◌, length, chars, sym, ap, arith}
 use Rattle.std.proofs.lemmas.Str.{chars_past_char}
 use Rattle.coll_ranks.specs.Ranks.{parts_of}
-use Rattle.coll_ranks.proofs.PartNumbers.{element_first, characters_behind, some_characters, character_first, no_parts, no_characters}
+use Rattle.coll_ranks.proofs.PartNumbers.{element_first, characters_behind, some_characters, alone_first, character_first, no_parts, no_characters}
 use Rattle.coll_ranks.proofs.ranks.Ranks.first_part.Goals as goal
 
 pub returns-in_err-first-clause-parts : goal.returns-in_err-first-clause-parts
@@ -29,14 +29,30 @@ returns-in-Some-clause-some c =
     let first = chars_past_char c.args.text.now c.next.new.self.rest.now c.in_ok-first.first c.utf8.text (sym c.chars-letters.ensures.rest ∙ c.in_ok-first.ensures.steps.0) in
     some_characters _ (chars c.args.text.now) c.in-Some.found (c.in-Some.ensures _ first)
 
+pub returns-then-not-may_begin_with-clause-parts : goal.returns-then-not-may_begin_with-clause-parts
+returns-then-not-may_begin_with-clause-parts c =
+    let first = chars_past_char c.args.text.now c.next.new.self.rest.now c.in_ok-first.first c.utf8.text (sym c.chars-letters.ensures.rest ∙ c.in_ok-first.ensures.steps.0) in
+    let part = rw (← c.self.view_is) at c.alone.ensures.part in
+    rw (← c.self.view_is) (alone_first _ (chars c.args.text.now) _ (chars c.alone.result.rest.now) c.in_ok-first.first c.alone.result.part first
+    (c.may_begin_with.ensures _ c.if-not-may_begin_with.true) part (ap chars (c.alone.ensures.rest ∙ c.as_str.ensures)))
+
+pub returns-then-not-may_begin_with-clause-characters : goal.returns-then-not-may_begin_with-clause-characters
+returns-then-not-may_begin_with-clause-characters c =
+    let first = chars_past_char c.args.text.now c.next.new.self.rest.now c.in_ok-first.first c.utf8.text (sym c.chars-letters.ensures.rest ∙ c.in_ok-first.ensures.steps.0) in
+    let one = ap length first in
+    let same = ap (λ t. length (chars t)) (c.alone.ensures.rest ∙ c.as_str.ensures) in
+    omega (arith, one, same, c.alone.ensures.characters)
+
 pub returns-in-None-clause-parts : goal.returns-in-None-clause-parts
 returns-in-None-clause-parts c =
     let first = chars_past_char c.args.text.now c.next.new.self.rest.now c.in_ok-first.first c.utf8.text (sym c.chars-letters.ensures.rest ∙ c.in_ok-first.ensures.steps.0) in
-    rw (← c.self.view_is) (character_first _ (chars c.args.text.now) _ (chars c.as_str.result.now) c.in_ok-first.first c.part.result first (c.in-None.ensures _ first) c.part.ensures (ap chars c.as_str.ensures))
+    let part = rw (← c.self.view_is) at c.alone-in-None.ensures.part in
+    rw (← c.self.view_is) (character_first _ (chars c.args.text.now) _ (chars c.alone-in-None.result.rest.now) c.in_ok-first.first c.alone-in-None.result.part first (c.in-None.ensures _ first)
+    part (ap chars (c.alone-in-None.ensures.rest ∙ c.as_str-in-None.ensures)))
 
 pub returns-in-None-clause-characters : goal.returns-in-None-clause-characters
 returns-in-None-clause-characters c =
     let first = chars_past_char c.args.text.now c.next.new.self.rest.now c.in_ok-first.first c.utf8.text (sym c.chars-letters.ensures.rest ∙ c.in_ok-first.ensures.steps.0) in
     let one = ap length first in
-    let same = ap (λ t. length (chars t)) c.as_str.ensures in
-    omega (arith, one, same)
+    let same = ap (λ t. length (chars t)) (c.alone-in-None.ensures.rest ∙ c.as_str-in-None.ensures) in
+    omega (arith, one, same, c.alone-in-None.ensures.characters)

@@ -28,7 +28,8 @@ returns-clause-numbers c =
     let are = subst (λ (elements : List ElementEntry). AreElementsOf table (elements_of table (chars c.args.text.now)) elements) (sym c.deref.ensures.value) c.in_ok-elements.ensures in
     let undefined = c.in_ok-weights.ensures in
     let lists = undefined.lists ∙ ap (λ (t : Collation). compiled_row_by (known_rank t) (length table.rules) Undefined (undefined_weights table)) (sym c.new-recent.ensures) in
-    text_numbers table c.new-recent.result c.in_ok-weights.weights c.compiled_parts.new.weights (chars c.args.text.now) c.deref.result.now c.in_ok-parts.parts.items are (c.new-recent.ensures ∙ c.new-ranks.ensures) undefined.levels lists undefined.own c.in_ok-parts.ensures.rows c.in_ok-parts.ensures.parts
+    text_numbers table c.new-recent.result c.in_ok-weights.weights c.compiled_parts.new.weights (chars c.args.text.now) c.deref.result.now c.in_ok-parts.parts.items are
+    (c.new-recent.ensures ∙ c.new-ranks.ensures) undefined.levels lists undefined.own c.in_ok-parts.ensures.rows c.in_ok-parts.ensures.parts
 
 pub returns-clause-count : goal.returns-clause-count
 returns-clause-count c =

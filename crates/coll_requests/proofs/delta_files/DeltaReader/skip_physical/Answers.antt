@@ -7,4 +7,5 @@ use Rattle.coll_requests.proofs.DeltaTaking.{lack_number}
 use Rattle.coll_requests.proofs.delta_files.DeltaReader.skip_physical.Goals as goal
 
 pub returns-in-Err-clause-memory : goal.returns-in-Err-clause-memory
-returns-in-Err-clause-memory c = ap (λ (f : DeltaFault). lacks_memory f.cause) c.file_fault.ensures ∙ lack_number c.in-Err.fault ∙ outside-not_starved c.self.inside.parser c.args.line.now c.in-Err.fault c.in-Err.ensures.err
+returns-in-Err-clause-memory c =
+    ap (λ (f : DeltaFault). lacks_memory f.cause) c.file_fault.ensures ∙ lack_number c.in-Err.fault ∙ outside-not_starved c.self.inside.parser c.args.line.now c.in-Err.fault c.in-Err.ensures.err

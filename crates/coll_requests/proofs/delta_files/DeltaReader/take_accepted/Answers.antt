@@ -9,7 +9,8 @@ invariant_of-self-2 c =
     let i = c.self.inside in
     let next = c.take_line-next.result.0 in
     let taken = c.take_line-next.ensures.taken in
-    let whole = taken_unless_lacking taken.0 i.block c.take.result next c.args.parsing c.take_line-next.result.1 c.is_order-order.result c.self.invariant c.take.ensures.value taken.1 c.is_order-order.ensures c.if-leaves_lack.ensures in
+    let whole = taken_unless_lacking taken.0 i.block c.take.result next c.args.parsing c.take_line-next.result.1 c.is_order-order.result c.self.invariant c.take.ensures.value taken.1
+    c.is_order-order.ensures c.if-leaves_lack.ensures in
     subst IsUnspoiled (sym whole.kept)
     (unspoiled_after i.block c.args.parsing.line c.self.invariant (subst (λ (s : DeltaState). kept_fault_under s.block c.args.parsing.line ≡ None) (sym c.self.view_is) c.requires.faultless))
 
@@ -20,5 +21,6 @@ returns-clause-ok c =
     let next = c.take_line-next.result.0 in
     let request = c.take_line-next.result.1 in
     let taken = c.take_line-next.ensures.taken in
-    let whole = taken_unless_lacking taken.0 i.block c.take.result next c.args.parsing request c.is_order-order.result c.self.invariant c.take.ensures.value taken.1 c.is_order-order.ensures c.if-leaves_lack.ensures in
+    let whole = taken_unless_lacking taken.0 i.block c.take.result next c.args.parsing request c.is_order-order.result c.self.invariant c.take.ensures.value taken.1 c.is_order-order.ensures
+    c.if-leaves_lack.ensures in
     rw (← c.self.view_is) (accepted_answer s next request c.args.parsing _ _ whole c.statement_of.ensures.statement c.ends_category-ends.ensures)

@@ -16,7 +16,8 @@ returns-in-Some-clause-ok c =
     let i = c.self.inside in
     let s : DeltaState = record { lexer = i.parser; begun = i.begun; ended = i.ended; block = i.block; fault = i.fault } in
     let parses = c.in-Some.ensures.parsed in
-    rw (← c.self.view_is) (physical_given s parses.0 c.parse.new.self c.args.line.now c.in-Some.parsing.line parses.1 c.take_logical.new.self c.take_logical.result c.take_logical.ensures.served c.take_logical.ensures.ok)
+    rw (← c.self.view_is) (physical_given s parses.0 c.parse.new.self c.args.line.now c.in-Some.parsing.line parses.1 c.take_logical.new.self c.take_logical.result c.take_logical.ensures.served
+    c.take_logical.ensures.ok)
 
 pub returns-in-Some-clause-err : goal.returns-in-Some-clause-err
 returns-in-Some-clause-err c =

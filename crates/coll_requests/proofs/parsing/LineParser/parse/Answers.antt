@@ -15,16 +15,20 @@ invariant_of-self-in-Ok-None c =
 
 pub invariant_of-self-in-Ok-Some : goal.invariant_of-self-in-Ok-Some
 invariant_of-self-in-Ok-Some c =
-    opens_as_none c.feed.new.self c.self.inside.opening (ap (λ (t : LexerState). t.line) (fed-whole c.self.inside.lexer c.args.line.now c.in-Ok-Some.line c.feed.new.self (rw c.in-Ok-Some.field-0-is at c.in-Ok-Some.ensures.ok)))
+    opens_as_none c.feed.new.self c.self.inside.opening
+    (ap (λ (t : LexerState). t.line) (fed-whole c.self.inside.lexer c.args.line.now c.in-Ok-Some.line c.feed.new.self (rw c.in-Ok-Some.field-0-is at c.in-Ok-Some.ensures.ok)))
 
 pub invariant_of-self : goal.invariant_of-self
 invariant_of-self c = opens_as_none c.feed.new.self c.self.inside.opening (ap (λ (t : LexerState). t.line) c.in-Err.ensures.dropped)
 
 pub returns-in-Err-clause-parsed : goal.returns-in-Err-clause-parsed
 returns-in-Err-clause-parsed c =
-    subst (λ (s : LexerState). (starved : Bool) × Parses c.args.commands starved s c.feed.new.self c.args.line.now (Some (numbered c.next_number-number.result c.refused_by_lexer-parsed.result))) c.self.view_is
-    (parses_fault c.args.commands c.self.inside.lexer c.feed.new.self c.args.line.now c.opening_at-opening.result c.in-Err.fault (numbered c.next_number-number.result c.refused_by_lexer-parsed.result) c.next_number-number.result
-    (c.opening_at-opening.ensures ∙ ap (λ (t : LexerState). opening_of (first_line t c.args.line.now)) (sym c.self.view_is)) c.next_number-number.ensures.number c.in-Err.ensures.dropped c.in-Err.ensures.err c.in-Err.ensures.memory
+    subst (λ (s : LexerState). (starved : Bool) × Parses c.args.commands starved s c.feed.new.self c.args.line.now (Some (numbered c.next_number-number.result c.refused_by_lexer-parsed.result)))
+    c.self.view_is
+    (parses_fault c.args.commands c.self.inside.lexer c.feed.new.self c.args.line.now c.opening_at-opening.result c.in-Err.fault (numbered c.next_number-number.result c.refused_by_lexer-parsed.result)
+    c.next_number-number.result
+    (c.opening_at-opening.ensures ∙ ap (λ (t : LexerState). opening_of (first_line t c.args.line.now)) (sym c.self.view_is)) c.next_number-number.ensures.number c.in-Err.ensures.dropped
+    c.in-Err.ensures.err c.in-Err.ensures.memory
     (ap (numbered c.next_number-number.result) c.refused_by_lexer-parsed.ensures.parsed))
 
 pub returns-in-Ok-None-clause-parsed : goal.returns-in-Ok-None-clause-parsed
@@ -34,6 +38,8 @@ returns-in-Ok-None-clause-parsed c =
 
 pub returns-in-Ok-Some-clause-parsed : goal.returns-in-Ok-Some-clause-parsed
 returns-in-Ok-Some-clause-parsed c =
-    subst (λ (s : LexerState). (starved : Bool) × Parses c.args.commands starved s c.feed.new.self c.args.line.now (Some (numbered c.next_number-number.result c.tokens_parsed-parsed.result))) c.self.view_is
+    subst (λ (s : LexerState). (starved : Bool) × Parses c.args.commands starved s c.feed.new.self c.args.line.now (Some (numbered c.next_number-number.result c.tokens_parsed-parsed.result)))
+    c.self.view_is
     (parses_whole c.args.commands c.self.inside.lexer c.feed.new.self c.args.line.now c.opening_at-opening.result c.in-Ok-Some.line c.tokens_parsed-parsed.result c.next_number-number.result
-    (c.opening_at-opening.ensures ∙ ap (λ (t : LexerState). opening_of (first_line t c.args.line.now)) (sym c.self.view_is)) c.next_number-number.ensures.number (rw c.in-Ok-Some.field-0-is at c.in-Ok-Some.ensures.ok) c.tokens_parsed-parsed.ensures.parsed)
+    (c.opening_at-opening.ensures ∙ ap (λ (t : LexerState). opening_of (first_line t c.args.line.now)) (sym c.self.view_is)) c.next_number-number.ensures.number
+    (rw c.in-Ok-Some.field-0-is at c.in-Ok-Some.ensures.ok) c.tokens_parsed-parsed.ensures.parsed)

@@ -8,4 +8,5 @@ returns-in-Ok-Some-clause-memory c =
 
 pub returns-in-Ok-Some-clause-starved_at : goal.returns-in-Ok-Some-clause-starved_at
 returns-in-Ok-Some-clause-starved_at c =
-    rw (← c.self.view_is) (whole_numbered c.self.inside.lexer c.feed.new.self c.args.line.now c.in-Ok-Some.whole c.take_logical.result (rw c.in-Ok-Some.field-0-is at c.in-Ok-Some.ensures.ok) c.take_logical.ensures.starved_at)
+    rw (← c.self.view_is) (whole_numbered c.self.inside.lexer c.feed.new.self c.args.line.now c.in-Ok-Some.whole c.take_logical.result (rw c.in-Ok-Some.field-0-is at c.in-Ok-Some.ensures.ok)
+    c.take_logical.ensures.starved_at)

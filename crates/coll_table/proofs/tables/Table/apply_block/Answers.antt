@@ -12,7 +12,8 @@ unfolding own_delta
 prepare_block-requires c = record { placed = (block_accepted (collation c.args.self.now) c.args.target.now c.args.lines.now c.requires.accepted).placed }
 
 ready : (c : goal.After-carry_out-arg-1) → IsReady c.prepare_block.new.self (statement.Block c.args.target.now c.args.lines.now) c.in_ok-items.items.items
-ready c = block_ready c.args.self.now c.prepare_block.new.self c.args.target.now c.args.lines.now c.in_ok-items.items.items c.lemma_well_formed.ensures.table c.in_ok-items.ensures.added c.requires.proper c.requires.accepted c.in_ok-items.ensures.prepared
+ready c = block_ready c.args.self.now c.prepare_block.new.self c.args.target.now c.args.lines.now c.in_ok-items.items.items c.lemma_well_formed.ensures.table c.in_ok-items.ensures.added
+    c.requires.proper c.requires.accepted c.in_ok-items.ensures.prepared
 
 pub carry_out-requires-clause-goes : goal.carry_out-requires-clause-goes
 carry_out-requires-clause-goes c = (ready c).done.goes
@@ -25,7 +26,10 @@ carry_out-requires-clause-well_formed c = ready_well_formed c.prepare_block.new.
 
 pub returns-clause-applied : goal.returns-clause-applied
 returns-clause-applied c =
-    applied c.args.self.now c.prepare_block.new.self c.carry_out.new.self (statement.Block c.args.target.now c.args.lines.now) c.in_ok-items.items.items c.carry_out.result c.lemma_well_formed.ensures.table c.in_ok-items.ensures.added
-    (block_ready c.args.self.now c.prepare_block.new.self c.args.target.now c.args.lines.now c.in_ok-items.items.items c.lemma_well_formed.ensures.table c.in_ok-items.ensures.added c.requires.proper c.requires.accepted c.in_ok-items.ensures.prepared)
+    applied c.args.self.now c.prepare_block.new.self c.carry_out.new.self (statement.Block c.args.target.now c.args.lines.now) c.in_ok-items.items.items c.carry_out.result
+    c.lemma_well_formed.ensures.table c.in_ok-items.ensures.added
+    (block_ready c.args.self.now c.prepare_block.new.self c.args.target.now c.args.lines.now c.in_ok-items.items.items c.lemma_well_formed.ensures.table c.in_ok-items.ensures.added c.requires.proper
+    c.requires.accepted c.in_ok-items.ensures.prepared)
     c.carry_out.ensures.rules c.carry_out.ensures.layout c.carry_out.ensures.record
-    (block_listed c.args.self.now c.prepare_block.new.self c.args.target.now c.args.lines.now c.in_ok-items.items.items c.lemma_well_formed.ensures.table c.in_ok-items.ensures.added c.requires.accepted c.in_ok-items.ensures.prepared)
+    (block_listed c.args.self.now c.prepare_block.new.self c.args.target.now c.args.lines.now c.in_ok-items.items.items c.lemma_well_formed.ensures.table c.in_ok-items.ensures.added
+    c.requires.accepted c.in_ok-items.ensures.prepared)

@@ -7,7 +7,8 @@ use Rattle.coll_table.proofs.tables.Table.flip.Goals as goal
 flips : (c : goal.After-turn_record) → IsFlipped c.args.self.now c.args.kept.now (value_of c.self.inside.rules c.turn_record.new.body) c.turn_record.new.kept
 flips c =
     let turns = c.turn_record.ensures in
-    flipped_body c.self.inside.rules c.self.inside.body c.turn_record.new.body c.args.self.now c.args.kept.now c.turn_record.new.kept c.self.view_is c.lemma_well_formed.ensures.table c.requires.fits turns.layout turns.undone turns.items
+    flipped_body c.self.inside.rules c.self.inside.body c.turn_record.new.body c.args.self.now c.args.kept.now c.turn_record.new.kept c.self.view_is c.lemma_well_formed.ensures.table c.requires.fits
+    turns.layout turns.undone turns.items
 
 pub invariant_of-self : goal.invariant_of-self
 invariant_of-self c = (flips c).well_formed

@@ -13,9 +13,11 @@ returns-then-not-kept c = kept_nodes c.args.self.now c.args.kept c.if-not-kept.t
 pub invariant_of-self : goal.invariant_of-self
 invariant_of-self c =
     let forgotten : value_of c.self.inside.rules c.drop_added.new.body ≡ without_nodes c.args.self.now (dropped_nodes c.args.kept) =
-    forgotten_body c.self.inside.rules c.self.inside.body c.drop_added.new.body c.args.self.now c.args.kept c.get.result.now c.self.view_is c.if-not-kept.false c.get.ensures c.drop_added.ensures.layout c.drop_added.ensures.steps in
+    forgotten_body c.self.inside.rules c.self.inside.body c.drop_added.new.body c.args.self.now c.args.kept c.get.result.now c.self.view_is c.if-not-kept.false c.get.ensures
+    c.drop_added.ensures.layout c.drop_added.ensures.steps in
     subst (λ (table : TableValue). IsWellFormed (collation table)) (sym forgotten) (well_formed_without c.args.self.now (dropped_nodes c.args.kept) c.lemma_well_formed.ensures.table c.requires.loose)
 
 pub returns : goal.returns
 returns c =
-    forgotten_body c.self.inside.rules c.self.inside.body c.drop_added.new.body c.args.self.now c.args.kept c.get.result.now c.self.view_is c.if-not-kept.false c.get.ensures c.drop_added.ensures.layout c.drop_added.ensures.steps
+    forgotten_body c.self.inside.rules c.self.inside.body c.drop_added.new.body c.args.self.now c.args.kept c.get.result.now c.self.view_is c.if-not-kept.false c.get.ensures
+    c.drop_added.ensures.layout c.drop_added.ensures.steps

@@ -16,7 +16,8 @@ unreachable-requires c =
 
 pub returns-in-Ok-clause-prepared : goal.returns-in-Ok-clause-prepared
 returns-in-Ok-clause-prepared c =
-    let has : has_key same_id ids_in c.args.self.now.layout c.args.target.now c.in-Some.node ≡ true = subst (λ (t : TableValue). has_key same_id ids_in t.layout c.args.target.now c.in-Some.node ≡ true) c.self.view_is c.in-Some.ensures in (
+    let has : has_key same_id ids_in c.args.self.now.layout c.args.target.now c.in-Some.node ≡ true =
+    subst (λ (t : TableValue). has_key same_id ids_in t.layout c.args.target.now c.in-Some.node ≡ true) c.self.view_is c.in-Some.ensures in (
       c.in-Some.node,
       key_kept c.args.self.now c.prepare_lines.new.self (added_nodes c.prepare_lines.new.items.items) c.in-Ok.ensures.added (collation c.args.self.now) c.args.target.now c.in-Some.node has,
       c.in-Ok.ensures.prepared,

@@ -25,7 +25,8 @@ carry_out-requires-clause-well_formed c = ready_well_formed c.args.self.now (sta
 
 pub returns-clause-applied : goal.returns-clause-applied
 returns-clause-applied c =
-    applied c.args.self.now c.args.self.now c.carry_out.new.self (statement.Reweight c.args.line.now) c.in_ok-items.items.items c.carry_out.result c.lemma_well_formed.ensures.table (reweight_adds c.args.self.now c.args.line.now c.in_ok-items.items.items c.in_ok-items.ensures)
+    applied c.args.self.now c.args.self.now c.carry_out.new.self (statement.Reweight c.args.line.now) c.in_ok-items.items.items c.carry_out.result c.lemma_well_formed.ensures.table
+    (reweight_adds c.args.self.now c.args.line.now c.in_ok-items.items.items c.in_ok-items.ensures)
     (reweight_ready c.args.self.now c.args.line.now c.in_ok-items.items.items c.lemma_well_formed.ensures.table c.requires.proper c.requires.accepted c.in_ok-items.ensures)
     c.carry_out.ensures.rules c.carry_out.ensures.layout c.carry_out.ensures.record
     (reweight_listed c.args.self.now c.args.line.now c.in_ok-items.items.items c.lemma_well_formed.ensures.table c.in_ok-items.ensures)

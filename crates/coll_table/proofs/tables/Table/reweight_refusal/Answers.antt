@@ -12,4 +12,5 @@ pub returns : goal.returns
 returns c =
     let table = collation c.args.self.now in
     let line = c.args.line.now in
-    reweight_judged table line (sym c.in_default.ensures) ∙ ap (λ r. unless_refused r (reweighted table line)) (sym (c.given_refusal-refusal.ensures ∙ ap (λ more. ids_refusal table more (flat_map weight_ids (given_weights line.weights))) c.new-none.ensures))
+    reweight_judged table line (sym c.in_default.ensures) ∙ ap (λ r. unless_refused r (reweighted table line))
+    (sym (c.given_refusal-refusal.ensures ∙ ap (λ more. ids_refusal table more (flat_map weight_ids (given_weights line.weights))) c.new-none.ensures))

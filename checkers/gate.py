@@ -1,0 +1,81 @@
+#!/usr/bin/env python3
+"""The merge gate: whether each edit of crates/*/more-edits/ can still be applied, `rt ci`, and then the runs of the programs that it
+built, withdrawals from random histories among them, and whether the version that is told is that of the changelog and of the kit.
+What the prover says of those edits, `make edits` tells.
+
+usage: checkers/gate.py
+
+The last line is 'N passed, M failed' over all of them, and the status is 1 where one failed.
+"""
+
+import re
+import subprocess
+import sys
+
+import edits
+import random_withdrawals
+import refuse_growths
+import run_program
+
+
+def proofs_and_tests():
+    """Runs `rt ci`, with its lines as they come. Returns how many of its parts passed, and how many failed."""
+    counts = None
+    how = {"stdout": subprocess.PIPE, "encoding": "utf-8", "errors": "replace"}
+    try:
+        gate = subprocess.Popen(["rt", "ci"], cwd=run_program.ROOT, **how)
+    except OSError as error:
+        print(f"FAILED: rt ci did not start: {error}", flush=True)
+        return 0, 1
+    with gate:
+        for line in gate.stdout:
+            last = re.fullmatch(r"(\d+) passed, (\d+) failed\n?", line)
+            counts = (int(last[1]), int(last[2])) if last else None
+            print(f"rt ci: {line}" if last else line, end="", flush=True)
+    if counts is None:
+        print("FAILED: rt ci has not counted what passed", flush=True)
+        return 0, 1
+    if gate.returncode and not counts[1]:
+        print(f"FAILED: rt ci ended with status {gate.returncode}", flush=True)
+        return counts[0], 1
+    return counts
+
+
+def same_logic(kit, other):
+    """Whether two kits have the same name and logic. A letter behind the name counts what is built anew, with the same logic."""
+    parts = [re.fullmatch(r"(rattle-kit-\d+)[a-z]* (logic \w+)", line) for line in (kit, other)]
+    return all(parts) and parts[0].groups() == parts[1].groups()
+
+
+def version():
+    """Returns 1, 0 where `collbench version` tells the version of the changelog, and a kit of this logic, as README does; else 0, 1."""
+    with open(f"{run_program.ROOT}/CHANGELOG.md", encoding="utf-8") as changes, open(f"{run_program.ROOT}/README.md", encoding="utf-8") as readme:
+        number, told = re.search(r"^## ([\d.]+)", changes.read(), re.M)[1], readme.read()
+    kit = subprocess.run(["rt", "version"], stdout=subprocess.PIPE, encoding="utf-8", check=False).stdout.strip()
+    ran = subprocess.run([run_program.PROGRAM, "version"], stdout=subprocess.PIPE, encoding="utf-8", check=False)
+    said = re.fullmatch(r"collbench (.*)\nproved with (.*)\n", ran.stdout)
+    if ran.returncode == 0 and said and said[1] == number and same_logic(said[2], kit) and said[2] in told:
+        return 1, 0
+    print(f"FAILED: the version told is not {number}, proved with {kit}, in the program and in README: {ran.stdout}", flush=True)
+    return 0, 1
+
+
+def main():
+    can_be_applied = edits.run_all()
+    print(f"edits that can be applied: {can_be_applied[0]} passed, {can_be_applied[1]} failed", flush=True)
+    proved = proofs_and_tests()
+    ran = run_program.run_all(run_program.PROGRAM)
+    print(f"runs of the program: {ran[0]} passed, {ran[1]} failed")
+    withdrawn = random_withdrawals.run_all(run_program.PROGRAM)
+    print(f"withdrawals from random histories: {withdrawn[0]} passed, {withdrawn[1]} failed")
+    refused = refuse_growths.run_all()
+    print(f"runs with refused growths: {refused[0]} passed, {refused[1]} failed")
+    told = version()
+    print(f"version: {told[0]} passed, {told[1]} failed")
+    passed, failed = (sum(counts) for counts in zip(can_be_applied, proved, ran, withdrawn, refused, told))
+    print(f"{passed} passed, {failed} failed")
+    return 1 if failed or not ran[0] else 0
+
+
+if __name__ == "__main__":
+    sys.exit(main())

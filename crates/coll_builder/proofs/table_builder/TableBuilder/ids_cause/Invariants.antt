@@ -1,6 +1,0 @@
-use Rattle.std.proofs.Common.{◌≡◌, drop}
-use Rattle.coll_builder.specs.BuilderStates.{ids_cause}
-use Rattle.coll_builder.proofs.table_builder.TableBuilder.ids_cause.Given as goal
-
-abbrev pub invariant-loop-id : goal.invariant-loop-id
-invariant-loop-id l = ids_cause l.self.declared l.self.sections (drop l.id-index l.ids) ≡ ids_cause l.self.declared l.self.sections l.ids

@@ -1,3 +1,0 @@
-pub mod CanonicalText
-pub mod Pieces
-pub mod PrintedParts

@@ -1,0 +1,13 @@
+-- What is written and what is left are the whole.
+use Rattle.std.proofs.Common.{◌≡◌, drop}
+use Rattle.coll_texts.specs.CanonicalText.{spelled_rule}
+use Rattle.coll_texts.specs.PrintedParts.{behind_bytes}
+use Rattle.coll_texts.proofs.PrintedParts.{HasWritten}
+use Rattle.coll_texts.proofs.spelled_lines.write_later_rules.Given as goal
+
+abbrev pub invariant-loop-rule : goal.invariant-loop-rule
+invariant-loop-rule g l =
+    record {
+      sent : HasWritten (behind_bytes spelled_rule) l.rules (drop l.rule-index l.rules) (g.W.Sink.taken l.initial.out) (g.W.Sink.taken l.out);
+      count : g.W.Sink.failed l.out ≡ g.W.Sink.failed l.initial.out;
+    }

@@ -1,0 +1,10 @@
+pub mod BuilderStates
+pub mod Building
+pub mod CanonicalText
+pub mod LoadFaults
+pub mod Loading
+pub mod OwnWeights
+pub mod Pieces
+pub mod PrintedParts
+pub mod Reading
+pub mod SoundStates
