@@ -19,7 +19,7 @@ demo:
 	@cat $(SESSION)
 	@printf '\nTheir replies:\n\n'
 	@log=$$(mktemp) && trap 'rm -f "$$log"' EXIT && cd crates/collbench && \
-		rt try --steps 1 -- session $(CURDIR)/$(TABLE) < $(CURDIR)/$(SESSION) 2> "$$log" || { cat "$$log" >&2; exit 1; }
+		rt try --steps 1 -- session $(abspath $(TABLE)) < $(abspath $(SESSION)) 2> "$$log" || { cat "$$log" >&2; exit 1; }
 	@printf '\nThis build was not proved.\n'
 
 test:

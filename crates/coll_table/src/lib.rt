@@ -1,13 +1,12 @@
 //! Tables of a collation order, and the statements that rewrite them.
 //!
 //! A `Table` is read by `load`, or by a `Loader` line by line, and rewritten by `apply`, which gives a `Record` that `flip` turns
-//! back. It stands on `coll_nodes`, which keeps what a table is made of, on `coll_texts`, which judges the lines of a table text,
-//! on `coll_texts`, which spells the canonical text, and on `coll_statements`, which takes a statement by own names; what a user
-//! of tables needs of them is handed on here. A way through the crate, each file with its definitions in `specs/`:
+//! back. It stands on `coll_nodes`, which keeps what a table is made of, on `coll_texts`, which judges the lines of a table text
+//! and spells the canonical one, and on `coll_statements`, which takes a statement by own names; what a user of tables needs of
+//! them is handed on here. A way through the crate, each file with its definitions in `specs/`:
 //!
-//! - `tables`: a table, read;
+//! - `tables`: a table, read and printed;
 //! - `loaders` and `loading`: a text, read line by line (`SoundLoaders`, `Loads`);
-//! - `printing`: the canonical text of a table, written;
 //! - `deltas`, with `deltas/judging` and `deltas/preparing`, and `refusals`: a statement, judged, prepared and
 //!   applied (`OwnStatements`, `Delta`, `Judging`, `Prepared`, `Growth`, `StatementItems`, `Applied`, `Refusals`);
 //! - `records`, `turning` and `record_laws`: a statement, taken back and done again (`Turning`, `Record`, `RecordLaws`).
