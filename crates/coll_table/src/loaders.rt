@@ -139,8 +139,7 @@ impl Loader {
         }
         let Loader { lexer, builder, .. } = self;
         drop(lexer);
-        let (rules, body) = builder.into_parts();
-        Ok(Table { rules, body })
+        Ok(Table::built(builder))
     }
 
     // The fault that is stored, or that of a text that ends here; none where the category has ended.

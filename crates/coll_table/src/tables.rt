@@ -11,7 +11,7 @@ use coll_devices::{Sink, WriteStop};
 use coll_lookups::{EntryNumbers, HashKeys, NamePlaces};
 use coll_nodes::{Body, Declared, Entry, Walk};
 use coll_syntax::{Id, Rule, Rules};
-use coll_texts::write_table;
+use coll_texts::{TableBuilder, write_table};
 use std::alloc::{AllocError, Global};
 use std::marker::Model;
 
@@ -54,7 +54,17 @@ impl Table {
     ghost use Rattle.coll_nodes.specs.TableLayout.{collation};
     ghost use Rattle.coll_nodes.specs.Walks.{visited};
     ghost use Rattle.coll_nodes.specs.WellFormed.{IsWellFormed};
+    ghost use Rattle.coll_texts.specs.BuilderStates.{table_of};
     ghost use Rattle.coll_texts.specs.CanonicalText.{text};
+
+    /// The table of a builder that has ended its category.
+    pub fn built(builder: TableBuilder) -> Table
+        requires { IsWellFormed (table_of builder) }
+        ensures { collation result ≡ table_of builder }
+    {
+        let (rules, body) = builder.into_parts();
+        Table { rules, body }
+    }
 
     /// The rules of its levels, one to four.
     #[tactic(auto, unfolding(coll_nodes::specs::TableLayout::collation))]

@@ -14,13 +14,14 @@ subcommand_name subcommand.Compile = codes "compile"
 subcommand_name subcommand.Key = codes "key"
 subcommand_name subcommand.Compare = codes "compare"
 subcommand_name subcommand.Session = codes "session"
+subcommand_name subcommand.Import = codes "import"
 
 -- a comparison is of two texts
 abbrev pub comparison : (texts : List (List ℕ)) → Option Task
 comparison (first ∷ second ∷ []) = Some (task.Batch (batch.Compare first second))
 comparison texts = None
 
--- what a subcommand does with a table, by the texts given to it; nothing if they aren't as many as it takes
+-- what a subcommand does with a table, or with a source, by the texts given to it; nothing if they aren't as many as it takes
 abbrev pub task_for : Subcommand → (texts : List (List ℕ)) → Option Task
 task_for subcommand.Check texts = Some (task.Batch batch.Check)
 task_for subcommand.Print texts = Some (task.Batch batch.Print)
@@ -28,3 +29,4 @@ task_for subcommand.Compile texts = Some (task.Batch batch.Compile)
 task_for subcommand.Key texts = Some (task.Batch (batch.Key texts))
 task_for subcommand.Compare texts = comparison texts
 task_for subcommand.Session texts = Some task.Session
+task_for subcommand.Import texts = Some (task.Import texts)

@@ -25,6 +25,10 @@ const FIRST: &str = "A";
 
 const SECOND: &str = "B";
 
+const SOURCE: &str = "SOURCE";
+
+const NAME: &str = "NAME";
+
 // The name of the subcommand that takes no table.
 const VERSION: &str = "version";
 
@@ -34,19 +38,21 @@ const EXAMPLES: &str = "Examples:
   collbench compile base.txt                   the rank of each entry, and its weights as ranks
   collbench key base.txt ab                    4 6 | 1 1 | 2 2 | |
   collbench compare base.txt a A               less
-  collbench session base.txt < lines.txt       a reply to each line";
+  collbench session base.txt < lines.txt       a reply to each line
+  collbench import iso14651_t1 > common.txt    the table of a published source";
 
-// The subcommands that work on a table, in the order in which help tells them.
-const SUBCOMMANDS: [Subcommand; 6] = [
+// The subcommands that work on a table or make one, in the order in which help tells them.
+const SUBCOMMANDS: [Subcommand; 7] = [
     Subcommand::Check,
     Subcommand::Print,
     Subcommand::Compile,
     Subcommand::Key,
     Subcommand::Compare,
     Subcommand::Session,
+    Subcommand::Import,
 ];
 
-/// A subcommand that works on a table.
+/// A subcommand that works on a table, or makes one.
 #[derive(Clone, Copy)]
 pub enum Subcommand {
     /// Counts what a table has.
@@ -61,23 +67,27 @@ pub enum Subcommand {
     Compare,
     /// Serves a session over a table.
     Session,
+    /// Makes a table of a published source.
+    Import,
 }
 
-/// What is done with a table.
+/// What is done with a table, or with a source.
 #[derive(Drop)]
 pub enum Task {
     /// It is read, rewritten by delta files, and answered from once.
     Batch(Batch),
     /// It is read, and a session over it is served.
     Session,
+    /// A source is read, where these names are defined, and the table that is made of it is printed.
+    Import(ListBuf<TextBuf>),
 }
 
 /// What the words of a command line ask for.
 #[derive(Drop)]
 pub struct Request<'a> {
-    /// What is done with the table.
+    /// What is done with the table, or with the source.
     pub task: Task,
-    /// The names of the files: the table's, and then those of the delta files, in their order.
+    /// The names of the files: that of the table or the source, and then those of the delta files, in their order.
     pub files: Vec<&'a str>,
 }
 
@@ -203,6 +213,7 @@ fn taking<'a>(alloc: Global, subcommand: Subcommand) -> Result<Command<'a>, Allo
         Subcommand::Key => over_table(alloc, subcommand)?.arg(texts(alloc)),
         Subcommand::Compare => over_two_texts(alloc, subcommand),
         Subcommand::Session => over_table(alloc, subcommand),
+        Subcommand::Import => over_source(alloc, subcommand),
     }
 }
 
@@ -218,6 +229,31 @@ fn over_two_texts<'a>(alloc: Global, subcommand: Subcommand) -> Result<Command<'
     over_table(alloc, subcommand)?
         .arg(text(alloc, FIRST))?
         .arg(text(alloc, SECOND))
+}
+
+// A subcommand that takes a source.
+fn over_source<'a>(alloc: Global, subcommand: Subcommand) -> Result<Command<'a>, AllocError> {
+    let name: &'a str = subcommand.name();
+    let about: &'a str = subcommand.about();
+    Command::new(alloc, name)
+        .about(about)
+        .arg(source(alloc))?
+        .arg(names(alloc))
+}
+
+// A source, which stands in place of a table.
+fn source<'a>(alloc: Global) -> Arg<'a> {
+    Arg::new(alloc, TABLE)
+        .value_name(SOURCE)
+        .required(true)
+        .help("The file of a source that orders everything; what it copies lies in the same folder")
+}
+
+// Names that are defined, perhaps none.
+fn names<'a>(alloc: Global) -> Arg<'a> {
+    Arg::new(alloc, NAME)
+        .num_args(0..)
+        .help("Names that an ifdef finds defined")
 }
 
 // A table.
@@ -299,7 +335,7 @@ fn files_of<'a>(
 // The texts that were given to a subcommand.
 fn texts_of<'a>(alloc: Global, found: &ArgMatches<'a>) -> Result<Vec<&'a str>, AllocError> {
     let mut texts = Vec::new(alloc);
-    for name in [TEXT, FIRST, SECOND] {
+    for name in [TEXT, FIRST, SECOND, NAME] {
         texts.extend_from_slice(found.get_strs(name).unwrap_or(&[]))?;
     }
     Ok(texts)
@@ -324,6 +360,7 @@ fn task_of(
         ),
         (Subcommand::Compare, _) => return Ok(None),
         (Subcommand::Session, _) => return Ok(Some(Task::Session)),
+        (Subcommand::Import, _) => return Ok(Some(Task::Import(copied_texts(alloc, texts)?))),
     };
     Ok(Some(Task::Batch(batch)))
 }
@@ -358,6 +395,7 @@ impl Subcommand {
             Subcommand::Key => "key",
             Subcommand::Compare => "compare",
             Subcommand::Session => "session",
+            Subcommand::Import => "import",
         }
     }
 
@@ -374,6 +412,9 @@ impl Subcommand {
             Subcommand::Session => {
                 "Reads the lines of a session from standard input, and replies to each"
             }
+            Subcommand::Import => {
+                "Prints the table of a published locale source, and tells on standard error what was changed"
+            }
         }
     }
 
@@ -389,6 +430,7 @@ impl Subcommand {
             "key" => Some(Subcommand::Key),
             "compare" => Some(Subcommand::Compare),
             "session" => Some(Subcommand::Session),
+            "import" => Some(Subcommand::Import),
             _ => None,
         }
     }

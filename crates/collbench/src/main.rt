@@ -1,7 +1,7 @@
 //! The program: a thin `main` over `coll_bench`, which runs batches and serves sessions.
 //!
-//! `command_line` reads the words, `random_keys` draws the keys that names are looked up under, and `files` opens what the words
-//! name. Here the runs are started, and their faults are told: a line on standard error, and the exit status, which stands also
+//! `command_line` reads the words, `random_keys` draws the keys that names are looked up under, `files` opens what the words name, and
+//! `importing` makes tables of sources. Here the runs are started, and their faults are told: a line on standard error, and the exit status, which stands also
 //! where that line can't be written.
 #![tactic(auto)]
 
@@ -9,6 +9,7 @@ ghost use Rattle.std.specs.Prelude.{◌<◌, length, vec_len, IfOk, IfErr, ◌�
 
 mod command_line;
 mod files;
+mod importing;
 mod random_keys;
 
 use coll_bench::{Batch, Fault, RunFault, exit_status, run_batch_keyed, run_session, write_fault};
@@ -16,6 +17,7 @@ use coll_lex::{Counted, LexFault, ReadStop, Sink, WriteStop};
 use coll_table::{HashKeys, Table, load_keyed};
 use command_line::{Request, Task, Unasked, read_words};
 use files::{Input, at_no_line, open_all};
+use importing::import;
 use random_keys::random_keys;
 use std::alloc::{AllocError, Global};
 use std::env;
@@ -88,6 +90,10 @@ fn do_keyed(
         Task::Batch(batch) => status(rt, run_on_files(rt, keys, batch, files), names),
         Task::Session => match String::from_str(rt.alloc(), STANDARD_INPUT) {
             Ok(name) => serve(rt, keys, files, names, &[name]),
+            Err(_) => tell_no_memory(rt),
+        },
+        Task::Import(defined) => match import(rt, keys, files[0], defined.get()) {
+            Ok(status) => status,
             Err(_) => tell_no_memory(rt),
         },
     }

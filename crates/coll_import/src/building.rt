@@ -1,0 +1,202 @@
+//! The table of a source, built.
+//!
+//! All that a source declares is known before the first order line is looked at, and all that it places before the first weight. Then
+//! the table is built, line by line, by the builder that reads tables.
+
+ghost use Rattle.std.specs.Prelude.{IfOk};
+ghost use Rattle.coll_nodes.specs.TableLayout.{collation};
+ghost use Rattle.coll_nodes.specs.WellFormed.{IsWellFormed};
+ghost use Rattle.coll_import.specs.Building.{IsEnded};
+ghost use Rattle.coll_syntax.specs.Proper.{IsProperTableLine};
+
+use crate::meanings::{Declared, Meanings};
+use crate::orders::{Order, Ordered, OrderedLine};
+use crate::placing::Placing;
+use crate::proper_lines::{lost, section_line, table_line};
+use crate::rules::common_rules;
+use crate::weights::LookUp;
+use coll_lex::TextBuf;
+use coll_lookups::HashKeys;
+use coll_sources::{Adjustment, Report, SourceFault, SourceLine, SourcePlace};
+use coll_syntax::{Rules, Statement, TableLine};
+use coll_table::Table;
+use coll_texts::{LoadCause, TableBuilder};
+use std::alloc::Global;
+
+/// The table of a source, of which these are the lines, in their order. What is changed is told.
+///
+/// Where `backward` is set, rules that go backward are meant, if a section has such.
+pub fn import_table(
+    alloc: Global,
+    keys: HashKeys,
+    lines: Vec<SourceLine>,
+    backward: bool,
+    report: &mut Report,
+) -> Result<Table, SourceFault>
+    ensures { IfOk result (λ table. IsWellFormed (collation table)) }
+{
+    let rules = common_rules(alloc, lines.as_slice(), backward, report)?;
+    let meanings = all_meanings(alloc, keys, lines.as_slice(), report)?;
+    let (meanings, order) = placed(alloc, keys, meanings, lines, report)?;
+    let table = build(alloc, keys, rules, meanings, order, report)?;
+    table.lemma_well_formed();
+    Ok(table)
+}
+
+// What all names mean.
+fn all_meanings(
+    alloc: Global,
+    keys: HashKeys,
+    lines: &[SourceLine],
+    report: &mut Report,
+) -> Result<Meanings, SourceFault> {
+    let mut meanings = Meanings::new(alloc, keys);
+    for line in lines {
+        meanings.take(line, report)?;
+    }
+    Ok(meanings)
+}
+
+// What is placed, in its order, and what names mean then.
+fn placed(
+    alloc: Global,
+    keys: HashKeys,
+    meanings: Meanings,
+    lines: Vec<SourceLine>,
+    report: &mut Report,
+) -> Result<(Meanings, Order), SourceFault> {
+    let mut placing = Placing::new(alloc, keys, meanings);
+    for line in lines {
+        placing.take(line, report)?;
+    }
+    placing.end(report)
+}
+
+// Builds the table that declares this and has this order.
+fn build(
+    alloc: Global,
+    keys: HashKeys,
+    rules: Rules,
+    mut meanings: Meanings,
+    order: Order,
+    report: &mut Report,
+) -> Result<Table, SourceFault> {
+    let mut builder = TableBuilder::new(alloc, keys)?;
+    declare_all(&mut builder, meanings.take_declared(), report)?;
+    let levels = rules.get().len();
+    start(&mut builder, rules)?;
+    let (lines, placed) = order.into_parts();
+    let look_up = LookUp {
+        meanings: &meanings,
+        placed: &placed,
+        levels,
+        alloc,
+    };
+    place_all(&mut builder, &look_up, lines, report)?;
+    built(builder)
+}
+
+// Declares all of this.
+fn declare_all(
+    builder: &mut TableBuilder,
+    declared: Vec<Declared>,
+    report: &mut Report,
+) -> Result<(), SourceFault> {
+    for Declared { place, statement } in declared {
+        put(builder, place, statement, report)?;
+    }
+    Ok(())
+}
+
+// Opens the order.
+fn start(builder: &mut TableBuilder, rules: Rules) -> Result<(), SourceFault> {
+    let _levels = rules.get().len();
+    let line = TableLine::OrderStart {
+        section: None,
+        rules: Some(rules),
+    };
+    take(builder, nowhere(), line)?;
+    Ok(())
+}
+
+// Places all of this.
+fn place_all(
+    builder: &mut TableBuilder,
+    look_up: &LookUp<'_>,
+    lines: Vec<OrderedLine>,
+    report: &mut Report,
+) -> Result<(), SourceFault> {
+    for OrderedLine { place, ordered } in lines {
+        match ordered {
+            Ordered::Section(name) => begin(builder, place, name)?,
+            Ordered::Entry(line) => {
+                let line = look_up.line(place, line, report)?;
+                put(builder, place, Statement::Reweight(line), report)?;
+            }
+        }
+    }
+    Ok(())
+}
+
+// Begins a section.
+fn begin(
+    builder: &mut TableBuilder,
+    place: SourcePlace,
+    name: TextBuf,
+) -> Result<(), SourceFault> {
+    if let Some(line) = section_line(name) {
+        take(builder, place, line)?;
+    }
+    Ok(())
+}
+
+// The table of a builder, behind its last line.
+fn built(builder: TableBuilder) -> Result<Table, SourceFault> {
+    let mut builder = builder;
+    take(&mut builder, nowhere(), TableLine::OrderEnd)?;
+    if !take(&mut builder, nowhere(), TableLine::EndCategory)? {
+        return Err(nowhere().load_fault(LoadCause::NoEnd));
+    }
+    Ok(Table::built(builder))
+}
+
+// Puts what a statement says to a table, or tells that it is left out, since it is beyond the limits.
+fn put(
+    builder: &mut TableBuilder,
+    place: SourcePlace,
+    statement: Statement,
+    report: &mut Report,
+) -> Result<(), SourceFault> {
+    if !statement.is_proper() {
+        let what = lost(&statement)?;
+        drop(statement);
+        if let Some(what) = what {
+            report.lose(Adjustment::Dropped, place, what)?;
+        }
+        return Ok(());
+    }
+    if let Some(line) = table_line(statement) {
+        take(builder, place, line)?;
+    }
+    Ok(())
+}
+
+// Puts a line to a table, and answers whether that ends the category.
+fn take(
+    builder: &mut TableBuilder,
+    place: SourcePlace,
+    line: TableLine,
+) -> Result<bool, SourceFault>
+    requires { IsProperTableLine line }
+    ensures { IfOk result (λ ended. IsEnded ended builder.new) }
+{
+    match builder.take(place.line, line) {
+        Ok(ended) => Ok(ended),
+        Err(fault) => Err(place.load_fault(fault.cause)),
+    }
+}
+
+// The place of what comes from no line.
+fn nowhere() -> SourcePlace {
+    SourcePlace { text: 0, line: 0 }
+}

@@ -1,0 +1,97 @@
+//! The weights of an entry, by what is placed and by own names.
+
+use crate::meanings::Meanings;
+use coll_lex::ListBuf;
+use coll_sources::{Adjustment, Lost, Report, SourcePlace};
+use coll_statements::IdSet;
+use coll_syntax::{Id, OrderLine, Weight};
+use std::alloc::{AllocError, Global};
+
+/// What weights are looked up in.
+#[derive(Clone, Copy)]
+pub(crate) struct LookUp<'a> {
+    /// What names mean.
+    pub(crate) meanings: &'a Meanings,
+    /// What is placed.
+    pub(crate) placed: &'a IdSet,
+    /// How many weights an entry may have.
+    pub(crate) levels: usize,
+    /// Where weights take memory.
+    pub(crate) alloc: Global,
+}
+
+impl LookUp<'_> {
+    /// An order line whose weights name what is placed, and no more than there are levels.
+    pub(crate) fn line(
+        &self,
+        place: SourcePlace,
+        line: OrderLine,
+        report: &mut Report,
+    ) -> Result<OrderLine, AllocError> {
+        let OrderLine { id, weights } = line;
+        let Some(weights) = weights else {
+            return Ok(OrderLine { id, weights: None });
+        };
+        let mut weights = weights.into_items();
+        if weights.len() > self.levels {
+            report.lose(
+                Adjustment::WeightsBeyondRules,
+                place,
+                Lost::Id(id.clone()?),
+            )?;
+            weights.truncate(self.levels);
+        }
+        for weight in weights.iter_mut() {
+            self.mend(place, weight, report)?;
+        }
+        Ok(OrderLine {
+            id,
+            weights: Some(ListBuf::new(weights)),
+        })
+    }
+
+    // Puts in place of a weight what it means, where that is something else.
+    fn mend(
+        &self,
+        place: SourcePlace,
+        weight: &mut Weight,
+        report: &mut Report,
+    ) -> Result<(), AllocError> {
+        let Weight::Names(ids) = weight else {
+            return Ok(());
+        };
+        if ids.get().iter().all(|id| self.stays(id)) {
+            return Ok(());
+        }
+        let mended = self.mended(place, ids.get(), report)?;
+        *weight = mended;
+        Ok(())
+    }
+
+    // Whether an identifier stays as it is: it is placed, and stands for nothing else.
+    fn stays(&self, id: &Id) -> bool {
+        self.placed.contains(id) && self.meanings.other(id).is_none()
+    }
+
+    // The weight of these identifiers by what they stand for, without those that are placed nowhere; of none it ignores the entry.
+    fn mended(
+        &self,
+        place: SourcePlace,
+        ids: &[Id],
+        report: &mut Report,
+    ) -> Result<Weight, AllocError> {
+        let mut kept = Vec::new(self.alloc);
+        for id in ids {
+            let id = self.meanings.resolved(id.clone()?)?;
+            if self.placed.contains(&id) {
+                kept.push(id)?;
+            } else {
+                report.lose(Adjustment::UnplacedInWeight, place, Lost::Id(id))?;
+            }
+        }
+        if kept.is_empty() {
+            return Ok(Weight::Ignore);
+        }
+        Ok(Weight::Names(ListBuf::new(kept)))
+    }
+}

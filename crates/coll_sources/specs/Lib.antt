@@ -1,0 +1,2 @@
+pub mod SourceFaults
+pub mod Readers

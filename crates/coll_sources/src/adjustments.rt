@@ -1,0 +1,182 @@
+//! What is told of what an import changed: how often each kind of change was made, and what was lost.
+//!
+//! A new kind is a variant of `Adjustment` with its name and its number, and a place in `ADJUSTMENTS`.
+
+use crate::SourcePlace;
+use coll_lex::TextBuf;
+use coll_syntax::Id;
+use std::alloc::{AllocError, Global};
+
+/// A kind of change between a source and what is made of it.
+#[derive(Clone, Copy, Debug, PartialEq, Eq)]
+pub enum Adjustment {
+    /// The lines of a text that is copied stand in place of the `copy`.
+    CopyInlined,
+    /// `define`, `ifdef`, `ifndef`, `else` and `endif` are resolved.
+    Conditional,
+    /// A range of symbols is declared one by one.
+    SymbolRange,
+    /// Order lines that stand in no order are put into one.
+    OrderStartPut,
+    /// A section gets the rules that most sections have.
+    RulesMadeAlike,
+    /// A section without a name, and not the first, gets one.
+    SectionNamed,
+    /// Each character of an ellipsis gets a line.
+    EllipsisExpanded,
+    /// The name of an element of one character stands for that character.
+    ElementOfOne,
+    /// The name of an element whose string another one has stands for that one.
+    ElementStringTwice,
+    /// The weights of a symbol are left out.
+    SymbolWeights,
+    /// A name that has an order line, and is not declared, is declared as a symbol.
+    UndeclaredDeclared,
+    /// A second order line of an identifier is left out.
+    PlacedTwice,
+    /// A name that is placed nowhere is left out of a weight.
+    UnplacedInWeight,
+    /// More weights than there are levels are left out.
+    WeightsBeyondRules,
+    /// A second declaration, what is beyond the limits, and what is no line of the grammar is left out.
+    Dropped,
+}
+
+/// All kinds, in the order in which they are told.
+pub const ADJUSTMENTS: [Adjustment; 15] = [
+    Adjustment::CopyInlined,
+    Adjustment::Conditional,
+    Adjustment::SymbolRange,
+    Adjustment::OrderStartPut,
+    Adjustment::RulesMadeAlike,
+    Adjustment::SectionNamed,
+    Adjustment::EllipsisExpanded,
+    Adjustment::ElementOfOne,
+    Adjustment::ElementStringTwice,
+    Adjustment::SymbolWeights,
+    Adjustment::UndeclaredDeclared,
+    Adjustment::PlacedTwice,
+    Adjustment::UnplacedInWeight,
+    Adjustment::WeightsBeyondRules,
+    Adjustment::Dropped,
+];
+
+impl Adjustment {
+    /// The name that a message shows.
+    pub fn name(self) -> &'static str {
+        match self {
+            Adjustment::CopyInlined => "CopyInlined",
+            Adjustment::Conditional => "Conditional",
+            Adjustment::SymbolRange => "SymbolRange",
+            Adjustment::OrderStartPut => "OrderStartPut",
+            Adjustment::RulesMadeAlike => "RulesMadeAlike",
+            Adjustment::SectionNamed => "SectionNamed",
+            Adjustment::EllipsisExpanded => "EllipsisExpanded",
+            Adjustment::ElementOfOne => "ElementOfOne",
+            Adjustment::ElementStringTwice => "ElementStringTwice",
+            Adjustment::SymbolWeights => "SymbolWeights",
+            Adjustment::UndeclaredDeclared => "UndeclaredDeclared",
+            Adjustment::PlacedTwice => "PlacedTwice",
+            Adjustment::UnplacedInWeight => "UnplacedInWeight",
+            Adjustment::WeightsBeyondRules => "WeightsBeyondRules",
+            Adjustment::Dropped => "Dropped",
+        }
+    }
+}
+
+/// How often a kind of change was made, and where first.
+#[derive(Clone, Copy, Debug, PartialEq, Eq)]
+pub struct Tally {
+    /// The kind.
+    pub adjustment: Adjustment,
+    /// Where it was made first.
+    pub first: SourcePlace,
+    /// How often.
+    pub count: u32,
+}
+
+/// What was lost.
+#[derive(Debug, Drop)]
+pub enum Lost {
+    /// An identifier.
+    Id(Id),
+    /// A word that begins a line.
+    Word(TextBuf),
+}
+
+/// Something that a source says, and that what is made of it doesn't.
+#[derive(Debug, Drop)]
+pub struct Loss {
+    /// Where it stands.
+    pub place: SourcePlace,
+    /// What kind of change left it out.
+    pub adjustment: Adjustment,
+    /// What it is.
+    pub what: Lost,
+}
+
+/// All that is told of an import.
+#[derive(Drop)]
+pub struct Report {
+    tallies: Vec<Tally>,
+    losses: Vec<Loss>,
+}
+
+impl Report {
+    /// Nothing is told yet. It takes no memory.
+    pub fn new(alloc: Global) -> Report {
+        Report {
+            tallies: Vec::new(alloc),
+            losses: Vec::new(alloc),
+        }
+    }
+
+    /// Counts a change.
+    pub fn count(
+        &mut self,
+        adjustment: Adjustment,
+        place: SourcePlace,
+    ) -> Result<(), AllocError> {
+        for tally in self.tallies.iter_mut() {
+            if tally.adjustment == adjustment {
+                tally.count = tally.count.saturating_add(1);
+                return Ok(());
+            }
+        }
+        self.tallies.push(Tally {
+            adjustment,
+            first: place,
+            count: 1,
+        })?;
+        Ok(())
+    }
+
+    /// Counts a change that loses something.
+    pub fn lose(
+        &mut self,
+        adjustment: Adjustment,
+        place: SourcePlace,
+        what: Lost,
+    ) -> Result<(), AllocError> {
+        self.count(adjustment, place)?;
+        self.losses.push(Loss {
+            place,
+            adjustment,
+            what,
+        })?;
+        Ok(())
+    }
+
+    /// How often a kind of change was made, if it was.
+    pub fn tally(&self, adjustment: Adjustment) -> Option<Tally> {
+        self.tallies
+            .iter()
+            .find(|tally| tally.adjustment == adjustment)
+            .copied()
+    }
+
+    /// What was lost, in the order in which it was met.
+    pub fn losses(&self) -> &[Loss] {
+        self.losses.as_slice()
+    }
+}

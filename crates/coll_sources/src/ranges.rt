@@ -1,0 +1,131 @@
+//! Ranges of names: letters that all have, and then a number of as many digits in each.
+
+use coll_lex::TextBuf;
+use std::alloc::{AllocError, Global};
+
+/// Most digits of the number in a name of a range.
+const MOST_DIGITS: usize = 8;
+
+/// How the numbers of a range are spelled.
+#[derive(Clone, Copy, Debug, PartialEq, Eq)]
+pub(crate) enum Digits {
+    /// `...` and `....`.
+    Decimal,
+    /// `..`.
+    Hexadecimal,
+}
+
+/// A range of names.
+#[derive(Debug, Drop)]
+pub struct NameRange {
+    // What all names begin with.
+    letters: TextBuf,
+    // How many digits each has behind that, at most eight.
+    width: usize,
+    // How they are spelled.
+    digits: Digits,
+    /// The number of the first name.
+    pub first: u32,
+    /// The number of the last one.
+    pub last: u32,
+}
+
+/// The range from one name to another; none where they have no common form, or the last stands before the first.
+pub(crate) fn name_range(
+    alloc: Global,
+    first: &str,
+    last: &str,
+    digits: Digits,
+) -> Result<Option<NameRange>, AllocError> {
+    let letters = common_letters(alloc, first, last)?;
+    let (Some(from), Some(to)) = (
+        first.as_bytes().get(letters.len()..),
+        last.as_bytes().get(letters.len()..),
+    ) else {
+        return Ok(None);
+    };
+    if from.len() != to.len() || from.len() > MOST_DIGITS {
+        return Ok(None);
+    }
+    let width = from.len();
+    let (Some(from), Some(to)) = (number_of(from, digits), number_of(to, digits)) else {
+        return Ok(None);
+    };
+    if to < from {
+        return Ok(None);
+    }
+    Ok(Some(NameRange {
+        letters: TextBuf::new(letters),
+        width,
+        digits,
+        first: from,
+        last: to,
+    }))
+}
+
+// What two names begin with.
+fn common_letters(alloc: Global, first: &str, last: &str) -> Result<String, AllocError> {
+    let mut letters = String::new(alloc);
+    for (c, d) in first.chars().zip(last.chars()) {
+        if c != d {
+            return Ok(letters);
+        }
+        letters.push(c)?;
+    }
+    Ok(letters)
+}
+
+// The number that digits spell; none where one is no digit.
+fn number_of(digits: &[u8], spelled: Digits) -> Option<u32> {
+    let mut number = 0u32;
+    for digit in digits {
+        number = with_digit(number, *digit, spelled)?;
+    }
+    Some(number)
+}
+
+// A number with a digit more.
+fn with_digit(number: u32, digit: u8, spelled: Digits) -> Option<u32> {
+    let (base, value) = match (spelled, digit) {
+        (Digits::Decimal, b'0'..=b'9') => (10, digit - b'0'),
+        (Digits::Hexadecimal, b'0'..=b'9') => (16, digit - b'0'),
+        (Digits::Hexadecimal, b'A'..=b'F') => (16, digit - b'A' + 10),
+        (Digits::Hexadecimal, b'a'..=b'f') => (16, digit - b'a' + 10),
+        _ => return None,
+    };
+    number.checked_mul(base)?.checked_add(u32::from(value))
+}
+
+/// The name of a range that has this number, in new memory.
+pub fn name_at(alloc: Global, range: &NameRange, number: u32) -> Result<TextBuf, AllocError> {
+    let mut name = String::from_str(alloc, range.letters.get())?;
+    let spelled = spelled_digits(number, range.digits);
+    for digit in spelled.iter().skip(MOST_DIGITS.saturating_sub(range.width)) {
+        name.push(char::from(*digit))?;
+    }
+    Ok(TextBuf::new(name))
+}
+
+// The last eight digits of a number.
+fn spelled_digits(number: u32, spelled: Digits) -> [u8; MOST_DIGITS] {
+    let mut digits = [b'0'; MOST_DIGITS];
+    let mut left = number;
+    for digit in digits.iter_mut().rev() {
+        let (value, rest) = match spelled {
+            Digits::Decimal => (left % 10, left / 10),
+            Digits::Hexadecimal => (left % 16, left / 16),
+        };
+        *digit = digit_of(value);
+        left = rest;
+    }
+    digits
+}
+
+// The digit of a value below sixteen.
+fn digit_of(value: u32) -> u8 {
+    match u8::try_from(value) {
+        Ok(small) if small < 10 => b'0' + small,
+        Ok(small) if small < 16 => b'A' + (small - 10),
+        _ => b'0',
+    }
+}

@@ -1,0 +1,446 @@
+//! A source is read, text after text.
+//!
+//! A `SourceReader` reads the text that it wants from a device, to its end. It then reads on in it: line by line, into each text that
+//! is copied, and back. Where a text is copied that it has not had, it wants that one, and stops. Each text is
+//! wanted once, however often it is copied; all lines together, those of a text that is copied again counted again, are at most as
+//! many as a text may have. So texts that copy each other many times over end with that fault.
+//!
+//! Only the category LC_COLLATE is looked at. A line under a condition that doesn't hold counts for nothing, but it has to be a line.
+
+ghost use Rattle.std.specs.Prelude.{IfOk};
+ghost use Rattle.coll_lex.specs.Names.{AreTokens};
+ghost use Rattle.coll_sources.specs.Readers.{HasTokens};
+
+use crate::conditions::Conditions;
+use crate::grammar::said;
+use crate::operands::Unread;
+use crate::texts::{line_at, text_of};
+use crate::{
+    Adjustment, Lost, Report, SourceCause, SourceFault, SourceLine, SourcePlace,
+};
+use coll_devices::{LineReader, ReadStop, Source};
+use coll_lex::{LexFault, Lexer, Line, MOST_LINES, Piece, TextBuf, Token};
+use coll_lookups::HashKeys;
+use coll_syntax::{Id, characters, copied_name, id_of, is_word};
+use coll_texts::LoadCause;
+use indexmap::IndexSet;
+use std::alloc::{AllocError, Global};
+
+// A text that is being read.
+#[derive(Drop)]
+struct Frame {
+    // Its number.
+    text: usize,
+    // Where its next line begins.
+    at: usize,
+    lexer: Lexer,
+    // Whether its category has begun.
+    begun: bool,
+    conditions: Conditions,
+}
+
+// What the next physical line of a text comes to.
+#[derive(Drop)]
+enum Next {
+    // The text has ended.
+    Ended,
+    // It completes no line that has a token.
+    Nothing,
+    // It completes a line.
+    Whole(Line),
+}
+
+// What is done behind a line.
+enum Step {
+    // The next line is read, of whichever text.
+    Line,
+    // A text is wanted.
+    Wants,
+    // The source has ended.
+    Ended,
+}
+
+/// Reads a source, and what it copies.
+#[derive(Drop)]
+pub struct SourceReader {
+    // The names of the texts, in the order in which they were wanted.
+    names: IndexSet<String, HashKeys>,
+    // Those that have been handed in, in the same order.
+    texts: Vec<String>,
+    // What has been handed in of the text that is wanted.
+    coming: Vec<u8>,
+    // The texts that are being read, each copied by the one before.
+    frames: Vec<Frame>,
+    // What is defined.
+    defined: IndexSet<String, HashKeys>,
+    // How many lines have been taken.
+    taken: u32,
+    lines: Vec<SourceLine>,
+    report: Report,
+    alloc: Global,
+}
+
+impl SourceReader {
+    /// A reader that wants the text of this name, where these names are defined.
+    pub fn new(
+        alloc: Global,
+        keys: HashKeys,
+        source: &str,
+        defined: &[&str],
+    ) -> Result<SourceReader, AllocError> {
+        let mut names = IndexSet::with_hasher(alloc, keys);
+        names.insert(String::from_str(alloc, source)?)?;
+        let mut all = IndexSet::with_hasher(alloc, keys);
+        for name in defined {
+            all.insert(String::from_str(alloc, name)?)?;
+        }
+        Ok(SourceReader {
+            names,
+            texts: Vec::new(alloc),
+            coming: Vec::new(alloc),
+            frames: Vec::new(alloc),
+            defined: all,
+            taken: 0,
+            lines: Vec::new(alloc),
+            report: Report::new(alloc),
+            alloc,
+        })
+    }
+
+    /// The names of the texts, in the order in which they were wanted: a place tells its text by its number here.
+    pub fn text_name(&self, text: usize) -> Option<&str> {
+        match self.names.get_index(text) {
+            Some(name) => Some(name.as_str()),
+            None => None,
+        }
+    }
+
+    /// The name of the text that is wanted, if one is.
+    pub fn wanted(&self) -> Option<&str> {
+        self.text_name(self.texts.len())
+    }
+
+    /// Whether a name is defined, by the texts read so far or from the start.
+    pub fn defines(&self, name: &str) -> bool {
+        self.defined.contains(name)
+    }
+
+    /// Reads the text that is wanted from a device, to its end, and reads on: to the end of the source, or to where another text is
+    /// wanted.
+    pub fn take_text<R: Source>(&mut self, input: &mut R) -> Result<(), SourceFault> {
+        let mut lines = LineReader::new(self.alloc)?;
+        for number in 1..=MOST_LINES {
+            match lines.advance(input) {
+                Ok(true) => self.line(lines.line())?,
+                Ok(false) => return self.end_text(),
+                Err(stop) => return Err(self.stopped(number, stop)),
+            }
+        }
+        match lines.advance(input) {
+            Ok(false) => self.end_text(),
+            Ok(true) => Err(self.wanted_at(MOST_LINES).lex_fault(LexFault::TooManyLines)),
+            Err(stop) => Err(self.stopped(MOST_LINES, stop)),
+        }
+    }
+
+    // A line of the text that is wanted.
+    fn wanted_at(&self, line: u32) -> SourcePlace {
+        SourcePlace {
+            text: self.texts.len(),
+            line,
+        }
+    }
+
+    // The fault of a reader that stops before a line of the text that is wanted.
+    fn stopped(&self, line: u32, stop: ReadStop) -> SourceFault {
+        match stop {
+            ReadStop::LineTooLong => self.wanted_at(line).lex_fault(LexFault::LineTooLong),
+            ReadStop::ReadFault => self.unread(),
+        }
+    }
+
+    /// The fault where the text that is wanted can't be read.
+    pub fn unread(&self) -> SourceFault {
+        self.wanted_at(0).load_fault(LoadCause::ReadFault)
+    }
+
+    // Takes the next physical line of the text that is wanted, without its line feed.
+    fn line(&mut self, line: &[u8]) -> Result<(), AllocError> {
+        self.coming.extend_from_slice(line)?;
+        self.coming.push(b'\n')?;
+        Ok(())
+    }
+
+    // The text that is wanted has ended: reads on.
+    fn end_text(&mut self) -> Result<(), SourceFault> {
+        let coming = std::mem::replace(&mut self.coming, Vec::new(self.alloc));
+        let text = text_of(self.alloc, coming)?;
+        let number = self.texts.len();
+        self.texts.push(text)?;
+        self.enter(number)?;
+        self.read_on()
+    }
+
+    /// What the source says, and what is told of it, once no text is wanted any more.
+    pub fn into_parts(self) -> (Vec<SourceLine>, Report) {
+        let SourceReader { lines, report, .. } = self;
+        (lines, report)
+    }
+
+    // Begins to read a text that is there.
+    fn enter(&mut self, text: usize) -> Result<(), AllocError> {
+        let lexer = Lexer::new(self.alloc)?;
+        self.frames.push(Frame {
+            text,
+            at: 0,
+            lexer,
+            begun: false,
+            conditions: Conditions::new(self.alloc),
+        })?;
+        Ok(())
+    }
+
+    // Reads line after line, until a text is wanted or the source has ended.
+    fn read_on(&mut self) -> Result<(), SourceFault> {
+        for _ in 0..u64::MAX {
+            match self.step()? {
+                Step::Line => {}
+                Step::Wants | Step::Ended => return Ok(()),
+            }
+        }
+        Ok(())
+    }
+
+    // Reads a line of the innermost text.
+    fn step(&mut self) -> Result<Step, SourceFault> {
+        let Some(mut frame) = self.frames.pop() else {
+            return Ok(Step::Ended);
+        };
+        match self.next_in(&mut frame)? {
+            Next::Ended => Err(early_end(&frame)),
+            Next::Nothing => self.back(frame),
+            Next::Whole(line) => self.take(frame, &line),
+        }
+    }
+
+    // Goes on with a text.
+    fn back(&mut self, frame: Frame) -> Result<Step, SourceFault> {
+        self.frames.push(frame)?;
+        Ok(Step::Line)
+    }
+
+    // What the next physical line of a text comes to. It is counted.
+    fn next_in(&mut self, frame: &mut Frame) -> Result<Next, SourceFault>
+        ensures { IfOk result (λ next. HasTokens next) }
+    {
+        let Some((line, behind)) = self
+            .texts
+            .get(frame.text)
+            .and_then(|text| line_at(text.as_bytes(), frame.at))
+        else {
+            return Ok(Next::Ended);
+        };
+        let place = place_in(frame);
+        if self.taken >= MOST_LINES {
+            return Err(place.lex_fault(LexFault::TooManyLines));
+        }
+        self.taken += 1;
+        frame.at = behind;
+        if frame.begun {
+            return fed(frame, place, line);
+        }
+        match frame.lexer.outside(line) {
+            Ok(begins) => {
+                frame.begun = begins;
+                Ok(Next::Nothing)
+            }
+            Err(fault) => Err(place.lex_fault(fault)),
+        }
+    }
+
+    // Takes a line: a condition, the end of the category, or what counts if its conditions hold.
+    fn take(&mut self, mut frame: Frame, line: &Line) -> Result<Step, SourceFault>
+        requires { AreTokens line.now.tokens }
+    {
+        let place = SourcePlace {
+            text: frame.text,
+            line: line.number,
+        };
+        if ends_category(line.tokens.get()) {
+            frame.conditions.ended()?;
+            return Ok(Step::Line);
+        }
+        if self.take_condition(&mut frame.conditions, place, line.tokens.get())? {
+            return self.back(frame);
+        }
+        if !frame.conditions.count() {
+            return self.back(frame);
+        }
+        match copied(line.tokens.get()) {
+            Some(pieces) => self.copy(frame, place, pieces),
+            None => {
+                self.keep(place, line)?;
+                self.back(frame)
+            }
+        }
+    }
+
+    // Takes a line that begins, turns or ends a condition, and answers whether it is one. `define` is one as well.
+    fn take_condition(
+        &mut self,
+        conditions: &mut Conditions,
+        place: SourcePlace,
+        tokens: &[Token],
+    ) -> Result<bool, SourceFault> {
+        let Some((first, rest)) = tokens.split_first() else {
+            return Ok(false);
+        };
+        match (first, rest) {
+            (Token::Word(word), [Token::Word(name)]) => match word.get() {
+                "define" => self.define(conditions, name)?,
+                "ifdef" => conditions.begin(place, self.defined.contains(name.get()))?,
+                "ifndef" => conditions.begin(place, !self.defined.contains(name.get()))?,
+                _ => return Ok(false),
+            },
+            (Token::Word(word), []) => match word.get() {
+                "else" => return self.turned(conditions.turn(place)),
+                "endif" => return self.turned(conditions.end(place)),
+                _ => return Ok(false),
+            },
+            _ => return Ok(false),
+        }
+        self.report.count(Adjustment::Conditional, place)?;
+        Ok(true)
+    }
+
+    // That a condition was turned or ended.
+    fn turned(&self, turned: Result<(), SourceFault>) -> Result<bool, SourceFault> {
+        match turned {
+            Ok(()) => Ok(true),
+            Err(fault) => Err(fault),
+        }
+    }
+
+    // Defines a name, where lines count.
+    fn define(&mut self, conditions: &Conditions, name: &TextBuf) -> Result<(), AllocError> {
+        if conditions.count() {
+            self.defined
+                .insert(String::from_str(self.alloc, name.get())?)?;
+        }
+        Ok(())
+    }
+
+    // Copies a text: it is read next, or wanted.
+    fn copy(
+        &mut self,
+        frame: Frame,
+        place: SourcePlace,
+        pieces: &[Piece],
+    ) -> Result<Step, SourceFault> {
+        let name = match characters(self.alloc, pieces) {
+            Ok(name) => name,
+            Err(fault) => return Err(place.load_fault(LoadCause::from(fault))),
+        };
+        if name.get().contains('/') {
+            return Err(place.fault(SourceCause::CopyElsewhere));
+        }
+        let (text, _) = self
+            .names
+            .insert_full(String::from_str(self.alloc, name.get())?)?;
+        self.frames.push(frame)?;
+        if self.frames.iter().any(|frame| frame.text == text) {
+            return Err(place.fault(SourceCause::CopyOfItself));
+        }
+        self.report.count(Adjustment::CopyInlined, place)?;
+        if text >= self.texts.len() {
+            return Ok(Step::Wants);
+        }
+        self.enter(text)?;
+        Ok(Step::Line)
+    }
+
+    // Keeps what a line says, or tells that it says nothing.
+    fn keep(&mut self, place: SourcePlace, line: &Line) -> Result<(), SourceFault>
+        requires { AreTokens line.now.tokens }
+    {
+        match said(self.alloc, line) {
+            Ok(said) => {
+                self.lines.push(SourceLine { place, said })?;
+                Ok(())
+            }
+            Err(Unread::BadRange) => Err(place.fault(SourceCause::BadRange)),
+            Err(Unread::OutOfMemory) => Err(place.load_fault(LoadCause::OutOfMemory)),
+            Err(Unread::NoLine) => {
+                if let Some(what) = subject_of(self.alloc, line.tokens.get())? {
+                    self.report.lose(Adjustment::Dropped, place, what)?;
+                }
+                Ok(())
+            }
+        }
+    }
+}
+
+// Where the next line of a text stands.
+fn place_in(frame: &Frame) -> SourcePlace {
+    SourcePlace {
+        text: frame.text,
+        line: frame.lexer.next_number(),
+    }
+}
+
+// What a physical line of the category comes to.
+fn fed(frame: &mut Frame, place: SourcePlace, line: &[u8]) -> Result<Next, SourceFault>
+    ensures { IfOk result (λ next. HasTokens next) }
+{
+    match frame.lexer.feed(line) {
+        Ok(Some(whole)) => Ok(Next::Whole(whole)),
+        Ok(None) => Ok(Next::Nothing),
+        Err(fault) => Err(place.lex_fault(fault)),
+    }
+}
+
+// The fault of a text that ends before its category does.
+fn early_end(frame: &Frame) -> SourceFault {
+    let text = frame.text;
+    if let Some(line) = frame.lexer.pending() {
+        return SourcePlace { text, line }.lex_fault(LexFault::DanglingEscape);
+    }
+    let line = frame.lexer.next_number().saturating_sub(1);
+    let cause = if frame.begun {
+        LoadCause::NoEnd
+    } else {
+        LoadCause::NoCategory
+    };
+    SourcePlace { text, line }.load_fault(cause)
+}
+
+// Whether a line is `END LC_COLLATE`.
+fn ends_category(tokens: &[Token]) -> bool {
+    match tokens {
+        [end, category] => is_word(end, "END") && is_word(category, "LC_COLLATE"),
+        _ => false,
+    }
+}
+
+// The string of a line `copy "text"`.
+fn copied(tokens: &[Token]) -> Option<&[Piece]> {
+    match tokens {
+        [copy, Token::Text(pieces)] if is_word(copy, "copy") => Some(pieces.get()),
+        _ => None,
+    }
+}
+
+// What a line that is left out is about: the name that it declares, or else what it begins with.
+fn subject_of(alloc: Global, tokens: &[Token]) -> Result<Option<Lost>, AllocError> {
+    match tokens {
+        [Token::Word(_), Token::Symbol(name), ..] => {
+            Ok(Some(Lost::Id(Id::Named(copied_name(alloc, name)?))))
+        }
+        [Token::Word(word), ..] => Ok(Some(Lost::Word(copied_name(alloc, word)?))),
+        [first, ..] => match id_of(alloc, first)? {
+            Some(id) => Ok(Some(Lost::Id(id))),
+            None => Ok(None),
+        },
+        [] => Ok(None),
+    }
+}

@@ -1,0 +1,131 @@
+//! A published source is read from files, and its table is printed.
+//!
+//! What a source copies lies in its folder. Nothing is written to standard output where there is a fault; what was changed, and the
+//! fault, are told on standard error.
+
+use crate::Output;
+use coll_bench::{Fault, exit_status};
+use coll_import::{import_table, write_report, write_source_fault};
+use coll_lex::{Counted, Sink, TextBuf, WriteStop};
+use coll_sources::{Report, SourceFault, SourcePlace, SourceReader};
+use coll_table::{HashKeys, LoadCause, Table};
+use std::alloc::{AllocError, Global};
+use std::fs::File;
+use std::io::BufWriter;
+use std::process::ExitCode;
+
+// The name, in a source, that is defined where accents go backward.
+const BACKWARD: &str = "DIACRIT_BACKWARD";
+
+/// Makes a table of a source, where these names are defined, and prints it. The answer is the exit status.
+pub(crate) fn import(
+    rt: &HostRuntime,
+    keys: HashKeys,
+    file: &str,
+    defined: &[TextBuf],
+) -> Result<ExitCode, AllocError> {
+    let alloc = rt.alloc();
+    let (folder, base) = folder_of(file);
+    let names = lent(alloc, defined)?;
+    let mut reader = SourceReader::new(alloc, keys, base, names.as_slice())?;
+    let read = read_texts(rt, &mut reader, folder);
+    let files = file_names(alloc, &reader, folder)?;
+    if let Err(fault) = read {
+        return Ok(tell(rt, &fault, files.as_slice()));
+    }
+    let backward = reader.defines(BACKWARD);
+    let (lines, mut report) = reader.into_parts();
+    match import_table(alloc, keys, lines, backward, &mut report) {
+        Ok(table) => Ok(print(rt, &table, &report, files.as_slice())),
+        Err(fault) => Ok(tell(rt, &fault, files.as_slice())),
+    }
+}
+
+// The folder of a file, with the last `/`, and its name there.
+fn folder_of(file: &str) -> (&str, &str) {
+    match file.rfind('/') {
+        Some(end) => file.split_at(end + 1),
+        None => ("", file),
+    }
+}
+
+// Texts, lent.
+fn lent(alloc: Global, texts: &[TextBuf]) -> Result<Vec<&str>, AllocError> {
+    let mut lent = Vec::with_capacity(alloc, texts.len())?;
+    for text in texts {
+        lent.push(text.get())?;
+    }
+    Ok(lent)
+}
+
+// Reads each text that is wanted.
+fn read_texts(rt: &HostRuntime, reader: &mut SourceReader, folder: &str) -> Result<(), SourceFault> {
+    for _ in 0..u64::MAX {
+        let Some(name) = reader.wanted() else {
+            return Ok(());
+        };
+        let path = format!(in rt.alloc(); "{folder}{name}")?;
+        let Ok(file) = File::open(rt, path.as_str()) else {
+            return Err(reader.unread());
+        };
+        reader.take_text(&mut Counted::new(file))?;
+    }
+    Ok(())
+}
+
+// The names of the files of all texts.
+fn file_names(
+    alloc: Global,
+    reader: &SourceReader,
+    folder: &str,
+) -> Result<Vec<String>, AllocError> {
+    let mut names = Vec::new(alloc);
+    for text in 0..usize::MAX {
+        let Some(name) = reader.text_name(text) else {
+            return Ok(names);
+        };
+        names.push(format!(in alloc; "{folder}{name}")?)?;
+    }
+    Ok(names)
+}
+
+// Prints a table, and tells what was changed for it. All memory is taken first.
+fn print(rt: &HostRuntime, table: &Table, report: &Report, files: &[String]) -> ExitCode {
+    let (Ok(output), Ok(told)) = (
+        BufWriter::new(rt.alloc(), rt.stdout()),
+        BufWriter::new(rt.alloc(), rt.stderr()),
+    ) else {
+        return tell(rt, &nowhere(LoadCause::OutOfMemory), files);
+    };
+    if !write_whole(table, Counted::new(output)) {
+        let fault = Fault::Write(WriteStop::WriteFault);
+        let _ = eprintln!(rt; "-:0: {fault}");
+        return ExitCode::from(exit_status(&fault));
+    }
+    let mut told = Counted::new(told);
+    let _ = write_report(&mut told, report, files);
+    let _ = told.flush();
+    ExitCode::SUCCESS
+}
+
+// Writes a table, and answers whether all of it has left the buffer.
+fn write_whole(table: &Table, output: Output) -> bool {
+    let mut output = output;
+    let wrote = table.print(&mut output);
+    let flushed = output.flush();
+    wrote.is_ok() && flushed.is_ok()
+}
+
+// Tells a fault, and answers the exit status.
+fn tell(rt: &HostRuntime, fault: &SourceFault, files: &[String]) -> ExitCode {
+    let _ = write_source_fault(&mut Counted::new(rt.stderr()), fault, files);
+    ExitCode::from(match fault.cause.number() {
+        67 | 68 => 2,
+        _ => 1,
+    })
+}
+
+// A fault that comes from no line.
+fn nowhere(cause: LoadCause) -> SourceFault {
+    SourcePlace { text: 0, line: 0 }.load_fault(cause)
+}
