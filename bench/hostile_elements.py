@@ -7,8 +7,8 @@ Run by hand, after `make`, which builds the program; no gate runs it:
 
 Elements of one table share their first character, those of the other the first eleven of sixteen. Texts are one letter over and over,
 and what an element begins with over and over, so that at each place many elements fit far and none fits whole. Printed are the least
-processor times of some runs of a `:key` and a `:compare` of long texts, of which a session has forty, beyond that of a session with one short
-text, and how many times that of the table with few elements the one with many takes.
+processor times of some runs of a `:key` and a `:compare` of long texts, of which a session has forty, beyond that of a session with
+one short text, and how many times that of the table with few elements the one with many takes.
 
 Target: with 100,000 such elements at most 3 times the time with ten.
 """
@@ -47,7 +47,8 @@ def table(strings):
 def sessions(strings):
     """Lines of sessions on long texts, each with its name."""
     most = list(strings)[0][:-1]
-    for name, part in (("one letter", "a"), ("the prefix of an element", most), ("an element without its first letter, behind that", most + "a")):
+    behind = ("an element without its first letter, behind that", most + "a")
+    for name, part in (("one letter", "a"), ("the prefix of an element", most), behind):
         text = part * (LONG // len(part))
         other = part * (LONG_PAIR // len(part))
         yield f":key of {name}", f':key "{text}"\n'
@@ -69,7 +70,8 @@ def main(program, count, folder):
                 file.write(table(strings(size)))
         for line_name, line in sessions(strings(FEW)):
             few, many = (beyond(program, path, line) for path in paths)
-            print(f"{name}, {line_name}: {1000 * many:.2f} ms with {count:,}, {many / few:.1f} times {1000 * few:.2f} ms with {FEW}, least of {RUNS} runs", flush=True)
+            told = f"{1000 * many:.2f} ms with {count:,}, {many / few:.1f} times {1000 * few:.2f} ms with {FEW}"
+            print(f"{name}, {line_name}: {told}, least of {RUNS} runs", flush=True)
 
 
 if __name__ == "__main__":

@@ -8,8 +8,9 @@ Run by hand, with the toolchain's `rt` on the path; no gate runs it:
 It writes a table of the shape of a real one: 82,000 declarations, and 105,000 entries in 23 sections, half of them collating
 symbols and half characters with four weights, of which two are names; some 6 MB. It builds a small program over
 coll_table that loads a file, and runs it on this table, on one of twice the size, and on one with no entries. Then the program
-loads the table and prints it to a file, which takes so much longer. All of it stands in a temporary folder, which is removed at the end. The first build proves the crates below and takes some minutes;
-with a folder as its argument the script keeps what it builds there, and a second run is quick.
+loads the table and prints it to a file, which takes so much longer. All of it stands in a temporary folder, which is removed
+at the end. The first build proves the crates below and takes some minutes; with a folder as its argument the script keeps what
+it builds there, and a second run is quick.
 
 Targets: 0.25 s of processor time, and 90 MB of memory in all; twice the table in at most 2.2 times that time; 0.15 s for the
 printing.

@@ -104,7 +104,8 @@ LINES = {
     "a block that moves": (MOST_BLOCK, FLAT, lambda n: (block(n), block(n, "b"))),
     "lines of a spoiled block": (600_000, FLAT, lambda n: ("", "reorder-after a\n" + "x x x\n" * n)),
     ":history": (MOST_REMAINING, FLAT, lambda n: ("reorder-after a\nreorder-end\n" * n, ":history\n")),
-    "a statement that empties what was undone": (MOST_REMAINING, FLAT, lambda n: ("reorder-after a\nreorder-end\n" * n + ":undo\n" * n, "<c> <d>\na a\n")),
+    "a statement that empties what was undone": (
+        MOST_REMAINING, FLAT, lambda n: ("reorder-after a\nreorder-end\n" * n + ":undo\n" * n, "<c> <d>\na a\n")),
     ":list": (MOST_ENTRIES, None, lambda n: ("", ":list\n")),
     ":print": (MOST_ENTRIES, None, lambda n: ("", ":print\n")),
     ":key after a change": (MOST_ENTRIES, None, lambda n: ("", f':key "{character(0)}"\n'.replace(character(0), chr(0x10000)))),
@@ -125,7 +126,8 @@ def time(program, words, lines=b""):
 def show(name, size, half, whole, length):
     """Prints a row, and returns whether it is as wanted."""
     met = whole <= max(SECONDS, TIMES * half)
-    print(f"{name}: {whole:.3f} s at {size:,}, {length / 1e6:.1f} MB, and {half:.3f} s at half of it{'' if met else ', TOO SLOW'}", flush=True)
+    told = f"{whole:.3f} s at {size:,}, {length / 1e6:.1f} MB, and {half:.3f} s at half of it"
+    print(f"{name}: {told}{'' if met else ', TOO SLOW'}", flush=True)
     return met
 
 

@@ -41,7 +41,10 @@ def told(crate, words, folder):
 
 
 def proved(crate, below, jobs):
-    """Proves a library in a scratch copy of it and of those below, and keeps what was proved, also of a part. Returns whether it is proved."""
+    """Proves a library in a scratch copy of it and of those below, and keeps what was proved, also of a part.
+
+    Returns whether it is proved.
+    """
     with tempfile.TemporaryDirectory(prefix="prove-") as room:
         copied(room, [*below, crate])
         folder = f"{room}/crates/{crate}"

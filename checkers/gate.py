@@ -49,8 +49,10 @@ def same_logic(kit, other):
 
 def version():
     """Returns 1, 0 where `collbench version` tells the version of the changelog, and a kit of this logic, as README does; else 0, 1."""
-    with open(f"{run_program.ROOT}/CHANGELOG.md", encoding="utf-8") as changes, open(f"{run_program.ROOT}/README.md", encoding="utf-8") as readme:
-        number, told = re.search(r"^## ([\d.]+)", changes.read(), re.M)[1], readme.read()
+    with open(f"{run_program.ROOT}/CHANGELOG.md", encoding="utf-8") as changes:
+        number = re.search(r"^## ([\d.]+)", changes.read(), re.M)[1]
+    with open(f"{run_program.ROOT}/README.md", encoding="utf-8") as readme:
+        told = readme.read()
     kit = subprocess.run(["rt", "version"], stdout=subprocess.PIPE, encoding="utf-8", check=False).stdout.strip()
     ran = subprocess.run([run_program.PROGRAM, "version"], stdout=subprocess.PIPE, encoding="utf-8", check=False)
     said = re.fullmatch(r"collbench (.*)\nproved with (.*)\n", ran.stdout)

@@ -72,7 +72,10 @@ def module_of(crate, path):
 
 
 def refuses(folder, changed, only):
-    """Checks the crate in a folder, or some of its modules. Returns how something is not proved, or None; what was not judged is a BadEdit."""
+    """Checks the crate in a folder, or some of its modules. Returns how something is not proved, or None.
+
+    What was not judged is a BadEdit.
+    """
     words = ["rt", "check", "--jobs", "1", *[word for module in only for word in ("--only", module)]]
     # In a session of its own, so that an interrupt lets it come to its end.
     how = {"stdin": subprocess.DEVNULL, "stdout": subprocess.PIPE, "stderr": subprocess.STDOUT, "start_new_session": True}
