@@ -16,7 +16,7 @@ and a list that is collected grows member by member where the room for all is re
 that each making of ranks needs, and the rows of a text that is looked up by itself. How many of these there are is stated.
 
 The program counts its growths from the start of `main`. Each file tests/growths/NAME.json is a session, or a list of other runs
-(`rows`); values, `words` and `output` are those of run_program.py. At most one growth is refused, so either the program ends with
+(`rows`); values, `words`, `output` and `errors` are those of run_program.py. At most one growth is refused, so either the program ends with
 its fault 70, a line on standard error, before which it has written nothing, or of a batch a prefix of its output; or else one request of
 a session has the reply `refused 70 OutOfMemory`. Of that, a session says for each of its `requests`:
 
@@ -156,10 +156,10 @@ def wrong(ran):
 
 def refuse_to_batch(shim, batch):
     """Refuses each growth to a run that answers once. Returns how many were refused."""
-    output, table = bytes_of(batch["output"]), batch["words"][1].encode()
+    output, table, errors = bytes_of(batch["output"]), batch["words"][1].encode(), bytes_of(batch.get("errors", ""))
 
     def judge(ran):
-        is_whole = ran.output == output and not ran.status and not ran.errors
+        is_whole = ran.output == output and not ran.status and ran.errors == errors
         if not (is_whole or (output.startswith(ran.output) and is_told(ran, table))):
             raise wrong(ran)
         return not is_whole
