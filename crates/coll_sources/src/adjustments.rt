@@ -89,7 +89,7 @@ impl Adjustment {
 pub struct Tally {
     /// The kind.
     pub adjustment: Adjustment,
-    /// Where it was made first.
+    /// Where it was made first: the least line of the text in which it was met first.
     pub first: SourcePlace,
     /// How often.
     pub count: u32,
@@ -140,6 +140,7 @@ impl Report {
         for tally in self.tallies.iter_mut() {
             if tally.adjustment == adjustment {
                 tally.count = tally.count.saturating_add(1);
+                tally.first = earlier(tally.first, place);
                 return Ok(());
             }
         }
@@ -178,5 +179,14 @@ impl Report {
     /// What was lost, in the order in which it was met.
     pub fn losses(&self) -> &[Loss] {
         self.losses.as_slice()
+    }
+}
+
+// The place where a change is told: the one that it is told with, or another one of the same text that stands before.
+fn earlier(told: SourcePlace, place: SourcePlace) -> SourcePlace {
+    if place.text == told.text && place.line < told.line {
+        place
+    } else {
+        told
     }
 }
