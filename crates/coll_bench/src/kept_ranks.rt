@@ -26,10 +26,10 @@ use std::alloc::{AllocError, Global};
 use std::cmp::Ordering;
 use std::marker::Model;
 
-/// Most characters of what is looked up by itself, of two texts together.
+/// Most characters of what is looked up by itself, of two texts together: a look for so many takes some two milliseconds.
 const MOST_SHORT_LOOK: usize = 1_024;
 
-/// As many look-ups as take the time of making the ranks of a large table, some 13 ms at 0.1 microseconds each.
+/// As many look-ups as take about the time of making the ranks of a large table.
 const MOST_SHORT_WORK: u64 = 131_072;
 
 /// The ranks of a table, if they were made, and the places of its entries.
@@ -177,8 +177,8 @@ impl KeptRanks {
     }
 }
 
-// What a short look for two texts costs, a look-up for each prefix that may be an element's string and one for each character, or
-// none where the texts are too long for one.
+// What a short look for two texts costs, or none where they are too long for one: at each character a look-up for each length that an
+// element's string may have, and one for the character alone.
 fn short_work(text: &str, other: &str) -> Option<u64>
     ensures { result ≡ short_work (length (chars text.now)) (length (chars other.now)) }
 {

@@ -1,5 +1,4 @@
 -- What a short look costs, by the characters that were counted.
-use Rattle.std.proofs.Common.{◌∙◌, sym, ap, ap₂, ◌+◌, min, ◌^◌, ◌-◌}
 use Rattle.coll_bench.proofs.ShortLooks.{few_enough, too_many}
 use Rattle.coll_bench.proofs.kept_ranks.short_work.Goals as goal
 
