@@ -6,8 +6,9 @@ Run by hand, after `make`, which builds the program; no gate runs it:
     bench/looks.py [PROGRAM [OTHER]]
 
 The tables are those of load_table.py, with 1,000 and with 105,000 entries. A session is a block of one line, a look, `:undo` and a look,
-1,000 times, where a look is the `:key` of a word of ten letters. Printed is its processor time beyond the same session without looks, per
-look, the least of ten runs. OTHER is a second program, which runs in turns with the first.
+1,000 times, where a look is the `:key` of a word of ten letters; and the same a hundred times with texts of 64, 300 and 1,000 letters.
+Printed is its processor time beyond the same session without looks, per look, the least of ten runs. OTHER is a second program, which
+runs in turns with the first.
 """
 
 import os
@@ -22,19 +23,20 @@ PROGRAM = os.path.join(ROOT, "crates", "collbench", "out", "collbench")
 RUNS = 10
 TURNS = 1_000
 LETTERS = 10
+LONGER, FEWER_TURNS = (64, 300, 1_000), 100
 
 
-def word(number, entries):
-    """A word of ten letters that have entries in a table of so many."""
-    return "".join(chr(0x10000 + (number * LETTERS + letter) % (entries // 2)) for letter in range(LETTERS))
+def word(number, entries, letters):
+    """A text of so many letters that have entries in a table of so many."""
+    return "".join(chr(0x10000 + (number * letters + letter) % (entries // 2)) for letter in range(letters))
 
 
-def looked_over(work):
-    """The tables, each with its name, the blocks that change it, and the words that are looked up."""
+def looked_over(work, letters=LETTERS):
+    """The tables, each with its name, the blocks that change it, and the texts that are looked up."""
     for entries in (SMALL, ENTRIES):
         table = written(work, f"table{entries}", entries, DECLARATIONS * entries // ENTRIES)
         blocks = [one_line(number, entries) for number in range(TURNS)]
-        yield f"{entries:,} entries", table, blocks, [word(number, entries) for number in range(2 * TURNS)]
+        yield f"{entries:,} entries", table, blocks, [word(number, entries, letters) for number in range(2 * TURNS)]
 
 
 def lines(blocks, looks):
@@ -57,9 +59,12 @@ def per_look(programs, table, blocks, words):
 
 
 def main(programs, work):
-    for name, table, blocks, words in looked_over(work):
-        for program, time in zip(programs, per_look(programs, table, blocks, words)):
-            print(f"{name}, {os.path.relpath(program, ROOT)}: {time * 1e6:.1f} microseconds a look")
+    for letters, turns in [(LETTERS, TURNS), *((letters, FEWER_TURNS) for letters in LONGER)]:
+        for name, table, blocks, words in looked_over(work, letters):
+            times = per_look(programs, table, blocks[:turns], words[: 2 * turns])
+            for program, time in zip(programs, times):
+                shown = f"{time * 1e6:.1f} microseconds a look"
+                print(f"{name}, {letters:,} letters, {os.path.relpath(program, ROOT)}: {shown}", flush=True)
 
 
 if __name__ == "__main__":

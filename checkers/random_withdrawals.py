@@ -52,7 +52,7 @@ END LC_COLLATE
 ASKED = [':key "chab-de"\n', ':compare "chad" "cd"\n']
 LOOK = "".join([":print\n", ":history\n", *ASKED])
 # A text that is too long for a short look, so all ranks are made for it, and serve what is asked behind it.
-RANKED = f':key "{"a" * 65}"\n'
+RANKED = f':key "{"a" * 1_025}"\n'
 SYMBOLS = ["<BASE>", "<MIN>", "<CAP>", "<LOOSE>", "<S1>", "<S2>", "<N1>", "<N2>"]
 CHARACTERS = ["<ch>", "<E1>", "<E2>", *(f"<U{code:04X}>" for code in (0x61, 0x62, 0x63, 0x64, 0x65, 0x66, 0x2D))]
 SECTIONS = ["<FIRST>", "<SECOND>", "<THIRD>"]

@@ -16,3 +16,4 @@ pub mod RunExits
 pub mod RunLemmas
 pub mod RunSteps
 pub mod ServingLemmas
+pub mod ShortLooks

@@ -42,29 +42,22 @@ abbrev pub CanServe : Option RanksValue → Bool → Type 0
 CanServe None numbered = numbered ≡ true
 CanServe (Some ranks) numbered = Unit {0}
 
--- the most bytes of a text that is looked up by itself, and what the short looks may have cost before a further one
+-- the most characters of what is looked up by itself, of two texts together, and what the short looks may have cost before a
+-- further one
 abbrev pub most_short_look : ℕ
-most_short_look = 64
+most_short_look = 1_024
 
 abbrev pub most_short_work : ℕ
 most_short_work = 131_072
 
+-- what a short look costs where its text has so many characters, and its second one so many: sixteen look-ups for each, or none where
+-- they are too many together
+abbrev pub short_work : (characters others : ℕ) → Option ℕ
+short_work characters others = if nat_le (characters + others) most_short_look then Some (16 * (characters + others)) else None
+
 -- costs together, at most the largest number of 64 bits
 abbrev pub costs_together : (work further : ℕ) → ℕ
 costs_together work further = min (work + further) (2 ^ 64 - 1)
-
--- what a short look for a text of so many bytes costs, or none where the text is too long for one
-abbrev pub short_work : (bytes : ℕ) → Option ℕ
-short_work bytes = if nat_le bytes most_short_look then Some (bytes * bytes) else None
-
--- what short looks for two texts cost, or none where one of them is too long for one
-abbrev pub work_of_both : Option ℕ → Option ℕ → Option ℕ
-work_of_both (Some work) (Some further) = Some (costs_together work further)
-work_of_both (Some work) None = None
-work_of_both None further = None
-
-abbrev pub short_works : (bytes others : ℕ) → Option ℕ
-short_works bytes others = work_of_both (short_work bytes) (short_work others)
 
 -- what the short looks have cost with a further one, if it is to be one: those before it have cost little
 abbrev pub spent_with : (spent : ℕ) → Option ℕ → Option ℕ

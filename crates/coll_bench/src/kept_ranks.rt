@@ -15,21 +15,21 @@ ghost use Rattle.coll_key.specs.TextOrder.{order_of};
 ghost use Rattle.coll_key.specs.WrittenKey.{has_key_form};
 ghost use Rattle.coll_key.specs.declared.key_faults.KeyFault.TheVariants.{OutOfMemory};
 ghost use Rattle.coll_bench.specs.Ranked.{AreNumbersIf, AreRanksIfAny, CanServe, IsKeptFor, given_up};
-ghost use Rattle.coll_bench.specs.Ranked.{kept_nothing, short_work, short_works, spent_with, work_after};
+ghost use Rattle.coll_bench.specs.Ranked.{kept_nothing, short_work, spent_with, work_after};
 
 use coll_key::{KeyFault, compare, compare_texts, key, key_of_text};
 use coll_lookups::EntryNumbers;
 use coll_ranks::Ranks;
+use coll_syntax::MOST_ELEMENT_CHARS;
 use coll_table::Table;
 use std::alloc::{AllocError, Global};
 use std::cmp::Ordering;
 use std::marker::Model;
 
-/// Most bytes of a text that is looked up by itself: of each prefix of what is left of it a look-up is made, so that a text of twice
-/// the length takes four times as many. Words have fewer.
-const MOST_SHORT_LOOK: usize = 64;
+/// Most characters of what is looked up by itself, of two texts together: a look for so many takes some two milliseconds.
+const MOST_SHORT_LOOK: usize = 1_024;
 
-/// As many look-ups as take the time of making the ranks of a large table, some 13 ms at 0.1 microseconds each.
+/// As many look-ups as take about the time of making the ranks of a large table.
 const MOST_SHORT_WORK: u64 = 131_072;
 
 /// The ranks of a table, if they were made, and the places of its entries.
@@ -87,14 +87,14 @@ impl KeptRanks {
     ) -> Result<Vec<u64>, KeyFault>
         requires { IsKeptFor self.old (collation table.now) table.now.layout }
         ensures kept { IsKeptFor self.new (collation table.now) table.now.layout }
-        ensures spares { IsSome (spent_with self.old.work (short_work (length text.now))) → self.new.ranks ≡ self.old.ranks }
-        ensures work { self.new.work ≡ work_after self.old (short_work (length text.now)) }
+        ensures spares { IsSome (spent_with self.old.work (short_work (length (chars text.now)) 0)) → self.new.ranks ≡ self.old.ranks }
+        ensures work { self.new.work ≡ work_after self.old (short_work (length (chars text.now)) 0) }
         ensures ok { IfOk result (λ key. key.items ≡ key_of (collation table.now) (chars text.now)) }
         ensures form { IfOk result (λ key. has_key_form (collation table.now).rules key.items ≡ true) }
         ensures short { IfOk result (λ _. is_too_long (chars text.now) ≡ false) }
         ensures err { IfErr result (λ fault. fault ≢ OutOfMemory → is_too_long (chars text.now) ≡ true) }
     {
-        self.prepare(alloc, table, short_work(text))?;
+        self.prepare(alloc, table, text, "")?;
         match &self.ranks {
             Some(ranks) => key(alloc, table, ranks, text),
             None => key_of_text(alloc, table, &self.numbers, text),
@@ -114,32 +114,40 @@ impl KeptRanks {
     ) -> Result<Ordering, KeyFault>
         requires { IsKeptFor self.old (collation table.now) table.now.layout }
         ensures kept { IsKeptFor self.new (collation table.now) table.now.layout }
-        ensures spares { IsSome (spent_with self.old.work (short_works (length text.now) (length other.now)))
+        ensures spares { IsSome (spent_with self.old.work (short_work (length (chars text.now)) (length (chars other.now))))
             → self.new.ranks ≡ self.old.ranks }
-        ensures work { self.new.work ≡ work_after self.old (short_works (length text.now) (length other.now)) }
+        ensures work { self.new.work ≡ work_after self.old (short_work (length (chars text.now)) (length (chars other.now))) }
         ensures ok { IfOk result (λ order. order ≡ order_of (collation table.now) (chars text.now) (chars other.now)) }
         ensures short { IfOk result (λ _. (is_too_long (chars text.now) || is_too_long (chars other.now)) ≡ false) }
         ensures err { IfErr result (λ fault. fault ≢ OutOfMemory → (is_too_long (chars text.now) || is_too_long (chars other.now)) ≡ true) }
     {
-        self.prepare(alloc, table, short_works(text, other))?;
+        self.prepare(alloc, table, text, other)?;
         match &self.ranks {
             Some(ranks) => compare(alloc, table, ranks, text, other),
             None => compare_texts(alloc, table, &self.numbers, text, other),
         }
     }
 
-    // Makes ready what serves a look: the ranks where they are there, else the places for a short look, else the ranks.
-    fn prepare(&mut self, alloc: Global, table: &Table, work: Option<u64>) -> Result<(), AllocError>
+    // Makes ready what serves a look for two texts, or for one and no text: the ranks where they are there, else the places for a
+    // short look, else the ranks.
+    fn prepare(
+        &mut self,
+        alloc: Global,
+        table: &Table,
+        text: &str,
+        other: &str,
+    ) -> Result<(), AllocError>
         requires { IsKeptFor self.old (collation table.now) table.now.layout }
         ensures kept { IsKeptFor self.new (collation table.now) table.now.layout }
-        ensures spares { IsSome (spent_with self.old.work work) → self.new.ranks ≡ self.old.ranks }
-        ensures work { self.new.work ≡ work_after self.old work }
+        ensures spares { IsSome (spent_with self.old.work (short_work (length (chars text.now)) (length (chars other.now))))
+            → self.new.ranks ≡ self.old.ranks }
+        ensures work { self.new.work ≡ work_after self.old (short_work (length (chars text.now)) (length (chars other.now))) }
         ensures serves { OnOk result (CanServe self.new.ranks self.new.numbered) }
     {
         if self.ranks.is_some() {
             return Ok(());
         }
-        match self.short_look(work) {
+        match self.short_look(text, other) {
             Some(spent) => {
                 self.work = spent;
                 give_numbers(table, &mut self.numbers, &mut self.numbered)?;
@@ -153,10 +161,10 @@ impl KeptRanks {
     }
 
     // What the short looks have cost with a further one, if it is to be one: its texts are short, and those before it cost little.
-    fn short_look(&self, work: Option<u64>) -> Option<u64>
-        ensures { result ≡ spent_with self.now.work work }
+    fn short_look(&self, text: &str, other: &str) -> Option<u64>
+        ensures { result ≡ spent_with self.now.work (short_work (length (chars text.now)) (length (chars other.now))) }
     {
-        match work {
+        match short_work(text, other) {
             Some(further) => {
                 if self.work < MOST_SHORT_WORK {
                     Some(self.work.saturating_add(further))
@@ -169,25 +177,23 @@ impl KeptRanks {
     }
 }
 
-// What a short look for a text costs, the square of its length, or none where the text is too long for one.
-fn short_work(text: &str) -> Option<u64>
-    ensures { result ≡ short_work (length text.now) }
+// What a short look for two texts costs, or none where they are too long for one: at each character a look-up for each length that an
+// element's string may have, and one for the character alone.
+fn short_work(text: &str, other: &str) -> Option<u64>
+    ensures { result ≡ short_work (length (chars text.now)) (length (chars other.now)) }
 {
-    if text.len() > MOST_SHORT_LOOK {
+    let characters = characters_in(text).saturating_add(characters_in(other));
+    if characters > MOST_SHORT_LOOK {
         return None;
     }
-    let length = text.len() as u64;
-    Some(length * length)
+    Some((characters * MOST_ELEMENT_CHARS) as u64)
 }
 
-// What a short look for two texts costs, or none where one of them is too long for one.
-fn short_works(text: &str, other: &str) -> Option<u64>
-    ensures { result ≡ short_works (length text.now) (length other.now) }
+// How many characters a text has.
+fn characters_in(text: &str) -> usize
+    ensures { result ≡ length (chars text.now) }
 {
-    match (short_work(text), short_work(other)) {
-        (Some(work), Some(further)) => Some(work.saturating_add(further)),
-        _ => None,
-    }
+    text.chars().count()
 }
 
 // Keeps ranks, or none, in place of what was kept. It alone drops what was.

@@ -236,6 +236,42 @@ module _ (table : Collation) (text : List ℕ) where
             (longest_prefix (of_prefix (declaration.Element name string ∷ declared)) text (length text))) (sym there)
             (placed entry is h (begins_with text string) refl)
 
+-- a string that no element may have is that of none
+no_element : (declared : List Declaration) (text : List ℕ) → All IsElementText (texts_of declared) → (IsElementText text → ⊥) → element_name declared text ≡ None
+no_element [] text texts not = refl
+no_element (declaration.Symbol name ∷ declared) text texts not = no_element declared text texts not
+no_element (declaration.Equivalence name symbol ∷ declared) text texts not = no_element declared text texts not
+no_element (declaration.Element name string ∷ declared) text texts not =
+    by_test (λ b. same_name text string ≡ b → option_or (cond b (Some name) None) (element_name declared text) ≡ None) (same_name text string)
+    (λ on e. absurd (not (subst IsElementText (sym ((same_name_decides text string).0 e)) (All-head IsElementText string (texts_of declared) texts))))
+    (λ off e. no_element declared text (All-tail IsElementText string (texts_of declared) texts) not) refl
+
+-- a string of less than two characters, or of more than sixteen, is that of no element
+no_entry : (table : Collation) → IsWellFormed table → (text : List ℕ) → (2 ≤ length text → 16 < length text) → element_entry table text ≡ None
+no_entry table well text apart =
+    ap (entry_if_named (entries_of table)) (no_element table.declared text well.built.texts (λ is. let long = apart is.0 in absurd (omega (arith, long, is.1))))
+
+-- the prefix of one character is no element's string
+pub one_character : (table : Collation) → IsWellFormed table → (text : List ℕ) → longest_prefix (element_entry table) text 1 ≡ None
+one_character table well text = ap (λ e. option_or (with_length e 1) None) (no_entry table well (take 1 text) (λ two. absurd (omega (arith, two, one text)))) where
+  one : (text : List ℕ) → length (take 1 text) ≤ 1
+  one [] = omega arith
+  one (c ∷ text) = omega arith
+
+-- and neither are those of more than sixteen
+pub sixteen_characters : (table : Collation) → IsWellFormed table → (text : List ℕ) (most : ℕ) → 16 ≤ most → most ≤ length text
+    → longest_prefix (element_entry table) text most ≡ longest_prefix (element_entry table) text 16
+sixteen_characters table well text zero long small = absurd (omega (arith, long))
+sixteen_characters table well text (suc n) long small =
+    by_test (λ b. nat_lt n 16 ≡ b → longest_prefix (element_entry table) text (suc n) ≡ longest_prefix (element_entry table) text 16) (nat_lt n 16)
+    (λ on less. let below = (Decides-ltb n 16).0 less in let same : suc n ≡ 16 = omega (arith, long, below) in ap (longest_prefix (element_entry table) text) same)
+    (λ off more.
+    let above : 16 ≤ n = ltb-false n 16 more in
+    let size : length (take (suc n) text) ≡ suc n = length-take-le (suc n) text small in
+    let none : element_entry table (take (suc n) text) ≡ None = no_entry table well (take (suc n) text) (λ two. omega (arith, size, above)) in
+    ap (λ e. option_or (with_length e (suc n)) (longest_prefix (element_entry table) text n)) none
+    ∙ sixteen_characters table well text n above (omega (arith, small))) refl
+
 -- a prefix one character longer, which is before the rest of a text
 pub next_prefix : (text before rest : List ℕ) (size : ℕ) → text ≡ before ++ rest → suc size + length rest ≡ length text → take (suc size) text ≡ before
 next_prefix text before rest size whole counted =

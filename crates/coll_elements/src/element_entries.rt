@@ -1,8 +1,8 @@
 //! The elements of one text, each with its entry.
 //!
 //! Where the ranks of a whole table aren't worth their time, the elements of a text are looked up one by one: of each prefix of what
-//! is left of the text it is asked whether it is the string of an element that is placed, and the longest decides. At each place
-//! that takes as many look-ups as what is left has characters, so it is for short texts.
+//! is left of the text it is asked whether it is the string of an element that is placed, and the longest decides. Such a string
+//! has 2 to 16 characters, so at each place at most fifteen prefixes are asked for, and then the character alone.
 
 ghost use Rattle.std.specs.Prelude.{◌≡◌, ◌<◌, ◌+◌, ◌∷◌, ◌++◌, [], ℕ, suc, List, chars, length, IfOk, IfSome, MatchOption};
 ghost use Rattle.coll_syntax.specs.declared.identifiers.Id.{Id};
@@ -13,7 +13,7 @@ ghost use Rattle.coll_elements.specs.Elements.{elements_of};
 ghost use Rattle.coll_elements.specs.ElementEntries.{longest_prefix, AreElementsOf, FindsPrefix, IsElementOf};
 
 use coll_nodes::Entry;
-use coll_syntax::Id;
+use coll_syntax::{Id, MOST_ELEMENT_CHARS};
 use coll_table::Table;
 use std::alloc::{AllocError, Global};
 
@@ -35,7 +35,8 @@ struct FoundPrefix<'a, 'b> {
 
 /// The elements of a text, in new memory: at each place the longest element that is placed, or else the character that stands there.
 ///
-/// It looks up each prefix of what is left of the text, so it takes as many look-ups as the square of the text's length.
+/// At each place it looks up the prefixes of 2 to 16 characters of what is left, and the one character where none of them is an
+/// element. So it takes at most sixteen look-ups for each character of the text.
 pub fn split_text<'a>(
     alloc: Global,
     table: &'a Table,
@@ -80,13 +81,19 @@ fn character(table: &Table, c: char) -> ElementEntry<'_>
 }
 
 // The longest element that is placed and that a text begins with, and the text behind its string.
+//
+// A string of one character is no element's, and neither is one of more than `MOST_ELEMENT_CHARS`, so these aren't asked for.
 fn longest_element<'a, 'b>(table: &'a Table, text: &'b str) -> Option<FoundPrefix<'a, 'b>>
     ensures { FindsPrefix (chars text.now) (longest_prefix (element_entry (collation table.now)) (chars text.now) (length (chars text.now)))
         result }
 {
+    table.lemma_well_formed();
     let mut longest = None;
-    let mut rest = text;
-    'prefixes: while let Some(later) = past_first(rest) {
+    let mut rest = past_first(text)?;
+    'prefixes: for _size in 1..MOST_ELEMENT_CHARS {
+        let Some(later) = past_first(rest) else {
+            return longest;
+        };
         longest = longer_prefix(table, text, later, longest);
         rest = later;
     }

@@ -1,9 +1,20 @@
--- One prefix more is asked for.
-use Rattle.std.proofs.Common.{◌≡◌, ◌++◌, ◌+◌, zero, suc, sym, ap, ◌∙◌, append_assoc, arith, length, chars, rules}
+-- One prefix more is asked for, up to the sixteenth.
+use Rattle.std.proofs.Common.{◌≡◌, ◌++◌, ◌+◌, None, suc, sym, ap, subst, ◌∙◌, append_assoc, arith, length, chars, rules}
 use Rattle.coll_nodes.specs.ElementTexts.{element_entry}
 use Rattle.coll_nodes.specs.TableLayout.{collation}
 use Rattle.coll_elements.specs.ElementEntries.{longest_prefix, FindsPrefix}
+use Rattle.coll_elements.proofs.ElementEntries.{one_character, sixteen_characters}
 use Rattle.coll_elements.proofs.element_entries.longest_element.Goals as goal
+
+pub prefixes-init : goal.prefixes-init
+prefixes-init c =
+    let none = one_character (collation c.args.table.now) c.lemma_well_formed.ensures.well_formed (chars c.args.text.now) in
+    record {
+      text = search rules;
+      prefix = c.in_ok-rest.ensures.rest;
+      counted = omega (arith, c.in_ok-rest.ensures.none);
+      found = subst (λ found. FindsPrefix (chars c.args.text.now) found None) (sym none) tt;
+    }
 
 pub longer_prefix-longest-requires : goal.longer_prefix-longest-requires
 longer_prefix-longest-requires c =
@@ -16,14 +27,20 @@ prefixes-preserved c =
     let before = c.prefixes.invariant.prefix in
     let here = c.in-Some.ensures.rest in
     let one = c.in-Some.ensures.none in
+    let next : suc c.prefixes._size ≡ c.prefixes._size + 1 = omega arith in
     record {
       text = search rules;
       prefix = (before.0 ++ here.0, before.1 ∙ (ap (λ t. before.0 ++ t) here.1 ∙ sym (append_assoc before.0 here.0 c.in-Some.later.now)));
-      fits = omega (arith, one, c.prefixes.invariant.fits);
-      found = λ size.
-          elim size as (λ n. n + length (chars c.in-Some.later.now) ≡ length (chars c.args.text.now)
-          → FindsPrefix (chars c.args.text.now) (longest_prefix (element_entry (collation c.args.table.now)) (chars c.args.text.now) n) c.longer_prefix-longest.result) [
-            | zero ↦ λ counted. absurd (omega (arith, counted, one, c.prefixes.invariant.fits))
-            | suc n ↦ λ counted. c.longer_prefix-longest.ensures n counted (c.prefixes.invariant.found n (omega (arith, counted, one)))
-          ];
+      counted = omega (arith, one, c.prefixes.invariant.counted);
+      found = subst (λ size. FindsPrefix (chars c.args.text.now) (longest_prefix (element_entry (collation c.args.table.now)) (chars c.args.text.now) size) c.longer_prefix-longest.result) next
+          (c.longer_prefix-longest.ensures c.prefixes._size (omega (arith, one, c.prefixes.invariant.counted)) c.prefixes.invariant.found);
     }
+
+pub returns : goal.returns
+returns c =
+    let table = collation c.args.table.now in
+    let text = chars c.args.text.now in
+    let counted = c.prefixes.invariant.counted in
+    let all : c.prefixes._size ≡ 16 = omega (arith, c.prefixes-test.false, c.prefixes.auto) in
+    let further = sixteen_characters table c.lemma_well_formed.ensures.well_formed text (length text) (omega (arith, all, counted)) (omega arith) in
+    subst (λ found. FindsPrefix text found c.prefixes.longest) (ap (longest_prefix (element_entry table) text) all ∙ sym further) c.prefixes.invariant.found

@@ -1,5 +1,5 @@
 -- Of the prefixes before the rest of a text, the longest element is found.
-use Rattle.std.proofs.Common.{◌≡◌, ◌≤◌, ◌+◌, ◌++◌, ℕ, List, chars, length}
+use Rattle.std.proofs.Common.{◌≡◌, ◌+◌, ◌++◌, ℕ, List, chars, length}
 use denote.Text.{Utf8}
 use denote.Shadow.{shadow}
 use Rattle.coll_nodes.specs.ElementTexts.{element_entry}
@@ -11,9 +11,6 @@ abbrev pub invariant-prefixes : goal.invariant-prefixes
 invariant-prefixes l = record {
   text : shadow (Utf8 l.rest);
   prefix : (prefix : List ℕ) × (l.text ≡ prefix ++ l.rest);
-  fits : length (chars l.rest) ≤ length (chars l.text);
-  found : (size : ℕ) → size + length (chars l.rest) ≡ length (chars l.text) → FindsPrefix (chars l.text) (longest_prefix (element_entry (collation l.table)) (chars l.text) size) l.longest;
+  counted : l._size + length (chars l.rest) ≡ length (chars l.text);
+  found : FindsPrefix (chars l.text) (longest_prefix (element_entry (collation l.table)) (chars l.text) l._size) l.longest;
 }
-
-abbrev pub decreases-prefixes : goal.decreases-prefixes
-decreases-prefixes l = length (chars l.rest)
