@@ -139,11 +139,7 @@ fn place_all(
 }
 
 // Begins a section.
-fn begin(
-    builder: &mut TableBuilder,
-    place: SourcePlace,
-    name: TextBuf,
-) -> Result<(), SourceFault> {
+fn begin(builder: &mut TableBuilder, place: SourcePlace, name: TextBuf) -> Result<(), SourceFault> {
     if let Some(line) = section_line(name) {
         take(builder, place, line)?;
     }

@@ -23,7 +23,11 @@ pub(crate) fn common_rules(
 ) -> Result<Rules, AllocError> {
     let chosen = chosen_rules(counted(alloc, lines)?, backward);
     for line in lines {
-        if let Said::OrderStart { rules: Some(rules), .. } = &line.said {
+        if let Said::OrderStart {
+            rules: Some(rules),
+            ..
+        } = &line.said
+        {
             if !rules.is_same(&chosen) {
                 report.count(Adjustment::RulesMadeAlike, line.place)?;
             }
@@ -36,7 +40,11 @@ pub(crate) fn common_rules(
 fn counted(alloc: Global, lines: &[SourceLine]) -> Result<Vec<Having>, AllocError> {
     let mut counts = Vec::new(alloc);
     for line in lines {
-        if let Said::OrderStart { rules: Some(rules), .. } = &line.said {
+        if let Said::OrderStart {
+            rules: Some(rules),
+            ..
+        } = &line.said
+        {
             count_section(&mut counts, rules)?;
         }
     }

@@ -34,11 +34,7 @@ impl LookUp<'_> {
         };
         let mut weights = weights.into_items();
         if weights.len() > self.levels {
-            report.lose(
-                Adjustment::WeightsBeyondRules,
-                place,
-                Lost::Id(id.clone()?),
-            )?;
+            report.lose(Adjustment::WeightsBeyondRules, place, Lost::Id(id.clone()?))?;
             weights.truncate(self.levels);
         }
         for weight in weights.iter_mut() {

@@ -132,11 +132,7 @@ impl Report {
     }
 
     /// Counts a change.
-    pub fn count(
-        &mut self,
-        adjustment: Adjustment,
-        place: SourcePlace,
-    ) -> Result<(), AllocError> {
+    pub fn count(&mut self, adjustment: Adjustment, place: SourcePlace) -> Result<(), AllocError> {
         for tally in self.tallies.iter_mut() {
             if tally.adjustment == adjustment {
                 tally.count = tally.count.saturating_add(1);

@@ -15,9 +15,7 @@ use crate::conditions::Conditions;
 use crate::grammar::said;
 use crate::operands::Unread;
 use crate::texts::{line_at, text_of};
-use crate::{
-    Adjustment, Lost, Report, SourceCause, SourceFault, SourceLine, SourcePlace,
-};
+use crate::{Adjustment, Lost, Report, SourceCause, SourceFault, SourceLine, SourcePlace};
 use coll_devices::{LineReader, ReadStop, Source};
 use coll_lex::{LexFault, Lexer, Line, MOST_LINES, Piece, TextBuf, Token};
 use coll_lookups::HashKeys;

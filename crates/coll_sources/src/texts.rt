@@ -3,7 +3,6 @@
 //! Published sources are UTF-8, and some old ones ISO/IEC 8859-1, which no line of theirs says. A text that isn't UTF-8 as a whole is
 //! taken as such.
 
-
 use memchr::memchr;
 use std::alloc::{AllocError, Global};
 
@@ -31,7 +30,10 @@ pub(crate) fn line_at(text: &[u8], start: usize) -> Option<(&[u8], usize)> {
         return None;
     }
     match memchr(b'\n', rest) {
-        Some(length) => Some((&rest[..length], start.saturating_add(length).saturating_add(1))),
+        Some(length) => Some((
+            &rest[..length],
+            start.saturating_add(length).saturating_add(1),
+        )),
         None => Some((rest, text.len())),
     }
 }

@@ -8,10 +8,7 @@ use coll_syntax::{Id, MOST_WEIGHT_IDS, Weight, copied_name, id_of, is_word};
 use std::alloc::{AllocError, Global};
 
 /// The weights that the tokens behind an identifier spell; none where nothing stands there.
-pub(crate) fn weights(
-    alloc: Global,
-    tokens: &[Token],
-) -> Result<Option<ListBuf<Weight>>, Unread> {
+pub(crate) fn weights(alloc: Global, tokens: &[Token]) -> Result<Option<ListBuf<Weight>>, Unread> {
     if tokens.is_empty() {
         return Ok(None);
     }

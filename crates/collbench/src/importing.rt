@@ -59,7 +59,11 @@ fn lent(alloc: Global, texts: &[TextBuf]) -> Result<Vec<&str>, AllocError> {
 }
 
 // Reads each text that is wanted.
-fn read_texts(rt: &HostRuntime, reader: &mut SourceReader, folder: &str) -> Result<(), SourceFault> {
+fn read_texts(
+    rt: &HostRuntime,
+    reader: &mut SourceReader,
+    folder: &str,
+) -> Result<(), SourceFault> {
     for _ in 0..u64::MAX {
         let Some(name) = reader.wanted() else {
             return Ok(());
