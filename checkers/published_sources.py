@@ -5,10 +5,11 @@ usage: checkers/published_sources.py [PROGRAM]
 
 PROGRAM is crates/collbench/out/collbench where none is given. It wants the sources of glibc, in /usr/share/i18n/locales, and
 `localedef`, which Debian's package `locales` has, and is no part of the gate. Each source of SOURCES is imported, which has to tell
-nothing that is lost, and the table has to load with as many entries and declarations as stated. Then 4,000 random words of ITS
-characters are put into the order of their sort keys: each two neighbours, and 50,000 other pairs, have to stand as `strcoll` says under
-the locale that `localedef` compiles of the same source. Each tailoring is handed in as a delta file, and has to be accepted, or refused
-with the number of REFUSED. The last line is 'N passed, M failed', and the status is 1 where one failed.
+nothing that is lost, and the table has to load with as many entries and declarations as stated. Each tailoring is handed in as a delta
+file over the common table, and has to be accepted, or refused with the number of REFUSED. Then random words are put into the order of
+their sort keys, of many scripts' characters and, for a tailoring, of those that it names: each two neighbours, and 20,000 other pairs,
+have to stand as `strcoll` says under the locale that `localedef` compiles of the same source. Of UNLIKE, some stand otherwise, and it is
+told how many. The last line is 'N passed, M failed', and the status is 1 where one failed.
 """
 
 import functools
@@ -45,6 +46,8 @@ REFUSED = {
     "iso14651_t1_pinyin": 27,
     "ml_IN": 51,
 }
+# Tailorings of which some pairs of words stand otherwise.
+UNLIKE = set()
 # What is run under the locale: it reads pairs of words, and writes -1, 0 or 1 for each.
 STRCOLL = """
 import locale, sys
@@ -69,9 +72,9 @@ def key(line):
 
 
 def some_words(pools):
-    """Returns 4,000 random words of some characters, each of a pool or two."""
+    """Returns 3,000 random words of some characters, each of a pool or two."""
     words, draw = set(), random.Random(7)
-    while len(words) < 4000:
+    while len(words) < 3000:
         pool = "".join(draw.sample(pools, draw.choice((1, 1, 2))))
         words.add("".join(draw.choice(pool) for _ in range(draw.randint(1, 8))))
     return sorted(words)
@@ -79,21 +82,21 @@ def some_words(pools):
 
 def orders_by_system(pairs, locale, room):
     """Returns for each pair of words -1, 0 or 1, as `strcoll` says under a locale that is compiled in a folder."""
-    subprocess.run(["localedef", "-i", locale, "-f", "UTF-8", f"{room}/{locale}.UTF-8"], check=False, capture_output=True)
+    subprocess.run(["localedef", "-i", locale, "-f", "UTF-8", f"{room}/tried.UTF-8"], check=False, capture_output=True)
     how = {"input": "".join(f"{a}\t{b}\n" for a, b in pairs).encode(), "capture_output": True, "check": True}
-    ran = subprocess.run([sys.executable, "-c", STRCOLL, f"{locale}.UTF-8"], env={**os.environ, "LOCPATH": room}, **how)
+    ran = subprocess.run([sys.executable, "-c", STRCOLL, "tried.UTF-8"], env={**os.environ, "LOCPATH": room}, **how)
     return [int(line) for line in ran.stdout.split()]
 
 
 def differing(program, table, locale, pools, room):
     """Returns the pairs of words whose order in a table isn't the system's."""
     words = some_words(pools)
-    lines = "".join(f':key "{word}"\n' for word in words)
+    lines = "".join(f""":key "{''.join(f'<U{ord(c):08X}>' for c in word)}"\n""" for word in words)
     ran = subprocess.run([program, "session", table], input=lines.encode(), capture_output=True, check=True)
     keys = dict(zip(words, map(key, ran.stdout.decode().splitlines())))
     words.sort(key=functools.partial(dict.get, keys))
     draw = random.Random(8)
-    pairs = list(zip(words, words[1:])) + [(draw.choice(words), draw.choice(words)) for _ in range(50_000)]
+    pairs = list(zip(words, words[1:])) + [(draw.choice(words), draw.choice(words)) for _ in range(20_000)]
     found = orders_by_system(pairs, locale, room)
     return [(a, b) for (a, b), order in zip(pairs, found) if order != (keys[a] > keys[b]) - (keys[a] < keys[b])]
 
@@ -114,20 +117,30 @@ def imported(program, name, room):
 
 
 def tailorings():
-    """Returns the names of the sources that change another one."""
+    """Returns the sources that change another one, each with the characters that it names."""
     for file in sorted(glob.glob(f"{FOLDER}/*")):
         with open(file, encoding="utf-8", errors="replace") as source:
             category = re.search(r"^LC_COLLATE\n(.*?)^END LC_COLLATE", source.read(), re.S | re.M)
         if category and "reorder-after" in category[1]:
-            yield os.path.basename(file)
+            named = {int(code, 16) for code in re.findall(r"<U([0-9A-Fa-f]{4,8})>", category[1])}
+            yield os.path.basename(file), "".join(chr(code) for code in sorted(named) if code > 32)
 
 
-def refusal(program, table, name):
+def refusal(program, common, name, named, room):
     """Returns why a tailoring isn't taken over a table as wanted, if it isn't."""
-    ran = subprocess.run([program, "check", table, f"{FOLDER}/{name}"], capture_output=True, check=False)
+    table = f"{room}/changed.txt"
+    with open(table, "wb") as out:
+        ran = subprocess.run([program, "print", common, f"{FOLDER}/{name}"], stdout=out, stderr=subprocess.PIPE, check=False)
     told = re.match(rb".*:\d+: (\d+) ", ran.stderr)
     found = int(told[1]) if told else 0
-    return None if found == REFUSED.get(name, 0) else f"{found}, and not {REFUSED.get(name, 0)}"
+    if found != REFUSED.get(name, 0):
+        return f"{found}, and not {REFUSED.get(name, 0)}"
+    if found:
+        return None
+    unlike = differing(program, table, name, [*COMMON, named] if named else COMMON, room)
+    if unlike:
+        print(f"{name}: {len(unlike)} pairs of words stand otherwise, as {unlike[0]}", flush=True)
+    return None if bool(unlike) == (name in UNLIKE) else f"{len(unlike)} pairs of words stand otherwise"
 
 
 def main():
@@ -138,8 +151,8 @@ def main():
             table, results[name] = imported(program, name, room)
             if name == "iso14651_t1":
                 common = table
-        for name in tailorings():
-            results[f"{name} as a delta file"] = refusal(program, common, name)
+        for name, named in tailorings():
+            results[f"{name} as a delta file"] = refusal(program, common, name, named, room)
     failed = {name: why for name, why in results.items() if why}
     for name, why in failed.items():
         print(f"FAILED: {name}: {why}")
