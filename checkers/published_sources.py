@@ -46,8 +46,8 @@ REFUSED = {
     "iso14651_t1_pinyin": 27,
     "ml_IN": 51,
 }
-# Tailorings of which some pairs of words stand otherwise.
-UNLIKE = set()
+# Tailorings of which a few pairs of words stand otherwise: words with marks that combine with letters, where there is none.
+UNLIKE = {"ig_NG", "nan_TW@latin", "yi_US", "yo_NG"}
 # What is run under the locale: it reads pairs of words, and writes -1, 0 or 1 for each.
 STRCOLL = """
 import locale, sys
