@@ -107,7 +107,7 @@ impl Meanings {
         report: &mut Report,
     ) -> Result<(), SourceFault> {
         if self.is_taken(name) {
-            return Ok(lose(report, place, name)?);
+            return lose(report, place, name);
         }
         let statement = Statement::Symbol(name.try_copy()?);
         self.declare(place, name, Meaning::Symbol, statement)
@@ -137,7 +137,7 @@ impl Meanings {
         report: &mut Report,
     ) -> Result<(), SourceFault> {
         if self.is_taken(name) || text.get().chars().count() > MOST_ELEMENT_CHARS {
-            return Ok(lose(report, place, name)?);
+            return lose(report, place, name);
         }
         if let Some(c) = only_char(text.get()) {
             report.count(Adjustment::ElementOfOne, place)?;
@@ -166,10 +166,10 @@ impl Meanings {
         report: &mut Report,
     ) -> Result<(), SourceFault> {
         let Some(own) = self.own_symbol(symbol)? else {
-            return Ok(lose(report, place, name)?);
+            return lose(report, place, name);
         };
         if self.is_taken(name) {
-            return Ok(lose(report, place, name)?);
+            return lose(report, place, name);
         }
         let statement = Statement::Equivalence {
             name: name.try_copy()?,
@@ -220,7 +220,7 @@ impl Meanings {
 }
 
 // Tells that a declaration is left out.
-fn lose(report: &mut Report, place: SourcePlace, name: &TextBuf) -> Result<(), AllocError> {
+fn lose(report: &mut Report, place: SourcePlace, name: &TextBuf) -> Result<(), SourceFault> {
     let what = Lost::Id(Id::Named(name.try_copy()?));
     report.lose(Adjustment::Dropped, place, what)
 }

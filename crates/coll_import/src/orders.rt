@@ -49,9 +49,9 @@ impl Order {
         }
     }
 
-    /// Whether nothing stands in it.
+    /// Whether it has no entry.
     pub(crate) fn is_empty(&self) -> bool {
-        self.lines.is_empty()
+        self.entries == 0
     }
 
     /// What stands in it, and which identifiers are placed.
@@ -112,7 +112,7 @@ impl Order {
     ) -> Result<(), SourceFault> {
         if self.placed.contains(&line.id) {
             let OrderLine { id, .. } = line;
-            return Ok(report.lose(Adjustment::PlacedTwice, place, Lost::Id(id))?);
+            return report.lose(Adjustment::PlacedTwice, place, Lost::Id(id));
         }
         if self.entries >= MOST_ENTRIES {
             return Err(place.load_fault(LoadCause::Full));

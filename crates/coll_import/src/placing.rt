@@ -83,6 +83,7 @@ impl Placing {
                 weights,
             } => self.orders(place, first, last, &weights, report),
             Said::Ellipsis(weights) => self.ellipsis(place, weights, report),
+            Said::Unread => self.leave(report),
             Said::Tailoring => {
                 Err(place.load_fault(LoadCause::Syntax(SyntaxFault::UnknownStatement)))
             }
@@ -137,6 +138,7 @@ impl Placing {
         report: &mut Report,
     ) -> Result<(), SourceFault> {
         let OrderLine { id, weights } = line;
+        let id = self.meanings.resolved(id)?;
         let here = char_of(&id);
         self.write_out(here, report)?;
         self.last = here;
@@ -264,7 +266,7 @@ impl Placing {
         id: &Id,
         weights: Given,
         report: &mut Report,
-    ) -> Result<Given, AllocError> {
+    ) -> Result<Given, SourceFault> {
         if weights.is_none() || !self.is_symbol(id) {
             return Ok(weights);
         }

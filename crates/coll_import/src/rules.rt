@@ -3,7 +3,7 @@
 //! Sections of a source may have rules of their own, and a table has one rule for each level. Where the source is read with
 //! `DIACRIT_BACKWARD` defined, the rules with `backward` are meant, as far as a section has such.
 
-use coll_sources::{Adjustment, Report, Said, SourceLine};
+use coll_sources::{Adjustment, Report, Said, SourceLine, SourcePlace};
 use coll_syntax::{Rule, Rules};
 use std::alloc::{AllocError, Global};
 
@@ -14,6 +14,13 @@ struct Having {
     sections: u32,
 }
 
+// The rules of a section, and where it begins.
+#[derive(Drop)]
+struct Given {
+    place: SourcePlace,
+    rules: Rules,
+}
+
 /// The rules that the table gets, and those that were made alike told; one level `forward` where no line gives any.
 pub(crate) fn common_rules(
     alloc: Global,
@@ -21,32 +28,48 @@ pub(crate) fn common_rules(
     backward: bool,
     report: &mut Report,
 ) -> Result<Rules, AllocError> {
-    let chosen = chosen_rules(counted(alloc, lines)?, backward);
-    for line in lines {
-        if let Said::OrderStart {
-            rules: Some(rules),
-            ..
-        } = &line.said
-        {
-            if !rules.is_same(&chosen) {
-                report.count(Adjustment::RulesMadeAlike, line.place)?;
-            }
+    let given = given_rules(alloc, lines)?;
+    let chosen = chosen_rules(counted(alloc, given.as_slice())?, backward);
+    for section in given.iter() {
+        if !section.rules.is_same(&chosen) {
+            report.count(Adjustment::RulesMadeAlike, section.place)?;
         }
     }
     Ok(chosen)
 }
 
-// All rules that are given, with the number of sections that have them.
-fn counted(alloc: Global, lines: &[SourceLine]) -> Result<Vec<Having>, AllocError> {
-    let mut counts = Vec::new(alloc);
+// The rules of each section that gives some. The first one always does: where it gives none, it has one level `forward`.
+fn given_rules(alloc: Global, lines: &[SourceLine]) -> Result<Vec<Given>, AllocError> {
+    let mut given = Vec::new(alloc);
     for line in lines {
-        if let Said::OrderStart {
-            rules: Some(rules),
-            ..
-        } = &line.said
-        {
-            count_section(&mut counts, rules)?;
+        if let Said::OrderStart { rules, .. } = &line.said {
+            let rules = match rules {
+                Some(rules) => rules.copied(),
+                None if given.is_empty() => forward(),
+                None => continue,
+            };
+            given.push(Given {
+                place: line.place,
+                rules,
+            })?;
         }
+    }
+    Ok(given)
+}
+
+// One level, `forward`.
+fn forward() -> Rules {
+    Rules::one(Rule {
+        backward: false,
+        position: false,
+    })
+}
+
+// All rules that are given, with the number of sections that have them.
+fn counted(alloc: Global, given: &[Given]) -> Result<Vec<Having>, AllocError> {
+    let mut counts = Vec::new(alloc);
+    for section in given {
+        count_section(&mut counts, &section.rules)?;
     }
     Ok(counts)
 }
@@ -69,10 +92,7 @@ fn count_section(counts: &mut Vec<Having>, rules: &Rules) -> Result<(), AllocErr
 // The rules of most sections, of those with `backward` if they are meant and there are any; of as many the first.
 fn chosen_rules(counts: Vec<Having>, backward: bool) -> Rules {
     let mut chosen = Having {
-        rules: Rules::one(Rule {
-            backward: false,
-            position: false,
-        }),
+        rules: forward(),
         sections: 0,
     };
     for known in counts {

@@ -2,10 +2,10 @@
 
 use crate::meanings::Meanings;
 use coll_lex::ListBuf;
-use coll_sources::{Adjustment, Lost, Report, SourcePlace};
+use coll_sources::{Adjustment, Lost, Report, SourceFault, SourcePlace};
 use coll_statements::IdSet;
 use coll_syntax::{Id, OrderLine, Weight};
-use std::alloc::{AllocError, Global};
+use std::alloc::Global;
 
 /// What weights are looked up in.
 #[derive(Clone, Copy)]
@@ -27,7 +27,7 @@ impl LookUp<'_> {
         place: SourcePlace,
         line: OrderLine,
         report: &mut Report,
-    ) -> Result<OrderLine, AllocError> {
+    ) -> Result<OrderLine, SourceFault> {
         let OrderLine { id, weights } = line;
         let Some(weights) = weights else {
             return Ok(OrderLine { id, weights: None });
@@ -52,7 +52,7 @@ impl LookUp<'_> {
         place: SourcePlace,
         weight: &mut Weight,
         report: &mut Report,
-    ) -> Result<(), AllocError> {
+    ) -> Result<(), SourceFault> {
         let Weight::Names(ids) = weight else {
             return Ok(());
         };
@@ -75,7 +75,7 @@ impl LookUp<'_> {
         place: SourcePlace,
         ids: &[Id],
         report: &mut Report,
-    ) -> Result<Weight, AllocError> {
+    ) -> Result<Weight, SourceFault> {
         let mut kept = Vec::new(self.alloc);
         for id in ids {
             let id = self.meanings.resolved(id.clone()?)?;

@@ -2,9 +2,10 @@
 //!
 //! A new kind is a variant of `Adjustment` with its name and its number, and a place in `ADJUSTMENTS`.
 
-use crate::SourcePlace;
+use crate::{SourceFault, SourcePlace};
 use coll_lex::TextBuf;
 use coll_syntax::Id;
+use coll_texts::LoadCause;
 use std::alloc::{AllocError, Global};
 
 /// A kind of change between a source and what is made of it.
@@ -84,6 +85,9 @@ impl Adjustment {
     }
 }
 
+/// Most things that an import may lose: a source that loses more is refused.
+const MOST_LOSSES: usize = 262_144;
+
 /// How often a kind of change was made, and where first.
 #[derive(Clone, Copy, Debug, PartialEq, Eq)]
 pub struct Tally {
@@ -148,13 +152,16 @@ impl Report {
         Ok(())
     }
 
-    /// Counts a change that loses something.
+    /// Counts a change that loses something. It is refused with `Full` where too much is lost already.
     pub fn lose(
         &mut self,
         adjustment: Adjustment,
         place: SourcePlace,
         what: Lost,
-    ) -> Result<(), AllocError> {
+    ) -> Result<(), SourceFault> {
+        if self.losses.len() >= MOST_LOSSES {
+            return Err(place.load_fault(LoadCause::Full));
+        }
         self.count(adjustment, place)?;
         self.losses.push(Loss {
             place,

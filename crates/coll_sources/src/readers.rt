@@ -3,7 +3,7 @@
 //! A `SourceReader` reads the text that it wants from a device, to its end. It then reads on in it: line by line, into each text that
 //! is copied, and back. Where a text is copied that it has not had, it wants that one, and stops. Each text is
 //! wanted once, however often it is copied; all lines together, those of a text that is copied again counted again, are at most as
-//! many as a text may have. So texts that copy each other many times over end with that fault.
+//! many as a text may have, and have at most `MOST_BYTES` bytes. So texts that copy each other many times over end with that fault.
 //!
 //! Only the category LC_COLLATE is looked at. A line under a condition that doesn't hold counts for nothing, but it has to be a line.
 
@@ -15,14 +15,25 @@ use crate::conditions::Conditions;
 use crate::grammar::said;
 use crate::operands::Unread;
 use crate::texts::{line_at, text_of};
-use crate::{Adjustment, Lost, Report, SourceCause, SourceFault, SourceLine, SourcePlace};
+use crate::{Adjustment, Lost, Report, Said, SourceCause, SourceFault, SourceLine, SourcePlace};
 use coll_devices::{LineReader, ReadStop, Source};
 use coll_lex::{LexFault, Lexer, Line, MOST_LINES, Piece, TextBuf, Token};
 use coll_lookups::HashKeys;
-use coll_syntax::{Id, characters, copied_name, id_of, is_word};
+use coll_syntax::{Id, SyntaxFault, characters, copied_name, id_of, is_word};
 use coll_texts::LoadCause;
 use indexmap::IndexSet;
 use std::alloc::{AllocError, Global};
+
+// Most bytes of all lines that are read, line feeds included.
+const MOST_BYTES: usize = 67_108_864;
+
+// A text that was handed in.
+#[derive(Drop)]
+struct Held {
+    text: String,
+    // Whether it is being read.
+    is_open: bool,
+}
 
 // A text that is being read.
 #[derive(Drop)]
@@ -64,15 +75,16 @@ pub struct SourceReader {
     // The names of the texts, in the order in which they were wanted.
     names: IndexSet<String, HashKeys>,
     // Those that have been handed in, in the same order.
-    texts: Vec<String>,
+    texts: Vec<Held>,
     // What has been handed in of the text that is wanted.
     coming: Vec<u8>,
     // The texts that are being read, each copied by the one before.
     frames: Vec<Frame>,
     // What is defined.
     defined: IndexSet<String, HashKeys>,
-    // How many lines have been taken.
+    // How many lines have been taken, and how many bytes they have.
     taken: u32,
+    bytes: usize,
     lines: Vec<SourceLine>,
     report: Report,
     alloc: Global,
@@ -99,6 +111,7 @@ impl SourceReader {
             frames: Vec::new(alloc),
             defined: all,
             taken: 0,
+            bytes: 0,
             lines: Vec::new(alloc),
             report: Report::new(alloc),
             alloc,
@@ -129,7 +142,7 @@ impl SourceReader {
         let mut lines = LineReader::new(self.alloc)?;
         for number in 1..=MOST_LINES {
             match lines.advance(input) {
-                Ok(true) => self.line(lines.line())?,
+                Ok(true) => self.line(number, lines.line())?,
                 Ok(false) => return self.end_text(),
                 Err(stop) => return Err(self.stopped(number, stop)),
             }
@@ -163,7 +176,10 @@ impl SourceReader {
     }
 
     // Takes the next physical line of the text that is wanted, without its line feed.
-    fn line(&mut self, line: &[u8]) -> Result<(), AllocError> {
+    fn line(&mut self, number: u32, line: &[u8]) -> Result<(), SourceFault> {
+        if self.coming.len() >= MOST_BYTES {
+            return Err(self.wanted_at(number).lex_fault(LexFault::TooManyLines));
+        }
         self.coming.extend_from_slice(line)?;
         self.coming.push(b'\n')?;
         Ok(())
@@ -174,7 +190,10 @@ impl SourceReader {
         let coming = std::mem::replace(&mut self.coming, Vec::new(self.alloc));
         let text = text_of(self.alloc, coming)?;
         let number = self.texts.len();
-        self.texts.push(text)?;
+        self.texts.push(Held {
+            text,
+            is_open: false,
+        })?;
         self.enter(number)?;
         self.read_on()
     }
@@ -195,7 +214,15 @@ impl SourceReader {
             begun: false,
             conditions: Conditions::new(self.alloc),
         })?;
+        self.mark(text, true);
         Ok(())
+    }
+
+    // Notes whether a text is being read.
+    fn mark(&mut self, text: usize, is_open: bool) {
+        if let Some(held) = self.texts.get_mut(text) {
+            held.is_open = is_open;
+        }
     }
 
     // Reads line after line, until a text is wanted or the source has ended.
@@ -234,15 +261,16 @@ impl SourceReader {
         let Some((line, behind)) = self
             .texts
             .get(frame.text)
-            .and_then(|text| line_at(text.as_bytes(), frame.at))
+            .and_then(|held| line_at(held.text.as_bytes(), frame.at))
         else {
             return Ok(Next::Ended);
         };
         let place = place_in(frame);
-        if self.taken >= MOST_LINES {
+        if self.taken >= MOST_LINES || self.bytes >= MOST_BYTES {
             return Err(place.lex_fault(LexFault::TooManyLines));
         }
         self.taken += 1;
+        self.bytes = self.bytes.saturating_add(line.len()).saturating_add(1);
         frame.at = behind;
         if frame.begun {
             return fed(frame, place, line);
@@ -266,6 +294,7 @@ impl SourceReader {
         };
         if ends_category(line.tokens.get()) {
             frame.conditions.ended()?;
+            self.mark(frame.text, false);
             return Ok(Step::Line);
         }
         if self.take_condition(&mut frame.conditions, place, line.tokens.get())? {
@@ -290,33 +319,25 @@ impl SourceReader {
         place: SourcePlace,
         tokens: &[Token],
     ) -> Result<bool, SourceFault> {
-        let Some((first, rest)) = tokens.split_first() else {
+        let Some((Token::Word(word), rest)) = tokens.split_first() else {
             return Ok(false);
         };
-        match (first, rest) {
-            (Token::Word(word), [Token::Word(name)]) => match word.get() {
-                "define" => self.define(conditions, name)?,
-                "ifdef" => conditions.begin(place, self.defined.contains(name.get()))?,
-                "ifndef" => conditions.begin(place, !self.defined.contains(name.get()))?,
-                _ => return Ok(false),
-            },
-            (Token::Word(word), []) => match word.get() {
-                "else" => return self.turned(conditions.turn(place)),
-                "endif" => return self.turned(conditions.end(place)),
-                _ => return Ok(false),
-            },
+        match word.get() {
+            "define" => self.define(conditions, only_name(place, rest)?)?,
+            "ifdef" => {
+                let name = only_name(place, rest)?;
+                conditions.begin(place, self.defined.contains(name.get()))?;
+            }
+            "ifndef" => {
+                let name = only_name(place, rest)?;
+                conditions.begin(place, !self.defined.contains(name.get()))?;
+            }
+            "else" => return turned(place, rest, conditions.turn(place)),
+            "endif" => return turned(place, rest, conditions.end(place)),
             _ => return Ok(false),
         }
         self.report.count(Adjustment::Conditional, place)?;
         Ok(true)
-    }
-
-    // That a condition was turned or ended.
-    fn turned(&self, turned: Result<(), SourceFault>) -> Result<bool, SourceFault> {
-        match turned {
-            Ok(()) => Ok(true),
-            Err(fault) => Err(fault),
-        }
     }
 
     // Defines a name, where lines count.
@@ -346,7 +367,7 @@ impl SourceReader {
             .names
             .insert_full(String::from_str(self.alloc, name.get())?)?;
         self.frames.push(frame)?;
-        if self.frames.iter().any(|frame| frame.text == text) {
+        if self.texts.get(text).is_some_and(|held| held.is_open) {
             return Err(place.fault(SourceCause::CopyOfItself));
         }
         self.report.count(Adjustment::CopyInlined, place)?;
@@ -372,6 +393,10 @@ impl SourceReader {
                 if let Some(what) = subject_of(self.alloc, line.tokens.get())? {
                     self.report.lose(Adjustment::Dropped, place, what)?;
                 }
+                self.lines.push(SourceLine {
+                    place,
+                    said: Said::Unread,
+                })?;
                 Ok(())
             }
         }
@@ -410,6 +435,36 @@ fn early_end(frame: &Frame) -> SourceFault {
         LoadCause::NoCategory
     };
     SourcePlace { text, line }.load_fault(cause)
+}
+
+// The one operand of a line, a word.
+fn only_name(place: SourcePlace, operands: &[Token]) -> Result<&TextBuf, SourceFault> {
+    match operands {
+        [Token::Word(name)] => Ok(name),
+        [] => Err(misread(place, SyntaxFault::MissingOperand)),
+        [Token::Word(_), ..] => Err(misread(place, SyntaxFault::ExtraOperand)),
+        _ => Err(misread(place, SyntaxFault::BadOperand)),
+    }
+}
+
+// That a condition was turned or ended by a line without operands.
+fn turned(
+    place: SourcePlace,
+    operands: &[Token],
+    turned: Result<(), SourceFault>,
+) -> Result<bool, SourceFault> {
+    if !operands.is_empty() {
+        return Err(misread(place, SyntaxFault::ExtraOperand));
+    }
+    match turned {
+        Ok(()) => Ok(true),
+        Err(fault) => Err(fault),
+    }
+}
+
+// A fault of the grammar that stands at a line.
+fn misread(place: SourcePlace, fault: SyntaxFault) -> SourceFault {
+    place.load_fault(LoadCause::Syntax(fault))
 }
 
 // Whether a line is `END LC_COLLATE`.

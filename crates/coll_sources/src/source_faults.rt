@@ -6,6 +6,7 @@
 
 ghost use Rattle.std.specs.Prelude.{◌≡◌};
 ghost use Rattle.coll_texts.specs.declared.load_faults.LoadCause.TheVariants.{OutOfMemory};
+ghost use Rattle.coll_texts.specs.LoadFaults.{lex_cause};
 ghost use Rattle.coll_sources.specs.declared.source_faults.SourceCause.TheVariants.{Load};
 
 use crate::SourcePlace;
@@ -96,7 +97,9 @@ impl SourcePlace {
     }
 
     /// A fault of the lexer that stands here.
-    pub(crate) fn lex_fault(self, fault: LexFault) -> SourceFault {
+    pub(crate) fn lex_fault(self, fault: LexFault) -> SourceFault
+        ensures { result ≡ record { place = self; cause = Load (lex_cause fault) } }
+    {
         self.load_fault(LoadCause::from(fault))
     }
 }

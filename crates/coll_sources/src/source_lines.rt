@@ -62,6 +62,8 @@ pub enum Said {
     Ellipsis(Option<ListBuf<Weight>>),
     /// `script <N>`, which has no effect.
     Script,
+    /// It says nothing: it is no line of the grammar, and was left out.
+    Unread,
     /// A statement of a tailoring, as `reorder-after`: only what is imported for a table has those.
     Tailoring,
 }

@@ -102,14 +102,21 @@ fn print(rt: &HostRuntime, table: &Table, report: &Report, files: &[String]) -> 
         return tell(rt, &nowhere(LoadCause::OutOfMemory), files);
     };
     if !write_whole(table, Counted::new(output)) {
-        let fault = Fault::Write(WriteStop::WriteFault);
-        let _ = eprintln!(rt; "-:0: {fault}");
-        return ExitCode::from(exit_status(&fault));
+        return tell_unwritten(rt, files);
     }
     let mut told = Counted::new(told);
     let _ = write_report(&mut told, report, files);
     let _ = told.flush();
     ExitCode::SUCCESS
+}
+
+// Tells that the table could not be written, with the name of the source, and answers the exit status.
+fn tell_unwritten(rt: &HostRuntime, files: &[String]) -> ExitCode {
+    let fault = Fault::Write(WriteStop::WriteFault);
+    if let Some(source) = files.first() {
+        let _ = eprintln!(rt; "{source}:0: {fault}");
+    }
+    ExitCode::from(exit_status(&fault))
 }
 
 // Writes a table, and answers whether all of it has left the buffer.
