@@ -84,7 +84,12 @@ impl Placing {
             } => self.orders(place, first, last, &weights, report),
             Said::Ellipsis(weights) => self.ellipsis(place, weights, report),
             Said::Unread => self.leave(report),
-            Said::Tailoring => {
+            Said::ReorderAfter(_)
+            | Said::ReorderEnd
+            | Said::SectionAfter { .. }
+            | Said::SectionsAfter(_)
+            | Said::SectionsEnd
+            | Said::Base(_) => {
                 Err(place.load_fault(LoadCause::Syntax(SyntaxFault::UnknownStatement)))
             }
             Said::Symbol(_)

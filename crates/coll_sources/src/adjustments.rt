@@ -13,6 +13,8 @@ use std::alloc::{AllocError, Global};
 pub enum Adjustment {
     /// The lines of a text that is copied stand in place of the `copy`.
     CopyInlined,
+    /// The `copy` of the table that is tailored is kept, and has no effect.
+    CopyKept,
     /// `define`, `ifdef`, `ifndef`, `else` and `endif` are resolved.
     Conditional,
     /// A range of symbols is declared one by one.
@@ -33,19 +35,36 @@ pub enum Adjustment {
     SymbolWeights,
     /// A name that has an order line, and is not declared, is declared as a symbol.
     UndeclaredDeclared,
+    /// A declaration of what the table declares already is left out.
+    DeclaredAlready,
     /// A second order line of an identifier is left out.
     PlacedTwice,
+    /// Weights that name what only a later block places follow as a statement at the end.
+    WeightsLater,
     /// A name that is placed nowhere is left out of a weight.
     UnplacedInWeight,
     /// More weights than there are levels are left out.
     WeightsBeyondRules,
+    /// A block that has an identifier twice, or too many lines, is cut in two.
+    BlockCut,
+    /// What is placed without weights weighs itself.
+    OwnWeights,
+    /// A block behind what is placed nowhere is left out.
+    TargetUnplaced,
+    /// The target of a block that is a line of it gets its weights where it stands, or stays as it is.
+    OwnTarget,
+    /// A block that is open at the end is ended there.
+    BlockClosed,
+    /// Sections that are moved together are moved one by one.
+    SectionsMoved,
     /// A second declaration, what is beyond the limits, and what is no line of the grammar is left out.
     Dropped,
 }
 
 /// All kinds, in the order in which they are told.
-pub const ADJUSTMENTS: [Adjustment; 15] = [
+pub const ADJUSTMENTS: [Adjustment; 24] = [
     Adjustment::CopyInlined,
+    Adjustment::CopyKept,
     Adjustment::Conditional,
     Adjustment::SymbolRange,
     Adjustment::OrderStartPut,
@@ -56,9 +75,17 @@ pub const ADJUSTMENTS: [Adjustment; 15] = [
     Adjustment::ElementStringTwice,
     Adjustment::SymbolWeights,
     Adjustment::UndeclaredDeclared,
+    Adjustment::DeclaredAlready,
     Adjustment::PlacedTwice,
+    Adjustment::WeightsLater,
     Adjustment::UnplacedInWeight,
     Adjustment::WeightsBeyondRules,
+    Adjustment::BlockCut,
+    Adjustment::OwnWeights,
+    Adjustment::TargetUnplaced,
+    Adjustment::OwnTarget,
+    Adjustment::BlockClosed,
+    Adjustment::SectionsMoved,
     Adjustment::Dropped,
 ];
 
@@ -67,6 +94,7 @@ impl Adjustment {
     pub fn name(self) -> &'static str {
         match self {
             Adjustment::CopyInlined => "CopyInlined",
+            Adjustment::CopyKept => "CopyKept",
             Adjustment::Conditional => "Conditional",
             Adjustment::SymbolRange => "SymbolRange",
             Adjustment::OrderStartPut => "OrderStartPut",
@@ -77,9 +105,17 @@ impl Adjustment {
             Adjustment::ElementStringTwice => "ElementStringTwice",
             Adjustment::SymbolWeights => "SymbolWeights",
             Adjustment::UndeclaredDeclared => "UndeclaredDeclared",
+            Adjustment::DeclaredAlready => "DeclaredAlready",
             Adjustment::PlacedTwice => "PlacedTwice",
+            Adjustment::WeightsLater => "WeightsLater",
             Adjustment::UnplacedInWeight => "UnplacedInWeight",
             Adjustment::WeightsBeyondRules => "WeightsBeyondRules",
+            Adjustment::BlockCut => "BlockCut",
+            Adjustment::OwnWeights => "OwnWeights",
+            Adjustment::TargetUnplaced => "TargetUnplaced",
+            Adjustment::OwnTarget => "OwnTarget",
+            Adjustment::BlockClosed => "BlockClosed",
+            Adjustment::SectionsMoved => "SectionsMoved",
             Adjustment::Dropped => "Dropped",
         }
     }

@@ -11,18 +11,13 @@ use crate::ranges::{Digits, name_range};
 use crate::weights::weights;
 use coll_lex::{Line, ListBuf, TextBuf, Token};
 use coll_syntax::{
-    Id, OrderLine, TableLine, Weight, characters, copied_name, id_of, is_word, parse_table_line,
+    DeltaLine, Id, OrderLine, TableLine, Weight, characters, copied_name, id_of, is_word,
+    parse_delta_line, parse_table_line,
 };
 use std::alloc::Global;
 
-// The words that begin a statement of a tailoring.
-const TAILORING: [&str; 5] = [
-    "reorder-after",
-    "reorder-end",
-    "reorder-section-after",
-    "reorder-sections-after",
-    "reorder-sections-end",
-];
+// The words that begin a line which the grammar of deltas reads.
+const OF_DELTAS: [&str; 3] = ["reorder-after", "reorder-end", "reorder-section-after"];
 
 // The words that begin a line which the grammar of tables reads.
 const OF_TABLES: [&str; 5] = [
@@ -43,8 +38,14 @@ pub(crate) fn said(alloc: Global, line: &Line) -> Result<Said, Unread>
     if OF_TABLES.iter().any(|word| is_word(first, word)) {
         return of_table(alloc, line);
     }
-    if TAILORING.iter().any(|word| is_word(first, word)) {
-        return Ok(Said::Tailoring);
+    if OF_DELTAS.iter().any(|word| is_word(first, word)) {
+        return of_delta(alloc, line);
+    }
+    if is_word(first, "reorder-sections-after") {
+        return sections_after(alloc, rest);
+    }
+    if is_word(first, "reorder-sections-end") {
+        return Ok(Said::SectionsEnd);
     }
     if is_word(first, "collating-symbol") {
         return symbol(alloc, rest);
@@ -68,6 +69,26 @@ fn of_table(alloc: Global, line: &Line) -> Result<Said, Unread>
         TableLine::Section(name) => Ok(Said::Section(name)),
         TableLine::Script => Ok(Said::Script),
         TableLine::Equivalence { name, symbol } => Ok(Said::Equivalence { name, symbol }),
+        _ => Err(Unread::NoLine),
+    }
+}
+
+// What a line says that deltas have too.
+fn of_delta(alloc: Global, line: &Line) -> Result<Said, Unread>
+    requires { AreTokens line.now.tokens }
+{
+    match parse_delta_line(alloc, line)? {
+        DeltaLine::ReorderAfter(target) => Ok(Said::ReorderAfter(target)),
+        DeltaLine::ReorderEnd => Ok(Said::ReorderEnd),
+        DeltaLine::SectionAfter { moved, after } => Ok(Said::SectionAfter { moved, after }),
+        _ => Err(Unread::NoLine),
+    }
+}
+
+// The operand of `reorder-sections-after`: the name of a section.
+fn sections_after(alloc: Global, operands: &[Token]) -> Result<Said, Unread> {
+    match operands {
+        [Token::Symbol(name)] => Ok(Said::SectionsAfter(copied_name(alloc, name)?)),
         _ => Err(Unread::NoLine),
     }
 }

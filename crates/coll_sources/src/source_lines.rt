@@ -4,7 +4,7 @@
 
 use crate::{NameRange, SourcePlace};
 use coll_lex::{ListBuf, TextBuf};
-use coll_syntax::{OrderLine, Rules, Weight};
+use coll_syntax::{Id, OrderLine, Rules, Weight};
 
 /// A line of a source, and where it stands.
 #[derive(Debug, Drop)]
@@ -64,6 +64,21 @@ pub enum Said {
     Script,
     /// It says nothing: it is no line of the grammar, and was left out.
     Unread,
-    /// A statement of a tailoring, as `reorder-after`: only what is imported for a table has those.
-    Tailoring,
+    /// `reorder-after <X>`: what follows is placed behind this.
+    ReorderAfter(Id),
+    /// `reorder-end`.
+    ReorderEnd,
+    /// `reorder-section-after <S> <T>`: a section is placed behind another.
+    SectionAfter {
+        /// The name of the section that is moved.
+        moved: TextBuf,
+        /// The name of the section that it is placed behind.
+        after: TextBuf,
+    },
+    /// `reorder-sections-after <S>`: the sections that follow, a name a line, are placed behind this one.
+    SectionsAfter(TextBuf),
+    /// `reorder-sections-end`.
+    SectionsEnd,
+    /// `copy "NAME"` of a text that orders everything, where a tailoring is read: the table that is tailored.
+    Base(TextBuf),
 }
