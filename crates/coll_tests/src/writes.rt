@@ -40,7 +40,7 @@ enum Written {
     Printed,
 }
 
-type Output = Counted<ShortWriter>;
+type Output<'a> = Counted<&'a mut ShortWriter>;
 
 const LONG_LINE: RunFault = RunFault {
     input: 0,
@@ -195,11 +195,12 @@ fn is_whole(
     at: usize,
 ) -> bool {
     let script = Script::ButFor(at, fails);
-    let mut output = Counted::new(ShortWriter::scripted(Vec::new(alloc), script));
+    let mut device = ShortWriter::scripted(Vec::new(alloc), script);
+    let mut output = Counted::new(&mut device);
     let answer = write(rt, alloc, what, &mut output);
     let errors = u64::from(answer.is_err());
     assert_same(rt, "the errors", output.errors(), errors);
-    let device = output.device();
+    drop(output);
     let taken = device.taken.as_slice();
     if answer.is_ok() {
         assert_same(rt, at, taken, wanted);
