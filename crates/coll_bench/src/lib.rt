@@ -26,10 +26,8 @@ mod runs;
 mod serving;
 
 pub use batches::{Batch, run_batch, run_batch_keyed};
-pub use coll_history::{BenchFault, MOST_REMAINING, Session, limits_are_stated};
+pub use coll_history::{BenchFault, Session};
 pub use faults::{Fault, RunFault};
 pub use laws::{lack_of_memory_shows, refused_lines_change_nothing};
-pub use ranked_sessions::RankedSession;
-pub use replies::{answer, refuse, write_checked, write_key_ended, write_order};
 pub use reports::{exit_status, write_fault};
 pub use runs::run_session;

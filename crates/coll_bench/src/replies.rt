@@ -29,13 +29,13 @@ use coll_texts::{Piece, write_pieces};
 use history_reply::write_history;
 use std::alloc::Global;
 use texts::{answer_compare, answer_key};
-pub use texts::{write_key_ended, write_order};
+pub(crate) use texts::{write_key_ended, write_order};
 
 /// Does what a request asks for, writes its reply and flushes it.
 ///
 /// What is refused has its reply as well, lack of memory included, and then changes nothing. Where the device fails, it has taken a
 /// prefix of the reply; the history is then as if the reply was written.
-pub fn answer<W: Sink>(
+pub(crate) fn answer<W: Sink>(
     alloc: Global,
     session: &mut RankedSession,
     request: Request,
@@ -52,7 +52,7 @@ pub fn answer<W: Sink>(
 }
 
 /// Writes the reply to a fault that ends a session, and flushes it. Where the device fails, it has taken a prefix of the reply.
-pub fn refuse<W: Sink>(fault: Fault, out: &mut W) -> Result<(), WriteStop>
+pub(crate) fn refuse<W: Sink>(fault: Fault, out: &mut W) -> Result<(), WriteStop>
     ensures sent { Sends (W.taken out.old) (W.taken out.new) (refused_line fault) result }
     ensures errors { CountsErr (W.failed out.old) (W.failed out.new) result }
     ensures flushed { OnOk result (W.flushed out.new ≡ true) }
@@ -156,7 +156,7 @@ fn write_listing<W: Sink>(out: &mut W, table: &Table) -> Result<(), WriteStop>
 
 /// Writes how many entries, declarations, sections and levels a table has. Where a write fails, the device has taken a prefix of it.
 #[tactic(auto, unfolding(crate::specs::Replies::checked_line))]
-pub fn write_checked<W: Sink>(out: &mut W, table: &Table) -> Result<(), WriteStop>
+pub(crate) fn write_checked<W: Sink>(out: &mut W, table: &Table) -> Result<(), WriteStop>
     ensures sent { Sends (W.taken out.old) (W.taken out.new) (checked_line (collation table.now)) result }
     ensures errors { CountsErr (W.failed out.old) (W.failed out.new) result }
 {

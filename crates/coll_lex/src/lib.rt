@@ -28,11 +28,10 @@ mod tokens;
 pub use blanks::past_blanks;
 pub use buffers::{ListBuf, TextBuf};
 pub use coll_devices::{
-    Counted, LineReader, MOST_LINE_BYTES, ReadStop, Sink, Source, WriteStop, without_return,
-    write_bytes,
+    Counted, LineReader, ReadStop, Sink, Source, WriteStop, without_return, write_bytes,
 };
 pub use faults::LexFault;
-pub use limits::{MOST_LINES, MOST_NAME_CHARS, limits_are_stated};
+pub use limits::{MOST_LINES, limits_are_stated};
 pub use logical_lines::{Lexer, lexers_hold_text, lines_have_tokens};
 pub use names::is_name;
 pub use spelling::{spellings_are_read_back, write_char, write_symbol};

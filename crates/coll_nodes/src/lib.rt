@@ -28,7 +28,6 @@ mod visited_nodes;
 mod walks;
 
 pub use bodies::Body;
-pub use coll_lookups::{EntryNumbers, HashKeys, NamePlaces};
 pub use contents::Content;
 pub use declarations::Declaration;
 pub use entries::Entry;

@@ -18,5 +18,5 @@ mod own_statements;
 
 pub use id_sets::IdSet;
 pub use line_weights::{given_len, kept_weights, name_the_same};
-pub use own_names::{is_second, names_second, own_weights, second_names_are_not_placed};
+pub use own_names::{names_second, own_weights, second_names_are_not_placed};
 pub use own_statements::by_own_names;

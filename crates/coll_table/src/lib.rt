@@ -22,12 +22,9 @@ mod tables;
 mod turning;
 
 pub use coll_lookups::{EntryNumbers, HashKeys, NamePlaces};
-pub use coll_nodes::{
-    Declaration, Declared, DeclaredItem, Entry, MOST_DECLARATIONS, MOST_ENTRIES, MOST_SECTIONS,
-    Walk, WalkItem, limits_are_stated,
-};
+pub use coll_nodes::{Declaration, Declared, DeclaredItem, Entry, Walk, WalkItem};
 pub use coll_statements::second_names_are_not_placed;
-pub use coll_texts::{LoadCause, LoadFault, printed_tables_are_read_back, write_id};
+pub use coll_texts::{LoadCause, LoadFault, printed_tables_are_read_back};
 pub use loaders::{Loader, lines_are_read};
 pub use loading::{load, load_keyed, texts_are_well_formed};
 pub use record_laws::{

@@ -27,6 +27,5 @@ mod table_builder;
 pub use canonical_texts::{printed_tables_are_read_back, write_table};
 pub use load_faults::{LoadCause, LoadFault};
 pub use pieces::{Piece, write_number, write_pieces};
-pub use spelled_entries::write_id;
 pub use spelled_lines::write_text;
 pub use table_builder::TableBuilder;
