@@ -26,9 +26,9 @@ pub(crate) struct Step {
 pub(crate) struct ForwardNumbers<'a> {
     ranks: &'a Ranks,
     level: usize,
-    /// The text behind the element at hand.
+    // The text behind the element at hand.
     text: &'a str,
-    /// What is left of the element at hand.
+    // What is left of the element at hand.
     weight: ElementWeight<'a>,
 }
 

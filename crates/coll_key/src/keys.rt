@@ -22,7 +22,7 @@ use coll_syntax::Rule;
 use coll_table::Table;
 use std::alloc::{AllocError, Global};
 
-/// Most bytes of a text whose rows stand on the stack, which spares a block of memory. Words have fewer.
+// Most bytes of a text whose rows stand on the stack, which spares a block of memory. Words have fewer.
 const MOST_WORD_BYTES: usize = 16;
 
 /// The sort key of a text: for each level its list of numbers, followed by 0.

@@ -23,7 +23,7 @@ use std::marker::Model;
 pub struct CompiledWeights {
     levels: usize,
     lists: WeightCells,
-    /// For each level whether `UNDEFINED` stands for itself there.
+    // For each level whether `UNDEFINED` stands for itself there.
     own: Vec<bool>,
 }
 

@@ -68,9 +68,9 @@ impl BlockStatus {
 /// A block that is open.
 #[derive(Drop)]
 pub struct OpenBlock {
-    /// The number of the line that opened it.
+    // The number of the line that opened it.
     line: u32,
-    /// What its lines amount to so far.
+    // What its lines amount to so far.
     so_far: BlockStatus,
 }
 

@@ -50,7 +50,7 @@ impl Parsing {
 #[derive(Drop)]
 pub struct LineParser {
     lexer: Lexer,
-    /// What the logical line that is open begins with, where one is.
+    // What the logical line that is open begins with, where one is.
     opening: Opening,
 }
 
