@@ -4,7 +4,7 @@ use coll_lex::TextBuf;
 use coll_lookups::HashKeys;
 use coll_nodes::{MOST_ENTRIES, MOST_SECTIONS};
 use coll_sources::{Adjustment, Lost, Report, SourceFault, SourcePlace};
-use coll_statements::IdSet;
+use coll_lookups::IdSet;
 use coll_syntax::OrderLine;
 use coll_texts::LoadCause;
 use indexmap::IndexSet;

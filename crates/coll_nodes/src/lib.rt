@@ -12,7 +12,7 @@
 //! - `walks` and `visited_nodes`: a body, read in order (`Walks`, `WalkStates`, `WalkItems`);
 //! - `numbered_rings` and `bodies/numbering`: the places of entries, kept beside a body, and those of names, kept apart from it
 //!   (`NodeNumbers`); `bodies/elements`: elements by their strings (`ElementTexts`);
-//! - and, for the look-ups of blocks in `coll_statements`, `LookUps`; for all who judge lines and statements, `Causes`.
+//! - and, for all who judge lines and statements, `Causes`.
 #![tactic(auto)]
 
 mod bodies;

@@ -25,8 +25,9 @@ ghost use Rattle.coll_table.specs.declared.refusals.Refusal.TheVariants.{Full, O
 
 use crate::{Refusal, Table};
 use coll_lex::TextBuf;
+use coll_lookups::IdSet;
 use coll_nodes::{MOST_DECLARATIONS, MOST_ENTRIES};
-use coll_statements::{IdSet, given_len};
+use coll_statements::given_len;
 use coll_syntax::{Id, OrderLine, Statement, Weight};
 use std::alloc::AllocError;
 

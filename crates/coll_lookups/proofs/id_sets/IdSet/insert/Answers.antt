@@ -1,6 +1,6 @@
 -- One identifier more is found.
-use Rattle.coll_statements.proofs.PlaceLookUps.{adds_name, adds_char}
-use Rattle.coll_statements.proofs.id_sets.IdSet.insert.Goals as goal
+use Rattle.coll_lookups.proofs.IdSets.{adds_name, adds_char}
+use Rattle.coll_lookups.proofs.id_sets.IdSet.insert.Goals as goal
 
 pub returns-in_ok-insert-in-Char-clause-ok : goal.returns-in_ok-insert-in-Char-clause-ok
 returns-in_ok-insert-in-Char-clause-ok c =

@@ -1,7 +1,7 @@
 -- A name is found by its bytes.
 use Rattle.std.proofs.Common.{◌∙◌}
-use Rattle.coll_statements.proofs.LookUps.{found_name}
-use Rattle.coll_statements.proofs.names.Names.contains.Goals as goal
+use Rattle.coll_lookups.proofs.NameSets.{found_name}
+use Rattle.coll_lookups.proofs.names.Names.contains.Goals as goal
 
 pub returns : goal.returns
 returns c =

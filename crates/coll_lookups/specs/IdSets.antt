@@ -1,4 +1,4 @@
--- The look-ups of a block: which identifiers it has had, the names among them apart.
+-- Sets of identifiers: which are there, by their names, their characters, and whether UNDEFINED is one.
 use Rattle.std.specs.Prelude.{◌≡◌, ℕ, Bool, if◌then◌else◌, ◌||◌, List, [], ◌∷◌, ◌++◌, map, chars, string_bytes, encode_utf8_all}
 use Rattle.std.specs.declared.string.String.{String}
 use Rattle.coll_syntax.specs.Identifier.{same_id, has_name, has_id}

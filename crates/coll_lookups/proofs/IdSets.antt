@@ -1,11 +1,11 @@
--- Identifiers in a look-up by hash: what is found there, and what one more does.
+-- Identifiers in a set: what is found there, and what one more does.
 use Rattle.std.proofs.Common.{◌≡◌, ℕ, Bool, true, false, ◌||◌, cond, nat_eq, List, [], ◌∷◌, ◌++◌, map, sym, ap, ◌∙◌, refl}
 use Rattle.std.specs.List.{list_any}
 use Rattle.std.proofs.lemmas.List.Folds.{list_any-append}
 use Rattle.std.proofs.lemmas.Bool.Decides.{Decides-eqb}
 use Rattle.coll_lookups.proofs.Sameness.{same_name_decides, decided_symmetric}
 use Rattle.coll_syntax.specs.Identifier.{same_name, same_id, has_name, has_id}
-use Rattle.coll_nodes.specs.LookUps.{with_name, ids_in_set, AddsId}
+use Rattle.coll_lookups.specs.IdSets.{with_name, ids_in_set, AddsId}
 use Rattle.coll_syntax.specs.declared.identifiers.Id.{Id}
 use Rattle.coll_syntax.specs.declared.identifiers.Id.TheVariants.{Char, Named, Undefined}
 

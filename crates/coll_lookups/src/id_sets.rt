@@ -1,4 +1,4 @@
-//! The identifiers of a block, with a look-up by hash.
+//! Sets of identifiers, with a look-up by hash.
 //!
 //! An `IdSet` is a list of identifiers in no stated order: what a contract says of it is which identifiers it has, and all
 //! else may change. It takes memory for them, and for no others. A new kind of identifier is a look-up more.
@@ -6,8 +6,8 @@
 ghost use Rattle.std.specs.Prelude.{◌≡◌, [], OnOk, OnErr};
 ghost use Rattle.coll_syntax.specs.Identifier.{has_id};
 
-use super::names::Names;
-use coll_lookups::HashKeys;
+use crate::HashKeys;
+use crate::names::Names;
 use coll_syntax::Id;
 use indexmap::IndexSet;
 use std::alloc::{AllocError, Global};
@@ -24,7 +24,7 @@ pub struct IdSet {
 impl Model for IdSet {
     ghost use Rattle.std.specs.Prelude.{List};
     ghost use Rattle.coll_syntax.specs.declared.identifiers.Id.{Id};
-    ghost use Rattle.coll_nodes.specs.LookUps.{ids_in_set};
+    ghost use Rattle.coll_lookups.specs.IdSets.{ids_in_set};
 
     ghost Value = { List Id };
 
@@ -32,7 +32,7 @@ impl Model for IdSet {
 }
 
 impl IdSet {
-    ghost use Rattle.coll_nodes.specs.LookUps.{AddsId};
+    ghost use Rattle.coll_lookups.specs.IdSets.{AddsId};
 
     /// No identifiers. It takes no memory.
     pub fn new(alloc: Global, keys: HashKeys) -> IdSet

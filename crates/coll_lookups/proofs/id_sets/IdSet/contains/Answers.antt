@@ -1,8 +1,8 @@
 -- An identifier is found by its kind.
 use Rattle.std.proofs.Common.{sym, ◌∙◌}
 use Rattle.coll_syntax.specs.declared.identifiers.Id.TheVariants.{Char, Named, Undefined}
-use Rattle.coll_statements.proofs.PlaceLookUps.{found_place}
-use Rattle.coll_statements.proofs.id_sets.IdSet.contains.Goals as goal
+use Rattle.coll_lookups.proofs.IdSets.{found_place}
+use Rattle.coll_lookups.proofs.id_sets.IdSet.contains.Goals as goal
 
 pub returns-in-Char : goal.returns-in-Char
 returns-in-Char c =

@@ -1,9 +1,9 @@
 -- A text goes last where its name does.
 use Rattle.std.proofs.Common.{sym, ap, ◌∙◌, chars}
 use Rattle.std.proofs.lemmas.Str.{encodes-chars}
-use Rattle.coll_nodes.specs.LookUps.{all_characters_of, with_name}
-use Rattle.coll_statements.proofs.LookUps.{inserted_name, inserted_are}
-use Rattle.coll_statements.proofs.names.Names.insert.Goals as goal
+use Rattle.coll_lookups.specs.IdSets.{all_characters_of, with_name}
+use Rattle.coll_lookups.proofs.NameSets.{inserted_name, inserted_are}
+use Rattle.coll_lookups.proofs.names.Names.insert.Goals as goal
 
 pub invariant_of-self-2 : goal.invariant_of-self-2
 invariant_of-self-2 c =

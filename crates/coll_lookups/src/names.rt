@@ -1,13 +1,13 @@
-//! Names, with a look-up by hash.
+//! Sets of names, with a look-up by hash.
 //!
 //! A `Names` is the list of its names in the order in which they came, each once. How a name is found may change.
-//! `IdSet` keeps in it which names a block has had; the names that a table declares are looked up in coll_nodes.
+//! `IdSet` keeps its names in it; names that lead to a node are kept by `node_names`.
 
 ghost use Rattle.std.specs.Prelude.{◌≡◌, [], OnOk, OnErr, chars};
 ghost use Rattle.coll_syntax.specs.Identifier.{has_name};
 
+use crate::HashKeys;
 use coll_lex::TextBuf;
-use coll_lookups::HashKeys;
 use indexmap::IndexSet;
 use std::alloc::{AllocError, Global};
 use std::marker::Model;
@@ -21,7 +21,7 @@ pub struct Names {
 
 impl Model for Names {
     ghost use Rattle.std.specs.Prelude.{List, ℕ};
-    ghost use Rattle.coll_nodes.specs.LookUps.{all_characters_of, AreTexts};
+    ghost use Rattle.coll_lookups.specs.IdSets.{all_characters_of, AreTexts};
 
     ghost Value = { List (List ℕ) };
 
@@ -31,7 +31,7 @@ impl Model for Names {
 }
 
 impl Names {
-    ghost use Rattle.coll_nodes.specs.LookUps.{with_name};
+    ghost use Rattle.coll_lookups.specs.IdSets.{with_name};
 
     /// No names. It takes no memory.
     pub fn new(alloc: Global, keys: HashKeys) -> Names

@@ -1,4 +1,4 @@
--- Names and identifiers in look-ups by hash: what is found there, and what one more does.
+-- Names in a set: what is found there, and what one more does.
 use Rattle.std.proofs.Common.{◌≡◌, ℕ, Bool, true, false, ◌||◌, cond, List, [], ◌∷◌, ◌++◌, sym, ap, ◌∙◌, refl}
 use Rattle.std.specs.Prelude.{chars, string_bytes, encode_utf8_all}
 use Rattle.std.specs.Str.{bytes_eq}
@@ -7,7 +7,7 @@ use Rattle.std.specs.declared.string.String.{String}
 use Rattle.std.proofs.lemmas.List.{map-append}
 use Rattle.coll_syntax.proofs.Spellings.{same_spelling}
 use Rattle.coll_syntax.specs.Identifier.{same_name, has_name}
-use Rattle.coll_nodes.specs.LookUps.{characters_of, all_characters_of, AreTexts, with_name}
+use Rattle.coll_lookups.specs.IdSets.{characters_of, all_characters_of, AreTexts, with_name}
 
 module _ {Y : Type 0} where
   -- a text is found by its bytes where its characters are found
