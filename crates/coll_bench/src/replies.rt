@@ -1,7 +1,7 @@
 //! The replies of a session, written to its sink.
 //!
 //! Each request has one reply, which is written piece by piece, without taking memory, and flushed. Where a write or the
-//! flush fails, the device has taken a prefix of the reply. A new kind of request is a new case of `write_reply`, and of the
+//! flush fails, the device has taken a prefix of the reply. A new kind of request is a new case of `answer`, and of the
 //! definition of replies.
 
 ghost use Rattle.std.specs.Prelude.{◌≡◌, ◌≤◌, Bool, true, chars, codes, IfOk, OnOk};
@@ -47,8 +47,18 @@ pub(crate) fn answer<W: Sink>(
     ensures errors { CountsErr (W.failed out.old) (W.failed out.new) result }
     ensures flushed { OnOk result (W.flushed out.new ≡ true) }
 {
-    write_reply(alloc, session, request, out)?;
-    flush(out)
+    match request {
+        Request::Command(command) => {
+            obey(alloc, session, &command, out)?;
+            flush(out)
+        }
+        Request::Statement(statement) => {
+            let outcome = session.statement(statement);
+            write_outcome(out, b"ok", outcome)?;
+            flush(out)
+        }
+        Request::Refused(fault) => refuse(Fault::from(fault), out),
+    }
 }
 
 /// Writes the reply to a fault that ends a session, and flushes it. Where the device fails, it has taken a prefix of the reply.
@@ -70,28 +80,6 @@ fn flush<W: Sink>(out: &mut W) -> Result<(), WriteStop>
     match out.flush() {
         Ok(()) => Ok(()),
         Err(_) => Err(WriteStop::WriteFault),
-    }
-}
-
-// Does what a request asks for, and writes its reply.
-fn write_reply<W: Sink>(
-    alloc: Global,
-    session: &mut RankedSession,
-    request: Request,
-    out: &mut W,
-) -> Result<(), WriteStop>
-    requires { IsProperRequest request }
-    ensures answered { (starved : Bool) × Sends (W.taken out.old) (W.taken out.new) (reply_if starved session.old.history request) result
-        × (session.new.history ≡ history_after_if starved session.old.history request) }
-    ensures errors { CountsErr (W.failed out.old) (W.failed out.new) result }
-{
-    match request {
-        Request::Command(command) => obey(alloc, session, &command, out),
-        Request::Statement(statement) => {
-            let outcome = session.statement(statement);
-            write_outcome(out, b"ok", outcome)
-        }
-        Request::Refused(fault) => write_refused(out, Fault::from(fault)),
     }
 }
 
