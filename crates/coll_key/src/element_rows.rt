@@ -3,7 +3,7 @@
 ghost use Rattle.std.specs.Prelude.{◌≡◌, ◌≢◌, ◌≤◌, ℕ, chars, length, map, take, true, false, IfOk, IfErr, IfSome, MatchOption};
 ghost use Rattle.coll_key.specs.KeyLimits.{is_too_long};
 ghost use Rattle.coll_ranks.specs.LevelWeights.{row_of};
-ghost use Rattle.coll_ranks.specs.Ranks.{parts_of};
+ghost use Rattle.coll_ranks.specs.Ranks.{elements_by_ranks};
 ghost use Rattle.coll_key.specs.declared.key_faults.KeyFault.TheVariants.{OutOfMemory};
 
 use crate::key_faults::KeyFault;
@@ -16,14 +16,14 @@ use std::alloc::{AllocError, Global};
 pub(crate) fn put_rows(rows: &mut [ElementRow], ranks: &Ranks, text: &str) -> usize
     requires places { length text.now ≤ length rows.old }
     requires few { length rows.old ≤ 16 }
-    ensures rows { take result rows.new ≡ map (row_of ranks.now.compiled) (parts_of ranks.now (chars text.now)) }
+    ensures rows { take result rows.new ≡ map (row_of ranks.now.compiled) (elements_by_ranks ranks.now (chars text.now)) }
     ensures within { result ≤ length rows.new }
     ensures places { length rows.new ≡ length rows.old }
 {
     let mut left = text;
     let mut count = 0;
-    'parts: while let Some(first) = ranks.first_part(left) {
-        rows[count] = ranks.weights().row(first.part);
+    'elements: while let Some(first) = ranks.first_element(left) {
+        rows[count] = ranks.weights().row(first.element);
         count += 1;
         left = first.rest;
     }
@@ -38,7 +38,7 @@ pub(crate) fn kept_rows(
     ranks: &Ranks,
     text: &str,
 ) -> Result<Vec<ElementRow>, KeyFault>
-    ensures ok { IfOk result (λ rows. rows.items ≡ map (row_of ranks.now.compiled) (parts_of ranks.now (chars text.now))) }
+    ensures ok { IfOk result (λ rows. rows.items ≡ map (row_of ranks.now.compiled) (elements_by_ranks ranks.now (chars text.now))) }
     ensures short { IfOk result (λ _. is_too_long (chars text.now) ≡ false) }
     ensures err { IfErr result (λ fault. fault ≢ OutOfMemory → is_too_long (chars text.now) ≡ true) }
     ensures memory { IfErr result (λ fault. fault ≡ OutOfMemory → is_too_long (chars text.now) ≡ false) }
@@ -73,27 +73,27 @@ fn split_rows(
     ensures long { IfOk result (λ kept.
         MatchOption kept (is_too_long (chars text.now) ≡ true) (λ rows. is_too_long (chars text.now) ≡ false)) }
     ensures rows { IfOk result (λ kept.
-        IfSome kept (λ rows. rows.items ≡ map (row_of ranks.now.compiled) (parts_of ranks.now (chars text.now)))) }
+        IfSome kept (λ rows. rows.items ≡ map (row_of ranks.now.compiled) (elements_by_ranks ranks.now (chars text.now)))) }
 {
-    let mut rows = Vec::with_capacity(alloc, most_parts(text.len()))?;
+    let mut rows = Vec::with_capacity(alloc, most_elements(text.len()))?;
     let mut left = text;
     let mut room = MOST_TEXT_CHARACTERS;
-    'parts: while let Some(first) = ranks.first_part(left) {
+    'elements: while let Some(first) = ranks.first_element(left) {
         if room < first.characters {
             return Ok(None);
         }
         room -= first.characters;
-        rows.push_reserved(ranks.weights().row(first.part));
+        rows.push_reserved(ranks.weights().row(first.element));
         left = first.rest;
     }
     Ok(Some(rows))
 }
 
 // The number of elements of a text of so many bytes, at most, where the text isn't too long.
-fn most_parts(bytes: usize) -> usize
+fn most_elements(bytes: usize) -> usize
     ensures bytes { result ≤ bytes }
     ensures most { result ≤ 65_536 }
-    ensures enough { (parts : ℕ) → parts ≤ bytes → parts ≤ 65_536 → parts ≤ result }
+    ensures enough { (elements : ℕ) → elements ≤ bytes → elements ≤ 65_536 → elements ≤ result }
 {
     bytes.min(MOST_TEXT_CHARACTERS)
 }

@@ -16,47 +16,47 @@ use Rattle.coll_nodes.specs.Table.{Collation, entries_of}
 use Rattle.coll_nodes.specs.WellFormed.{IsWellFormed}
 use Rattle.coll_nodes.specs.declared.entries.Entry.{Entry}
 use Rattle.coll_nodes.proofs.EntryLemmas.{entry_there}
-use Rattle.coll_elements.specs.Elements.{Element, beyond_first, longest, longer, split, elements_of, elements_placed, element_text, part_id, begins_with}
+use Rattle.coll_elements.specs.Elements.{Element, beyond_first, longest, longer, split, elements_of, elements_placed, element_text, element_id, begins_with}
 use Rattle.coll_elements.specs.NamedElements.{Finds}
 use Rattle.coll_ranks.specs.WeightNumbers.{numbers_at, weight_at, undefined_weights}
 use Rattle.coll_elements.specs.Rank.{known_rank}
 use Rattle.coll_elements.specs.RankedElements.{RankedElement, ranked_text, ranked_in}
-use Rattle.coll_ranks.specs.Ranks.{RanksValue, AreRanksOf, parts_of, parts_behind, part_with, part_numbers, character_part}
+use Rattle.coll_ranks.specs.Ranks.{RanksValue, AreRanksOf, elements_by_ranks, elements_behind, element_with, compiled_numbers, character_element}
 use Rattle.coll_ranks.specs.Ranks.{compiled_weight, compiled_by, compiled_entry, compiled_row_by, compiled_weights}
 use Rattle.coll_ranks.specs.AlikePrefixes.{BeginAlike}
-use Rattle.coll_ranks.specs.declared.parts.TextElement.{TextElement}
-use Rattle.coll_ranks.specs.declared.parts.TextElement.TheVariants.{Placed}
+use Rattle.coll_ranks.specs.declared.text_elements.TextElement.{TextElement}
+use Rattle.coll_ranks.specs.declared.text_elements.TextElement.TheVariants.{Placed}
 use Rattle.coll_elements.specs.declared.named_elements.FoundElement.{FoundElement}
 use Rattle.coll_elements.proofs.SplitTexts.{split_found}
 use Rattle.coll_elements.proofs.TableElementLemmas.{has_place}
 use Rattle.coll_ranks.proofs.RowNumbers.{BeginWithUndefined, filled_length, row_behind, entry_numbers, absent_numbers, character_absent}
 use Rattle.coll_elements.proofs.Tests.{by_test}
 
--- The parts of a text, one after another.
+-- The elements of a text, one after another.
 
--- the part of a placed element, and what is behind it
-pub part_of_element : (ranks : RanksValue) (ranked : RankedElement) (text rest : List ℕ) → longest ranked_text ranks.elements text ≡ Some ranked → text ≡ ranked_text ranked ++ rest
-    → 0 < length (ranked_text ranked) → parts_of ranks text ≡ part_with ranks.ids (Some ranked) 0 ∷ parts_of ranks rest
-unfolding parts_of
-part_of_element ranks ranked text rest found goes_on some = split_found ranked_text ranks.elements (part_with ranks.ids) ranked (Placed ranked.rank) text rest found (λ c. refl) goes_on some
+-- a text that begins with a placed element, and what is behind it
+pub first_is_placed : (ranks : RanksValue) (ranked : RankedElement) (text rest : List ℕ) → longest ranked_text ranks.elements text ≡ Some ranked → text ≡ ranked_text ranked ++ rest
+    → 0 < length (ranked_text ranked) → elements_by_ranks ranks text ≡ element_with ranks.ids (Some ranked) 0 ∷ elements_by_ranks ranks rest
+unfolding elements_by_ranks
+first_is_placed ranks ranked text rest found goes_on some = split_found ranked_text ranks.elements (element_with ranks.ids) ranked (Placed ranked.rank) text rest found (λ c. refl) goes_on some
 
--- the part of a character, and what is behind it
-pub part_of_character : (ranks : RanksValue) (c : ℕ) (rest : List ℕ) → longest ranked_text ranks.elements (c ∷ rest) ≡ None
-    → parts_of ranks (c ∷ rest) ≡ part_with ranks.ids None c ∷ parts_of ranks rest
-unfolding parts_of
-part_of_character ranks c rest none = ap (λ l. part_with ranks.ids l c ∷ parts_behind ranks (beyond_first ranked_text l) rest) none
+-- a text that begins with a character that stands alone, and what is behind it
+pub first_is_character : (ranks : RanksValue) (c : ℕ) (rest : List ℕ) → longest ranked_text ranks.elements (c ∷ rest) ≡ None
+    → elements_by_ranks ranks (c ∷ rest) ≡ element_with ranks.ids None c ∷ elements_by_ranks ranks rest
+unfolding elements_by_ranks
+first_is_character ranks c rest none = ap (λ l. element_with ranks.ids l c ∷ elements_behind ranks (beyond_first ranked_text l) rest) none
 
-pub no_parts : (ranks : RanksValue) → parts_of ranks [] ≡ []
-unfolding parts_of
-no_parts ranks = refl
+pub no_elements : (ranks : RanksValue) → elements_by_ranks ranks [] ≡ []
+unfolding elements_by_ranks
+no_elements ranks = refl
 
--- a text that begins with an element has its part first
+-- a text that begins with an element has it first
 pub element_first : (ranks : RanksValue) (text : List ℕ) (found : FoundElement) → Finds (longest ranked_text ranks.elements text) text (Some found)
-    → parts_of ranks text ≡ Placed found.rank ∷ parts_of ranks (chars found.rest.now)
+    → elements_by_ranks ranks text ≡ Placed found.rank ∷ elements_by_ranks ranks (chars found.rest.now)
 element_first ranks text found h = by (longest ranked_text ranks.elements text) refl h where
-  by : (l : Option RankedElement) → longest ranked_text ranks.elements text ≡ l → Finds l text (Some found) → parts_of ranks text ≡ Placed found.rank ∷ parts_of ranks (chars found.rest.now)
+  by : (l : Option RankedElement) → longest ranked_text ranks.elements text ≡ l → Finds l text (Some found) → elements_by_ranks ranks text ≡ Placed found.rank ∷ elements_by_ranks ranks (chars found.rest.now)
   by None e h = absurd (let no : Some found ≡ None = h in cc)
-  by (Some ranked) e h = part_of_element ranks ranked text (chars found.rest.now) e h.goes_on h.some ∙ ap (λ r. Placed r ∷ parts_of ranks (chars found.rest.now)) (sym h.rank)
+  by (Some ranked) e h = first_is_placed ranks ranked text (chars found.rest.now) e h.goes_on h.some ∙ ap (λ r. Placed r ∷ elements_by_ranks ranks (chars found.rest.now)) (sym h.rank)
 
 -- and has its characters before those behind it
 pub characters_behind : (longest : Option RankedElement) (text : List ℕ) (found : FoundElement) → Finds longest text (Some found) → length text ≡ found.length + length (chars found.rest.now)
@@ -70,26 +70,26 @@ some_characters None text found h = absurd (let no : Some found ≡ None = h in 
 some_characters (Some ranked) text found h = omega (arith, h.some, h.length_is)
 
 -- a character that begins no element there stands alone
-pub alone_first : (ranks : RanksValue) (text rest behind : List ℕ) (first : ℕ) (part : TextElement) → text ≡ first ∷ rest → longest ranked_text ranks.elements (first ∷ rest) ≡ None
-    → part ≡ part_with ranks.ids None first → behind ≡ rest → parts_of ranks text ≡ part ∷ parts_of ranks behind
-alone_first ranks text rest behind first part is none same left =
-    ap (parts_of ranks) is ∙ (part_of_character ranks first rest none ∙ ap₂ (λ (p : TextElement) (later : List ℕ). p ∷ parts_of ranks later) (sym same) (sym left))
+pub alone_first : (ranks : RanksValue) (text rest behind : List ℕ) (first : ℕ) (element : TextElement) → text ≡ first ∷ rest → longest ranked_text ranks.elements (first ∷ rest) ≡ None
+    → element ≡ element_with ranks.ids None first → behind ≡ rest → elements_by_ranks ranks text ≡ element ∷ elements_by_ranks ranks behind
+alone_first ranks text rest behind first element is none same left =
+    ap (elements_by_ranks ranks) is ∙ (first_is_character ranks first rest none ∙ ap₂ (λ (p : TextElement) (later : List ℕ). p ∷ elements_by_ranks ranks later) (sym same) (sym left))
 
 -- a text that begins with none has that of its first character first
-pub character_first : (ranks : RanksValue) (text rest behind : List ℕ) (first : ℕ) (part : TextElement) → text ≡ first ∷ rest → Finds (longest ranked_text ranks.elements text) text None
-    → part ≡ part_with ranks.ids None first → behind ≡ rest → parts_of ranks text ≡ part ∷ parts_of ranks behind
-character_first ranks text rest behind first part is h same left = by (longest ranked_text ranks.elements text) refl h where
-  by : (l : Option RankedElement) → longest ranked_text ranks.elements text ≡ l → Finds l text None → parts_of ranks text ≡ part ∷ parts_of ranks behind
-  by None e h = alone_first ranks text rest behind first part is (ap (longest ranked_text ranks.elements) (sym is) ∙ e) same left
+pub character_first : (ranks : RanksValue) (text rest behind : List ℕ) (first : ℕ) (element : TextElement) → text ≡ first ∷ rest → Finds (longest ranked_text ranks.elements text) text None
+    → element ≡ element_with ranks.ids None first → behind ≡ rest → elements_by_ranks ranks text ≡ element ∷ elements_by_ranks ranks behind
+character_first ranks text rest behind first element is h same left = by (longest ranked_text ranks.elements text) refl h where
+  by : (l : Option RankedElement) → longest ranked_text ranks.elements text ≡ l → Finds l text None → elements_by_ranks ranks text ≡ element ∷ elements_by_ranks ranks behind
+  by None e h = alone_first ranks text rest behind first element is (ap (longest ranked_text ranks.elements) (sym is) ∙ e) same left
   by (Some ranked) e h = absurd h
 
 -- texts begin alike with a character that begins no element
 pub same_first : (ranks : RanksValue) (text other rest later : List ℕ) (first second : ℕ) → text ≡ first ∷ rest → other ≡ second ∷ later → second ≡ first
-    → ((behind : List ℕ) → longest ranked_text ranks.elements (first ∷ behind) ≡ None) → BeginAlike (parts_of ranks text) (parts_of ranks other) (parts_of ranks rest) (parts_of ranks later)
+    → ((behind : List ℕ) → longest ranked_text ranks.elements (first ∷ behind) ≡ None) → BeginAlike (elements_by_ranks ranks text) (elements_by_ranks ranks other) (elements_by_ranks ranks rest) (elements_by_ranks ranks later)
 same_first ranks text other rest later first second is also same none = (
-  part_with ranks.ids None first ∷ [],
-  ap (parts_of ranks) is ∙ part_of_character ranks first rest (none rest),
-  ap (parts_of ranks) (also ∙ ap (λ c. c ∷ later) same) ∙ part_of_character ranks first later (none later),
+  element_with ranks.ids None first ∷ [],
+  ap (elements_by_ranks ranks) is ∙ first_is_character ranks first rest (none rest),
+  ap (elements_by_ranks ranks) (also ∙ ap (λ c. c ∷ later) same) ∙ first_is_character ranks first later (none later),
 )
 
 -- Where the weights of an entry stand.
@@ -154,7 +154,7 @@ module _ (ranks : RanksValue) (table : Collation) (are : AreRanksOf ranks table)
   undefined_length = filled_length (length table.rules) (map (compiled_by (known_rank table) Undefined) (undefined_weights table))
 
   -- what has an entry
-  placed_numbers : (id : Id) (place : ℕ) → place_among (entries_of table) id ≡ Some place → part_numbers ranks.compiled level (Placed place) ≡ numbers_at table level id
+  placed_numbers : (id : Id) (place : ℕ) → place_among (entries_of table) id ≡ Some place → compiled_numbers ranks.compiled level (Placed place) ≡ numbers_at table level id
   placed_numbers id place is =
       let there : HasEntry (entries_of table) id = has_entry (entries_of table) id place is in
       entry_numbers ranks.compiled table (flat_map (compiled_entry (known_rank table) (length table.rules)) (entries_of table)) begin level within id there.entry place there.found
@@ -163,31 +163,31 @@ module _ (ranks : RanksValue) (table : Collation) (are : AreRanksOf ranks table)
       ∙ ap (found_weight (known_rank table) level) there.found))
 
   -- a character
-  character_numbers : (c : ℕ) → part_numbers ranks.compiled level (part_with ranks.ids None c) ≡ numbers_at table level (Char c)
-  character_numbers c = ap (λ r. part_numbers ranks.compiled level (character_part r c)) (are.identifiers (Char c)) ∙ by (place_among (entries_of table) (Char c)) refl where
-    by : (p : Option ℕ) → place_among (entries_of table) (Char c) ≡ p → part_numbers ranks.compiled level (character_part (option_or p None) c) ≡ numbers_at table level (Char c)
+  character_numbers : (c : ℕ) → compiled_numbers ranks.compiled level (element_with ranks.ids None c) ≡ numbers_at table level (Char c)
+  character_numbers c = ap (λ r. compiled_numbers ranks.compiled level (character_element r c)) (are.identifiers (Char c)) ∙ by (place_among (entries_of table) (Char c)) refl where
+    by : (p : Option ℕ) → place_among (entries_of table) (Char c) ≡ p → compiled_numbers ranks.compiled level (character_element (option_or p None) c) ≡ numbers_at table level (Char c)
     by None e = character_absent ranks.compiled table (flat_map (compiled_entry (known_rank table) (length table.rules)) (entries_of table)) begin level within c
         (entry_of_place (entries_of table) (Char c) e)
     by (Some place) e = placed_numbers (Char c) place e
 
   -- an element
-  element_numbers : (element : Element) → part_numbers ranks.compiled level (Placed (known_rank table (Named element.name))) ≡ numbers_at table level (Named element.name)
+  element_numbers : (element : Element) → compiled_numbers ranks.compiled level (Placed (known_rank table (Named element.name))) ≡ numbers_at table level (Named element.name)
   element_numbers element = by (place_among (entries_of table) (Named element.name)) refl where
-    by : (p : Option ℕ) → place_among (entries_of table) (Named element.name) ≡ p → part_numbers ranks.compiled level (Placed (known_rank table (Named element.name)))
+    by : (p : Option ℕ) → place_among (entries_of table) (Named element.name) ≡ p → compiled_numbers ranks.compiled level (Placed (known_rank table (Named element.name)))
         ≡ numbers_at table level (Named element.name)
     by None e =
-        ap (λ p. part_numbers ranks.compiled level (Placed (unwrap_or (option_or p None) 0))) e
+        ap (λ p. compiled_numbers ranks.compiled level (Placed (unwrap_or (option_or p None) 0))) e
         ∙ absent_numbers ranks.compiled table (flat_map (compiled_entry (known_rank table) (length table.rules)) (entries_of table)) begin level within (Named element.name) 0
         (entry_of_place (entries_of table) (Named element.name) e) (nothing (is_own (weight_at table level (Named element.name)))) where
           nothing : (b : Bool) → ◌≡◌ {A = ℕ} 0 (cond b 0 0)
           nothing true = refl
           nothing false = refl
-    by (Some place) e = ap (λ p. part_numbers ranks.compiled level (Placed (unwrap_or (option_or p None) 0))) e ∙ placed_numbers (Named element.name) place e
+    by (Some place) e = ap (λ p. compiled_numbers ranks.compiled level (Placed (unwrap_or (option_or p None) 0))) e ∙ placed_numbers (Named element.name) place e
 
-  -- a part
-  numbers_of_part : (found : Option Element) (c : ℕ) → part_numbers ranks.compiled level (part_with ranks.ids (option_map (ranked_in table) found) c) ≡ numbers_at table level (part_id found c)
-  numbers_of_part None c = character_numbers c
-  numbers_of_part (Some element) c = element_numbers element
+  -- an element
+  numbers_of_element : (found : Option Element) (c : ℕ) → compiled_numbers ranks.compiled level (element_with ranks.ids (option_map (ranked_in table) found) c) ≡ numbers_at table level (element_id found c)
+  numbers_of_element None c = character_numbers c
+  numbers_of_element (Some element) c = element_numbers element
 
   -- the longest of ranked elements
   longest_ranked : (elements : List Element) (text : List ℕ) → longest ranked_text (map (ranked_in table) elements) text ≡ option_map (ranked_in table) (longest element_text elements text)
@@ -210,26 +210,26 @@ module _ (ranks : RanksValue) (table : Collation) (are : AreRanksOf ranks table)
   beyond_ranked None = refl
   beyond_ranked (Some element) = refl
 
-  -- the numbers of all parts
-  numbers_of_parts : (skipped : ℕ) (text : List ℕ) → map (part_numbers ranks.compiled level) (split ranked_text (map (ranked_in table) (elements_placed table)) (part_with ranks.ids) skipped text)
-      ≡ map (numbers_at table level) (split element_text (elements_placed table) part_id skipped text)
-  numbers_of_parts skipped [] = refl
-  numbers_of_parts (suc skipped) (c ∷ text) = numbers_of_parts skipped text
-  numbers_of_parts zero (c ∷ text) =
+  -- the numbers of all elements
+  numbers_of_split : (skipped : ℕ) (text : List ℕ) → map (compiled_numbers ranks.compiled level) (split ranked_text (map (ranked_in table) (elements_placed table)) (element_with ranks.ids) skipped text)
+      ≡ map (numbers_at table level) (split element_text (elements_placed table) element_id skipped text)
+  numbers_of_split skipped [] = refl
+  numbers_of_split (suc skipped) (c ∷ text) = numbers_of_split skipped text
+  numbers_of_split zero (c ∷ text) =
       let found = longest element_text (elements_placed table) (c ∷ text) in
-      ap (λ l. part_numbers ranks.compiled level (part_with ranks.ids l c) ∷ map (part_numbers ranks.compiled level)
-      (split ranked_text (map (ranked_in table) (elements_placed table)) (part_with ranks.ids) (beyond_first ranked_text l) text)) (longest_ranked (elements_placed table) (c ∷ text))
-      ∙ (ap (λ n. part_numbers ranks.compiled level (part_with ranks.ids (option_map (ranked_in table) found) c) ∷ map (part_numbers ranks.compiled level)
-      (split ranked_text (map (ranked_in table) (elements_placed table)) (part_with ranks.ids) n text)) (beyond_ranked found)
-      ∙ ap₂ (λ (n : List ℕ) (ns : List (List ℕ)). n ∷ ns) (numbers_of_part found c) (numbers_of_parts (beyond_first element_text found) text))
+      ap (λ l. compiled_numbers ranks.compiled level (element_with ranks.ids l c) ∷ map (compiled_numbers ranks.compiled level)
+      (split ranked_text (map (ranked_in table) (elements_placed table)) (element_with ranks.ids) (beyond_first ranked_text l) text)) (longest_ranked (elements_placed table) (c ∷ text))
+      ∙ (ap (λ n. compiled_numbers ranks.compiled level (element_with ranks.ids (option_map (ranked_in table) found) c) ∷ map (compiled_numbers ranks.compiled level)
+      (split ranked_text (map (ranked_in table) (elements_placed table)) (element_with ranks.ids) n text)) (beyond_ranked found)
+      ∙ ap₂ (λ (n : List ℕ) (ns : List (List ℕ)). n ∷ ns) (numbers_of_element found c) (numbers_of_split (beyond_first element_text found) text))
 
--- the numbers of the parts of a text are those of its elements
+-- the numbers of the elements of a text by ranks are those of its elements
 pub numbers_are : (ranks : RanksValue) (table : Collation) → AreRanksOf ranks table → IsWellFormed table → (level : ℕ) → level < length table.rules → (text : List ℕ)
-    → map (part_numbers ranks.compiled level) (parts_of ranks text) ≡ map (numbers_at table level) (elements_of table text)
-unfolding parts_of elements_of
+    → map (compiled_numbers ranks.compiled level) (elements_by_ranks ranks text) ≡ map (numbers_at table level) (elements_of table text)
+unfolding elements_by_ranks elements_of
 numbers_are ranks table are well level within text =
-    ap (λ es. map (part_numbers ranks.compiled level) (split ranked_text es (part_with ranks.ids) 0 text)) are.elements
-    ∙ numbers_of_parts ranks table are level within 0 text
+    ap (λ es. map (compiled_numbers ranks.compiled level) (split ranked_text es (element_with ranks.ids) 0 text)) are.elements
+    ∙ numbers_of_split ranks table are level within 0 text
 
 -- an empty text has no characters
 pub no_characters : (text rest : List ℕ) → rest ≡ text → length rest ≡ 0 → chars text ≡ []

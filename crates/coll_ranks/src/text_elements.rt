@@ -20,7 +20,7 @@ pub enum TextElement {
 #[derive(Clone, Copy)]
 pub struct FirstElement<'a> {
     /// The element.
-    pub part: TextElement,
+    pub element: TextElement,
     /// The number of its characters.
     pub characters: usize,
     /// The text behind it.
