@@ -91,6 +91,10 @@ spells_rule r h =
     (spells_both (λ rest. direction_word r.backward ++ rest) (spelled_position r.position) (token.Word (direction_word r.backward) ∷ []) (position_tokens r.position) 8 9 (spells_direction r.backward)
     (spells_position r.position) (position_ends r.position))
 
+-- rules with a semicolon between them
+pub spells_rules : (rules : List Rule) → Spells (spelled_joined spelled_rule rules) (tokens_joined (map rule_tokens rules)) (8259 * length rules)
+spells_rules rules = spells_joined spelled_rule rule_tokens (λ r. Unit {0}) spells_rule rules (λ k d below. tt)
+
 -- Weights.
 
 -- what may stand in a weight is an identifier
@@ -134,7 +138,7 @@ tokens_at_end [] = refl
 tokens_at_end (t ∷ ts) = ap (λ (r : Reading). record { tokens = t ∷ r.tokens; stop = r.stop }) (tokens_at_end ts)
 
 -- a spelling with nothing behind it
-line_from : (f : List ℕ → List ℕ) (t : Token) (ts : List Token) (most : ℕ) → Spells f (t ∷ ts) most → most ≤ 65536 → ((special : Chars) → directive special (encode_utf8_all (f [])) ≡ None)
+pub line_from : (f : List ℕ → List ℕ) (t : Token) (ts : List Token) (most : ℕ) → Spells f (t ∷ ts) most → most ≤ 65536 → ((special : Chars) → directive special (encode_utf8_all (f [])) ≡ None)
     → IsLine (f []) t ts
 unfolding marks atoms reading ends_escaped
 line_from f t ts most h few chooses =
@@ -148,7 +152,7 @@ line_from f t ts most h few chooses =
     }
 
 -- a word, a space, and what follows
-spells_begun : (c : ℕ) (cs : List ℕ) (g : List ℕ → List ℕ) (ts : List Token) (most : ℕ) → list_all is_letter (c ∷ cs) ≡ true → Spells g ts most
+pub spells_begun : (c : ℕ) (cs : List ℕ) (g : List ℕ → List ℕ) (ts : List Token) (most : ℕ) → list_all is_letter (c ∷ cs) ≡ true → Spells g ts most
     → Spells (λ rest. (c ∷ cs) ++ 32 ∷ g rest) (token.Word (c ∷ cs) ∷ ts) (length (c ∷ cs) + (1 + most))
 spells_begun c cs g ts most word h =
     spells_both (λ rest. (c ∷ cs) ++ rest) (λ rest. 32 ∷ g rest) (token.Word (c ∷ cs) ∷ []) ts (length (c ∷ cs)) (1 + most) (spells_word c cs word)
@@ -178,8 +182,7 @@ pub rules_is_line : (rules : List Rule) → length rules ≤ 4 → IsLine (rules
 unfolding is_letter is_clean directive operand_of past_blanks encode
 rules_is_line rules few =
     line_from (λ rest. codes "order_start" ++ 32 ∷ spelled_joined spelled_rule rules rest) (token.Word (codes "order_start")) (tokens_joined (map rule_tokens rules)) (11 + (1 + 8259 * length rules))
-    (spells_begun 111 (codes "rder_start") (spelled_joined spelled_rule rules) (tokens_joined (map rule_tokens rules)) (8259 * length rules) refl
-    (spells_joined spelled_rule rule_tokens (λ r. Unit {0}) spells_rule rules (λ k d below. tt))) (omega arith) (λ special. refl)
+    (spells_begun 111 (codes "rder_start") (spelled_joined spelled_rule rules) (tokens_joined (map rule_tokens rules)) (8259 * length rules) refl (spells_rules rules)) (omega arith) (λ special. refl)
 
 -- The line of a declaration.
 

@@ -194,7 +194,7 @@ rules_parts rs = refl
 -- The whole text.
 
 -- the lines of members
-lines_of_members : {X : Type 0} (line : X → List ℕ) (xs : List X) → flat_map line_bytes (map line xs) ≡ flat_map (λ x. line_bytes (line x)) xs
+pub lines_of_members : {X : Type 0} (line : X → List ℕ) (xs : List X) → flat_map line_bytes (map line xs) ≡ flat_map (λ x. line_bytes (line x)) xs
 lines_of_members line [] = refl
 lines_of_members line (x ∷ xs) = ap (λ l. line_bytes (line x) ++ l) (lines_of_members line xs)
 
