@@ -23,7 +23,7 @@ use Rattle.coll_texts.proofs.PrintedTables.{IsForm, body_lines, text_is_read_bac
 
 -- the lines that tell the names of sections
 scripts_say : (names : List (List ℕ)) → All IsName names → SayAll (map script_line names) (map script_read (map script_line names))
-unfolding SayAll script_read
+unfolding SayAll
 scripts_say [] h = tt
 scripts_say (name ∷ names) h = (script_says name (All-head IsName name names h), scripts_say names (All-tail IsName name names h))
 
@@ -40,7 +40,7 @@ exported_form table w =
     let names = names_of_first table.sections w.built.first_unnamed in
     record {
       notes_say = scripts_say (section_names table.sections) names.0;
-      begun_say = λ name is. (order_end_says, start_says name table.rules is w.some_levels w.built.few_levels, tt);
+      begun_say = λ name is. (order_end_says, (start_says name table.rules is w.some_levels w.built.few_levels, tt));
       leads = start_begins table.rules;
       few_notes = omega (arith, length-map (section_names table.sections) script_line, names.1);
       few_begun = λ name. omega arith;

@@ -280,7 +280,7 @@ own_as_read levels declared sections e ms can =
     ap (λ id. record (order_read e.id e.weights) { id = id }) (own_id_known declared e.id can.declared_once (All-head (IsKnown declared) e.id (ids_of (flat_map entry_visited ms)) can.known))
 
 -- lines that begin a section behind these sections, where nothing is against its name
-abbrev pub BeginSections : List Rule → (begun : List ℕ → List TableLine) → Type 0
+pub BeginSections : List Rule → (begun : List ℕ → List TableLine) → Type 1
 BeginSections rules begun =
     (declared : List Declaration) (sections : List Section) (numbers : List ℕ) (name : List ℕ) (number : ℕ) (rest : List TableLine) (Last : BuilderState → Type 0)
     → section_cause (open_state rules declared sections numbers) name ≡ None
@@ -289,21 +289,19 @@ BeginSections rules begun =
 
 -- a line of its own begins one
 pub section_begins : (rules : List Rule) → BeginSections rules (λ name. line.Section name ∷ [])
-unfolding Leads open_state state_with
+unfolding Leads open_state state_with BeginSections
 section_begins rules declared sections numbers name number rest Last new goes_on =
     (faultless (open_state rules declared sections numbers) number (line.Section name) refl new, refl, goes_on (suc number))
 
 -- and so does an `order_start` with its name and the same rules, once the order before it is closed
 pub start_begins : (rules : List Rule) → BeginSections rules (λ name. line.OrderEnd ∷ line.OrderStart (Some name) (Some rules) ∷ [])
-unfolding Leads open_state state_with
+unfolding Leads open_state state_with BeginSections
 start_begins rules declared sections numbers name number rest Last new goes_on =
     let closed = record (open_state rules declared sections numbers) { order_open = false } in
     let same : rules_differ (Some rules) (Some rules) ≡ false = sym (differ_unless_same true rules rules (λ _. refl, λ _. refl)) in (
       faultless (open_state rules declared sections numbers) number line.OrderEnd refl refl,
       refl,
-      faultless closed (suc number) (line.OrderStart (Some name) (Some rules)) refl (passes _ _ _ same new),
-      refl,
-      goes_on (suc (suc number)),
+      (faultless closed (suc number) (line.OrderStart (Some name) (Some rules)) refl (passes _ _ _ same new), refl, goes_on (suc (suc number))),
     )
 
 module _ (rules : List Rule) (declared : List Declaration) (sections : List Section) (numbers : List ℕ) where
@@ -337,7 +335,7 @@ meets_lead : (rules : List Rule) (begun : List ℕ → List TableLine) (declared
     (Last : BuilderState → Type 0) → BeginSections rules begun → CanFollow (length rules) declared sections ms
     → ((numbers : List ℕ) (number : ℕ) → Leads (open_state rules declared (sections_past sections ms) numbers) number rest Last)
     → Leads (open_state rules declared sections numbers) number (flat_map (visited_read begun) ms ++ rest) Last
-unfolding Leads open_state state_with sections_past visited_read
+unfolding Leads open_state state_with sections_past visited_read BeginSections
 meets_lead rules begun declared sections numbers [] number rest Last begins can goes_on = goes_on numbers number
 meets_lead rules begun declared sections numbers (VisitedSection name ∷ ms) number rest Last begins can goes_on =
     let later = flat_map (visited_read begun) ms in
@@ -478,7 +476,7 @@ module _ (table : Collation) (w : IsWellFormed table) (numbers : List ℕ) where
 -- The whole table.
 
 -- a line without effect
-pub script_read : List ℕ → TableLine
+abbrev pub script_read : List ℕ → TableLine
 script_read note = line.Script
 
 -- the lines of a table but for the last, as they are read, with lines without effect before the order, and by those that begin a
@@ -491,7 +489,7 @@ said notes begun table =
 -- lines without effect lead on
 scripts_lead : (d : BuilderState) (notes : List (List ℕ)) (number : ℕ) (rest : List TableLine) (Last : BuilderState → Type 0) → ((number : ℕ) → Leads d number rest Last)
     → Leads d number (map script_read notes ++ rest) Last
-unfolding Leads state_with script_read
+unfolding Leads state_with
 scripts_lead d [] number rest Last goes_on = goes_on number
 scripts_lead d (note ∷ notes) number rest Last goes_on = (faultless d number line.Script refl refl, refl, scripts_lead d notes (suc number) rest Last goes_on)
 

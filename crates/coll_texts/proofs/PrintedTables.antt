@@ -114,13 +114,13 @@ opening_in_line =
 -- Forms of a text, which differ in lines without effect before the order, and in those that begin a section.
 
 -- the lines behind the opening ones, but for the last
-pub body_lines : (notes : List (List ℕ)) → (begun : List ℕ → List (List ℕ)) → Collation → List (List ℕ)
+unfoldable pub body_lines : (notes : List (List ℕ)) → (begun : List ℕ → List (List ℕ)) → Collation → List (List ℕ)
 body_lines notes begun table =
     map declaration_line table.declared
     ++ (notes ++ (rules_line table.rules ∷ (flat_map (lines_visited begun) (visited table.sections) ++ codes "order_end" ∷ [])))
 
 -- lines without effect, and those that begin a section, which are read as these, and are few
-pub record IsForm (table : Collation) (notes : List (List ℕ)) (begun : List ℕ → List (List ℕ)) (begins : List ℕ → List TableLine) : Type 0 where
+pub record IsForm (table : Collation) (notes : List (List ℕ)) (begun : List ℕ → List (List ℕ)) (begins : List ℕ → List TableLine) : Type 1 where
   pub notes_say : SayAll notes (map script_read notes)
   pub begun_say : (name : List ℕ) → IsName name → SayAll (begun name) (begins name)
   pub leads : BeginSections table.rules begins
@@ -175,7 +175,7 @@ module _ (table : Collation) (w : IsWellFormed table) (notes : List (List ℕ)) 
       let few_sections : length table.sections ≤ most_sections = w.built.few_sections in
       let few_notes : length notes ≤ length table.sections = form.few_notes in
       let behind : length back ≡ length (flat_map (lines_visited begun) ms) + 1 = length-append (flat_map (lines_visited begun) ms) (codes "order_end" ∷ []) in
-      let middle : length (notes ++ (rules_line table.rules ∷ back)) ≡ length notes + (1 + length back) = length-append notes (rules_line table.rules ∷ back) in
+      let middle : length (notes ++ (rules_line table.rules ∷ back)) ≡ length notes + suc (length back) = length-append notes (rules_line table.rules ∷ back) in
       let prefix : length (map declaration_line table.declared) ≡ length table.declared = length-map table.declared declaration_line in
       omega (arith, length-append (map declaration_line table.declared) (notes ++ (rules_line table.rules ∷ back)), count_visited ms, count_lines ms)
 

@@ -80,11 +80,7 @@ fn write_sections<W: Sink>(out: &mut W, rules: &[Rule], walk: Walk<'_>) -> Resul
 }
 
 // Writes the lines of what a walk visits.
-fn write_walked<W: Sink>(
-    out: &mut W,
-    rules: &[Rule],
-    item: WalkItem<'_>,
-) -> Result<(), WriteStop>
+fn write_walked<W: Sink>(out: &mut W, rules: &[Rule], item: WalkItem<'_>) -> Result<(), WriteStop>
     ensures sent { Sends (W.taken out.old) (W.taken out.new) (walked_bytes rules.now (visited_by item.entry)) result }
     ensures errors { CountsErr (W.failed out.old) (W.failed out.new) result }
 {

@@ -46,7 +46,11 @@ pub(crate) fn write_visited<W: Sink>(out: &mut W, item: WalkItem<'_>) -> Result<
 }
 
 /// Writes a line of a word and a name.
-pub(crate) fn write_named<'a, W: Sink>(out: &mut W, word: &'a [u8], name: &'a str) -> Result<(), WriteStop>
+pub(crate) fn write_named<'a, W: Sink>(
+    out: &mut W,
+    word: &'a [u8],
+    name: &'a str,
+) -> Result<(), WriteStop>
     ensures sent { Sends (W.taken out.old) (W.taken out.new) (word.now ++ (symbol_bytes (chars name.now) ++ line_feed ∷ [])) result }
     ensures errors { CountsErr (W.failed out.old) (W.failed out.new) result }
 {
