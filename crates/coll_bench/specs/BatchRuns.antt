@@ -122,6 +122,11 @@ BatchRuns b left left_after lefts lefts_after taken taken_after r =
     → taken ≡ Some before
     → (written : List ℕ) × (taken_after ≡ Some (before ++ written)) × BatchRan b table_text delta_texts left_after lefts_after written r
 
+-- an answer without the table that it hands on
+abbrev pub without_table : {T : Type 0} → Result T RunFault → Result (Unit {0}) RunFault
+without_table (Ok table) = Ok tt
+without_table (Err ended) = Err ended
+
 -- the counts of the inputs, that of one of them, by its number, one higher
 abbrev pub raised_at : ℕ → List ℕ → List ℕ
 raised_at n [] = []

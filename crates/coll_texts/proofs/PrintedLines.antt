@@ -91,6 +91,10 @@ spells_rule r h =
     (spells_both (λ rest. direction_word r.backward ++ rest) (spelled_position r.position) (token.Word (direction_word r.backward) ∷ []) (position_tokens r.position) 8 9 (spells_direction r.backward)
     (spells_position r.position) (position_ends r.position))
 
+-- rules with a semicolon between them
+pub spells_rules : (rules : List Rule) → Spells (spelled_joined spelled_rule rules) (tokens_joined (map rule_tokens rules)) (8259 * length rules)
+spells_rules rules = spells_joined spelled_rule rule_tokens (λ r. Unit {0}) spells_rule rules (λ k d below. tt)
+
 -- Weights.
 
 -- what may stand in a weight is an identifier
@@ -178,8 +182,7 @@ pub rules_is_line : (rules : List Rule) → length rules ≤ 4 → IsLine (rules
 unfolding is_letter is_clean directive operand_of past_blanks encode
 rules_is_line rules few =
     line_from (λ rest. codes "order_start" ++ 32 ∷ spelled_joined spelled_rule rules rest) (token.Word (codes "order_start")) (tokens_joined (map rule_tokens rules)) (11 + (1 + 8259 * length rules))
-    (spells_begun 111 (codes "rder_start") (spelled_joined spelled_rule rules) (tokens_joined (map rule_tokens rules)) (8259 * length rules) refl
-    (spells_joined spelled_rule rule_tokens (λ r. Unit {0}) spells_rule rules (λ k d below. tt))) (omega arith) (λ special. refl)
+    (spells_begun 111 (codes "rder_start") (spelled_joined spelled_rule rules) (tokens_joined (map rule_tokens rules)) (8259 * length rules) refl (spells_rules rules)) (omega arith) (λ special. refl)
 
 -- The line of a declaration.
 

@@ -75,6 +75,13 @@ unfolding SayAll
 say_members line read P each [] h = tt
 say_members line read P each (x ∷ xs) h = (each x (All-head P x xs h), say_members line read P each xs (All-tail P x xs h))
 
+pub say_each : {X : Type 0} (lines : X → List (List ℕ)) (read : X → List TableLine) (P : X → Type 0) → ((x : X) → P x → SayAll (lines x) (read x)) → (xs : List X) → All P xs
+    → SayAll (flat_map lines xs) (flat_map read xs)
+unfolding SayAll
+say_each lines read P each [] h = tt
+say_each lines read P each (x ∷ xs) h =
+    say_append (lines x) (flat_map lines xs) (read x) (flat_map read xs) (each x (All-head P x xs h)) (say_each lines read P each xs (All-tail P x xs h))
+
 pub say_one : (line : List ℕ) (read : TableLine) → Says line read → SayAll (line ∷ []) (read ∷ [])
 unfolding SayAll
 say_one line read h = (h, tt)

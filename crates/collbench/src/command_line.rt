@@ -35,6 +35,7 @@ const VERSION: &str = "version";
 const EXAMPLES: &str = "Examples:
   collbench check base.txt                     table entries 9 declared 3 sections 2 levels 4
   collbench print base.txt c_behind_a.txt      the table, in which c goes behind a
+  collbench export base.txt > base.localedef   the table, in the form that localedef takes
   collbench compile base.txt                   the rank of each entry, and its weights as ranks
   collbench key base.txt ab                    4 6 | 1 1 | 2 2 | |
   collbench compare base.txt a A               less
@@ -42,9 +43,10 @@ const EXAMPLES: &str = "Examples:
   collbench import iso14651_t1 > common.txt    the table of a published source";
 
 // The subcommands that work on a table or make one, in the order in which help tells them.
-const SUBCOMMANDS: [Subcommand; 7] = [
+const SUBCOMMANDS: [Subcommand; 8] = [
     Subcommand::Check,
     Subcommand::Print,
+    Subcommand::Export,
     Subcommand::Compile,
     Subcommand::Key,
     Subcommand::Compare,
@@ -59,6 +61,8 @@ pub enum Subcommand {
     Check,
     /// Prints a table.
     Print,
+    /// Prints a table in the form that `localedef` takes.
+    Export,
     /// Prints the compiled listing of a table.
     Compile,
     /// Prints the sort keys of texts.
@@ -207,7 +211,7 @@ fn version<'a>(alloc: Global) -> Command<'a> {
 // A subcommand with the words that it takes.
 fn taking<'a>(alloc: Global, subcommand: Subcommand) -> Result<Command<'a>, AllocError> {
     match subcommand {
-        Subcommand::Check | Subcommand::Print | Subcommand::Compile => {
+        Subcommand::Check | Subcommand::Print | Subcommand::Export | Subcommand::Compile => {
             over_table(alloc, subcommand)?.arg(deltas(alloc))
         }
         Subcommand::Key => over_table(alloc, subcommand)?.arg(texts(alloc)),
@@ -352,6 +356,7 @@ fn task_of(
     let batch = match (subcommand, texts) {
         (Subcommand::Check, _) => Batch::Check,
         (Subcommand::Print, _) => Batch::Print,
+        (Subcommand::Export, _) => Batch::Export,
         (Subcommand::Compile, _) => Batch::Compile,
         (Subcommand::Key, _) => Batch::Key(copied_texts(alloc, texts)?),
         (Subcommand::Compare, [first, second]) => Batch::Compare(
@@ -391,6 +396,7 @@ impl Subcommand {
         match self {
             Subcommand::Check => "check",
             Subcommand::Print => "print",
+            Subcommand::Export => "export",
             Subcommand::Compile => "compile",
             Subcommand::Key => "key",
             Subcommand::Compare => "compare",
@@ -404,6 +410,9 @@ impl Subcommand {
         match self {
             Subcommand::Check => "Counts the entries, declarations, sections and levels of a table",
             Subcommand::Print => "Prints a table, in a form that can be read again",
+            Subcommand::Export => {
+                "Prints a table in the form that localedef takes, and tells on standard error each symbol behind a character"
+            }
             Subcommand::Compile => {
                 "Prints the rank of each entry of a table, and its weights as ranks"
             }
@@ -426,6 +435,7 @@ impl Subcommand {
         match name {
             "check" => Some(Subcommand::Check),
             "print" => Some(Subcommand::Print),
+            "export" => Some(Subcommand::Export),
             "compile" => Some(Subcommand::Compile),
             "key" => Some(Subcommand::Key),
             "compare" => Some(Subcommand::Compare),

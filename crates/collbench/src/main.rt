@@ -12,7 +12,10 @@ mod files;
 mod importing;
 mod random_keys;
 
-use coll_bench::{Batch, Fault, RunFault, exit_status, run_batch_keyed, run_session, write_fault};
+use coll_bench::{
+    Batch, Fault, RunFault, exit_status, run_batch_keyed, run_session, write_fault,
+    write_symbols_behind,
+};
 use coll_lex::{Counted, LexFault, ReadStop, Sink, WriteStop};
 use coll_table::{HashKeys, Table, load_keyed};
 use command_line::{Request, Task, Unasked, read_words};
@@ -87,7 +90,7 @@ fn do_keyed(
     requires names { length names.now ≡ length files.now }
 {
     match task {
-        Task::Batch(batch) => status(rt, run_on_files(rt, keys, batch, files), names),
+        Task::Batch(batch) => run(rt, keys, batch, files, names),
         Task::Session => match String::from_str(rt.alloc(), STANDARD_INPUT) {
             Ok(name) => serve(rt, keys, files, names, &[name]),
             Err(_) => tell_no_memory(rt),
@@ -110,13 +113,45 @@ fn copied_names(alloc: Global, files: &[&str]) -> Result<Vec<String>, AllocError
     Ok(names)
 }
 
+// Runs a batch on these files, and answers the exit status. What is to be told of an exported table is told where all of it was
+// written.
+fn run(rt: &HostRuntime, keys: HashKeys, batch: Batch, files: &[&str], names: &[String]) -> ExitCode
+    requires some { 0 < length files.now }
+    requires names { length names.now ≡ length files.now }
+{
+    let exports = matches!(&batch, Batch::Export);
+    match run_on_files(rt, keys, batch, files) {
+        Ok(table) => {
+            if exports {
+                tell_exported(rt, &table, files[0]);
+            }
+            ExitCode::SUCCESS
+        }
+        Err(fault) => tell_fault(rt, &fault, names),
+    }
+}
+
+// Tells which symbols of an exported table stand behind a character. Where they can't be told, the status stays.
+fn tell_exported(rt: &HostRuntime, table: &Table, file: &str) {
+    match BufWriter::new(rt.alloc(), rt.stderr()) {
+        Ok(buffered) => {
+            let mut told = Counted::new(buffered);
+            let _ = write_symbols_behind(table, file, &mut told);
+            let _ = told.flush();
+        }
+        Err(_) => {
+            let _ = write_symbols_behind(table, file, &mut Counted::new(rt.stderr()));
+        }
+    }
+}
+
 // Runs a batch on the table and the delta files with these names, to standard output.
 fn run_on_files(
     rt: &HostRuntime,
     keys: HashKeys,
     batch: Batch,
     files: &[&str],
-) -> Result<(), RunFault>
+) -> Result<Table, RunFault>
     requires { 0 < length files.now }
     ensures { IfErr result (λ fault. fault.input < length files.now) }
 {
@@ -132,7 +167,7 @@ fn run_on_inputs(
     keys: HashKeys,
     batch: Batch,
     inputs: &mut [Input],
-) -> Result<(), RunFault>
+) -> Result<Table, RunFault>
     requires { 0 < length inputs.old }
     ensures { IfErr result (λ fault. fault.input < length inputs.old) }
 {
@@ -150,7 +185,7 @@ fn write_batch(
     batch: Batch,
     inputs: &mut [Input],
     output: &mut Output,
-) -> Result<(), RunFault>
+) -> Result<Table, RunFault>
     requires { 0 < length inputs.old }
     ensures { IfErr result (λ fault. fault.input < length inputs.old) }
 {
