@@ -1,5 +1,5 @@
--- What a list of statements makes of a table (the project's own).
-use Rattle.std.specs.Prelude.{List, [], ◌∷◌, Result, Ok, Err}
+-- What statements make of a table, one after another (the project's own).
+use Rattle.std.specs.Prelude.{◌≡◌, List, [], ◌∷◌, Result, Ok, Err}
 use Rattle.coll_syntax.specs.declared.statements.Statement.{Statement}
 use Rattle.coll_nodes.specs.Table.{Collation}
 use Rattle.coll_table.specs.Delta.{delta}
@@ -14,3 +14,7 @@ and_then (Err refusal) later = Err refusal
 unfoldable pub rewritten : Collation → List Statement → Result Collation Refusal
 rewritten table [] = Ok table
 rewritten table (statement ∷ later) = and_then (delta table statement) (λ after. rewritten after later)
+
+-- whatever table some statements rewrite to one table, others rewrite it to another one
+abbrev pub LeadsOn : (statements : List Statement) → Collation → (more : List Statement) → Collation → Type 0
+LeadsOn statements table more after = (start : Collation) → rewritten start statements ≡ Ok table → rewritten start more ≡ Ok after
