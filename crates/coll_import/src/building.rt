@@ -9,15 +9,16 @@ ghost use Rattle.coll_nodes.specs.WellFormed.{IsWellFormed};
 ghost use Rattle.coll_import.specs.Building.{IsEnded};
 ghost use Rattle.coll_syntax.specs.Proper.{IsProperTableLine};
 
-use crate::meanings::{Declared, Meanings};
+use crate::meanings::Meanings;
 use crate::orders::{Order, Ordered, OrderedLine};
 use crate::placing::Placing;
-use crate::proper_lines::{lost, section_line, table_line};
+use crate::proper_lines::{section_line, table_line};
 use crate::rules::common_rules;
-use crate::weights::LookUp;
+use crate::weights::WeightLookUp;
+use crate::{SourceStatement, lose_statement};
 use coll_lex::TextBuf;
 use coll_lookups::HashKeys;
-use coll_sources::{Adjustment, Report, SourceFault, SourceLine, SourcePlace};
+use coll_sources::{Report, SourceFault, SourceLine, SourcePlace};
 use coll_syntax::{Rules, Statement, TableLine};
 use coll_table::Table;
 use coll_texts::{LoadCause, TableBuilder};
@@ -86,7 +87,7 @@ fn build(
     let levels = rules.get().len();
     start(&mut builder, rules)?;
     let (lines, placed) = order.into_parts();
-    let look_up = LookUp {
+    let look_up = WeightLookUp {
         meanings: &meanings,
         placed: &placed,
         levels,
@@ -99,10 +100,10 @@ fn build(
 // Declares all of this.
 fn declare_all(
     builder: &mut TableBuilder,
-    declared: Vec<Declared>,
+    declared: Vec<SourceStatement>,
     report: &mut Report,
 ) -> Result<(), SourceFault> {
-    for Declared { place, statement } in declared {
+    for SourceStatement { place, statement } in declared {
         put(builder, place, statement, report)?;
     }
     Ok(())
@@ -122,7 +123,7 @@ fn start(builder: &mut TableBuilder, rules: Rules) -> Result<(), SourceFault> {
 // Places all of this.
 fn place_all(
     builder: &mut TableBuilder,
-    look_up: &LookUp<'_>,
+    look_up: &WeightLookUp<'_>,
     lines: Vec<OrderedLine>,
     report: &mut Report,
 ) -> Result<(), SourceFault> {
@@ -164,11 +165,8 @@ fn put(
     report: &mut Report,
 ) -> Result<(), SourceFault> {
     if !statement.is_proper() {
-        let what = lost(&statement)?;
+        lose_statement(place, &statement, report)?;
         drop(statement);
-        if let Some(what) = what {
-            report.lose(Adjustment::Dropped, place, what)?;
-        }
         return Ok(());
     }
     if let Some(line) = table_line(statement) {

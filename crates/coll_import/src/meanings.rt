@@ -2,22 +2,25 @@
 //!
 //! A name means a symbol, an element, or something else under another name: a character, where the string of its element has that
 //! one alone; another element, where that has its string; or a symbol, where it is a second name. The first declaration of a name
-//! stands.
+//! stands. Where a source tailors a table, the names of that table mean what they do there, and a declaration that the table has as
+//! well is left out.
 
+use crate::SourceStatement;
 use coll_lex::{TextBuf, is_name};
 use coll_lookups::HashKeys;
-use coll_nodes::MOST_DECLARATIONS;
+use coll_nodes::{DeclaredItem, MOST_DECLARATIONS};
 use coll_sources::{
     Adjustment, Lost, NameRange, Report, Said, SourceFault, SourceLine, SourcePlace, name_at,
 };
 use coll_syntax::{Id, MOST_ELEMENT_CHARS, Statement};
+use coll_table::Table;
 use coll_texts::LoadCause;
 use indexmap::IndexMap;
 use std::alloc::{AllocError, Global};
 
 /// What a name means.
 #[derive(Drop)]
-pub(crate) enum Meaning {
+pub enum Meaning {
     /// A collating symbol.
     Symbol,
     /// A collating element.
@@ -26,26 +29,27 @@ pub(crate) enum Meaning {
     Other(Id),
 }
 
-/// A declaration of the table, and where it comes from.
+// What is known of a name.
 #[derive(Drop)]
-pub(crate) struct Declared {
-    pub(crate) place: SourcePlace,
-    pub(crate) statement: Statement,
+struct Known {
+    meaning: Meaning,
+    // Whether the table that is tailored declares it, and no line of the source has done so yet.
+    by_table: bool,
 }
 
 /// All names that are declared.
 #[derive(Drop)]
-pub(crate) struct Meanings {
-    names: IndexMap<String, Meaning, HashKeys>,
+pub struct Meanings {
+    names: IndexMap<String, Known, HashKeys>,
     // The name of the element of each string.
     strings: IndexMap<String, TextBuf, HashKeys>,
-    declared: Vec<Declared>,
+    declared: Vec<SourceStatement>,
     alloc: Global,
 }
 
 impl Meanings {
     /// Nothing is declared yet.
-    pub(crate) fn new(alloc: Global, keys: HashKeys) -> Meanings {
+    pub fn new(alloc: Global, keys: HashKeys) -> Meanings {
         Meanings {
             names: IndexMap::with_hasher(alloc, keys),
             strings: IndexMap::with_hasher(alloc, keys),
@@ -54,13 +58,50 @@ impl Meanings {
         }
     }
 
+    /// What is declared is what this table declares.
+    pub fn of_table(alloc: Global, keys: HashKeys, table: &Table) -> Result<Meanings, AllocError> {
+        let mut meanings = Meanings::new(alloc, keys);
+        for item in table.declared() {
+            meanings.know(item)?;
+        }
+        Ok(meanings)
+    }
+
+    // Knows a declaration of the table that is tailored.
+    fn know(&mut self, item: DeclaredItem<'_>) -> Result<(), AllocError> {
+        match item {
+            DeclaredItem::Symbol(name) => self.mean(name, Meaning::Symbol, true),
+            DeclaredItem::Element(name, text) => {
+                let text = String::from_str(self.alloc, text)?;
+                let owner = TextBuf::copied(self.alloc, name)?;
+                self.strings.insert(text, owner)?;
+                self.mean(name, Meaning::Element, true)
+            }
+            DeclaredItem::Equivalence(name, symbol) => {
+                let own = TextBuf::copied(self.alloc, symbol)?;
+                self.mean(name, Meaning::Other(Id::Named(own)), true)
+            }
+        }
+    }
+
     /// What a name means, if it is declared.
-    pub(crate) fn of(&self, name: &TextBuf) -> Option<&Meaning> {
-        self.names.get(name.get())
+    fn of(&self, name: &TextBuf) -> Option<&Meaning> {
+        match self.names.get(name.get()) {
+            Some(known) => Some(&known.meaning),
+            None => None,
+        }
+    }
+
+    /// Whether an identifier is a symbol's.
+    pub fn is_symbol(&self, id: &Id) -> bool {
+        match id {
+            Id::Named(name) => matches!(self.of(name), Some(Meaning::Symbol)),
+            Id::Char(_) | Id::Undefined => false,
+        }
     }
 
     /// What an identifier stands for: itself, or what its name means.
-    pub(crate) fn resolved(&self, id: Id) -> Result<Id, AllocError> {
+    pub fn resolved(&self, id: Id) -> Result<Id, AllocError> {
         match self.other(&id) {
             Some(other) => other.clone(),
             None => Ok(id),
@@ -68,7 +109,7 @@ impl Meanings {
     }
 
     /// What an identifier stands for, where that is something else.
-    pub(crate) fn other(&self, id: &Id) -> Option<&Id> {
+    pub fn other(&self, id: &Id) -> Option<&Id> {
         match id {
             Id::Named(name) => match self.of(name) {
                 Some(Meaning::Other(other)) => Some(other),
@@ -78,17 +119,13 @@ impl Meanings {
         }
     }
 
-    /// Takes the declarations out, in their order.
-    pub(crate) fn take_declared(&mut self) -> Vec<Declared> {
+    /// Takes the declarations of the source out, in their order.
+    pub fn take_declared(&mut self) -> Vec<SourceStatement> {
         std::mem::replace(&mut self.declared, Vec::new(self.alloc))
     }
 
     /// Takes what a line declares.
-    pub(crate) fn take(
-        &mut self,
-        line: &SourceLine,
-        report: &mut Report,
-    ) -> Result<(), SourceFault> {
+    pub fn take(&mut self, line: &SourceLine, report: &mut Report) -> Result<(), SourceFault> {
         let place = line.place;
         match &line.said {
             Said::Symbol(name) => self.symbol(place, name, report),
@@ -99,15 +136,33 @@ impl Meanings {
         }
     }
 
-    /// Declares a symbol, unless its name is declared already.
-    pub(crate) fn symbol(
+    /// Declares what has an order line and isn't declared, as a symbol.
+    pub fn declare_placed(
+        &mut self,
+        place: SourcePlace,
+        id: &Id,
+        report: &mut Report,
+    ) -> Result<(), SourceFault> {
+        let Id::Named(name) = id else {
+            return Ok(());
+        };
+        if self.of(name).is_some() {
+            return Ok(());
+        }
+        report.count(Adjustment::UndeclaredDeclared, place)?;
+        self.symbol(place, name, report)
+    }
+
+    // Declares a symbol, unless its name is declared already.
+    fn symbol(
         &mut self,
         place: SourcePlace,
         name: &TextBuf,
         report: &mut Report,
     ) -> Result<(), SourceFault> {
-        if self.is_taken(name) {
-            return lose(report, place, name);
+        let alike = matches!(self.of(name), Some(Meaning::Symbol));
+        if self.is_taken(place, name, alike, report)? {
+            return Ok(());
         }
         let statement = Statement::Symbol(name.try_copy()?);
         self.declare(place, name, Meaning::Symbol, statement)
@@ -136,17 +191,21 @@ impl Meanings {
         text: &TextBuf,
         report: &mut Report,
     ) -> Result<(), SourceFault> {
-        if self.is_taken(name) || text.get().chars().count() > MOST_ELEMENT_CHARS {
-            return lose(report, place, name);
+        let alike = self.has_string(name, text);
+        if self.is_taken(place, name, alike, report)? {
+            return Ok(());
+        }
+        if text.get().chars().count() > MOST_ELEMENT_CHARS {
+            return lose(report, Adjustment::Dropped, place, name);
         }
         if let Some(c) = only_char(text.get()) {
             report.count(Adjustment::ElementOfOne, place)?;
-            return Ok(self.mean(name, Meaning::Other(Id::Char(c)))?);
+            return Ok(self.mean(name.get(), Meaning::Other(Id::Char(c)), false)?);
         }
         if let Some(other) = self.strings.get(text.get()) {
             let other = other.try_copy()?;
             report.count(Adjustment::ElementStringTwice, place)?;
-            return Ok(self.mean(name, Meaning::Other(Id::Named(other)))?);
+            return Ok(self.mean(name.get(), Meaning::Other(Id::Named(other)), false)?);
         }
         let string = String::from_str(self.alloc, text.get())?;
         self.strings.insert(string, name.try_copy()?)?;
@@ -166,10 +225,11 @@ impl Meanings {
         report: &mut Report,
     ) -> Result<(), SourceFault> {
         let Some(own) = self.own_symbol(symbol)? else {
-            return lose(report, place, name);
+            return lose(report, Adjustment::Dropped, place, name);
         };
-        if self.is_taken(name) {
-            return lose(report, place, name);
+        let alike = self.is_second_of(name, &own);
+        if self.is_taken(place, name, alike, report)? {
+            return Ok(());
         }
         let statement = Statement::Equivalence {
             name: name.try_copy()?,
@@ -190,9 +250,46 @@ impl Meanings {
         }
     }
 
-    // Whether a name can't be declared: it is, or it is no name.
-    fn is_taken(&self, name: &TextBuf) -> bool {
-        self.names.contains_key(name.get()) || !is_name(name.get())
+    // Whether the element of this name has this string.
+    fn has_string(&self, name: &TextBuf, text: &TextBuf) -> bool {
+        match self.strings.get(text.get()) {
+            Some(owner) => owner.get() == name.get(),
+            None => false,
+        }
+    }
+
+    // Whether this is a second name of a symbol.
+    fn is_second_of(&self, name: &TextBuf, own: &TextBuf) -> bool {
+        match self.of(name) {
+            Some(Meaning::Other(Id::Named(other))) => other.get() == own.get(),
+            _ => false,
+        }
+    }
+
+    // Whether a name can't be declared, since it is, or since it is no name. This is told, but where only the table that is tailored
+    // declares it, and alike.
+    fn is_taken(
+        &mut self,
+        place: SourcePlace,
+        name: &TextBuf,
+        alike: bool,
+        report: &mut Report,
+    ) -> Result<bool, SourceFault> {
+        if !is_name(name.get()) {
+            lose(report, Adjustment::Dropped, place, name)?;
+            return Ok(true);
+        }
+        let Some(known) = self.names.get_mut(name.get()) else {
+            return Ok(false);
+        };
+        let by_table = known.by_table;
+        known.by_table = false;
+        match (by_table, alike) {
+            (true, true) => report.count(Adjustment::DeclaredAlready, place)?,
+            (true, false) => lose(report, Adjustment::DeclaredAlready, place, name)?,
+            (false, _) => lose(report, Adjustment::Dropped, place, name)?,
+        }
+        Ok(true)
     }
 
     // Puts a declaration behind all others.
@@ -206,23 +303,28 @@ impl Meanings {
         if self.declared.len() >= MOST_DECLARATIONS {
             return Err(place.load_fault(LoadCause::Full));
         }
-        self.mean(name, meaning)?;
-        self.declared.push(Declared { place, statement })?;
+        self.mean(name.get(), meaning, false)?;
+        self.declared.push(SourceStatement { place, statement })?;
         Ok(())
     }
 
     // Gives a name its meaning.
-    fn mean(&mut self, name: &TextBuf, meaning: Meaning) -> Result<(), AllocError> {
-        let name = String::from_str(self.alloc, name.get())?;
-        self.names.insert(name, meaning)?;
+    fn mean(&mut self, name: &str, meaning: Meaning, by_table: bool) -> Result<(), AllocError> {
+        let name = String::from_str(self.alloc, name)?;
+        self.names.insert(name, Known { meaning, by_table })?;
         Ok(())
     }
 }
 
 // Tells that a declaration is left out.
-fn lose(report: &mut Report, place: SourcePlace, name: &TextBuf) -> Result<(), SourceFault> {
+fn lose(
+    report: &mut Report,
+    adjustment: Adjustment,
+    place: SourcePlace,
+    name: &TextBuf,
+) -> Result<(), SourceFault> {
     let what = Lost::Id(Id::Named(name.try_copy()?));
-    report.lose(Adjustment::Dropped, place, what)
+    report.lose(adjustment, place, what)
 }
 
 // The character of a text that has no other.

@@ -1,25 +1,15 @@
 //! Order line after order line, into the order of a table.
 
-use crate::meanings::{Meaning, Meanings};
+use crate::ellipses::{Ellipses, Run};
+use crate::meanings::Meanings;
 use crate::orders::Order;
-use coll_lex::{ListBuf, TextBuf};
+use crate::weights::without_symbol_weights;
+use coll_lex::TextBuf;
 use coll_lookups::HashKeys;
-use coll_sources::{
-    Adjustment, Lost, Report, Said, SourceCause, SourceFault, SourceLine, SourcePlace,
-};
-use coll_syntax::{Id, OrderLine, SyntaxFault, Weight};
+use coll_sources::{Adjustment, Report, Said, SourceFault, SourceLine, SourcePlace};
+use coll_syntax::{OrderLine, SyntaxFault};
 use coll_texts::LoadCause;
-use std::alloc::{AllocError, Global};
-
-// The weights of a line, if it has any.
-type Given = Option<ListBuf<Weight>>;
-
-// An ellipsis behind which no order line has stood yet.
-#[derive(Drop)]
-struct Dots {
-    place: SourcePlace,
-    weights: Given,
-}
+use std::alloc::Global;
 
 /// An order that is being put together, line after line.
 #[derive(Drop)]
@@ -30,10 +20,7 @@ pub(crate) struct Placing {
     started: bool,
     // Whether an order is open.
     open: bool,
-    // The character of the last order line, if it had one.
-    last: Option<char>,
-    dots: Option<Dots>,
-    alloc: Global,
+    ellipses: Ellipses,
 }
 
 impl Placing {
@@ -44,15 +31,13 @@ impl Placing {
             order: Order::new(alloc, keys),
             started: false,
             open: false,
-            last: None,
-            dots: None,
-            alloc,
+            ellipses: Ellipses::new(alloc),
         }
     }
 
     /// What names mean, and the order; a source without any order line and without `order_start` has none.
     pub(crate) fn end(mut self, report: &mut Report) -> Result<(Meanings, Order), SourceFault> {
-        self.leave(report)?;
+        self.ellipses.leave(report)?;
         let Placing {
             meanings,
             order,
@@ -81,9 +66,12 @@ impl Placing {
                 first,
                 last,
                 weights,
-            } => self.orders(place, first, last, &weights, report),
-            Said::Ellipsis(weights) => self.ellipsis(place, weights, report),
-            Said::Unread => self.leave(report),
+            } => {
+                let (before, range) = self.ellipses.range(place, first, last, weights, report)?;
+                self.orders(before, range, report)
+            }
+            Said::Ellipsis(weights) => self.ellipses.dots(place, weights, report),
+            Said::Unread => self.ellipses.leave(report),
             Said::ReorderAfter(_)
             | Said::ReorderEnd
             | Said::SectionAfter { .. }
@@ -107,7 +95,7 @@ impl Placing {
         section: Option<TextBuf>,
         report: &mut Report,
     ) -> Result<(), SourceFault> {
-        self.leave(report)?;
+        self.ellipses.leave(report)?;
         let is_first = !self.started;
         self.started = true;
         self.open = true;
@@ -119,7 +107,7 @@ impl Placing {
 
     // `order_end`.
     fn stop(&mut self, report: &mut Report) -> Result<(), SourceFault> {
-        self.leave(report)?;
+        self.ellipses.leave(report)?;
         self.open = false;
         Ok(())
     }
@@ -131,7 +119,7 @@ impl Placing {
         name: TextBuf,
         report: &mut Report,
     ) -> Result<(), SourceFault> {
-        self.leave(report)?;
+        self.ellipses.leave(report)?;
         self.order.begin_section(place, Some(name), report)
     }
 
@@ -144,162 +132,48 @@ impl Placing {
     ) -> Result<(), SourceFault> {
         let OrderLine { id, weights } = line;
         let id = self.meanings.resolved(id)?;
-        let here = char_of(&id);
-        self.write_out(here, report)?;
-        self.last = here;
-        self.put(place, id, weights, report)
+        if let Some(run) = self.ellipses.before(&id, report)? {
+            self.put_run(&run, report)?;
+        }
+        self.put(place, OrderLine { id, weights }, report)
     }
 
-    // An order line for each character of a range.
+    // An order line for each character of a range. An ellipsis before it is written out first.
     fn orders(
         &mut self,
-        place: SourcePlace,
-        first: char,
-        last: char,
-        weights: &Given,
+        before: Option<Run>,
+        range: Run,
         report: &mut Report,
     ) -> Result<(), SourceFault> {
-        self.write_out(Some(first), report)?;
-        report.count(Adjustment::EllipsisExpanded, place)?;
-        self.last = Some(last);
-        self.put_each(place, u32::from(first), u32::from(last), weights, report)
-    }
-
-    // An ellipsis, which the next order line decides.
-    fn ellipsis(
-        &mut self,
-        place: SourcePlace,
-        weights: Given,
-        report: &mut Report,
-    ) -> Result<(), SourceFault> {
-        let last = self.last;
-        self.leave(report)?;
-        self.last = last;
-        self.dots = Some(Dots { place, weights });
-        Ok(())
-    }
-
-    // Writes out the ellipsis that stands before a line, if one does: a line for each character between.
-    fn write_out(&mut self, here: Option<char>, report: &mut Report) -> Result<(), SourceFault> {
-        let (Some(last), Some(here)) = (self.last, here) else {
-            return self.leave(report);
-        };
-        let Some(Dots { place, weights }) = self.dots.take() else {
-            return Ok(());
-        };
-        if here <= last {
-            return Err(place.fault(SourceCause::BadRange));
+        if let Some(before) = before {
+            self.put_run(&before, report)?;
         }
-        report.count(Adjustment::EllipsisExpanded, place)?;
-        let (first, end) = (u32::from(last), u32::from(here));
-        self.put_each(
-            place,
-            first.saturating_add(1),
-            end.saturating_sub(1),
-            &weights,
-            report,
-        )
+        self.put_run(&range, report)
     }
 
-    // Leaves the line before, and an ellipsis that has none behind it, which is left out.
-    fn leave(&mut self, report: &mut Report) -> Result<(), SourceFault> {
-        self.last = None;
-        if let Some(Dots { place, .. }) = self.dots.take() {
-            let what = Lost::Word(TextBuf::copied(self.alloc, "..")?);
-            report.lose(Adjustment::Dropped, place, what)?;
-        }
-        Ok(())
-    }
-
-    // Places each character from one number to another.
-    fn put_each(
-        &mut self,
-        place: SourcePlace,
-        first: u32,
-        last: u32,
-        weights: &Given,
-        report: &mut Report,
-    ) -> Result<(), SourceFault> {
-        for number in first..=last {
-            if let Some(c) = char::from_u32(number) {
-                let weights = copied_weights(weights)?;
-                self.put(place, Id::Char(c), weights, report)?;
+    // Places each character of a run.
+    fn put_run(&mut self, run: &Run, report: &mut Report) -> Result<(), SourceFault> {
+        for number in run.first..=run.last {
+            if let Some(line) = run.line(number)? {
+                self.put(run.place, line, report)?;
             }
         }
         Ok(())
     }
 
-    // Places an identifier, by what it means. A symbol has no weights.
+    // Places what an order line has, which names what it means. A symbol has no weights.
     fn put(
         &mut self,
         place: SourcePlace,
-        id: Id,
-        weights: Given,
+        line: OrderLine,
         report: &mut Report,
     ) -> Result<(), SourceFault> {
         if !self.open {
             report.count(Adjustment::OrderStartPut, place)?;
             self.open = true;
         }
-        let id = self.meanings.resolved(id)?;
-        self.declare(place, &id, report)?;
-        let weights = self.kept(place, &id, weights, report)?;
-        self.order.put(place, OrderLine { id, weights }, report)
-    }
-
-    // Declares what has an order line and isn't declared.
-    fn declare(
-        &mut self,
-        place: SourcePlace,
-        id: &Id,
-        report: &mut Report,
-    ) -> Result<(), SourceFault> {
-        let Id::Named(name) = id else {
-            return Ok(());
-        };
-        if self.meanings.of(name).is_some() {
-            return Ok(());
-        }
-        report.count(Adjustment::UndeclaredDeclared, place)?;
-        self.meanings.symbol(place, name, report)
-    }
-
-    // The weights that an entry keeps.
-    fn kept(
-        &self,
-        place: SourcePlace,
-        id: &Id,
-        weights: Given,
-        report: &mut Report,
-    ) -> Result<Given, SourceFault> {
-        if weights.is_none() || !self.is_symbol(id) {
-            return Ok(weights);
-        }
-        report.lose(Adjustment::SymbolWeights, place, Lost::Id(id.clone()?))?;
-        Ok(None)
-    }
-
-    // Whether an identifier is a symbol's.
-    fn is_symbol(&self, id: &Id) -> bool {
-        match id {
-            Id::Named(name) => matches!(self.meanings.of(name), Some(Meaning::Symbol)),
-            Id::Char(_) | Id::Undefined => false,
-        }
-    }
-}
-
-// The character of an identifier, if it is one.
-fn char_of(id: &Id) -> Option<char> {
-    match id {
-        Id::Char(c) => Some(*c),
-        Id::Named(_) | Id::Undefined => None,
-    }
-}
-
-// A copy of weights.
-fn copied_weights(weights: &Given) -> Result<Given, AllocError> {
-    match weights {
-        Some(weights) => Ok(Some(weights.clone()?)),
-        None => Ok(None),
+        self.meanings.declare_placed(place, &line.id, report)?;
+        let line = without_symbol_weights(&self.meanings, place, line, report)?;
+        self.order.put(place, line, report)
     }
 }

@@ -5,9 +5,7 @@ ghost use Rattle.coll_lex.specs.Names.{IsName};
 ghost use Rattle.coll_syntax.specs.Proper.{IsProper, IsProperTableLine};
 
 use coll_lex::TextBuf;
-use coll_sources::Lost;
-use coll_syntax::{Id, Statement, TableLine};
-use std::alloc::AllocError;
+use coll_syntax::{Statement, TableLine};
 
 /// The line of a table that says what a statement does; none for a statement that tables don't have.
 pub(crate) fn table_line(statement: Statement) -> Option<TableLine>
@@ -56,20 +54,4 @@ fn section_of(line: TableLine) -> Option<TableLine>
         return Some(TableLine::Section(name));
     }
     None
-}
-
-/// What is lost where a statement is left out.
-pub(crate) fn lost(statement: &Statement) -> Result<Option<Lost>, AllocError> {
-    match statement {
-        Statement::Symbol(name) => lost_name(name),
-        Statement::Element { name, text: _ } => lost_name(name),
-        Statement::Equivalence { name, symbol: _ } => lost_name(name),
-        Statement::Reweight(line) => Ok(Some(Lost::Id(line.id.clone()?))),
-        _ => Ok(None),
-    }
-}
-
-// A name that is lost.
-fn lost_name(name: &TextBuf) -> Result<Option<Lost>, AllocError> {
-    Ok(Some(Lost::Id(Id::Named(name.try_copy()?))))
 }

@@ -9,20 +9,20 @@ use std::alloc::Global;
 
 /// What weights are looked up in.
 #[derive(Clone, Copy)]
-pub(crate) struct LookUp<'a> {
+pub struct WeightLookUp<'a> {
     /// What names mean.
-    pub(crate) meanings: &'a Meanings,
+    pub meanings: &'a Meanings,
     /// What is placed.
-    pub(crate) placed: &'a IdSet,
+    pub placed: &'a IdSet,
     /// How many weights an entry may have.
-    pub(crate) levels: usize,
+    pub levels: usize,
     /// Where weights take memory.
-    pub(crate) alloc: Global,
+    pub alloc: Global,
 }
 
-impl LookUp<'_> {
+impl WeightLookUp<'_> {
     /// An order line whose weights name what is placed, and no more than there are levels.
-    pub(crate) fn line(
+    pub fn line(
         &self,
         place: SourcePlace,
         line: OrderLine,
@@ -46,6 +46,19 @@ impl LookUp<'_> {
         })
     }
 
+    /// Whether all that weights name is placed, and stands for nothing else.
+    pub fn all_stay(&self, weights: &[Weight]) -> bool {
+        weights.iter().all(|weight| self.all_named_stay(weight))
+    }
+
+    // Whether all that a weight names is placed, and stands for nothing else.
+    fn all_named_stay(&self, weight: &Weight) -> bool {
+        match weight {
+            Weight::Names(ids) => ids.get().iter().all(|id| self.stays(id)),
+            Weight::Ignore | Weight::Own => true,
+        }
+    }
+
     // Puts in place of a weight what it means, where that is something else.
     fn mend(
         &self,
@@ -53,12 +66,12 @@ impl LookUp<'_> {
         weight: &mut Weight,
         report: &mut Report,
     ) -> Result<(), SourceFault> {
+        if self.all_named_stay(weight) {
+            return Ok(());
+        }
         let Weight::Names(ids) = weight else {
             return Ok(());
         };
-        if ids.get().iter().all(|id| self.stays(id)) {
-            return Ok(());
-        }
         let mended = self.mended(place, ids.get(), report)?;
         *weight = mended;
         Ok(())
@@ -90,4 +103,19 @@ impl LookUp<'_> {
         }
         Ok(Weight::Names(ListBuf::new(kept)))
     }
+}
+
+/// An order line without the weights of a symbol, which has none: these are left out, and this is told.
+pub fn without_symbol_weights(
+    meanings: &Meanings,
+    place: SourcePlace,
+    line: OrderLine,
+    report: &mut Report,
+) -> Result<OrderLine, SourceFault> {
+    if line.weights.is_none() || !meanings.is_symbol(&line.id) {
+        return Ok(line);
+    }
+    let OrderLine { id, .. } = line;
+    report.lose(Adjustment::SymbolWeights, place, Lost::Id(id.clone()?))?;
+    Ok(OrderLine { id, weights: None })
 }

@@ -1,0 +1,65 @@
+//! Statements that are made of the lines of a source.
+
+use coll_lex::TextBuf;
+use coll_sources::{Adjustment, Lost, Report, SourceFault, SourcePlace};
+use coll_syntax::{Id, OrderLine, Statement};
+use std::alloc::AllocError;
+
+/// A statement, and where it comes from.
+#[derive(Drop)]
+pub struct SourceStatement {
+    /// Where it comes from.
+    pub place: SourcePlace,
+    /// The statement.
+    pub statement: Statement,
+}
+
+/// Tells that a statement is left out: what it declares, its target, the section that it moves, or what it gives weights.
+pub fn lose_statement(
+    place: SourcePlace,
+    statement: &Statement,
+    report: &mut Report,
+) -> Result<(), SourceFault> {
+    let what = lost(statement)?;
+    report.lose(Adjustment::Dropped, place, what)
+}
+
+// What is lost where a statement is left out.
+fn lost(statement: &Statement) -> Result<Lost, AllocError> {
+    match statement {
+        Statement::Symbol(name) => lost_name(name),
+        Statement::Element { name, text: _ } => lost_name(name),
+        Statement::Equivalence { name, symbol: _ } => lost_name(name),
+        Statement::Block { target, lines: _ } => Ok(Lost::Id(target.clone()?)),
+        Statement::SectionAfter { moved, after: _ } => lost_name(moved),
+        Statement::Reweight(line) => Ok(Lost::Id(line.id.clone()?)),
+    }
+}
+
+// A name that is lost.
+fn lost_name(name: &TextBuf) -> Result<Lost, AllocError> {
+    Ok(Lost::Id(Id::Named(name.try_copy()?)))
+}
+
+/// An order line that is within the limits of the language; another one is left out, which is told.
+pub fn proper_line(
+    place: SourcePlace,
+    line: OrderLine,
+    report: &mut Report,
+) -> Result<Option<OrderLine>, SourceFault> {
+    let statement = Statement::Reweight(line);
+    if !statement.is_proper() {
+        lose_statement(place, &statement, report)?;
+        drop(statement);
+        return Ok(None);
+    }
+    Ok(line_of(statement))
+}
+
+// The order line that a statement has, if it is one.
+fn line_of(statement: Statement) -> Option<OrderLine> {
+    if let Statement::Reweight(line) = statement {
+        return Some(line);
+    }
+    None
+}

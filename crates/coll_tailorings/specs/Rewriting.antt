@@ -1,0 +1,20 @@
+-- What statements make of a table, one after another (the project's own).
+use Rattle.std.specs.Prelude.{◌≡◌, List, [], ◌∷◌, Result, Ok, Err}
+use Rattle.coll_syntax.specs.declared.statements.Statement.{Statement}
+use Rattle.coll_nodes.specs.Table.{Collation}
+use Rattle.coll_table.specs.Delta.{delta}
+use Rattle.coll_table.specs.declared.refusals.Refusal.{Refusal}
+
+-- what follows a table that was given; a refusal stays
+abbrev pub and_then : Result Collation Refusal → (Collation → Result Collation Refusal) → Result Collation Refusal
+and_then (Ok table) later = later table
+and_then (Err refusal) later = Err refusal
+
+-- the table rewritten by statements, one after another, each of which it has to accept; or the first refusal
+unfoldable pub rewritten : Collation → List Statement → Result Collation Refusal
+rewritten table [] = Ok table
+rewritten table (statement ∷ later) = and_then (delta table statement) (λ after. rewritten after later)
+
+-- whatever table some statements rewrite to one table, others rewrite it to another one
+abbrev pub LeadsOn : (statements : List Statement) → Collation → (more : List Statement) → Collation → Type 0
+LeadsOn statements table more after = (start : Collation) → rewritten start statements ≡ Ok table → rewritten start more ≡ Ok after

@@ -1,0 +1,319 @@
+//! What a tailoring does, step by step.
+//!
+//! Each line is taken by what stands before it: an order line stands in a block or outside one, or names a section that is moved.
+//! Ellipses are written out, identifiers are what their names mean, and what a block places and nothing declares is declared. After
+//! the last line it is known what the table and all blocks place.
+
+use coll_import::{Ellipses, Meanings, Run};
+use coll_lex::{LexFault, MOST_LINES, TextBuf};
+use coll_lookups::HashKeys;
+use coll_sources::{Adjustment, Lost, Report, Said, SourceFault, SourceLine, SourcePlace};
+use coll_statements::IdSet;
+use coll_syntax::{Id, OrderLine, SyntaxFault};
+use coll_texts::LoadCause;
+use indexmap::IndexSet;
+use std::alloc::{AllocError, Global};
+
+/// What a tailoring does.
+#[derive(Drop)]
+pub(crate) enum Step {
+    /// `reorder-after`: what follows is placed behind this.
+    After(Id),
+    /// An order line.
+    Order(OrderLine),
+    /// `reorder-end`.
+    End,
+    /// A section is placed behind another one.
+    SectionAfter {
+        /// The name of the section that is moved.
+        moved: TextBuf,
+        /// The name of the section that it is placed behind.
+        after: TextBuf,
+    },
+}
+
+/// A step, and where it comes from.
+#[derive(Drop)]
+pub(crate) struct StepAt {
+    pub(crate) place: SourcePlace,
+    pub(crate) step: Step,
+}
+
+/// All that the lines of a tailoring say.
+#[derive(Drop)]
+pub(crate) struct Stepped {
+    /// What names mean.
+    pub(crate) meanings: Meanings,
+    /// What the table and all blocks place.
+    pub(crate) expected: IdSet,
+    /// The names of the tables that are tailored, each once.
+    pub(crate) copies: Vec<TextBuf>,
+    /// The steps, in their order.
+    pub(crate) steps: Vec<StepAt>,
+}
+
+// What a line stands in.
+#[derive(Drop)]
+enum Within {
+    // Nothing.
+    Nothing,
+    // A block.
+    Block,
+    // A list of sections, each of which is placed behind the one before, the next one behind this.
+    Sections(TextBuf),
+}
+
+/// The steps of a tailoring, of which some lines have been taken.
+#[derive(Drop)]
+pub(crate) struct Steps {
+    said: Stepped,
+    // The names of the tables that are tailored, to be looked up.
+    bases: IndexSet<String, HashKeys>,
+    within: Within,
+    ellipses: Ellipses,
+    alloc: Global,
+}
+
+impl Steps {
+    /// No line has been taken; names mean this, and this is placed.
+    pub(crate) fn new(alloc: Global, keys: HashKeys, meanings: Meanings, placed: IdSet) -> Steps {
+        Steps {
+            said: Stepped {
+                meanings,
+                expected: placed,
+                copies: Vec::new(alloc),
+                steps: Vec::new(alloc),
+            },
+            bases: IndexSet::with_hasher(alloc, keys),
+            within: Within::Nothing,
+            ellipses: Ellipses::new(alloc),
+            alloc,
+        }
+    }
+
+    /// What all lines say.
+    pub(crate) fn end(mut self, report: &mut Report) -> Result<Stepped, SourceFault> {
+        self.ellipses.leave(report)?;
+        let Steps { said, .. } = self;
+        Ok(said)
+    }
+
+    /// Takes a line. What it declares is known already.
+    pub(crate) fn take(
+        &mut self,
+        line: SourceLine,
+        report: &mut Report,
+    ) -> Result<(), SourceFault> {
+        let SourceLine { place, said } = line;
+        match said {
+            Said::Order(line) => self.order(place, line, report),
+            Said::Orders {
+                first,
+                last,
+                weights,
+            } => {
+                let (before, range) = self.ellipses.range(place, first, last, weights, report)?;
+                self.orders(before, range, report)
+            }
+            Said::Ellipsis(weights) => self.ellipses.dots(place, weights, report),
+            Said::ReorderAfter(target) => self.after(place, target, report),
+            Said::ReorderEnd => self.end_block(place, report),
+            Said::SectionAfter { moved, after } => self.section_after(place, moved, after, report),
+            Said::SectionsAfter(after) => self.sections_after(place, after, report),
+            Said::SectionsEnd => self.end_sections(place, report),
+            Said::Base(name) => Ok(self.base(name)?),
+            Said::Unread => self.ellipses.leave(report),
+            Said::OrderEnd => self.lose(place, "order_end", report),
+            Said::Section(name) => self.lose_section(place, name, report),
+            Said::OrderStart { .. } => {
+                Err(place.load_fault(LoadCause::Syntax(SyntaxFault::UnknownStatement)))
+            }
+            Said::Symbol(_)
+            | Said::Symbols(_)
+            | Said::Element { .. }
+            | Said::Equivalence { .. }
+            | Said::Script => Ok(()),
+        }
+    }
+
+    // `reorder-after`: a block begins, and one that is open ends.
+    fn after(
+        &mut self,
+        place: SourcePlace,
+        target: Id,
+        report: &mut Report,
+    ) -> Result<(), SourceFault> {
+        self.ellipses.leave(report)?;
+        self.within = Within::Block;
+        let target = self.said.meanings.resolved(target)?;
+        self.push(place, Step::After(target))
+    }
+
+    // `reorder-end`.
+    fn end_block(&mut self, place: SourcePlace, report: &mut Report) -> Result<(), SourceFault> {
+        if !self.is_in_block() {
+            return self.lose(place, "reorder-end", report);
+        }
+        self.ellipses.leave(report)?;
+        self.within = Within::Nothing;
+        self.push(place, Step::End)
+    }
+
+    // `reorder-section-after`.
+    fn section_after(
+        &mut self,
+        place: SourcePlace,
+        moved: TextBuf,
+        after: TextBuf,
+        report: &mut Report,
+    ) -> Result<(), SourceFault> {
+        self.ellipses.leave(report)?;
+        self.push(place, Step::SectionAfter { moved, after })
+    }
+
+    // `reorder-sections-after`: a list of sections begins. A block that is open ends.
+    fn sections_after(
+        &mut self,
+        place: SourcePlace,
+        after: TextBuf,
+        report: &mut Report,
+    ) -> Result<(), SourceFault> {
+        self.ellipses.leave(report)?;
+        report.count(Adjustment::SectionsMoved, place)?;
+        if self.is_in_block() {
+            self.push(place, Step::End)?;
+        }
+        self.within = Within::Sections(after);
+        Ok(())
+    }
+
+    // `reorder-sections-end`.
+    fn end_sections(&mut self, place: SourcePlace, report: &mut Report) -> Result<(), SourceFault> {
+        if !matches!(self.within, Within::Sections(_)) {
+            return self.lose(place, "reorder-sections-end", report);
+        }
+        self.within = Within::Nothing;
+        Ok(())
+    }
+
+    // Whether a block is open.
+    fn is_in_block(&self) -> bool {
+        matches!(self.within, Within::Block)
+    }
+
+    // `copy` of a table that is tailored. It is kept once.
+    fn base(&mut self, name: TextBuf) -> Result<(), AllocError> {
+        if self
+            .bases
+            .insert(String::from_str(self.alloc, name.get())?)?
+        {
+            self.said.copies.push(name)?;
+        }
+        Ok(())
+    }
+
+    // An order line, or the name of a section that is moved.
+    fn order(
+        &mut self,
+        place: SourcePlace,
+        line: OrderLine,
+        report: &mut Report,
+    ) -> Result<(), SourceFault> {
+        if let Within::Sections(after) = &self.within {
+            let after = after.try_copy()?;
+            return self.section(place, &line, after, report);
+        }
+        let OrderLine { id, weights } = line;
+        let id = self.said.meanings.resolved(id)?;
+        if let Some(before) = self.ellipses.before(&id, report)? {
+            self.put_run(&before, report)?;
+        }
+        self.put(place, OrderLine { id, weights }, report)
+    }
+
+    // A section that is placed behind the one before.
+    fn section(
+        &mut self,
+        place: SourcePlace,
+        line: &OrderLine,
+        after: TextBuf,
+        report: &mut Report,
+    ) -> Result<(), SourceFault> {
+        match (&line.id, &line.weights) {
+            (Id::Named(moved), None) => {
+                self.within = Within::Sections(moved.try_copy()?);
+                self.section_after(place, moved.try_copy()?, after, report)
+            }
+            _ => report.lose(Adjustment::Dropped, place, Lost::Id(line.id.clone()?)),
+        }
+    }
+
+    // An order line for each character of a range. An ellipsis before it is written out first.
+    fn orders(
+        &mut self,
+        before: Option<Run>,
+        range: Run,
+        report: &mut Report,
+    ) -> Result<(), SourceFault> {
+        if let Some(before) = before {
+            self.put_run(&before, report)?;
+        }
+        self.put_run(&range, report)
+    }
+
+    // An order line for each character of a run.
+    fn put_run(&mut self, run: &Run, report: &mut Report) -> Result<(), SourceFault> {
+        for number in run.first..=run.last {
+            if let Some(line) = run.line(number)? {
+                self.put(run.place, line, report)?;
+            }
+        }
+        Ok(())
+    }
+
+    // An order line, whose identifier is what it means.
+    fn put(
+        &mut self,
+        place: SourcePlace,
+        line: OrderLine,
+        report: &mut Report,
+    ) -> Result<(), SourceFault> {
+        if self.is_in_block() {
+            self.said.meanings.declare_placed(place, &line.id, report)?;
+            self.said.expected.insert(&line.id)?;
+        }
+        self.push(place, Step::Order(line))
+    }
+
+    // Puts a step behind all others, of which there are no more than a text has lines.
+    fn push(&mut self, place: SourcePlace, step: Step) -> Result<(), SourceFault> {
+        if self.said.steps.len() >= MOST_LINES as usize {
+            return Err(place.load_fault(LoadCause::from(LexFault::TooManyLines)));
+        }
+        self.said.steps.push(StepAt { place, step })?;
+        Ok(())
+    }
+
+    // Tells that a line is left out that begins with this word.
+    fn lose(
+        &mut self,
+        place: SourcePlace,
+        word: &str,
+        report: &mut Report,
+    ) -> Result<(), SourceFault> {
+        self.ellipses.leave(report)?;
+        let what = Lost::Word(TextBuf::copied(self.alloc, word)?);
+        report.lose(Adjustment::Dropped, place, what)
+    }
+
+    // Tells that a line is left out that begins a section.
+    fn lose_section(
+        &mut self,
+        place: SourcePlace,
+        name: TextBuf,
+        report: &mut Report,
+    ) -> Result<(), SourceFault> {
+        self.ellipses.leave(report)?;
+        report.lose(Adjustment::Dropped, place, Lost::Id(Id::Named(name)))
+    }
+}

@@ -1,0 +1,130 @@
+//! A tailoring, made into statements.
+//!
+//! All that a tailoring declares is known before its first order line is looked at, and all that it places before its first weight.
+
+ghost use Rattle.std.specs.Prelude.{◌≡◌, All, Ok, IfOk};
+ghost use Rattle.coll_nodes.specs.TableLayout.{collation};
+ghost use Rattle.coll_syntax.specs.Proper.{IsProper};
+ghost use Rattle.coll_tailorings.specs.Rewriting.{rewritten};
+
+use crate::accepted_statements::put_all;
+use crate::blocks::{Blocks, Known};
+use crate::made_statements::MadeStatements;
+use crate::steps::{Stepped, Steps};
+use coll_import::{Meanings, SourceStatement};
+use coll_lex::TextBuf;
+use coll_lookups::HashKeys;
+use coll_nodes::WalkItem;
+use coll_sources::{Report, SourceFault, SourceLine};
+use coll_statements::IdSet;
+use coll_syntax::Statement;
+use coll_table::Table;
+use std::alloc::{AllocError, Global};
+
+/// What a tailoring is made into.
+#[derive(Drop)]
+pub struct Tailored {
+    /// The names of the texts that order everything and that it copies, each once.
+    pub copies: Vec<TextBuf>,
+    /// Its statements, which the table that is tailored accepts one after another.
+    pub statements: Vec<Statement>,
+}
+
+/// The statements of a tailoring, of which these are the lines, in their order. What is changed is told.
+///
+/// The table is the one that is tailored; it is rewritten by the statements. After a fault it is rewritten by some of them.
+pub fn import_delta(
+    alloc: Global,
+    keys: HashKeys,
+    table: &mut Table,
+    lines: Vec<SourceLine>,
+    report: &mut Report,
+) -> Result<Tailored, SourceFault>
+    ensures rewritten { IfOk result (λ made. rewritten (collation table.old) made.statements.items ≡ Ok (collation table.new)) }
+    ensures proper { IfOk result (λ made. All IsProper made.statements.items) }
+{
+    let (copies, made) = make(alloc, keys, table, lines, report)?;
+    let statements = put_all(alloc, table, made, report)?;
+    Ok(Tailored { copies, statements })
+}
+
+// The copies that are kept of a tailoring, and its statements.
+fn make(
+    alloc: Global,
+    keys: HashKeys,
+    table: &Table,
+    lines: Vec<SourceLine>,
+    report: &mut Report,
+) -> Result<(Vec<TextBuf>, Vec<SourceStatement>), SourceFault> {
+    let meanings = all_meanings(alloc, keys, table, lines.as_slice(), report)?;
+    let placed = all_placed(alloc, keys, table)?;
+    let said = all_steps(Steps::new(alloc, keys, meanings, placed), lines, report)?;
+    let placed = all_placed(alloc, keys, table)?;
+    all_statements(alloc, keys, table.rules().len(), placed, said, report)
+}
+
+// What all names mean.
+fn all_meanings(
+    alloc: Global,
+    keys: HashKeys,
+    table: &Table,
+    lines: &[SourceLine],
+    report: &mut Report,
+) -> Result<Meanings, SourceFault> {
+    let mut meanings = Meanings::of_table(alloc, keys, table)?;
+    for line in lines {
+        meanings.take(line, report)?;
+    }
+    Ok(meanings)
+}
+
+// What a table places.
+fn all_placed(alloc: Global, keys: HashKeys, table: &Table) -> Result<IdSet, AllocError> {
+    let mut placed = IdSet::new(alloc, keys);
+    for item in table.walk() {
+        if let WalkItem::Entry(entry) = item {
+            placed.insert(entry.id())?;
+        }
+    }
+    Ok(placed)
+}
+
+// What all lines say.
+fn all_steps(
+    mut steps: Steps,
+    lines: Vec<SourceLine>,
+    report: &mut Report,
+) -> Result<Stepped, SourceFault> {
+    for line in lines {
+        steps.take(line, report)?;
+    }
+    steps.end(report)
+}
+
+// The copies, and the statements that are made of all steps.
+fn all_statements(
+    alloc: Global,
+    keys: HashKeys,
+    levels: usize,
+    placed: IdSet,
+    said: Stepped,
+    report: &mut Report,
+) -> Result<(Vec<TextBuf>, Vec<SourceStatement>), SourceFault> {
+    let Stepped {
+        mut meanings,
+        expected,
+        copies,
+        steps,
+    } = said;
+    let made = MadeStatements::new(meanings.take_declared(), copies.len());
+    let known = Known {
+        meanings,
+        expected,
+        levels,
+    };
+    let mut blocks = Blocks::new(alloc, keys, known, placed, made);
+    for step in steps {
+        blocks.take(step, report)?;
+    }
+    Ok((copies, blocks.end(report)?))
+}
