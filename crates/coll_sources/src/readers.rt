@@ -5,12 +5,16 @@
 //! wanted once, however often it is copied; all lines together, those of a text that is copied again counted again, are at most as
 //! many as a text may have, and have at most `MOST_BYTES` bytes. So texts that copy each other many times over end with that fault.
 //!
+//! Where a tailoring is read, a text that is copied and orders everything is the table that is tailored: it has to be there, and is not
+//! read in. Its `copy` is kept as a line (`Said::Base`).
+//!
 //! Only the category LC_COLLATE is looked at. A line under a condition that doesn't hold counts for nothing, but it has to be a line.
 
 ghost use Rattle.std.specs.Prelude.{IfOk};
 ghost use Rattle.coll_lex.specs.Names.{AreTokens};
 ghost use Rattle.coll_sources.specs.Readers.{HasTokens};
 
+use crate::bases::orders_everything;
 use crate::conditions::Conditions;
 use crate::grammar::said;
 use crate::operands::Unread;
@@ -27,12 +31,23 @@ use std::alloc::{AllocError, Global};
 // Most bytes of all lines that are read, line feeds included.
 const MOST_BYTES: usize = 67_108_864;
 
+/// What a source is read as.
+#[derive(Clone, Copy, PartialEq, Eq)]
+pub enum SourceKind {
+    /// It orders everything, with what it copies.
+    Table,
+    /// It changes a table, which it copies.
+    Tailoring,
+}
+
 // A text that was handed in.
 #[derive(Drop)]
 struct Held {
     text: String,
     // Whether it is being read.
     is_open: bool,
+    // Whether it is the table that is tailored, and is not read.
+    is_base: bool,
 }
 
 // A text that is being read.
@@ -72,12 +87,15 @@ enum Step {
 /// Reads a source, and what it copies.
 #[derive(Drop)]
 pub struct SourceReader {
+    kind: SourceKind,
     // The names of the texts, in the order in which they were wanted.
     names: IndexSet<String, HashKeys>,
     // Those that have been handed in, in the same order.
     texts: Vec<Held>,
     // What has been handed in of the text that is wanted.
     coming: Vec<u8>,
+    // Where the text that is wanted is copied; nowhere, if it is the source itself.
+    copied_at: Option<SourcePlace>,
     // The texts that are being read, each copied by the one before.
     frames: Vec<Frame>,
     // What is defined.
@@ -91,10 +109,11 @@ pub struct SourceReader {
 }
 
 impl SourceReader {
-    /// A reader that wants the text of this name, where these names are defined.
+    /// A reader of such a source, which wants the text of this name, where these names are defined.
     pub fn new(
         alloc: Global,
         keys: HashKeys,
+        kind: SourceKind,
         source: &str,
         defined: &[&str],
     ) -> Result<SourceReader, AllocError> {
@@ -105,9 +124,11 @@ impl SourceReader {
             all.insert(String::from_str(alloc, name)?)?;
         }
         Ok(SourceReader {
+            kind,
             names,
             texts: Vec::new(alloc),
             coming: Vec::new(alloc),
+            copied_at: None,
             frames: Vec::new(alloc),
             defined: all,
             taken: 0,
@@ -189,13 +210,41 @@ impl SourceReader {
     fn end_text(&mut self) -> Result<(), SourceFault> {
         let coming = std::mem::replace(&mut self.coming, Vec::new(self.alloc));
         let text = text_of(self.alloc, coming)?;
+        let is_base = self.is_base(text.as_str())?;
         let number = self.texts.len();
         self.texts.push(Held {
             text,
             is_open: false,
+            is_base,
         })?;
-        self.enter(number)?;
+        match self.copied_at.take() {
+            Some(place) => self.follow(number, place)?,
+            None => self.enter(number)?,
+        }
         self.read_on()
+    }
+
+    // Whether the text that was wanted is the table that is tailored. The source itself never is.
+    fn is_base(&self, text: &str) -> Result<bool, AllocError> {
+        match (self.kind, self.copied_at) {
+            (SourceKind::Tailoring, Some(_)) => orders_everything(self.alloc, text),
+            _ => Ok(false),
+        }
+    }
+
+    // Follows the copy of a text that is there: the text is read next, or it is the table that is tailored, and the copy is kept.
+    fn follow(&mut self, text: usize, place: SourcePlace) -> Result<(), SourceFault> {
+        if !self.texts.get(text).is_some_and(|held| held.is_base) {
+            self.report.count(Adjustment::CopyInlined, place)?;
+            self.enter(text)?;
+            return Ok(());
+        }
+        self.report.count(Adjustment::CopyKept, place)?;
+        if let Some(name) = self.text_name(text) {
+            let said = Said::Base(TextBuf::copied(self.alloc, name)?);
+            self.lines.push(SourceLine { place, said })?;
+        }
+        Ok(())
     }
 
     /// What the source says, and what is told of it, once no text is wanted any more.
@@ -349,7 +398,7 @@ impl SourceReader {
         Ok(())
     }
 
-    // Copies a text: it is read next, or wanted.
+    // Copies a text: it is followed, or wanted.
     fn copy(
         &mut self,
         frame: Frame,
@@ -370,11 +419,11 @@ impl SourceReader {
         if self.texts.get(text).is_some_and(|held| held.is_open) {
             return Err(place.fault(SourceCause::CopyOfItself));
         }
-        self.report.count(Adjustment::CopyInlined, place)?;
         if text >= self.texts.len() {
+            self.copied_at = Some(place);
             return Ok(Step::Wants);
         }
-        self.enter(text)?;
+        self.follow(text, place)?;
         Ok(Step::Line)
     }
 

@@ -7,7 +7,7 @@ use crate::Output;
 use coll_bench::{Fault, exit_status};
 use coll_import::{import_table, write_report, write_source_fault};
 use coll_lex::{Counted, Sink, TextBuf, WriteStop};
-use coll_sources::{Report, SourceFault, SourcePlace, SourceReader};
+use coll_sources::{Report, SourceFault, SourceKind, SourcePlace, SourceReader};
 use coll_table::{HashKeys, LoadCause, Table};
 use std::alloc::{AllocError, Global};
 use std::fs::File;
@@ -27,7 +27,7 @@ pub(crate) fn import(
     let alloc = rt.alloc();
     let (folder, base) = folder_of(file);
     let names = lent(alloc, defined)?;
-    let mut reader = SourceReader::new(alloc, keys, base, names.as_slice())?;
+    let mut reader = SourceReader::new(alloc, keys, SourceKind::Table, base, names.as_slice())?;
     let read = read_texts(rt, &mut reader, folder);
     let files = file_names(alloc, &reader, folder)?;
     if let Err(fault) = read {
