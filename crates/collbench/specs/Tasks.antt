@@ -16,6 +16,7 @@ subcommand_name subcommand.Key = codes "key"
 subcommand_name subcommand.Compare = codes "compare"
 subcommand_name subcommand.Session = codes "session"
 subcommand_name subcommand.Import = codes "import"
+subcommand_name subcommand.ImportDelta = codes "import-delta"
 
 -- a comparison is of two texts
 abbrev pub comparison : (texts : List (List ℕ)) → Option Task
@@ -32,3 +33,4 @@ task_for subcommand.Key texts = Some (task.Batch (batch.Key texts))
 task_for subcommand.Compare texts = comparison texts
 task_for subcommand.Session texts = Some task.Session
 task_for subcommand.Import texts = Some (task.Import texts)
+task_for subcommand.ImportDelta texts = Some (task.ImportDelta texts)

@@ -1,8 +1,8 @@
 //! The program: a thin `main` over `coll_bench`, which runs batches and serves sessions.
 //!
 //! `command_line` reads the words, `random_keys` draws the keys that names are looked up under, `files` opens what the words name, and
-//! `importing` makes tables of sources. Here the runs are started, and their faults are told: a line on standard error, and the exit status, which stands also
-//! where that line can't be written.
+//! `importing` makes tables and delta files of sources. Here the runs are started, and their faults are told: a line on standard error,
+//! and the exit status, which stands also where that line can't be written.
 #![tactic(auto)]
 
 ghost use Rattle.std.specs.Prelude.{◌<◌, length, vec_len, IfOk, IfErr, ◌≡◌};
@@ -16,11 +16,11 @@ use coll_bench::{
     Batch, Fault, RunFault, exit_status, run_batch_keyed, run_session, write_fault,
     write_symbols_behind,
 };
-use coll_lex::{Counted, LexFault, ReadStop, Sink, WriteStop};
+use coll_lex::{Counted, LexFault, ReadStop, Sink, TextBuf, WriteStop};
 use coll_table::{HashKeys, Table, load_keyed};
 use command_line::{Request, Task, Unasked, read_words};
 use files::{Input, at_no_line, open_all};
-use importing::import;
+use importing::{Wanted, import};
 use random_keys::random_keys;
 use std::alloc::{AllocError, Global};
 use std::env;
@@ -95,10 +95,27 @@ fn do_keyed(
             Ok(name) => serve(rt, keys, files, names, &[name]),
             Err(_) => tell_no_memory(rt),
         },
-        Task::Import(defined) => match import(rt, keys, files[0], defined.get()) {
-            Ok(status) => status,
-            Err(_) => tell_no_memory(rt),
+        Task::Import(defined) => import_from(rt, keys, Wanted::Table, files, defined.get()),
+        Task::ImportDelta(defined) => match read_table(rt, keys, &files[..1]) {
+            Ok(table) => import_from(rt, keys, Wanted::Delta(table), files, defined.get()),
+            Err(fault) => tell_fault(rt, &fault, names),
         },
+    }
+}
+
+// Makes what is wanted of the source in the last of these files, where these names are defined, and answers the exit status.
+fn import_from(
+    rt: &HostRuntime,
+    keys: HashKeys,
+    wanted: Wanted,
+    files: &[&str],
+    defined: &[TextBuf],
+) -> ExitCode
+    requires { 0 < length files.now }
+{
+    match import(rt, keys, wanted, files[files.len() - 1], defined) {
+        Ok(status) => status,
+        Err(_) => tell_no_memory(rt),
     }
 }
 
