@@ -354,15 +354,21 @@ def same(one, other):
         return first.read() == second.read()
 
 
+def some(names):
+    """Returns some of a few names, and how many there are beyond them."""
+    more = [f"{len(names) - 3} others"] if len(names) > 4 else []
+    return ", ".join([f"`{name}`" for name in names[: 3 if more else 4]] + more)
+
+
 def print_table(program, names, room):
     """Prints what was adjusted in each tailoring."""
     tables, copied_by = Tables(program, room), copying()
-    print("| Source | Copied alone by | Adjusted | Lost |\n|---|---|---|---|")
+    print("| Tailoring | Copied alone by | Adjusted | Lost |\n|---|---|---|---|")
     for name in names or tailorings():
         kinds, lost = adjusted(written(program, "import-delta", tables.below(name), f"{FOLDER}/{name}", to=f"{room}/delta.txt"))
-        told = ", ".join(f"{kind} {count}" for kind, (_, count) in kinds.items())
+        told = ", ".join(f"{kind} {count}" for kind, (_, count) in kinds.items() if kind != "CopyKept")
         losses = ", ".join(f"{kind} {count}" for kind, count in lost.items())
-        print(f"| `{name}` | {', '.join(f'`{other}`' for other in copied_by[name])} | {told} | {losses} |")
+        print(f"| `{name}` | {some(copied_by[name])} | {told} | {losses} |")
 
 
 def seconds(program, *words):
