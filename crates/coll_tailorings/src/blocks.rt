@@ -9,9 +9,8 @@ use crate::made_statements::MadeStatements;
 use crate::steps::{Step, StepAt};
 use coll_import::{Meanings, SourceStatement, WeightLookUp, proper_line, without_symbol_weights};
 use coll_lex::ListBuf;
-use coll_lookups::HashKeys;
+use coll_lookups::{HashKeys, IdSet};
 use coll_sources::{Adjustment, Lost, Report, SourceFault, SourcePlace};
-use coll_statements::IdSet;
 use coll_syntax::{Id, MOST_BLOCK_LINES, OrderLine, Statement, Weight};
 use std::alloc::{AllocError, Global};
 

@@ -6,9 +6,8 @@
 
 use coll_import::{Ellipses, Meanings, Run};
 use coll_lex::{LexFault, MOST_LINES, TextBuf};
-use coll_lookups::HashKeys;
+use coll_lookups::{HashKeys, IdSet};
 use coll_sources::{Adjustment, Lost, Report, Said, SourceFault, SourceLine, SourcePlace};
-use coll_statements::IdSet;
 use coll_syntax::{Id, OrderLine, SyntaxFault};
 use coll_texts::LoadCause;
 use indexmap::IndexSet;
