@@ -1,10 +1,11 @@
 -- A delta file handed in line by line: what is stored of the lines before, and what one more line makes of it.
 use Rattle.std.specs.Prelude.{◌≡◌, ℕ, Bool, true, false, IsTrue, ◌&&◌, ◌||◌, ◌⊎◌, if◌then◌else◌, List}
 use Rattle.std.specs.Prelude.{[], ◌∷◌, ◌++◌, Option, Some, None, is_some, Result, Ok, Err}
+use Rattle.coll_lex.specs.EarlyEnds.{ends_at}
 use Rattle.coll_lex.specs.LogicalLines.{LexerState, OpenLine, first_state, number_of, outside, fed, takes_memory, state_by}
 use Rattle.coll_lex.specs.declared.faults.LexFault.{LexFault}
-use Rattle.coll_lex.specs.declared.faults.LexFault.TheVariants as lex
 use Rattle.coll_syntax.specs.declared.syntax_faults.SyntaxFault.TheVariants as syntax
+use Rattle.coll_requests.specs.DeltaFaults.{early_fault}
 use Rattle.coll_requests.specs.Parsing.{parsed_in}
 use Rattle.coll_requests.specs.RequestFaults.{is_lack_of_memory}
 use Rattle.coll_requests.specs.Requests.{fault_at}
@@ -125,10 +126,9 @@ unless_faulty None step = step
 unfoldable pub delta_line : DeltaState → List ℕ → Step
 delta_line s line = unless_faulty s.fault (by_where s line)
 
--- the fault of a file that ends before its category does: of a line that is left open, or of the end
+-- the fault of a file that ends here: of a line that is left open, or of the end
 abbrev pub early_end : DeltaState → Option OpenLine → DeltaFault
-early_end s (Some open_line) = at_line open_line.number (RequestCause (fault.Lex lex.DanglingEscape))
-early_end s None = at_line s.lexer.count (if s.begun then NoEnd else NoCategory)
+early_end s left = early_fault (ends_at s.begun s.lexer.count left)
 
 -- the fault at the end of the file, unless one stands
 abbrev pub or_at_end : Option DeltaFault → Option DeltaFault → Option DeltaFault

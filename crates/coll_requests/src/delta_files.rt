@@ -71,7 +71,7 @@ impl Model for DeltaReader {
 }
 
 impl DeltaReader {
-    ghost use Rattle.coll_requests.specs.DeltaReading.{first_delta, delta_line, delta_end, early_end, by_where};
+    ghost use Rattle.coll_requests.specs.DeltaReading.{first_delta, delta_line, delta_end, by_where};
     ghost use Rattle.coll_requests.specs.DeltaReading.{by_outside, by_physical, by_parsed, judged, faulty};
 
     /// A reader before the first line.
@@ -164,26 +164,7 @@ impl DeltaReader {
         if self.ended {
             return Ok(());
         }
-        Err(self.early_end())
-    }
-
-    // The fault of a file that ends here, before its category does.
-    fn early_end(&self) -> DeltaFault
-        ensures { result ≡ early_end self.now self.now.lexer.line }
-    {
-        let next = self.parser.next_number();
-        if let Some(line) = self.parser.pending() {
-            let fault = RequestFault::Lex(LexFault::DanglingEscape);
-            return file_fault(FaultAt { line, fault });
-        }
-        DeltaFault {
-            line: next - 1,
-            cause: if self.begun {
-                DeltaCause::NoEnd
-            } else {
-                DeltaCause::NoCategory
-            },
-        }
+        Err(DeltaFault::from(self.parser.early_end(self.begun)))
     }
 
     // Judges a line by where it stands: behind the category, in it, or before it.

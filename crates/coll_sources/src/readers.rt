@@ -24,7 +24,7 @@ use coll_devices::{LineReader, ReadStop, Source};
 use coll_lex::{LexFault, Lexer, Line, MOST_LINES, Piece, TextBuf, Token};
 use coll_lookups::HashKeys;
 use coll_syntax::{Id, SyntaxFault, characters, copied_name, id_of, is_word};
-use coll_texts::LoadCause;
+use coll_texts::{LoadCause, LoadFault};
 use indexmap::IndexSet;
 use std::alloc::{AllocError, Global};
 
@@ -473,16 +473,8 @@ fn fed(frame: &mut Frame, place: SourcePlace, line: &[u8]) -> Result<Next, Sourc
 
 // The fault of a text that ends before its category does.
 fn early_end(frame: &Frame) -> SourceFault {
+    let LoadFault { line, cause } = LoadFault::from(frame.lexer.early_end(frame.begun));
     let text = frame.text;
-    if let Some(line) = frame.lexer.pending() {
-        return SourcePlace { text, line }.lex_fault(LexFault::DanglingEscape);
-    }
-    let line = frame.lexer.next_number().saturating_sub(1);
-    let cause = if frame.begun {
-        LoadCause::NoEnd
-    } else {
-        LoadCause::NoCategory
-    };
     SourcePlace { text, line }.load_fault(cause)
 }
 
