@@ -31,7 +31,7 @@ pub use identifiers::Id;
 pub use keywords::is_word;
 pub use lines::{DeltaLine, TableLine};
 pub use operands::{copied_name, ended, id_of};
-pub use rules::{Rule, Rules};
+pub use rules::{MOST_LEVELS, Rule, Rules};
 pub use statements::{MOST_BLOCK_LINES, OrderLine, Statement};
 pub use syntax_faults::SyntaxFault;
 pub use table_lines::parse_table_line;

@@ -8,7 +8,7 @@ ghost use Rattle.std.specs.Prelude.{◌≡◌, ◌≤◌, ◌↔◌, IsTrue, len
 use std::marker::Model;
 
 /// Most levels of a table.
-pub(crate) const MOST_LEVELS: usize = 4;
+pub const MOST_LEVELS: usize = 4;
 
 const _: () = prove!(MOST_LEVELS == 4);
 
