@@ -57,14 +57,8 @@ pub fn run_batch<R: Source, W: Sink>(
     ensures reads { CountsInputs (R.failed table.old ∷ map R.failed deltas.old) (R.failed table.new ∷ map R.failed deltas.new) result }
     ensures writes { CountsWrites (W.failed output.old) (W.failed output.new) result }
 {
-    match run_batch_keyed(
-        alloc,
-        HashKeys::zeros(),
-        batch,
-        table,
-        deltas,
-        output,
-    ) {
+    let keys = HashKeys::zeros();
+    match run_batch_keyed(alloc, keys, batch, table, deltas, output) {
         Ok(changed) => {
             drop(changed);
             Ok(())
