@@ -10,6 +10,7 @@ use Rattle.coll_lex.specs.Names.{IsName}
 use Rattle.coll_devices.specs.PhysicalLines.{IsInLine, lines_of}
 use Rattle.coll_syntax.specs.Identifier.{same_name}
 use Rattle.coll_syntax.specs.Proper.{IsId, IsElementText, IsProperWeight}
+use Rattle.coll_syntax.specs.TableLines.{table_line}
 use Rattle.coll_syntax.specs.declared.lines.TableLine.TheVariants as line
 use Rattle.coll_nodes.specs.declared.declarations.Declaration.{Declaration}
 use Rattle.coll_nodes.specs.declared.declarations.Declaration.TheVariants as declaration
@@ -80,7 +81,7 @@ entries_spelled levels declared (e ∷ entries) few ids weighted =
     (entries_spelled levels declared entries few (All-tail IsId e.id (ids_of entries) ids) (All-tail (IsWeighted levels declared) e entries weighted))
 
 -- what is visited on a walk
-visited_say : (ms : List Visited) → All IsName (flat_map name_visited ms) → All IsSpelledEntry (flat_map entry_visited ms) → SayAll (map visited_line ms) (map visited_read ms)
+visited_say : (ms : List Visited) → All IsName (flat_map name_visited ms) → All IsSpelledEntry (flat_map entry_visited ms) → SayAll table_line (map visited_line ms) (map visited_read ms)
 unfolding SayAll name_visited visited_read
 visited_say [] names entries = tt
 visited_say (VisitedSection name ∷ ms) names entries =
@@ -101,22 +102,22 @@ body_lines table = map declaration_line table.declared ++ (rules_line table.rule
 
 module _ (table : Collation) (w : IsWellFormed table) where
   -- each says what is read of it
-  body_says : SayAll (body_lines table) (said table)
+  body_says : SayAll table_line (body_lines table) (said table)
   unfolding body_lines said
   body_says =
       let names = subst (All IsName) (sym (names_visited table.sections)) (names_of_first table.sections w.built.first_unnamed).0 in
       let spelled = entries_spelled (length table.rules) table.declared (joined_entries table.sections) w.built.few_levels w.built.ids w.built.weighted in
       let entries = subst (All IsSpelledEntry) (sym (visited_all table.sections)) spelled in
-      say_append (map declaration_line table.declared) (rules_line table.rules ∷ (map visited_line (visited table.sections) ++ codes "order_end" ∷ [])) (map declaration_read table.declared)
+      say_append table_line (map declaration_line table.declared) (rules_line table.rules ∷ (map visited_line (visited table.sections) ++ codes "order_end" ∷ [])) (map declaration_read table.declared)
       (line.OrderStart None (Some table.rules) ∷ (map visited_read (visited table.sections) ++ line.OrderEnd ∷ []))
-      (say_members declaration_line declaration_read IsSpelledDeclaration declaration_says table.declared
+      (say_members table_line declaration_line declaration_read IsSpelledDeclaration declaration_says table.declared
       (declarations_spelled [] table.declared w.built.meant (All-nil IsName) w.built.names w.built.texts))
-      (say_append (rules_line table.rules ∷ []) (map visited_line (visited table.sections) ++ codes "order_end" ∷ []) (line.OrderStart None (Some table.rules) ∷ [])
+      (say_append table_line (rules_line table.rules ∷ []) (map visited_line (visited table.sections) ++ codes "order_end" ∷ []) (line.OrderStart None (Some table.rules) ∷ [])
       (map visited_read (visited table.sections) ++ line.OrderEnd ∷ [])
-      (say_one (rules_line table.rules) (line.OrderStart None (Some table.rules)) (rules_say table.rules w.some_levels w.built.few_levels))
-      (say_append (map visited_line (visited table.sections)) (codes "order_end" ∷ []) (map visited_read (visited table.sections)) (line.OrderEnd ∷ [])
+      (say_one table_line (rules_line table.rules) (line.OrderStart None (Some table.rules)) (rules_say table.rules w.some_levels w.built.few_levels))
+      (say_append table_line (map visited_line (visited table.sections)) (codes "order_end" ∷ []) (map visited_read (visited table.sections)) (line.OrderEnd ∷ [])
       (visited_say (visited table.sections) names entries)
-      (say_one (codes "order_end") line.OrderEnd order_end_says)))
+      (say_one table_line (codes "order_end") line.OrderEnd order_end_says)))
 
   -- they are few
   body_is_short : 3 + length (body_lines table) < most_lines
@@ -164,10 +165,10 @@ printed_tables_are_read_back table w =
     let says = body_says table w in
     let parts : bytes_of (canonical_lines table) ≡ bytes_of opening_lines ++ (bytes_of body ++ encode_utf8_all last ∷ []) =
     ap bytes_of (lines_in_parts table) ∙ map-append encode_utf8_all opening_lines (body ++ last ∷ []) ∙ ap (λ back. bytes_of opening_lines ++ back) (map-append encode_utf8_all body (last ∷ [])) in
-    let last_in_line : All IsInLine (encode_utf8_all last ∷ []) = All-cons IsInLine (encode_utf8_all last) [] (says_in_line last line.EndCategory category_end_says) (All-nil IsInLine) in
+    let last_in_line : All IsInLine (encode_utf8_all last ∷ []) = All-cons IsInLine (encode_utf8_all last) [] (says_in_line table_line last line.EndCategory category_end_says) (All-nil IsInLine) in
     let in_lines : All IsInLine (bytes_of opening_lines ++ (bytes_of body ++ encode_utf8_all last ∷ [])) =
     All-append IsInLine (bytes_of opening_lines) (bytes_of body ++ encode_utf8_all last ∷ []) opening_in_line
-    (All-append IsInLine (bytes_of body) (encode_utf8_all last ∷ []) (say_in_line body (said table) says) last_in_line) in
+    (All-append IsInLine (bytes_of body) (encode_utf8_all last ∷ []) (say_in_line table_line body (said table) says) last_in_line) in
     let lines : lines_of (flat_map line_bytes (canonical_lines table)) ≡ bytes_of opening_lines ++ (bytes_of body ++ encode_utf8_all last ∷ []) =
     lines_of_feeds (canonical_lines table) (subst (All IsInLine) (sym parts) in_lines) ∙ parts in
     let decides = lines_decide table [] 3 body (said table) last says category_end_says (said_leads table w 4) (body_is_short table w) in
