@@ -5,6 +5,7 @@ use Rattle.std.specs.List.{flat_map}
 use Rattle.std.proofs.lemmas.List.{length-map}
 use Rattle.std.proofs.lemmas.List.Elements.{All-head, All-tail}
 use Rattle.coll_lex.specs.Names.{IsName}
+use Rattle.coll_syntax.specs.TableLines.{table_line}
 use Rattle.coll_syntax.specs.declared.lines.TableLine.{TableLine}
 use Rattle.coll_syntax.specs.declared.lines.TableLine.TheVariants as line
 use Rattle.coll_syntax.specs.declared.rules.Rule.{Rule}
@@ -17,12 +18,12 @@ use Rattle.coll_texts.specs.ExportedParts.{next_lines}
 use Rattle.coll_texts.proofs.ExportedLines.{script_says, start_says}
 use Rattle.coll_texts.proofs.ExportedParts.{exported_walked}
 use Rattle.coll_texts.proofs.PrintedLines.{order_end_says}
-use Rattle.coll_texts.proofs.PrintedReading.{SayAll, say_members}
+use Rattle.coll_texts.proofs.PrintedReading.{SayAll}
 use Rattle.coll_texts.proofs.PrintedStates.{script_read, start_begins, names_of_first}
 use Rattle.coll_texts.proofs.PrintedTables.{IsForm, body_lines, text_is_read_back}
 
 -- the lines that tell the names of sections
-scripts_say : (names : List (List ℕ)) → All IsName names → SayAll (map script_line names) (map script_read (map script_line names))
+scripts_say : (names : List (List ℕ)) → All IsName names → SayAll table_line (map script_line names) (map script_read (map script_line names))
 unfolding SayAll
 scripts_say [] h = tt
 scripts_say (name ∷ names) h = (script_says name (All-head IsName name names h), scripts_say names (All-tail IsName name names h))

@@ -1,5 +1,5 @@
 -- Each canonical line is read as its tokens.
-use Rattle.std.proofs.Common.{◌≡◌, ℕ, ◌+◌, ◌*◌, ◌≤◌, Bool, true, false, if◌then◌else◌, List, [], ◌∷◌, ◌++◌, All, length, map, codes, Some, None, Ok, ap, subst, ◌∙◌, refl, arith}
+use Rattle.std.proofs.Common.{◌≡◌, ℕ, ◌+◌, ◌*◌, ◌≤◌, Bool, true, false, if◌then◌else◌, List, [], ◌∷◌, ◌++◌, All, length, map, codes, Some, None, Result, Ok, ap, subst, ◌∙◌, refl, arith}
 use Rattle.std.specs.Prelude.{encode_utf8_all}
 use Rattle.std.specs.List.{list_all}
 use lib.Utf8.{scalars, encode}
@@ -19,6 +19,7 @@ use Rattle.coll_lex.specs.declared.tokens.Piece.TheVariants as piece
 use Rattle.coll_syntax.specs.Proper.{IsId, IsWeightId, IsElementText, IsProperWeight}
 use Rattle.coll_syntax.specs.TableLines.{table_line}
 use Rattle.coll_syntax.specs.declared.lines.TableLine.{TableLine}
+use Rattle.coll_syntax.specs.declared.syntax_faults.SyntaxFault.{SyntaxFault}
 use Rattle.coll_syntax.specs.declared.lines.TableLine.TheVariants as line
 use Rattle.coll_syntax.specs.declared.identifiers.Id.{Id}
 use Rattle.coll_syntax.specs.declared.identifiers.Id.TheVariants.{Char, Named, Undefined}
@@ -284,9 +285,13 @@ entry_is_line id ws false e h hs few = weighted_is_line id id ws h h hs few
 
 -- What a line says.
 
--- a line that is read, and that says this to the grammar
+-- a line that is read, and that says this to a grammar
+abbrev pub SaysTo : {R : Type 0} → (List Token → Result R SyntaxFault) → List ℕ → R → Type 0
+SaysTo grammar line read = (t : Token) × (ts : List Token) × IsLine line t ts × (grammar (t ∷ ts) ≡ Ok read)
+
+-- a line that says this to the grammar of tables
 abbrev pub Says : List ℕ → TableLine → Type 0
-Says line read = (t : Token) × (ts : List Token) × IsLine line t ts × (table_line (t ∷ ts) ≡ Ok read)
+Says line read = SaysTo table_line line read
 
 -- the line of a declaration
 pub declaration_says : (d : Declaration) → IsSpelledDeclaration d → Says (declaration_line d) (declaration_read d)

@@ -11,6 +11,7 @@ use Rattle.coll_lex.specs.Names.{IsName}
 use Rattle.coll_devices.specs.PhysicalLines.{IsInLine, lines_of}
 use Rattle.coll_syntax.specs.Identifier.{same_name}
 use Rattle.coll_syntax.specs.Proper.{IsId, IsElementText, IsProperWeight}
+use Rattle.coll_syntax.specs.TableLines.{table_line}
 use Rattle.coll_syntax.specs.declared.lines.TableLine.{TableLine}
 use Rattle.coll_syntax.specs.declared.lines.TableLine.TheVariants as line
 use Rattle.coll_nodes.specs.declared.declarations.Declaration.{Declaration}
@@ -121,21 +122,21 @@ body_lines notes begun table =
 
 -- lines without effect, and those that begin a section, which are read as these, and are few
 pub record IsForm (table : Collation) (notes : List (List ℕ)) (begun : List ℕ → List (List ℕ)) (begins : List ℕ → List TableLine) : Type 1 where
-  pub notes_say : SayAll notes (map script_read notes)
-  pub begun_say : (name : List ℕ) → IsName name → SayAll (begun name) (begins name)
+  pub notes_say : SayAll table_line notes (map script_read notes)
+  pub begun_say : (name : List ℕ) → IsName name → SayAll table_line (begun name) (begins name)
   pub leads : BeginSections table.rules begins
   pub few_notes : length notes ≤ length table.sections
   pub few_begun : (name : List ℕ) → length (begun name) ≤ 2
 
 module _ (table : Collation) (w : IsWellFormed table) (notes : List (List ℕ)) (begun : List ℕ → List (List ℕ)) (begins : List ℕ → List TableLine) (form : IsForm table notes begun begins) where
   -- what is visited says what is read of it
-  visited_says : (item : Visited) → IsSpelledVisited item → SayAll (lines_visited begun item) (visited_read begins item)
+  visited_says : (item : Visited) → IsSpelledVisited item → SayAll table_line (lines_visited begun item) (visited_read begins item)
   unfolding visited_read
   visited_says (VisitedSection name) is = form.begun_say name is
-  visited_says (VisitedEntry e) is = say_one (entry_line e) (line.Order (order_read e.id e.weights)) (entry_says e is)
+  visited_says (VisitedEntry e) is = say_one table_line (entry_line e) (line.Order (order_read e.id e.weights)) (entry_says e is)
 
   -- each line says what is read of it
-  body_says : SayAll (body_lines notes begun table) (said notes begins table)
+  body_says : SayAll table_line (body_lines notes begun table) (said notes begins table)
   unfolding body_lines said
   body_says =
       let ms = visited table.sections in
@@ -144,16 +145,16 @@ module _ (table : Collation) (w : IsWellFormed table) (notes : List (List ℕ)) 
       let entries = subst (All IsSpelledEntry) (sym (visited_all table.sections)) spelled in
       let back : List (List ℕ) = flat_map (lines_visited begun) ms ++ codes "order_end" ∷ [] in
       let read : List TableLine = flat_map (visited_read begins) ms ++ line.OrderEnd ∷ [] in
-      say_append (map declaration_line table.declared) (notes ++ (rules_line table.rules ∷ back)) (map declaration_read table.declared)
+      say_append table_line (map declaration_line table.declared) (notes ++ (rules_line table.rules ∷ back)) (map declaration_read table.declared)
       (map script_read notes ++ (line.OrderStart None (Some table.rules) ∷ read))
-      (say_members declaration_line declaration_read IsSpelledDeclaration declaration_says table.declared
+      (say_members table_line declaration_line declaration_read IsSpelledDeclaration declaration_says table.declared
       (declarations_spelled [] table.declared w.built.meant (All-nil IsName) w.built.names w.built.texts))
-      (say_append notes (rules_line table.rules ∷ back) (map script_read notes) (line.OrderStart None (Some table.rules) ∷ read) form.notes_say
-      (say_append (rules_line table.rules ∷ []) back (line.OrderStart None (Some table.rules) ∷ []) read
-      (say_one (rules_line table.rules) (line.OrderStart None (Some table.rules)) (rules_say table.rules w.some_levels w.built.few_levels))
-      (say_append (flat_map (lines_visited begun) ms) (codes "order_end" ∷ []) (flat_map (visited_read begins) ms) (line.OrderEnd ∷ [])
-      (say_each (lines_visited begun) (visited_read begins) IsSpelledVisited visited_says ms (visited_spelled ms names entries))
-      (say_one (codes "order_end") line.OrderEnd order_end_says))))
+      (say_append table_line notes (rules_line table.rules ∷ back) (map script_read notes) (line.OrderStart None (Some table.rules) ∷ read) form.notes_say
+      (say_append table_line (rules_line table.rules ∷ []) back (line.OrderStart None (Some table.rules) ∷ []) read
+      (say_one table_line (rules_line table.rules) (line.OrderStart None (Some table.rules)) (rules_say table.rules w.some_levels w.built.few_levels))
+      (say_append table_line (flat_map (lines_visited begun) ms) (codes "order_end" ∷ []) (flat_map (visited_read begins) ms) (line.OrderEnd ∷ [])
+      (say_each table_line (lines_visited begun) (visited_read begins) IsSpelledVisited visited_says ms (visited_spelled ms names entries))
+      (say_one table_line (codes "order_end") line.OrderEnd order_end_says))))
 
   -- at most two lines for each that is visited
   count_lines : (ms : List Visited) → length (flat_map (lines_visited begun) ms) ≤ 2 * length ms
@@ -188,10 +189,10 @@ module _ (table : Collation) (w : IsWellFormed table) (notes : List (List ℕ)) 
       let whole : List (List ℕ) = opening_lines ++ (body ++ last ∷ []) in
       let parts : bytes_of whole ≡ bytes_of opening_lines ++ (bytes_of body ++ encode_utf8_all last ∷ []) =
       map-append encode_utf8_all opening_lines (body ++ last ∷ []) ∙ ap (λ back. bytes_of opening_lines ++ back) (map-append encode_utf8_all body (last ∷ [])) in
-      let last_in_line : All IsInLine (encode_utf8_all last ∷ []) = All-cons IsInLine (encode_utf8_all last) [] (says_in_line last line.EndCategory category_end_says) (All-nil IsInLine) in
+      let last_in_line : All IsInLine (encode_utf8_all last ∷ []) = All-cons IsInLine (encode_utf8_all last) [] (says_in_line table_line last line.EndCategory category_end_says) (All-nil IsInLine) in
       let in_lines : All IsInLine (bytes_of opening_lines ++ (bytes_of body ++ encode_utf8_all last ∷ [])) =
       All-append IsInLine (bytes_of opening_lines) (bytes_of body ++ encode_utf8_all last ∷ []) opening_in_line
-      (All-append IsInLine (bytes_of body) (encode_utf8_all last ∷ []) (say_in_line body (said notes begins table) body_says) last_in_line) in
+      (All-append IsInLine (bytes_of body) (encode_utf8_all last ∷ []) (say_in_line table_line body (said notes begins table) body_says) last_in_line) in
       let lines : lines_of (flat_map line_bytes whole) ≡ bytes_of opening_lines ++ (bytes_of body ++ encode_utf8_all last ∷ []) =
       lines_of_feeds whole (subst (All IsInLine) (sym parts) in_lines) ∙ parts in
       let decides = lines_decide table [] 3 body (said notes begins table) last body_says category_end_says (said_leads table w notes begins form.leads 4) body_is_short in
@@ -224,7 +225,7 @@ canonical_form : (table : Collation) → IsForm table [] begun (λ name. line.Se
 unfolding SayAll
 canonical_form table = record {
   notes_say = tt;
-  begun_say = λ name is. say_one (visited_line (VisitedSection name)) (line.Section name) (section_says name is);
+  begun_say = λ name is. say_one table_line (visited_line (VisitedSection name)) (line.Section name) (section_says name is);
   leads = section_begins table.rules;
   few_notes = omega arith;
   few_begun = λ name. omega arith;
