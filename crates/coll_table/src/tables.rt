@@ -207,13 +207,7 @@ impl Table {
         ensures errors { CountsErr (W.failed out.old) (W.failed out.new) result }
     {
         self.lemma_well_formed();
-        write_exported(
-            out,
-            self.rules(),
-            self.declared(),
-            self.walk(),
-            self.walk(),
-        )
+        write_exported(out, self.rules(), self.declared(), self.walk(), self.walk())
     }
 
     /// The number of ring steps that its changes have taken, modulo 2 to the power 64.
