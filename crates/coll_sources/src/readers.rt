@@ -27,6 +27,7 @@ use coll_syntax::{Id, SyntaxFault, characters, copied_name, id_of, is_word};
 use coll_texts::{LoadCause, LoadFault};
 use indexmap::IndexSet;
 use std::alloc::{AllocError, Global};
+use std::marker::Model;
 
 // Most bytes of all lines that are read, line feeds included.
 const MOST_BYTES: usize = 67_108_864;
@@ -108,7 +109,27 @@ pub struct SourceReader {
     alloc: Global,
 }
 
+impl Model for SourceReader {
+    ghost use Rattle.std.specs.Prelude.{map, string_bytes, vec_len};
+    ghost use Rattle.coll_sources.specs.Readers.{ReaderValue};
+
+    ghost Value = { ReaderValue };
+
+    ghost view = { λ r. record {
+      names = map string_bytes r.names.keys;
+      held = vec_len r.texts;
+      defined = map string_bytes r.defined.keys;
+      lines = r.lines.items;
+      report = r.report;
+    } };
+}
+
 impl SourceReader {
+    ghost use Rattle.std.specs.Prelude.{◌≡◌, ◌∷◌, [], length, IfOk, option_map, slice_get};
+    ghost use Rattle.coll_sources.specs.Readers.{is_defined};
+    ghost use Rattle.coll_sources.specs.declared.source_faults.SourceCause.TheVariants.{Load};
+    ghost use Rattle.coll_texts.specs.declared.load_faults.LoadCause.TheVariants.{ReadFault};
+
     /// A reader of such a source, which wants the text of this name, where these names are defined.
     pub fn new(
         alloc: Global,
@@ -116,7 +137,10 @@ impl SourceReader {
         kind: SourceKind,
         source: &str,
         defined: &[&str],
-    ) -> Result<SourceReader, AllocError> {
+    ) -> Result<SourceReader, AllocError>
+        ensures wants { IfOk result (λ reader. reader.names ≡ source.now ∷ []) }
+        ensures first { IfOk result (λ reader. reader.held ≡ 0) }
+    {
         let mut names = IndexSet::with_hasher(alloc, keys);
         names.insert(String::from_str(alloc, source)?)?;
         let mut all = IndexSet::with_hasher(alloc, keys);
@@ -140,7 +164,9 @@ impl SourceReader {
     }
 
     /// The names of the texts, in the order in which they were wanted: a place tells its text by its number here.
-    pub fn text_name(&self, text: usize) -> Option<&str> {
+    pub fn text_name(&self, text: usize) -> Option<&str>
+        ensures { option_map (λ name. name.now) result ≡ slice_get self.now.names text }
+    {
         match self.names.get_index(text) {
             Some(name) => Some(name.as_str()),
             None => None,
@@ -148,12 +174,16 @@ impl SourceReader {
     }
 
     /// The name of the text that is wanted, if one is.
-    pub fn wanted(&self) -> Option<&str> {
+    pub fn wanted(&self) -> Option<&str>
+        ensures { option_map (λ name. name.now) result ≡ slice_get self.now.names self.now.held }
+    {
         self.text_name(self.texts.len())
     }
 
     /// Whether a name is defined, by the texts read so far or from the start.
-    pub fn defines(&self, name: &str) -> bool {
+    pub fn defines(&self, name: &str) -> bool
+        ensures { result ≡ is_defined self.now name.now }
+    {
         self.defined.contains(name)
     }
 
@@ -176,7 +206,9 @@ impl SourceReader {
     }
 
     // A line of the text that is wanted.
-    fn wanted_at(&self, line: u32) -> SourcePlace {
+    fn wanted_at(&self, line: u32) -> SourcePlace
+        ensures { result ≡ record { text = self.now.held; line = line } }
+    {
         SourcePlace {
             text: self.texts.len(),
             line,
@@ -192,7 +224,9 @@ impl SourceReader {
     }
 
     /// The fault where the text that is wanted can't be read.
-    pub fn unread(&self) -> SourceFault {
+    pub fn unread(&self) -> SourceFault
+        ensures { result ≡ record { place = record { text = self.now.held; line = 0 }; cause = Load ReadFault } }
+    {
         self.wanted_at(0).load_fault(LoadCause::ReadFault)
     }
 
@@ -248,7 +282,10 @@ impl SourceReader {
     }
 
     /// What the source says, and what is told of it, once no text is wanted any more.
-    pub fn into_parts(self) -> (Vec<SourceLine>, Report) {
+    pub fn into_parts(self) -> (Vec<SourceLine>, Report)
+        ensures lines { result.0.items ≡ self.lines }
+        ensures report { result.1 ≡ self.report }
+    {
         let SourceReader { lines, report, .. } = self;
         (lines, report)
     }
