@@ -1,4 +1,4 @@
-use Rattle.std.proofs.Common.{◌≡◌, ◌-◌, ◌++◌, chars, string_bytes, arith}
+use Rattle.std.proofs.Common.{◌-◌, chars, string_bytes, arith}
 use Rattle.std.proofs.lemmas.Str.{IsUtf8-string_bytes}
 use Rattle.std.proofs.lemmas.List.{append_assoc}
 use Rattle.coll_lex.proofs.TextLemmas.{chars_push}

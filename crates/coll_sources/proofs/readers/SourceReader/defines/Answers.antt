@@ -1,4 +1,4 @@
-use Rattle.std.proofs.Common.{◌≡◌, ◌∙◌, sym, string_bytes}
+use Rattle.std.proofs.Common.{◌∙◌, sym, string_bytes}
 use Rattle.std.specs.Str.{bytes_eq}
 use Rattle.coll_sources.proofs.AnyLemmas.{any_made}
 use Rattle.coll_sources.proofs.readers.SourceReader.defines.Goals as goal
