@@ -1,5 +1,6 @@
 pub mod CopyLines
 pub mod DeltaSays
+pub mod LineCounts
 pub mod ReadFiles
 pub mod SaidRequests
 pub mod TextParts

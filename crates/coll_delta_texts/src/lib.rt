@@ -4,13 +4,15 @@
 //! each file with its definitions in `specs/`:
 //!
 //! - `delta_texts`: the whole text (`DeltaText`), and the law that it says just these statements (`ReadBack`);
-//! - `writable`: what it can be written of, so that this holds (`Writable`).
+//! - `writable` and `line_counts`: what it can be written of, so that this holds (`Writable`).
 //!
 //! How a statement is spelled is `StatementText` of `coll_texts`, and how a delta file is read `DeltaFiles` of `coll_requests`.
 #![tactic(auto)]
 
 mod delta_texts;
+mod line_counts;
 mod writable;
 
 pub use delta_texts::{write_delta, written_deltas_are_read_back};
+pub use line_counts::has_few_lines;
 pub use writable::{MOST_COPY_CHARS, is_copy_name, is_writable};
