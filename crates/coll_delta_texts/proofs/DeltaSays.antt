@@ -1,9 +1,9 @@
 -- Each line of a delta file is read as what it says.
-use Rattle.std.proofs.Common.{◌≡◌, ℕ, ◌+◌, ◌*◌, ◌<◌, ◌≤◌, Bool, true, false, List, [], ◌∷◌, ◌++◌, All, length, map, codes, Option, Some, None, Ok, ap, subst, ◌∙◌, refl, sym, arith}
+use Rattle.std.proofs.Common.{◌≡◌, ℕ, ◌+◌, ◌<◌, ◌≤◌, false, List, [], ◌∷◌, ◌++◌, All, length, map, codes, Option, Some, None, Ok, ap, ◌∙◌, refl, arith}
 use Rattle.std.specs.List.{flat_map}
 use lib.Utf8.{encode}
 use Rattle.std.proofs.lemmas.List.{length-append}
-use Rattle.std.proofs.lemmas.List.Elements.{All-nil, All-cons, All-head, All-tail}
+use Rattle.std.proofs.lemmas.List.Elements.{All-head, All-tail}
 use Rattle.coll_lex.specs.Blanks.{past_blanks}
 use Rattle.coll_lex.specs.Directives.{operand_of, directive}
 use Rattle.coll_lex.specs.Names.{IsName}
@@ -15,7 +15,7 @@ use Rattle.coll_syntax.specs.DeltaLines.{delta_line, begun_row}
 use Rattle.coll_syntax.specs.Keywords.{keyword_of}
 use Rattle.coll_syntax.specs.Operands.{and_then, read_as, ended, wanted}
 use Rattle.coll_syntax.specs.OrderLines.{weighted}
-use Rattle.coll_syntax.specs.Proper.{IsId, IsElementText, IsProperWeight, AreProperWeights, IsProperLine}
+use Rattle.coll_syntax.specs.Proper.{IsId, IsElementText, AreProperWeights, IsProperLine}
 use Rattle.coll_syntax.specs.declared.lines.DeltaLine.{DeltaLine}
 use Rattle.coll_syntax.specs.declared.lines.DeltaLine.TheVariants as line
 use Rattle.coll_syntax.specs.declared.identifiers.Id.{Id}
@@ -29,13 +29,13 @@ use Rattle.coll_nodes.specs.declared.declarations.Declaration.TheVariants as dec
 use Rattle.coll_texts.specs.CanonicalText.{spelled_id, declaration_line}
 use Rattle.coll_texts.specs.StatementText.{given_behind, order_line, target_line, section_after_line, statement_lines}
 use Rattle.coll_texts.proofs.PrintedSpellings.{is_clean, is_letter, spells_word, spells_id}
-use Rattle.coll_texts.proofs.PrintedTokens.{tokens_behind, tokens_joined, id_token, names_tokens, weight_tokens, own_read, weight_read}
+use Rattle.coll_texts.proofs.PrintedTokens.{tokens_behind, tokens_joined, id_token, weight_tokens, own_read, weight_read}
 use Rattle.coll_texts.proofs.PrintedTokens.{weights_are_read, some_weights, id_is_read, id_begins_order, weights_behind_id, element_is_read}
 use Rattle.coll_texts.proofs.PrintedLines.{IsLine, SaysTo, line_from, spells_begun, spells_names_apart, symbol_is_line, element_is_line, equivalence_is_line}
 use Rattle.coll_texts.proofs.PrintedLines.{id_is_line, weighted_is_line, category_end_is_line}
 use Rattle.coll_texts.proofs.PrintedReading.{SayAll, say_append, say_members, say_one}
 use Rattle.coll_delta_texts.specs.DeltaText.{copy_line}
-use Rattle.coll_delta_texts.specs.Writable.{is_own_alone, AreGiven, GivesWeights, GivesAllWeights, IsWritable, IsCopyName}
+use Rattle.coll_delta_texts.specs.Writable.{is_own_alone, AreGiven, GivesWeights, IsWritable, IsCopyName}
 use Rattle.coll_delta_texts.proofs.CopyLines.{copy_is_line}
 
 -- a line that says this to the grammar of deltas

@@ -1,16 +1,16 @@
 -- A delta file that is written is read as its statements.
-use Rattle.std.proofs.Common.{◌≡◌, ℕ, suc, ◌+◌, ◌<◌, ◌≤◌, true, false, List, [], ◌∷◌, ◌++◌, length, map, codes, None, Ok, sym, ap, subst, ◌∙◌, refl, arith}
+use Rattle.std.proofs.Common.{◌≡◌, ℕ, suc, ◌+◌, ◌<◌, ◌≤◌, true, List, [], ◌∷◌, ◌++◌, length, map, codes, None, sym, ap, subst, ◌∙◌, refl, arith}
 use Rattle.std.specs.Prelude.{All, encode_utf8_all}
 use Rattle.std.specs.List.{flat_map}
 use Rattle.std.proofs.lemmas.List.{map-append}
-use Rattle.std.proofs.lemmas.List.Elements.{All-nil, All-cons, All-append}
+use Rattle.std.proofs.lemmas.List.Elements.{All-append}
 use lib.Utf8.{encode}
 use Rattle.coll_devices.specs.PhysicalLines.{IsInLine, lines_of, without_return}
 use Rattle.coll_lex.specs.Blanks.{past_blanks}
 use Rattle.coll_lex.specs.Category.{begins_category}
 use Rattle.coll_lex.specs.Directives.{operand_of, named_character, directive}
 use Rattle.coll_lex.specs.Limits.{most_lines}
-use Rattle.coll_lex.specs.LogicalLines.{outside, first_line, logical_lines, first_state}
+use Rattle.coll_lex.specs.LogicalLines.{outside, first_line, logical_lines}
 use Rattle.coll_syntax.specs.DeltaLines.{delta_line}
 use Rattle.coll_syntax.specs.declared.lines.DeltaLine.{DeltaLine}
 use Rattle.coll_syntax.specs.declared.lines.DeltaLine.TheVariants as line
@@ -19,7 +19,7 @@ use Rattle.coll_requests.specs.SessionLines.{opening_of, delta_parsed, tokens_pa
 use Rattle.coll_requests.specs.DeltaFiles.{DeltaOutcome, Ended, outcome_within, outcome_before, delta_outcome, fault_at_end, delta_requests}
 use Rattle.coll_requests.specs.declared.delta_files.StatementAt.{StatementAt}
 use Rattle.coll_requests.specs.declared.session_lines.ParsedLine.{ParsedLine}
-use Rattle.coll_texts.specs.CanonicalText.{opening_lines, line_bytes}
+use Rattle.coll_texts.specs.CanonicalText.{opening_lines}
 use Rattle.coll_texts.specs.StatementText.{statement_lines}
 use Rattle.coll_texts.proofs.PrintedTexts.{lexer_at}
 use Rattle.coll_texts.proofs.PrintedReading.{bytes_of, logical_line, SayAll, say_append, say_one, say_in_line, lines_of_feeds}
