@@ -9,7 +9,8 @@ nothing that is lost, and the table has to load with as many entries and declara
 file over the common table, and has to be accepted, or refused with the number of REFUSED. Then random words are put into the order of
 their sort keys, of many scripts' characters and, for a tailoring, of those that it names: each two neighbours, and 20,000 other pairs,
 have to stand as `strcoll` says under the locale that `localedef` compiles of the same source. Of UNLIKE, some stand otherwise, and it is
-told how many. The last line is 'N passed, M failed', and the status is 1 where one failed.
+told how many. Each table is exported as well: `localedef` has to compile it without a word, and the same pairs to stand so under that
+locale. The last line is 'N passed, M failed', and the status is 1 where one failed.
 """
 
 import functools
@@ -48,6 +49,8 @@ REFUSED = {
 }
 # Tailorings of which a few pairs of words stand otherwise: words with marks that combine with letters, where there is none.
 UNLIKE = {"ig_NG", "nan_TW@latin", "yi_US", "yo_NG"}
+# The categories of a locale beside its order.
+OTHERS = "IDENTIFICATION CTYPE MONETARY NUMERIC TIME MESSAGES PAPER NAME ADDRESS TELEPHONE MEASUREMENT".split()
 # What is run under the locale: it reads pairs of words, and writes -1, 0 or 1 for each.
 STRCOLL = """
 import locale, sys
@@ -101,6 +104,27 @@ def differing(program, table, locale, pools, room):
     return [(a, b) for (a, b), order in zip(pairs, found) if order != (keys[a] > keys[b]) - (keys[a] < keys[b])]
 
 
+def exported(program, table, room):
+    """Exports a table into a source of a locale, and returns its path, and what `localedef` says against it."""
+    source = f"{room}/exported"
+    with open(source, "w", encoding="utf-8") as out:
+        subprocess.run([program, "export", table], stdout=out, stderr=subprocess.DEVNULL, check=True)
+        out.writelines(f'LC_{name}\ncopy "en_US"\nEND LC_{name}\n' for name in OTHERS)
+    ran = subprocess.run(["localedef", "-i", source, "-f", "UTF-8", f"{room}/exported.UTF-8"], capture_output=True, check=False)
+    return source, ran.stderr.decode()[:300] or ran.returncode
+
+
+def unlike(program, table, locale, pools, room):
+    """Returns the pairs of words whose order in a table isn't the system's under a locale, or under its own export, and what `localedef` says
+    against that."""
+    source, refused = exported(program, table, room)
+    if refused:
+        return [], f"its export is refused: {refused}"
+    pairs = differing(program, table, locale, pools, room) if locale else []
+    again = differing(program, table, source, pools, room) if pools else []
+    return pairs, f"{len(again)} pairs of words stand otherwise in its export, as {again[0]}" if again else None
+
+
 def imported(program, name, room):
     """Imports a source, and returns its table, and why it isn't as wanted, if it isn't."""
     locale, wanted, pools = SOURCES[name]
@@ -112,8 +136,8 @@ def imported(program, name, room):
     counted = subprocess.run([program, "check", table], capture_output=True, check=False).stdout.decode()
     if counted != f"table {wanted}\n":
         return table, f"{counted!r}, and not {wanted}"
-    unlike = differing(program, table, locale, pools, room) if locale else []
-    return table, f"{len(unlike)} pairs of words stand otherwise, as {unlike[0]}" if unlike else None
+    pairs, why = unlike(program, table, locale, pools, room)
+    return table, f"{len(pairs)} pairs of words stand otherwise, as {pairs[0]}" if pairs else why
 
 
 def tailorings():
@@ -137,10 +161,10 @@ def refusal(program, common, name, named, room):
         return f"{found}, and not {REFUSED.get(name, 0)}"
     if found:
         return None
-    unlike = differing(program, table, name, [*COMMON, named] if named else COMMON, room)
-    if unlike:
-        print(f"{name}: {len(unlike)} pairs of words stand otherwise, as {unlike[0]}", flush=True)
-    return None if bool(unlike) == (name in UNLIKE) else f"{len(unlike)} pairs of words stand otherwise"
+    pairs, why = unlike(program, table, name, [*COMMON, named] if named else COMMON, room)
+    if pairs:
+        print(f"{name}: {len(pairs)} pairs of words stand otherwise, as {pairs[0]}", flush=True)
+    return why if bool(pairs) == (name in UNLIKE) else f"{len(pairs)} pairs of words stand otherwise"
 
 
 def main():
