@@ -365,21 +365,24 @@ def same(one, other):
         return first.read() == second.read()
 
 
-def some(names):
-    """Returns some of a few names, and how many there are beyond them."""
-    more = [f"{len(names) - 3} others"] if len(names) > 4 else []
-    return ", ".join([f"`{name}`" for name in names[: 3 if more else 4]] + more)
-
-
 def print_table(program, names, room):
-    """Prints what was adjusted in each tailoring."""
-    tables, copied_by = Tables(program, room), copying()
-    print("| Tailoring | Copied alone by | Adjusted | Lost |\n|---|---|---|---|")
+    """Prints what was adjusted in the tailorings, those alike in one row, and which sources copy them alone."""
+    tables, copied_by, alike = Tables(program, room), copying(), collections.defaultdict(list)
     for name in names or tailorings():
         kinds, lost = adjusted(written(program, "import-delta", tables.below(name), f"{FOLDER}/{name}", to=f"{room}/delta.txt"))
-        told = ", ".join(f"{kind} {count}" for kind, (_, count) in kinds.items() if kind != "CopyKept")
-        losses = ", ".join(f"{kind} {count}" for kind, count in lost.items())
-        print(f"| `{name}` | {some(copied_by[name])} | {told} | {losses} |")
+        told = ", ".join(f"{kind} {count}" for kind, (_, count) in kinds.items())
+        alike[told + "".join(f"; lost: {kind} {count}" for kind, count in lost.items())].append(name)
+    print("| Tailorings | What is told |\n|---|---|")
+    for told, of in sorted(alike.items(), key=lambda row: -len(row[1])):
+        print(f"| {', '.join(map(shown, of))} | {told} |")
+    print("\n| Tailoring | Copied alone by |\n|---|---|")
+    for name in sorted(copied_by):
+        print(f"| {shown(name)} | {', '.join(map(shown, copied_by[name]))} |")
+
+
+def shown(name):
+    """Returns a name as documents show it."""
+    return f"`{name}`"
 
 
 def seconds(program, *words):
