@@ -37,7 +37,7 @@ fn behind_character(walk: Walk<'_>) -> Walk<'_>
     ensures { result ≡ stated_behind walk.entry }
 {
     let mut left = walk;
-    'before: while let Some(item) = left.next() {
+    'skipped: while let Some(item) = left.next() {
         if visits_character(item) {
             return left;
         }

@@ -7,8 +7,8 @@ use Rattle.coll_bench.proofs.exports.behind_character.Goals as goal
 
 pub returns-then-visits_character : goal.returns-then-visits_character
 returns-then-visits_character c =
-    sym (sym c.before.invariant ∙ at_character c.before.left c.next.new.self (visited_by c.in-Some.item) c.in-Some.ensures.steps (sym c.visits_character.ensures ∙ c.if-visits_character.true))
+    sym (sym c.skipped.invariant ∙ at_character c.skipped.left c.next.new.self (visited_by c.in-Some.item) c.in-Some.ensures.steps (sym c.visits_character.ensures ∙ c.if-visits_character.true))
 
-pub before-preserved : goal.before-preserved
-before-preserved c =
-    before_character c.before.left c.next.new.self (visited_by c.in-Some.item) c.in-Some.ensures.steps (sym c.visits_character.ensures ∙ c.if-visits_character.false) ∙ c.before.invariant
+pub skipped-preserved : goal.skipped-preserved
+skipped-preserved c =
+    before_character c.skipped.left c.next.new.self (visited_by c.in-Some.item) c.in-Some.ensures.steps (sym c.visits_character.ensures ∙ c.if-visits_character.false) ∙ c.skipped.invariant

@@ -3,5 +3,5 @@ use Rattle.std.proofs.Common.{◌≡◌}
 use Rattle.coll_bench.specs.Exports.{behind_character}
 use Rattle.coll_bench.proofs.exports.behind_character.Given as goal
 
-abbrev pub invariant-before : goal.invariant-before
-invariant-before l = behind_character l.left ≡ behind_character l.initial.left
+abbrev pub invariant-skipped : goal.invariant-skipped
+invariant-skipped l = behind_character l.left ≡ behind_character l.initial.left
