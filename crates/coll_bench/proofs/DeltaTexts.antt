@@ -1,18 +1,19 @@
 -- A delta file that is read line by line: what is known of it after some lines, and what each end of the reading says of it.
 use Rattle.std.proofs.Common.{◌≡◌, ℕ, Bool, true, false, List, [], ◌∷◌, ◌++◌, length, Option, Some, None, Result, Ok, Err, ◌⊎◌}
 use Rattle.std.proofs.Common.{⊎_elim, inl, inr, sym, ap, subst, ◌∙◌, refl, arith, append_assoc}
-use Rattle.std.specs.Prelude.{◌+◌, if◌then◌else◌, option_map, IfErr, OnOk}
+use Rattle.std.specs.Prelude.{◌+◌, option_map, IfErr, OnOk}
 use Rattle.coll_devices.specs.LineReading.{ReaderState, no_line, Advances, GivesLine, GivesEnd, EndsAgain, StopsNow, StopsAgain}
+use Rattle.coll_lex.specs.EarlyEnds.{ends_at}
 use Rattle.coll_lex.specs.LogicalLines.{OpenLine, number_of}
 use Rattle.coll_devices.specs.PhysicalLines.{lines_of}
 use Rattle.coll_devices.specs.declared.stops.ReadStop.{ReadStop}
 use Rattle.coll_devices.specs.declared.stops.ReadStop.TheVariants as stop
 use Rattle.coll_nodes.specs.Table.{Collation}
 use Rattle.coll_table.proofs.TextSteps.{ReadSoFar, gives_first, stops_long, none_given, cut_behind, said_ahead, said_before, read_on, said_at_end, all_counted}
-use Rattle.coll_requests.specs.DeltaFiles.{DeltaOutcome, at_line, after_statements, delta_outcome}
+use Rattle.coll_requests.specs.DeltaFaults.{early_fault}
+use Rattle.coll_requests.specs.DeltaFiles.{DeltaOutcome, after_statements, delta_outcome}
 use Rattle.coll_requests.specs.DeltaReading.{DeltaState, Step, first_delta, delta_line, early_end, delta_end}
 use Rattle.coll_requests.specs.Requests.{BlockLines}
-use Rattle.coll_requests.specs.declared.delta_faults.DeltaCause.TheVariants.{NoCategory, NoEnd}
 use Rattle.coll_requests.specs.declared.delta_faults.DeltaFault.{DeltaFault}
 use Rattle.coll_requests.specs.declared.delta_files.StatementAt.{StatementAt}
 use Rattle.coll_requests.proofs.DeltaSteps.{outcome_from, StandsAfter, CountsOne, stands_first}
@@ -235,7 +236,7 @@ module _ (input : ℕ) (first : Collation) where
           λ text e. subst (λ (ended : RunFault). DeltaFails (ending_of ended) input first text left_after ended) same
           (subst (λ (kind : Ending). DeltaFails kind input first text left_after (delta_fault_in input f)) (sym (early_kind s.lexer.line)) (all_read ends text e))
         where
-          by_begun : (begun : Bool) → ending_of (delta_fault_in input (at_line s.lexer.count (if begun then NoEnd else NoCategory))) ≡ Refused
+          by_begun : (begun : Bool) → ending_of (delta_fault_in input (early_fault (ends_at begun s.lexer.count None))) ≡ Refused
           by_begun true = refl
           by_begun false = refl
 
