@@ -202,4 +202,4 @@ output_input count (Err ended) first = omega (arith, first)
 -- what holds of a value holds of an answer that has it
 pub given_holds : {T E : Type 0} (P : T → Type 0) (value : T) (r : Result T E) → IfOk r (λ given. given ≡ value) → P value → IfOk r P
 given_holds P value (Ok given) same h = subst P (sym same) h
-given_holds P value (Err e) same h = h
+given_holds P value (Err e) same h = tt
