@@ -1,1 +1,2 @@
+mod LineCountLemmas
 mod RewritingLemmas

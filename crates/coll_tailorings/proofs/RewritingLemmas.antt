@@ -23,9 +23,14 @@ unfolding rewritten
 one_more (Ok t) after h = h
 one_more (Err f) after h = h
 
+-- where nothing is added, nothing changes
+pub leads_on_still : (given : List Statement) (table after : Collation) → after ≡ table → LeadsOn given table given after
+unfolding LeadsOn
+leads_on_still given table after same start leads = leads ∙ sym (ap Ok same)
+
 pub leads_on_by_one : (given : List Statement) (table : Collation) (s : Statement) (after : Collation)
     → delta table s ≡ Ok after → LeadsOn given table (given ++ s ∷ []) after
-unfolding rewritten
+unfolding LeadsOn
 leads_on_by_one given table s after accepted start leads =
     rewritten-append start given (s ∷ [])
     ∙ ap (λ r. and_then r (λ u. rewritten u (s ∷ []))) leads

@@ -1,1 +1,2 @@
+pub mod LineCounts
 pub mod Rewriting

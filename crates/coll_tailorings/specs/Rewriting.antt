@@ -1,5 +1,6 @@
 -- What statements make of a table, one after another (the project's own).
-use Rattle.std.specs.Prelude.{◌≡◌, List, [], ◌∷◌, Result, Ok, Err}
+use Rattle.std.specs.Prelude.{◌≡◌, ◌×◌, Bool, true, false, List, [], ◌∷◌, Result, Ok, Err}
+use Rattle.std.specs.Result.{IsErr}
 use Rattle.coll_syntax.specs.declared.statements.Statement.{Statement}
 use Rattle.coll_nodes.specs.Table.{Collation}
 use Rattle.coll_table.specs.Delta.{delta}
@@ -16,5 +17,10 @@ rewritten table [] = Ok table
 rewritten table (statement ∷ later) = and_then (delta table statement) (λ after. rewritten after later)
 
 -- whatever table some statements rewrite to one table, others rewrite it to another one
-abbrev pub LeadsOn : (statements : List Statement) → Collation → (more : List Statement) → Collation → Type 0
+unfoldable pub LeadsOn : (statements : List Statement) → Collation → (more : List Statement) → Collation → Type 0
 LeadsOn statements table more after = (start : Collation) → rewritten start statements ≡ Ok table → rewritten start more ≡ Ok after
+
+-- what a table answers to a statement: it accepts it, and is rewritten, or it refuses it, and stays
+abbrev pub Answers : (accepted : Bool) → Collation → Statement → (after : Collation) → Type 0
+Answers true table statement after = delta table statement ≡ Ok after
+Answers false table statement after = IsErr (delta table statement) × (after ≡ table)

@@ -1,60 +1,145 @@
 //! Statements, put to a table one after another.
 //!
-//! What is kept is what the table accepted, and nothing else: it was rewritten by these statements, in their order. All that this crate
-//! promises of a table is shown here; how statements are made may change without a clause here.
+//! What is kept is what the table accepted, and nothing else: it was rewritten by these statements, in their order. They can be written
+//! as a delta file, and have no more lines there than a text may have. All that this crate promises of a table is shown here; how
+//! statements are made may change without a clause here.
 
-ghost use Rattle.std.specs.Prelude.{◌≡◌, All, Ok, IfOk, OnOk};
+ghost use Rattle.std.specs.Prelude.{◌≡◌, ◌≢◌, ◌≤◌, ◌+◌, All, Ok, IfOk, OnOk, IfNone, length};
+ghost use Rattle.coll_lex.specs.Limits.{most_lines};
 ghost use Rattle.coll_nodes.specs.TableLayout.{collation};
-ghost use Rattle.coll_syntax.specs.Proper.{IsProper};
-ghost use Rattle.coll_tailorings.specs.Rewriting.{rewritten, LeadsOn};
+ghost use Rattle.coll_delta_texts.specs.Writable.{IsWritable};
+ghost use Rattle.coll_table.specs.declared.refusals.Refusal.TheVariants.{OutOfMemory};
+ghost use Rattle.coll_texts.specs.StatementText.{statement_lines};
+ghost use Rattle.coll_tailorings.specs.LineCounts.{line_count as lines_of_all};
+ghost use Rattle.coll_tailorings.specs.Rewriting.{Answers, LeadsOn, rewritten};
 
+use coll_delta_texts::is_writable;
 use coll_import::{SourceStatement, lose_statement};
-use coll_sources::{Report, SourceFault};
+use coll_lex::{LexFault, MOST_LINES};
+use coll_sources::{Report, SourceFault, SourcePlace};
 use coll_syntax::Statement;
 use coll_table::{Refusal, Table};
 use coll_texts::LoadCause;
 use std::alloc::Global;
 
 /// Puts statements to a table, and answers those that it accepted, in their order. Another one is left out, which is told.
+///
+/// A delta file has so many lines beside those of the statements; one of more lines than a text may have is refused.
 pub(crate) fn put_all(
     alloc: Global,
     table: &mut Table,
     made: Vec<SourceStatement>,
+    others: usize,
     report: &mut Report,
 ) -> Result<Vec<Statement>, SourceFault>
     ensures rewritten { IfOk result (λ kept. rewritten (collation table.old) kept.items ≡ Ok (collation table.new)) }
-    ensures proper { IfOk result (λ kept. All IsProper kept.items) }
+    ensures writable { IfOk result (λ kept. All IsWritable kept.items) }
+    ensures few { IfOk result (λ kept. others + lines_of_all kept.items ≤ most_lines) }
 {
+    if others > MOST_LINES as usize {
+        return Err(too_many(SourcePlace { text: 0, line: 0 }));
+    }
+    let mut lines = others;
     let mut kept = Vec::new(alloc);
     for statement in made {
-        put(table, &mut kept, statement, report)?;
+        lines = put(table, &mut kept, lines, statement, report)?;
     }
     Ok(kept)
 }
 
-// Puts a statement to a table, and keeps it behind all others where it is accepted. One that is beyond the limits of the language, or
-// refused, is told.
+// Puts a statement to a table, and keeps it behind all others where it is accepted. The answer is the number of lines, that of its
+// own added where it is kept. One that can't be written, or is refused, is told.
 fn put(
     table: &mut Table,
     kept: &mut Vec<Statement>,
+    lines: usize,
     made: SourceStatement,
     report: &mut Report,
-) -> Result<(), SourceFault>
+) -> Result<usize, SourceFault>
+    requires few { lines ≤ most_lines }
     ensures rewritten { OnOk result (LeadsOn kept.old.items (collation table.old) kept.new.items (collation table.new)) }
-    ensures proper { All IsProper kept.old.items → OnOk result (All IsProper kept.new.items) }
+    ensures writable { All IsWritable kept.old.items → OnOk result (All IsWritable kept.new.items) }
+    ensures counted { IfOk result (λ after. after + lines_of_all kept.old.items ≡ lines + lines_of_all kept.new.items) }
+    ensures few { IfOk result (λ after. after ≤ most_lines) }
 {
     let SourceStatement { place, statement } = made;
-    if !statement.is_proper() {
+    if !is_writable(&statement) {
         lose_statement(place, &statement, report)?;
-        return Ok(());
+        drop(statement);
+        return Ok(lines);
     }
-    match table.apply(&statement) {
-        Ok(_) => {
-            kept.push(statement)?;
-            Ok(())
-        }
-        Err(Refusal::Full) => Err(place.load_fault(LoadCause::Full)),
-        Err(Refusal::OutOfMemory) => Err(place.load_fault(LoadCause::OutOfMemory)),
-        Err(_) => lose_statement(place, &statement, report),
+    let after = lines + line_count(&statement);
+    if after > MOST_LINES as usize {
+        drop(statement);
+        return Err(too_many(place));
     }
+    if !is_accepted(table, place, &statement)? {
+        lose_statement(place, &statement, report)?;
+        drop(statement);
+        return Ok(lines);
+    }
+    kept.push(statement)?;
+    Ok(after)
+}
+
+// How many lines a statement has.
+fn line_count(statement: &Statement) -> usize
+    requires { IsWritable statement.now }
+    ensures count { result ≡ length (statement_lines statement.now) }
+    ensures few { result ≤ 4098 }
+{
+    match statement {
+        Statement::Block { target: _, lines } => lines.get().len() + 2,
+        Statement::Symbol(_) => 1,
+        Statement::Element { .. } => 1,
+        Statement::Equivalence { .. } => 1,
+        Statement::SectionAfter { .. } => 1,
+        Statement::Reweight(_) => 1,
+    }
+}
+
+// Whether a table accepts a statement, by which it is rewritten then. A table that is full is a fault.
+fn is_accepted(
+    table: &mut Table,
+    place: SourcePlace,
+    statement: &Statement,
+) -> Result<bool, SourceFault>
+    requires { IsWritable statement.now }
+    ensures { IfOk result (λ accepted. Answers accepted (collation table.old) statement.now (collation table.new)) }
+{
+    match table.apply(statement) {
+        Ok(_) => Ok(true),
+        Err(refusal) => match fault_of(refusal) {
+            Some(cause) => Err(place.load_fault(cause)),
+            None => Ok(false),
+        },
+    }
+}
+
+// The fault that a refusal is, if it says that there is no room or no memory.
+fn fault_of(refusal: Refusal) -> Option<LoadCause>
+    ensures { IfNone result (refusal ≢ OutOfMemory) }
+{
+    match refusal {
+        Refusal::Full => Some(LoadCause::Full),
+        Refusal::OutOfMemory => Some(LoadCause::OutOfMemory),
+        Refusal::DeclaredTwice
+        | Refusal::NotDeclared
+        | Refusal::SymbolWithWeights
+        | Refusal::TooManyWeights
+        | Refusal::WeightNotPlaced
+        | Refusal::StringTwice
+        | Refusal::TargetNotPlaced
+        | Refusal::TwiceInBlock
+        | Refusal::NoSuchSection
+        | Refusal::SectionAfterItself
+        | Refusal::NotPlaced
+        | Refusal::NoWeights
+        | Refusal::NotASymbol => None,
+    }
+}
+
+// The fault of a delta file that would have too many lines.
+fn too_many(place: SourcePlace) -> SourceFault {
+    place.load_fault(LoadCause::from(LexFault::TooManyLines))
 }

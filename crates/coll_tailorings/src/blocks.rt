@@ -5,7 +5,6 @@
 //! A rule on what may stand in a block is a case of `in_block`; one on weights belongs to `WeightLookUp`.
 
 use crate::later_weights::{LaterWeights, LineAt};
-use crate::made_statements::MadeStatements;
 use crate::steps::{Step, StepAt};
 use coll_import::{Meanings, SourceStatement, WeightLookUp, proper_line, without_symbol_weights};
 use coll_lex::ListBuf;
@@ -47,7 +46,7 @@ pub(crate) struct Blocks {
     placed: IdSet,
     block: Option<Block>,
     later: LaterWeights,
-    made: MadeStatements,
+    made: Vec<SourceStatement>,
     keys: HashKeys,
     alloc: Global,
 }
@@ -59,7 +58,7 @@ impl Blocks {
         keys: HashKeys,
         known: Known,
         placed: IdSet,
-        made: MadeStatements,
+        made: Vec<SourceStatement>,
     ) -> Blocks {
         Blocks {
             known,
@@ -83,8 +82,7 @@ impl Blocks {
             Step::Order(line) => self.order(place, line, report),
             Step::End => self.close(report),
             Step::SectionAfter { moved, after } => {
-                self.made
-                    .put(place, Statement::SectionAfter { moved, after })
+                Ok(self.make(place, Statement::SectionAfter { moved, after })?)
             }
         }
     }
@@ -101,11 +99,11 @@ impl Blocks {
         for line in later.into_lines() {
             if let Some(LineAt { place, line }) = line {
                 let line = self.look_up(&self.placed).line(place, line, report)?;
-                self.made.put(place, Statement::Reweight(line))?;
+                self.make(place, Statement::Reweight(line))?;
             }
         }
         let Blocks { made, .. } = self;
-        Ok(made.into_statements())
+        Ok(made)
     }
 
     // Takes an order line. One of a block that is left out is passed over.
@@ -120,6 +118,12 @@ impl Blocks {
             Some(_) => self.in_block(place, line, report),
             None => self.outside(place, line, report),
         }
+    }
+
+    // Puts a statement behind all others.
+    fn make(&mut self, place: SourcePlace, statement: Statement) -> Result<(), AllocError> {
+        self.made.push(SourceStatement { place, statement })?;
+        Ok(())
     }
 
     // Weights are looked up in this.
@@ -171,7 +175,7 @@ impl Blocks {
         }
         self.place_all(lines.as_slice())?;
         let lines = self.all_for_now(lines, report)?;
-        self.made.put(place, Statement::Block { target, lines })
+        Ok(self.make(place, Statement::Block { target, lines })?)
     }
 
     // Notes what these lines place.
@@ -313,7 +317,7 @@ impl Blocks {
         report: &mut Report,
     ) -> Result<(), SourceFault> {
         let line = self.for_now(place, line, report)?;
-        self.made.put(place, Statement::Reweight(line))
+        Ok(self.make(place, Statement::Reweight(line))?)
     }
 
     // An order line as a statement may have it, if it is within the limits: weights are what they mean, and name what is placed in the
@@ -332,7 +336,7 @@ impl Blocks {
         proper_line(place, line, report)
     }
 
-    // An order line whose only weight isn't its own: that can't be written, so the identifier stands there.
+    // An order line without a weight that is its own and alone: that can't be written, so the identifier stands in its place.
     fn with_own_spelled(&self, line: OrderLine) -> Result<OrderLine, AllocError> {
         let is_own = match &line.weights {
             Some(weights) => matches!(weights.get(), [Weight::Own]),

@@ -5,15 +5,14 @@
 //! is told, and shown by tests alone. A way through the crate:
 //!
 //! - `steps`: what a tailoring does, with names by their meaning (`Meanings` of coll_import) and ellipses written out;
-//! - `blocks`, with `later_weights` and `made_statements`: the steps, made into statements;
-//! - `accepted_statements`: the statements, put to the table (`Rewriting`);
+//! - `blocks`, with `later_weights`: the steps, made into statements;
+//! - `accepted_statements`: the statements, put to the table (`Rewriting`, `LineCounts`);
 //! - `tailoring`: all of it.
 #![tactic(auto)]
 
 mod accepted_statements;
 mod blocks;
 mod later_weights;
-mod made_statements;
 mod steps;
 mod tailoring;
 

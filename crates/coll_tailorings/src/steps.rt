@@ -39,6 +39,13 @@ pub(crate) struct StepAt {
     pub(crate) step: Step,
 }
 
+/// The name of a table that is tailored, and where it is copied first.
+#[derive(Drop)]
+pub(crate) struct CopyAt {
+    pub(crate) place: SourcePlace,
+    pub(crate) name: TextBuf,
+}
+
 /// All that the lines of a tailoring say.
 #[derive(Drop)]
 pub(crate) struct Stepped {
@@ -47,7 +54,7 @@ pub(crate) struct Stepped {
     /// What the table and all blocks place.
     pub(crate) expected: IdSet,
     /// The names of the tables that are tailored, each once.
-    pub(crate) copies: Vec<TextBuf>,
+    pub(crate) copies: Vec<CopyAt>,
     /// The steps, in their order.
     pub(crate) steps: Vec<StepAt>,
 }
@@ -121,7 +128,7 @@ impl Steps {
             Said::SectionAfter { moved, after } => self.section_after(place, moved, after, report),
             Said::SectionsAfter(after) => self.sections_after(place, after, report),
             Said::SectionsEnd => self.end_sections(place, report),
-            Said::Base(name) => Ok(self.base(name)?),
+            Said::Base(name) => Ok(self.base(place, name)?),
             Said::Unread => self.ellipses.leave(report),
             Said::OrderEnd => self.lose(place, "order_end", report),
             Said::Section(name) => self.lose_section(place, name, report),
@@ -202,12 +209,12 @@ impl Steps {
     }
 
     // `copy` of a table that is tailored. It is kept once.
-    fn base(&mut self, name: TextBuf) -> Result<(), AllocError> {
+    fn base(&mut self, place: SourcePlace, name: TextBuf) -> Result<(), AllocError> {
         if self
             .bases
             .insert(String::from_str(self.alloc, name.get())?)?
         {
-            self.said.copies.push(name)?;
+            self.said.copies.push(CopyAt { place, name })?;
         }
         Ok(())
     }

@@ -2,20 +2,22 @@
 //!
 //! All that a tailoring declares is known before its first order line is looked at, and all that it places before its first weight.
 
-ghost use Rattle.std.specs.Prelude.{◌≡◌, All, Ok, IfOk};
+ghost use Rattle.std.specs.Prelude.{◌≡◌, ◌≤◌, All, Ok, IfOk, length};
+ghost use Rattle.coll_lex.specs.Limits.{most_lines};
 ghost use Rattle.coll_nodes.specs.TableLayout.{collation};
-ghost use Rattle.coll_syntax.specs.Proper.{IsProper};
+ghost use Rattle.coll_delta_texts.specs.DeltaText.{delta_lines};
+ghost use Rattle.coll_delta_texts.specs.Writable.{IsCopyName, IsWritable};
 ghost use Rattle.coll_tailorings.specs.Rewriting.{rewritten};
 
 use crate::accepted_statements::put_all;
 use crate::blocks::{Blocks, Known};
-use crate::made_statements::MadeStatements;
-use crate::steps::{Stepped, Steps};
+use crate::steps::{CopyAt, Stepped, Steps};
+use coll_delta_texts::is_copy_name;
 use coll_import::{Meanings, SourceStatement};
 use coll_lex::TextBuf;
 use coll_lookups::HashKeys;
 use coll_nodes::WalkItem;
-use coll_sources::{Report, SourceFault, SourceLine};
+use coll_sources::{Adjustment, Lost, Report, SourceFault, SourceLine};
 use coll_statements::IdSet;
 use coll_syntax::Statement;
 use coll_table::Table;
@@ -41,11 +43,35 @@ pub fn import_delta(
     report: &mut Report,
 ) -> Result<Tailored, SourceFault>
     ensures rewritten { IfOk result (λ made. rewritten (collation table.old) made.statements.items ≡ Ok (collation table.new)) }
-    ensures proper { IfOk result (λ made. All IsProper made.statements.items) }
+    ensures writable { IfOk result (λ made. All IsWritable made.statements.items) }
+    ensures copies { IfOk result (λ made. All IsCopyName made.copies.items) }
+    ensures few { IfOk result (λ made. length (delta_lines made.copies.items made.statements.items) ≤ most_lines) }
 {
     let (copies, made) = make(alloc, keys, table, lines, report)?;
-    let statements = put_all(alloc, table, made, report)?;
+    let copies = writable_copies(alloc, copies, report)?;
+    // Beside these a delta file has its two directives, and the lines that begin and end its category.
+    let others = copies.len().saturating_add(4);
+    let statements = put_all(alloc, table, made, others, report)?;
     Ok(Tailored { copies, statements })
+}
+
+// The names of copies that can be written. Another one is left out, which is told.
+fn writable_copies(
+    alloc: Global,
+    copies: Vec<CopyAt>,
+    report: &mut Report,
+) -> Result<Vec<TextBuf>, SourceFault>
+    ensures { IfOk result (λ kept. All IsCopyName kept.items) }
+{
+    let mut kept = Vec::new(alloc);
+    for CopyAt { place, name } in copies {
+        if is_copy_name(&name) {
+            kept.push(name)?;
+        } else {
+            report.lose(Adjustment::Dropped, place, Lost::Word(name))?;
+        }
+    }
+    Ok(kept)
 }
 
 // The copies that are kept of a tailoring, and its statements.
@@ -55,7 +81,7 @@ fn make(
     table: &Table,
     lines: Vec<SourceLine>,
     report: &mut Report,
-) -> Result<(Vec<TextBuf>, Vec<SourceStatement>), SourceFault> {
+) -> Result<(Vec<CopyAt>, Vec<SourceStatement>), SourceFault> {
     let meanings = all_meanings(alloc, keys, table, lines.as_slice(), report)?;
     let placed = all_placed(alloc, keys, table)?;
     let said = all_steps(Steps::new(alloc, keys, meanings, placed), lines, report)?;
@@ -109,14 +135,14 @@ fn all_statements(
     placed: IdSet,
     said: Stepped,
     report: &mut Report,
-) -> Result<(Vec<TextBuf>, Vec<SourceStatement>), SourceFault> {
+) -> Result<(Vec<CopyAt>, Vec<SourceStatement>), SourceFault> {
     let Stepped {
         mut meanings,
         expected,
         copies,
         steps,
     } = said;
-    let made = MadeStatements::new(meanings.take_declared(), copies.len());
+    let made = meanings.take_declared();
     let known = Known {
         meanings,
         expected,
