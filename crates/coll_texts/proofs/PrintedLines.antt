@@ -134,7 +134,7 @@ tokens_at_end [] = refl
 tokens_at_end (t ∷ ts) = ap (λ (r : Reading). record { tokens = t ∷ r.tokens; stop = r.stop }) (tokens_at_end ts)
 
 -- a spelling with nothing behind it
-line_from : (f : List ℕ → List ℕ) (t : Token) (ts : List Token) (most : ℕ) → Spells f (t ∷ ts) most → most ≤ 65536 → ((special : Chars) → directive special (encode_utf8_all (f [])) ≡ None)
+pub line_from : (f : List ℕ → List ℕ) (t : Token) (ts : List Token) (most : ℕ) → Spells f (t ∷ ts) most → most ≤ 65536 → ((special : Chars) → directive special (encode_utf8_all (f [])) ≡ None)
     → IsLine (f []) t ts
 unfolding marks atoms reading ends_escaped
 line_from f t ts most h few chooses =
@@ -148,7 +148,7 @@ line_from f t ts most h few chooses =
     }
 
 -- a word, a space, and what follows
-spells_begun : (c : ℕ) (cs : List ℕ) (g : List ℕ → List ℕ) (ts : List Token) (most : ℕ) → list_all is_letter (c ∷ cs) ≡ true → Spells g ts most
+pub spells_begun : (c : ℕ) (cs : List ℕ) (g : List ℕ → List ℕ) (ts : List Token) (most : ℕ) → list_all is_letter (c ∷ cs) ≡ true → Spells g ts most
     → Spells (λ rest. (c ∷ cs) ++ 32 ∷ g rest) (token.Word (c ∷ cs) ∷ ts) (length (c ∷ cs) + (1 + most))
 spells_begun c cs g ts most word h =
     spells_both (λ rest. (c ∷ cs) ++ rest) (λ rest. 32 ∷ g rest) (token.Word (c ∷ cs) ∷ []) ts (length (c ∷ cs)) (1 + most) (spells_word c cs word)
@@ -209,13 +209,13 @@ from_spells text few =
     separates_space
     (spells_begun 102 (codes "rom") (spelled_string (map Char text)) (token.Text (map piece.Char text) ∷ []) 8258 refl string)
 
-symbol_is_line : (name : List ℕ) → IsName name → IsLine (declaration_line (declaration.Symbol name)) (token.Word (codes "collating-symbol")) (token.Symbol name ∷ [])
+pub symbol_is_line : (name : List ℕ) → IsName name → IsLine (declaration_line (declaration.Symbol name)) (token.Word (codes "collating-symbol")) (token.Symbol name ∷ [])
 unfolding is_letter is_clean directive operand_of past_blanks encode
 symbol_is_line name is =
     line_from (λ rest. codes "collating-symbol" ++ 32 ∷ spelled_symbol name rest) (token.Word (codes "collating-symbol")) (token.Symbol name ∷ []) (16 + (1 + 258))
     (spells_begun 99 (codes "ollating-symbol") (spelled_symbol name) (token.Symbol name ∷ []) 258 refl (spells_name name is)) (omega arith) (λ special. refl)
 
-element_is_line : (name text : List ℕ) → IsName name → IsElementText text
+pub element_is_line : (name text : List ℕ) → IsName name → IsElementText text
     → IsLine (declaration_line (declaration.Element name text)) (token.Word (codes "collating-element")) (token.Symbol name ∷ token.Word (codes "from") ∷ token.Text (map piece.Char text) ∷ [])
 unfolding is_letter is_clean directive operand_of past_blanks encode
 element_is_line name text is few =
@@ -227,16 +227,21 @@ element_is_line name text is few =
     ∷ []) 258 (1 + (4 + (1 + 8258))) (spells_name name is) (from_spells text few) (λ rest e. space_ends (codes "from" ++ 32 ∷ spelled_string (map Char text) rest))))
     (omega arith) (λ special. refl)
 
-equivalence_is_line : (name symbol : List ℕ) → IsName name → IsName symbol
+-- two names with a space between them
+pub spells_names_apart : (first second : List ℕ) → IsName first → IsName second
+    → Spells (λ rest. spelled_symbol first (32 ∷ spelled_symbol second rest)) (token.Symbol first ∷ token.Symbol second ∷ []) (258 + (1 + 258))
+spells_names_apart first second is other =
+    spells_both (spelled_symbol first) (λ rest. 32 ∷ spelled_symbol second rest) (token.Symbol first ∷ []) (token.Symbol second ∷ []) 258 (1 + 258) (spells_name first is)
+    (spells_apart (λ rest. 32 ∷ rest) (spelled_symbol second) [] (token.Symbol second ∷ []) 1 258 separates_space (spells_name second other)) (λ rest e. space_ends (spelled_symbol second rest))
+
+pub equivalence_is_line : (name symbol : List ℕ) → IsName name → IsName symbol
     → IsLine (declaration_line (declaration.Equivalence name symbol)) (token.Word (codes "symbol-equivalence")) (token.Symbol name ∷ token.Symbol symbol ∷ [])
 unfolding is_letter is_clean directive operand_of past_blanks encode
 equivalence_is_line name symbol is own =
     line_from (λ rest. codes "symbol-equivalence" ++ 32 ∷ spelled_symbol name (32 ∷ spelled_symbol symbol rest)) (token.Word (codes "symbol-equivalence"))
     (token.Symbol name ∷ token.Symbol symbol ∷ []) (18 + (1 + (258 + (1 + 258))))
     (spells_begun 115 (codes "ymbol-equivalence") (λ rest. spelled_symbol name (32 ∷ spelled_symbol symbol rest)) (token.Symbol name ∷ token.Symbol symbol ∷ []) (258 + (1 + 258)) refl
-    (spells_both (spelled_symbol name) (λ rest. 32 ∷ spelled_symbol symbol rest) (token.Symbol name ∷ []) (token.Symbol symbol ∷ []) 258 (1 + 258) (spells_name name is)
-    (spells_apart (λ rest. 32 ∷ rest) (spelled_symbol symbol) [] (token.Symbol symbol ∷ []) 1 258 separates_space (spells_name symbol own)) (λ rest e. space_ends (spelled_symbol symbol rest))))
-    (omega arith) (λ special. refl)
+    (spells_names_apart name symbol is own)) (omega arith) (λ special. refl)
 
 -- The line of an entry.
 
@@ -253,16 +258,26 @@ entry_chooses (Char c) rest special = refl
 entry_chooses (Named name) rest special = refl
 entry_chooses Undefined rest special = refl
 
+-- an identifier alone
+pub id_is_line : (id : Id) → IsId id → IsLine (spelled_id id []) (id_token id) []
+id_is_line id h = line_from (spelled_id id) (id_token id) [] 258 (spells_id id h) (omega arith) (entry_chooses id [])
+
+-- an identifier, and the weights of an owner behind it
+pub weighted_is_line : (id owner : Id) (ws : List Weight) → IsId id → IsId owner → All IsProperWeight ws → length ws ≤ 4
+    → IsLine (spelled_id id (32 ∷ spelled_joined (spelled_weight owner) ws [])) (id_token id) (tokens_joined (map (weight_tokens owner) ws))
+weighted_is_line id owner ws h o hs few =
+    line_from (λ rest. spelled_id id (32 ∷ spelled_joined (spelled_weight owner) ws rest)) (id_token id) (tokens_joined (map (weight_tokens owner) ws)) (258 + (1 + 8259 * length ws))
+    (spells_both (spelled_id id) (λ rest. 32 ∷ spelled_joined (spelled_weight owner) ws rest) (id_token id ∷ []) (tokens_joined (map (weight_tokens owner) ws)) 258 (1 + 8259 * length ws)
+    (spells_id id h)
+    (spells_apart (λ rest. 32 ∷ rest) (spelled_joined (spelled_weight owner) ws) [] (tokens_joined (map (weight_tokens owner) ws)) 1 (8259 * length ws) separates_space
+    (spells_joined (spelled_weight owner) (weight_tokens owner) IsProperWeight (spells_weight owner o) ws hs))
+    (λ rest e. space_ends (spelled_joined (spelled_weight owner) ws rest)))
+    (omega arith) (entry_chooses id (32 ∷ spelled_joined (spelled_weight owner) ws []))
+
 entry_is_line : (id : Id) (ws : List Weight) (own : Bool) → list_all is_own ws ≡ own → IsId id → All IsProperWeight ws → length ws ≤ 4
     → IsLine (spelled_id id (if own then [] else 32 ∷ spelled_joined (spelled_weight id) ws [])) (id_token id) (if own then [] else tokens_joined (map (weight_tokens id) ws))
-entry_is_line id ws true e h hs few = line_from (spelled_id id) (id_token id) [] 258 (spells_id id h) (omega arith) (entry_chooses id [])
-entry_is_line id ws false e h hs few =
-    line_from (λ rest. spelled_id id (32 ∷ spelled_joined (spelled_weight id) ws rest)) (id_token id) (tokens_joined (map (weight_tokens id) ws)) (258 + (1 + 8259 * length ws))
-    (spells_both (spelled_id id) (λ rest. 32 ∷ spelled_joined (spelled_weight id) ws rest) (id_token id ∷ []) (tokens_joined (map (weight_tokens id) ws)) 258 (1 + 8259 * length ws) (spells_id id h)
-    (spells_apart (λ rest. 32 ∷ rest) (spelled_joined (spelled_weight id) ws) [] (tokens_joined (map (weight_tokens id) ws)) 1 (8259 * length ws) separates_space
-    (spells_joined (spelled_weight id) (weight_tokens id) IsProperWeight (spells_weight id h) ws hs))
-    (λ rest e. space_ends (spelled_joined (spelled_weight id) ws rest)))
-    (omega arith) (entry_chooses id (32 ∷ spelled_joined (spelled_weight id) ws []))
+entry_is_line id ws true e h hs few = id_is_line id h
+entry_is_line id ws false e h hs few = weighted_is_line id id ws h h hs few
 
 -- What a line says.
 

@@ -1,5 +1,5 @@
 -- Parts of a text that are written one behind another make up the text.
-use Rattle.std.proofs.Common.{◌≡◌, ℕ, ◌+◌, ◌<◌, Bool, true, false, List, [], ◌∷◌, ◌++◌, length, get_or, drop, map, codes, Option, Result, IsErr, sym, ap, subst, ◌∙◌, refl, append_assoc, append-nil}
+use Rattle.std.proofs.Common.{◌≡◌, ℕ, ◌+◌, ◌<◌, Bool, true, false, List, [], ◌∷◌, ◌++◌, length, get_or, drop, map, codes, Option, Some, Result, IsErr, sym, ap, subst, ◌∙◌, refl, append_assoc, append-nil}
 use Rattle.std.specs.Prelude.{encode_utf8_all}
 use Rattle.std.specs.Io.KnownBytes.{Appends}
 use Rattle.std.specs.List.{flat_map, list_all}
@@ -19,6 +19,7 @@ use Rattle.coll_syntax.specs.declared.identifiers.Id.TheVariants.{Char, Named, U
 use Rattle.coll_syntax.specs.declared.weights.Weight.{Weight}
 use Rattle.coll_syntax.specs.declared.weights.Weight.TheVariants.{Ignore, Own, Names}
 use Rattle.coll_syntax.specs.declared.rules.Rule.{Rule}
+use Rattle.coll_syntax.specs.declared.statements.OrderLine.{OrderLine}
 use Rattle.coll_nodes.specs.declared.declarations.Declaration.TheVariants as declaration
 use Rattle.coll_nodes.specs.Table.{Collation}
 use Rattle.coll_nodes.specs.Walks.{VisitedSection, visited}
@@ -26,7 +27,8 @@ use Rattle.coll_syntax.specs.Weights.{is_own}
 use Rattle.coll_texts.specs.CanonicalText.{spelled_all, spelled_behind, spelled_joined, spelled_id, spelled_string, spelled_own, spelled_names, spelled_weight, weights_behind}
 use Rattle.coll_texts.specs.CanonicalText.{direction_word, spelled_position, spelled_rule, declaration_line, rules_line, visited_line, closing_lines, canonical_lines, line_bytes, text}
 use Rattle.coll_texts.specs.PrintedParts.{id_bytes, behind_bytes, char_bytes, symbol_bytes, text_bytes, element_bytes}
-use Rattle.coll_texts.specs.PrintedParts.{equivalence_bytes, declaration_bytes, visited_bytes, table_bytes}
+use Rattle.coll_texts.specs.PrintedParts.{names_bytes, declaration_bytes, visited_bytes, table_bytes}
+use Rattle.coll_texts.specs.StatementText.{spelled_given, given_behind, order_line, target_line, section_after_line, block_lines, order_bytes}
 
 -- What is written.
 
@@ -130,9 +132,9 @@ pub other_weights : (id : Id) (ws : List Weight) → list_all is_own ws ≡ fals
 unfolding encode
 other_weights id ws own = rw own refl
 
--- an identifier and its weights
-pub entry_parts : (id : Id) (ws : List Weight) → line_bytes (spelled_id id (weights_behind id ws)) ≡ id_bytes id ++ (encode_utf8_all (weights_behind id ws) ++ line_feed ∷ [])
-entry_parts id ws = ap (λ l. l ++ line_feed ∷ []) (id_before id (weights_behind id ws)) ∙ append_assoc (id_bytes id) (encode_utf8_all (weights_behind id ws)) (line_feed ∷ [])
+-- a line that an identifier begins
+pub entry_parts : (id : Id) (rest : List ℕ) → line_bytes (spelled_id id rest) ≡ id_bytes id ++ (encode_utf8_all rest ++ line_feed ∷ [])
+entry_parts id rest = ap (λ l. l ++ line_feed ∷ []) (id_before id rest) ∙ append_assoc (id_bytes id) (encode_utf8_all rest) (line_feed ∷ [])
 
 -- a semicolon and what stands behind it
 pub behind_parts : {X : Type 0} (spelled : X → List ℕ → List ℕ) (x : X) → behind_bytes spelled x ≡ (59 ∷ []) ++ encode_utf8_all (spelled x [])
@@ -148,6 +150,22 @@ symbol_parts name = refl
 pub section_parts : (name : List ℕ) → visited_bytes (VisitedSection name) ≡ codes "section " ++ (symbol_bytes name ++ line_feed ∷ [])
 unfolding encode
 section_parts name = refl
+
+-- a statement of one line
+pub one_line : (line : List ℕ) → flat_map line_bytes (line ∷ []) ≡ line_bytes line
+one_line line = append-nil (line_bytes line)
+
+-- the weights behind an identifier, where they are given
+pub given_parts : (ws : List Weight) → encode_utf8_all (given_behind (Some ws)) ≡ (32 ∷ []) ++ encode_utf8_all (spelled_joined spelled_given ws [])
+unfolding encode
+given_parts ws = refl
+
+-- the line that moves a section
+pub section_after_parts : (moved after : List ℕ) → line_bytes (section_after_line moved after) ≡ codes "reorder-section-after " ++ names_bytes moved after
+unfolding encode
+section_after_parts moved after =
+    ap (λ l. codes "reorder-section-after " ++ (l ++ line_feed ∷ [])) (id_before (Named moved) (space ∷ spelled_symbol after []))
+    ∙ ap (λ l. codes "reorder-section-after " ++ l) (append_assoc (symbol_bytes moved) (encode_utf8_all (space ∷ spelled_symbol after [])) (line_feed ∷ []))
 
 -- the line of a collating element
 text_ids : (chars : List ℕ) → flat_map id_bytes (map Char chars) ≡ flat_map char_bytes chars
@@ -169,7 +187,7 @@ element_parts name chars =
     ∙ ap (λ l. symbol_bytes name ++ l) (from_parts chars))
 
 -- the line of a second name
-pub equivalence_parts : (name symbol : List ℕ) → declaration_bytes (declaration.Equivalence name symbol) ≡ codes "symbol-equivalence " ++ equivalence_bytes name symbol
+pub equivalence_parts : (name symbol : List ℕ) → declaration_bytes (declaration.Equivalence name symbol) ≡ codes "symbol-equivalence " ++ names_bytes name symbol
 unfolding encode
 equivalence_parts name symbol =
     ap (λ l. codes "symbol-equivalence " ++ (l ++ line_feed ∷ [])) (id_before (Named name) (space ∷ spelled_symbol symbol []))
@@ -194,7 +212,7 @@ rules_parts rs = refl
 -- The whole text.
 
 -- the lines of members
-lines_of_members : {X : Type 0} (line : X → List ℕ) (xs : List X) → flat_map line_bytes (map line xs) ≡ flat_map (λ x. line_bytes (line x)) xs
+pub lines_of_members : {X : Type 0} (line : X → List ℕ) (xs : List X) → flat_map line_bytes (map line xs) ≡ flat_map (λ x. line_bytes (line x)) xs
 lines_of_members line [] = refl
 lines_of_members line (x ∷ xs) = ap (λ l. line_bytes (line x) ++ l) (lines_of_members line xs)
 
@@ -209,3 +227,11 @@ text_parts table =
     (flat_map-append line_bytes prefix (rules_line table.rules ∷ (middle ++ closing_lines))
     ∙ ap (λ l. l ++ flat_map line_bytes (rules_line table.rules ∷ (middle ++ closing_lines))) (lines_of_members declaration_line table.declared)
     ∙ ap (λ l. flat_map declaration_bytes table.declared ++ (line_bytes (rules_line table.rules) ++ l)) closed)
+
+-- the lines of a block
+pub block_parts : (target : Id) (lines : List OrderLine)
+    → flat_map line_bytes (block_lines target lines) ≡ (codes "reorder-after " ++ (id_bytes target ++ line_feed ∷ [])) ++ (flat_map order_bytes lines ++ codes "reorder-end\n")
+unfolding encode
+block_parts target lines =
+    ap (λ l. line_bytes (target_line target) ++ l)
+    (flat_map-append line_bytes (map order_line lines) (codes "reorder-end" ∷ []) ∙ ap (λ l. l ++ codes "reorder-end\n") (lines_of_members order_line lines))

@@ -30,7 +30,7 @@ abbrev pub bytes_of : List (List ℕ) → List (List ℕ)
 bytes_of lines = map encode_utf8_all lines
 
 -- the logical lines that begin with a canonical line
-logical_line : (count : ℕ) (line : List ℕ) (t : Token) (ts : List Token) (more : List (List ℕ)) → IsLine line t ts → count < most_lines
+pub logical_line : (count : ℕ) (line : List ℕ) (t : Token) (ts : List Token) (more : List (List ℕ)) → IsLine line t ts → count < most_lines
     → logical_lines [] true (lexer_at count) (encode_utf8_all line ∷ more) ≡ record { number = suc count; first = first_line (lexer_at count) (encode_utf8_all line); tokens = Ok (t ∷ ts) }
     ∷ logical_lines [] true (lexer_at (suc count)) more
 unfolding logical_lines served

@@ -131,17 +131,17 @@ letter c e =
     record { unescaped = is_not _ a.0; outside = is_not _ b.0; stays = is_not _ d.0; clean = f.0; small = ltb-true c 128 f.1 }
 
 -- a plain character at the front
-stays-plain : (c : ℕ) (rest : List ℕ) → (c == 47) ≡ false → ends_escaped 47 false (c ∷ rest) ≡ ends_escaped 47 false rest
+pub stays-plain : (c : ℕ) (rest : List ℕ) → (c == 47) ≡ false → ends_escaped 47 false (c ∷ rest) ≡ ends_escaped 47 false rest
 unfolding ends_escaped
 stays-plain c rest e = ap (λ b. if b then ends_escaped 47 true rest else ends_escaped 47 false rest) e
 
-clean-cons : (c : ℕ) (rest : List ℕ) → is_clean c ≡ true → list_all is_clean rest ≡ true → list_all is_clean (c ∷ rest) ≡ true
+pub clean-cons : (c : ℕ) (rest : List ℕ) → is_clean c ≡ true → list_all is_clean rest ≡ true → list_all is_clean (c ∷ rest) ≡ true
 clean-cons c rest e h = rw (e, h) refl
 
 bytes-small : (c : ℕ) (rest : List ℕ) → c < 128 → length (encode_utf8_all (c ∷ rest)) ≡ 1 + length (encode_utf8_all rest)
 bytes-small c rest small = ap (λ bs. length (bs ++ encode_utf8_all rest)) (encode_ascii c small) ∙ (omega arith)
 
-bytes-wide : (c : ℕ) (rest : List ℕ) → length (encode_utf8_all (c ∷ rest)) ≤ 4 + length (encode_utf8_all rest)
+pub bytes-wide : (c : ℕ) (rest : List ℕ) → length (encode_utf8_all (c ∷ rest)) ≤ 4 + length (encode_utf8_all rest)
 bytes-wide c rest = omega (arith, length-append (encode c) (encode_utf8_all rest), length-encode c, (len_utf8_bounds c).1)
 
 -- one plain character of one byte
@@ -167,7 +167,7 @@ keeps_word (c ∷ cs) h =
 letter_atoms : List ℕ → List Atom
 letter_atoms cs = map (λ c. Bare (Plain c)) cs
 
-atoms-letter : (c : ℕ) (ms : List Mark) → (c == 60) ≡ false → atoms zero (Plain c ∷ ms) ≡ Bare (Plain c) ∷ atoms zero ms
+pub atoms-letter : (c : ℕ) (ms : List Mark) → (c == 60) ≡ false → atoms zero (Plain c ∷ ms) ≡ Bare (Plain c) ∷ atoms zero ms
 unfolding atoms
 atoms-letter c ms e = rw e refl
 
@@ -262,7 +262,7 @@ slash-clean : is_clean 47 ≡ true
 unfolding is_clean
 slash-clean = refl
 
-keeps_escaped : (c : ℕ) → is_clean c ≡ true → c < 128 → Keeps (λ rest. 47 ∷ c ∷ rest) 4
+pub keeps_escaped : (c : ℕ) → is_clean c ≡ true → c < 128 → Keeps (λ rest. 47 ∷ c ∷ rest) 4
 keeps_escaped c clean small = record {
   stays = λ rest. stays-escaped c rest;
   clean = λ rest h. clean-cons 47 (c ∷ rest) slash-clean (clean-cons c rest clean h);
@@ -433,11 +433,11 @@ unfolding reading
 reading-string ids xs h = rw (quoted-ids ids xs h) (ap (with_token (token.Text (map id_piece ids))) (past-ids ids xs))
 
 -- a quotation mark at the front
-atoms-mark : (rest : List ℕ) → atoms zero (marks 47 false (34 ∷ rest)) ≡ Bare (Plain 34) ∷ atoms zero (marks 47 false rest)
+pub atoms-mark : (rest : List ℕ) → atoms zero (marks 47 false (34 ∷ rest)) ≡ Bare (Plain 34) ∷ atoms zero (marks 47 false rest)
 unfolding atoms marks
 atoms-mark rest = refl
 
-keeps_mark : Keeps (λ rest. 34 ∷ rest) 1
+pub keeps_mark : Keeps (λ rest. 34 ∷ rest) 1
 unfolding is_clean
 keeps_mark = keeps_char 34 refl refl (omega arith)
 

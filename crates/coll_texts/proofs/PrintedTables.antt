@@ -148,7 +148,7 @@ lines_in_parts table =
     ∙ sym (append_assoc prefix (rules_line table.rules ∷ (middle ++ codes "order_end" ∷ [])) last))
 
 -- no line feed is in the opening lines
-opening_in_line : All IsInLine (bytes_of opening_lines)
+pub opening_in_line : All IsInLine (bytes_of opening_lines)
 unfolding is_clean
 opening_in_line =
     All-cons IsInLine (encode_utf8_all (codes "comment_char %")) (bytes_of (codes "escape_char /" ∷ codes "LC_COLLATE" ∷ [])) (in_line (codes "comment_char %") refl)

@@ -169,14 +169,14 @@ cut_members {X = X} tokens each x xs = cut_joined (tokens x) (map tokens xs) (ea
   all_operands (x ∷ xs) = All-cons IsOperand (tokens x) (map tokens xs) (each x) (all_operands xs)
 
 -- the weights of a line are read
-weights_are_read : (owner : Id) (w : Weight) (ws : List Weight) → All IsProperWeight (w ∷ ws) → weights (tokens_joined (map (weight_tokens owner) (w ∷ ws))) ≡ Ok (map (weight_read owner) (w ∷ ws))
+pub weights_are_read : (owner : Id) (w : Weight) (ws : List Weight) → All IsProperWeight (w ∷ ws) → weights (tokens_joined (map (weight_tokens owner) (w ∷ ws))) ≡ Ok (map (weight_read owner) (w ∷ ws))
 unfolding weights
 weights_are_read owner w ws h =
     ap (λ ops. all_read (map operand_weight ops)) (cut_members (weight_tokens owner) (weight_is_operand owner) w ws)
     ∙ read_each operand_weight (weight_tokens owner) (weight_read owner) IsProperWeight (weight_is_read owner) (w ∷ ws) h
 
 -- the tokens of a line whose weights aren't all the entry's own are some
-some_weights : (owner : Id) (ws : List Weight) → list_all is_own ws ≡ false → 0 < length (tokens_joined (map (weight_tokens owner) ws))
+pub some_weights : (owner : Id) (ws : List Weight) → list_all is_own ws ≡ false → 0 < length (tokens_joined (map (weight_tokens owner) ws))
 unfolding tokens_joined tokens_behind weight_tokens names_tokens
 some_weights owner [] h = cc
 some_weights owner (Ignore ∷ []) h = omega arith
@@ -187,21 +187,21 @@ some_weights owner (Names (first ∷ second ∷ later) ∷ []) h = omega arith
 some_weights owner (w ∷ next ∷ ws) h = omega (arith, length-append (weight_tokens owner w) (tokens_behind (map (weight_tokens owner) (next ∷ ws))))
 
 -- an identifier is read
-id_is_read : (id : Id) → id_of (id_token id) ≡ Some id
+pub id_is_read : (id : Id) → id_of (id_token id) ≡ Some id
 unfolding id_token
 id_is_read (Char c) = refl
 id_is_read (Named name) = refl
 id_is_read Undefined = refl
 
 -- it begins no other line
-id_begins_order : (id : Id) → keyword_of (id_token id) ≡ None
+pub id_begins_order : (id : Id) → keyword_of (id_token id) ≡ None
 unfolding keyword_of id_token
 id_begins_order (Char c) = refl
 id_begins_order (Named name) = refl
 id_begins_order Undefined = refl
 
 -- some tokens behind an identifier are its weights
-weights_behind_id : (id : Id) (given : List Weight) (ts : List Token) → 0 < length ts → weights ts ≡ Ok given → weighted (Some id) ts ≡ Ok (record { id = id; weights = Some given })
+pub weights_behind_id : (id : Id) (given : List Weight) (ts : List Token) → 0 < length ts → weights ts ≡ Ok given → weighted (Some id) ts ≡ Ok (record { id = id; weights = Some given })
 weights_behind_id id given [] some e = absurd (omega (arith, some))
 weights_behind_id id given (t ∷ ts) some e = rw e refl
 
@@ -311,7 +311,7 @@ characters_read : (text : List ℕ) → characters_of (map piece.Char text) ≡ 
 characters_read [] = refl
 characters_read (c ∷ cs) = rw (characters_read cs) refl
 
-element_is_read : (text : List ℕ) → IsElementText text → element_text (map piece.Char text) ≡ Ok text
+pub element_is_read : (text : List ℕ) → IsElementText text → element_text (map piece.Char text) ≡ Ok text
 element_is_read [] h = absurd (omega (arith, h.0))
 element_is_read (c ∷ cs) h = rw (characters_read cs, le-leb 2 (length (c ∷ cs)) h.0, le-leb (length (c ∷ cs)) 16 h.1) refl
 

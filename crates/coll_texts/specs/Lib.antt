@@ -8,3 +8,4 @@ pub mod Pieces
 pub mod PrintedParts
 pub mod Reading
 pub mod SoundStates
+pub mod StatementText

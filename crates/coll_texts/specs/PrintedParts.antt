@@ -42,9 +42,9 @@ text_bytes chars = flat_map char_bytes chars ++ (quotation_mark ∷ line_feed �
 abbrev pub element_bytes : (name chars : List ℕ) → List ℕ
 element_bytes name chars = symbol_bytes name ++ (codes " from \"" ++ text_bytes chars)
 
--- a second name, the own name of its symbol, and the line's end
-abbrev pub equivalence_bytes : (name symbol : List ℕ) → List ℕ
-equivalence_bytes name symbol = symbol_bytes name ++ (codes " " ++ (symbol_bytes symbol ++ line_feed ∷ []))
+-- two names with a space between them, and the line's end
+abbrev pub names_bytes : (first second : List ℕ) → List ℕ
+names_bytes first second = symbol_bytes first ++ (codes " " ++ (symbol_bytes second ++ line_feed ∷ []))
 
 -- the text of a table with these rules, that declares this, and of which a walk visits this
 abbrev pub table_bytes : List Rule → List Declaration → List Visited → List ℕ

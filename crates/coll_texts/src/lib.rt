@@ -10,6 +10,7 @@
 //! - `table_builder`: the lines, judged (`BuilderStates`, `SoundStates`);
 //! - `spelled_entries` and `spelled_lines`: how an entry is spelled, and each other line (`CanonicalText`, `PrintedParts`);
 //! - `canonical_texts`: the whole text, and the law that a printed table is read back;
+//! - `statement_texts`: the lines of a statement, as a delta file has them (`StatementText`);
 //! - `pieces`: lines that are written piece by piece, here and in the crates above (`Pieces`).
 //!
 //! What a whole text says is defined here as well, for all who speak of it (`Loading`, `Reading`).
@@ -22,6 +23,7 @@ mod own_weights;
 mod pieces;
 mod spelled_entries;
 mod spelled_lines;
+mod statement_texts;
 mod table_builder;
 
 pub use canonical_texts::{printed_tables_are_read_back, write_table};
@@ -29,4 +31,5 @@ pub use load_faults::{LoadCause, LoadFault};
 pub use pieces::{Piece, write_number, write_pieces};
 pub use spelled_entries::write_id;
 pub use spelled_lines::write_text;
+pub use statement_texts::write_statement;
 pub use table_builder::TableBuilder;

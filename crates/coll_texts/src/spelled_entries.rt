@@ -50,8 +50,12 @@ fn are_own(weights: &[Weight]) -> bool
     weights.iter().all(|weight| weight.is_own())
 }
 
-// Writes weights with a semicolon between them.
-fn write_weights<W: Sink>(out: &mut W, owner: &Id, weights: &[Weight]) -> Result<(), WriteStop>
+/// Writes weights with a semicolon between them.
+pub(crate) fn write_weights<W: Sink>(
+    out: &mut W,
+    owner: &Id,
+    weights: &[Weight],
+) -> Result<(), WriteStop>
     ensures sent { Sends (W.taken out.old) (W.taken out.new) (encode_utf8_all (spelled_joined (spelled_weight owner.now) weights.now []))
         result }
     ensures errors { CountsErr (W.failed out.old) (W.failed out.new) result }

@@ -9,7 +9,7 @@ ghost use Rattle.coll_devices.specs.Devices.{CountsErr, Sends};
 ghost use Rattle.coll_devices.specs.PhysicalLines.{line_feed};
 ghost use Rattle.coll_texts.specs.CanonicalText.{spelled_rule, spelled_joined, rules_line, line_bytes};
 ghost use Rattle.coll_texts.specs.PrintedParts.{char_bytes, behind_bytes, declaration_bytes, visited_bytes};
-ghost use Rattle.coll_texts.specs.PrintedParts.{symbol_bytes, element_bytes, equivalence_bytes};
+ghost use Rattle.coll_texts.specs.PrintedParts.{symbol_bytes, element_bytes, names_bytes};
 ghost use Rattle.coll_nodes.specs.WalkItems.{visited_by, declared_by};
 
 use crate::pieces::{Piece, write_pieces};
@@ -30,7 +30,9 @@ pub(crate) fn write_declaration<W: Sink>(
     match item {
         DeclaredItem::Symbol(name) => write_named(out, b"collating-symbol ", name),
         DeclaredItem::Element(name, text) => write_element(out, name, text),
-        DeclaredItem::Equivalence(name, symbol) => write_equivalence(out, name, symbol),
+        DeclaredItem::Equivalence(name, symbol) => {
+            write_two_names(out, b"symbol-equivalence ", name, symbol)
+        }
     }
 }
 
@@ -74,23 +76,23 @@ fn write_element<'a, W: Sink>(out: &mut W, name: &'a str, text: &'a str) -> Resu
     )
 }
 
-// Writes the line of a second name.
-fn write_equivalence<'a, W: Sink>(
+/// Writes a line of a word and two names.
+pub(crate) fn write_two_names<'a, W: Sink>(
     out: &mut W,
-    name: &'a str,
-    symbol: &'a str,
+    word: &'a [u8],
+    first: &'a str,
+    second: &'a str,
 ) -> Result<(), WriteStop>
-    ensures sent { Sends (W.taken out.old) (W.taken out.new)
-        (codes "symbol-equivalence " ++ equivalence_bytes (chars name.now) (chars symbol.now)) result }
+    ensures sent { Sends (W.taken out.old) (W.taken out.new) (word.now ++ names_bytes (chars first.now) (chars second.now)) result }
     ensures errors { CountsErr (W.failed out.old) (W.failed out.new) result }
 {
     write_pieces(
         out,
         &[
-            Piece::Bytes(b"symbol-equivalence "),
-            Piece::Symbol(name),
+            Piece::Bytes(word),
+            Piece::Symbol(first),
             Piece::Bytes(b" "),
-            Piece::Symbol(symbol),
+            Piece::Symbol(second),
             Piece::Bytes(b"\n"),
         ],
     )

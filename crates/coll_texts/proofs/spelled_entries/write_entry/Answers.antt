@@ -11,7 +11,7 @@ returns-in_err-write_id-clause-sent g c =
     let entry = c.args.entry.now in
     let weights = encode_utf8_all (weights_behind entry.id entry.weights) in
     let part = rw c.id-id.ensures at c.in_err-write_id.ensures.sent in
-    stops_first _ _ (line_bytes (entry_line entry)) (id_bytes entry.id) (weights ++ 10 ∷ []) c.from_residual.result (entry_parts entry.id entry.weights) c.from_residual.ensures.0 part
+    stops_first _ _ (line_bytes (entry_line entry)) (id_bytes entry.id) (weights ++ 10 ∷ []) c.from_residual.result (entry_parts entry.id (weights_behind entry.id entry.weights)) c.from_residual.ensures.0 part
 
 pub returns-in_err-write_weights_behind_id-clause-sent : goal.returns-in_err-write_weights_behind_id-clause-sent
 returns-in_err-write_weights_behind_id-clause-sent g c =
@@ -20,7 +20,7 @@ returns-in_err-write_weights_behind_id-clause-sent g c =
     let result = c.from_residual-in_err-write_weights_behind_id.result in
     let id = rw c.id-id.ensures at c.in_ok-write_id.ensures.sent in
     let part = rw (c.weights.ensures, c.id-id.ensures) at c.in_err-write_weights_behind_id.ensures.sent in
-    writes_rest _ _ _ (line_bytes (entry_line entry)) (id_bytes entry.id) (weights ++ 10 ∷ []) result (entry_parts entry.id entry.weights) id
+    writes_rest _ _ _ (line_bytes (entry_line entry)) (id_bytes entry.id) (weights ++ 10 ∷ []) result (entry_parts entry.id (weights_behind entry.id entry.weights)) id
     (stops_first _ _ (weights ++ 10 ∷ []) weights (10 ∷ []) result refl c.from_residual-in_err-write_weights_behind_id.ensures.0 part)
 
 pub returns-clause-sent : goal.returns-clause-sent
@@ -29,5 +29,5 @@ returns-clause-sent g c =
     let weights = encode_utf8_all (weights_behind entry.id entry.weights) in
     let id = rw c.id-id.ensures at c.in_ok-write_id.ensures.sent in
     let part = rw (c.weights.ensures, c.id-id.ensures) at c.in_ok-write_weights_behind_id.ensures.sent in
-    writes_rest _ _ _ (line_bytes (entry_line entry)) (id_bytes entry.id) (weights ++ 10 ∷ []) c.write_bytes.result (entry_parts entry.id entry.weights) id
+    writes_rest _ _ _ (line_bytes (entry_line entry)) (id_bytes entry.id) (weights ++ 10 ∷ []) c.write_bytes.result (entry_parts entry.id (weights_behind entry.id entry.weights)) id
     (writes_rest _ _ _ (weights ++ 10 ∷ []) weights (10 ∷ []) c.write_bytes.result refl part c.write_bytes.ensures.sent)

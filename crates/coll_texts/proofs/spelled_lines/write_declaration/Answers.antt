@@ -1,7 +1,7 @@
 -- Each kind of declaration has its line.
 use Rattle.std.proofs.Common.{codes, [], ◌∷◌, ◌++◌, ap, ◌∙◌}
 use Rattle.std.specs.Prelude.{chars}
-use Rattle.coll_texts.specs.PrintedParts.{symbol_bytes, element_bytes, equivalence_bytes, declaration_bytes}
+use Rattle.coll_texts.specs.PrintedParts.{symbol_bytes, element_bytes, names_bytes, declaration_bytes}
 use Rattle.coll_nodes.specs.WalkItems.{declared_by}
 use Rattle.coll_texts.proofs.PrintedParts.{sends_same, symbol_parts, element_parts, equivalence_parts}
 use Rattle.coll_texts.proofs.spelled_lines.write_declaration.Goals as goal
@@ -26,6 +26,6 @@ returns-in-Equivalence-clause-sent g c =
     let taken = g.W.Sink.taken in
     let name = chars c.in-Equivalence.name.now in
     let symbol = chars c.in-Equivalence.symbol.now in
-    sends_same (taken c.args.out.now) (taken c.write_equivalence.new.out) (declaration_bytes (declared_by c.args.item)) (codes "symbol-equivalence " ++ equivalence_bytes name symbol)
-    c.write_equivalence.result
-    (ap (λ item. declaration_bytes (declared_by item)) c.in-Equivalence.is ∙ equivalence_parts name symbol) c.write_equivalence.ensures.sent
+    sends_same (taken c.args.out.now) (taken c.write_two_names.new.out) (declaration_bytes (declared_by c.args.item)) (codes "symbol-equivalence " ++ names_bytes name symbol)
+    c.write_two_names.result
+    (ap (λ item. declaration_bytes (declared_by item)) c.in-Equivalence.is ∙ equivalence_parts name symbol) c.write_two_names.ensures.sent

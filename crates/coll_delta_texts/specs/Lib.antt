@@ -1,0 +1,3 @@
+pub mod DeltaText
+pub mod ReadBack
+pub mod Writable
