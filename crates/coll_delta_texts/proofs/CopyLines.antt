@@ -108,12 +108,12 @@ clean_name : (cs : List ℕ) → scalars cs ≡ true → All (λ c. 32 ≤ c) cs
 unfolding is_clean
 clean_name [] s h = refl
 clean_name (c ∷ cs) s h =
-    let a = and_parts _ _ s in
+    let a = and_parts (scalar c) (scalars cs) s in
     rw (le-leb 32 c (All-head (λ c. 32 ≤ c) c cs h), a.0) (clean_name cs a.1 (All-tail (λ c. 32 ≤ c) c cs h))
 
 pub copy_is_line : (name : List ℕ) → IsCopyName name → IsLine (copy_line name) (token.Word (codes "copy")) (token.Text (map piece.Char name) ∷ [])
 unfolding is_letter is_clean directive operand_of past_blanks encode
 copy_is_line name is =
     line_from (λ rest. codes "copy" ++ 32 ∷ spelled_literally name rest) (token.Word (codes "copy")) (token.Text (map piece.Char name) ∷ []) (4 + (1 + (1 + (4 * length name + 1))))
-    (spells_begun 99 (codes "opy") (spelled_literally name) (token.Text (map piece.Char name) ∷ []) (1 + (4 * length name + 1)) refl (spells_literally name (clean_name name is.1 is.2)))
+    (spells_begun 99 (codes "opy") (spelled_literally name) (token.Text (map piece.Char name) ∷ []) (1 + (4 * length name + 1)) refl (spells_literally name (clean_name name is.2 is.1)))
     (let few = is.0 in omega arith) (λ special. refl)

@@ -1,6 +1,7 @@
 -- What a delta file can be written of, so that it is read back.
 use Rattle.std.specs.Prelude.{◌≡◌, ℕ, ◌≤◌, ◌&&◌, not, nat_le, Bool, true, false, List, [], ◌∷◌, length, All, Option, Some, None}
 use Rattle.std.specs.List.{list_all}
+use Rattle.std.specs.Str.{all_scalars}
 use Rattle.coll_lex.specs.Characters.{space}
 use Rattle.coll_lex.specs.Names.{AreCharacters}
 use Rattle.coll_syntax.specs.Proper.{IsProper, is_proper}
@@ -40,7 +41,7 @@ IsWritable s = IsProper s × GivesAllWeights s
 
 -- the name of a copy that can be written: at most 4,096 characters, and no control character below the space among them
 abbrev pub IsCopyName : List ℕ → Type 0
-IsCopyName name = (length name ≤ 4096) × AreCharacters name × All (λ c. space ≤ c) name
+IsCopyName name = (length name ≤ 4096) × All (λ c. space ≤ c) name × AreCharacters name
 
 -- The same as tests.
 
@@ -65,3 +66,11 @@ gives_all_weights (statement.Reweight line) = gives_weights line
 -- whether a statement can be written
 abbrev pub is_writable : Statement → Bool
 is_writable s = is_proper s && gives_all_weights s
+
+-- whether a character is no control character below the space
+abbrev pub is_above_controls : ℕ → Bool
+is_above_controls c = nat_le space c
+
+-- whether this can be written as the name of a copy
+abbrev pub is_copy_name : List ℕ → Bool
+is_copy_name name = nat_le (length name) 4096 && list_all is_above_controls name && all_scalars name

@@ -8,6 +8,7 @@ ghost use Rattle.std.specs.List.{flat_map};
 ghost use Rattle.coll_devices.specs.Devices.{CountsErr, Sends};
 ghost use Rattle.coll_texts.specs.StatementText.{statement_bytes};
 ghost use Rattle.coll_delta_texts.specs.DeltaText.{delta_text, char_bytes, copy_bytes};
+ghost use Rattle.coll_delta_texts.specs.ReadBack.{WrittenDeltasAreReadBack};
 
 use coll_devices::{Sink, WriteStop, write_bytes};
 use coll_lex::TextBuf;
@@ -93,3 +94,12 @@ fn write_statements<W: Sink>(out: &mut W, statements: &[Statement]) -> Result<()
     }
     Ok(())
 }
+
+/// The law of delta files: what is written of copies and of statements is read, by `delta_requests`, as just these statements, in
+/// order, without a fault. The copies and the statements are such as can be written (`is_copy_name`, `is_writable`), and the lines no
+/// more than a text may have.
+///
+/// It does nothing; its contract is the law.
+pub fn written_deltas_are_read_back()
+    ensures { WrittenDeltasAreReadBack }
+{}

@@ -3,11 +3,10 @@
 //! What the grammar gives can be written, but for order lines with more than four weights. The tests here are for who makes
 //! statements in another way; they take no memory.
 
-ghost use Rattle.std.specs.Prelude.{◌≡◌, ◌↔◌, ◌≤◌, IsTrue, All, length, chars, nat_le};
+ghost use Rattle.std.specs.Prelude.{◌≡◌, ◌↔◌, IsTrue, length, chars, nat_lt};
 ghost use Rattle.std.specs.List.{list_all};
-ghost use Rattle.coll_lex.specs.Characters.{space};
-ghost use Rattle.coll_delta_texts.specs.Writable.{is_writable as passes, gives_all_weights, gives_weights, is_own_alone};
-ghost use Rattle.coll_delta_texts.specs.Writable.{IsWritable, IsCopyName};
+ghost use Rattle.coll_delta_texts.specs.Writable.{is_writable as passes, is_copy_name as can_name_copy};
+ghost use Rattle.coll_delta_texts.specs.Writable.{gives_weights, is_own_alone, is_above_controls, IsWritable, IsCopyName};
 
 use coll_lex::TextBuf;
 use coll_syntax::{MOST_LEVELS, OrderLine, Statement, Weight};
@@ -23,24 +22,31 @@ pub fn is_writable(statement: &Statement) -> bool
     ensures value { result ≡ passes statement.now }
     ensures tells { IsTrue result ↔ IsWritable statement.now }
 {
+    can_write(statement)
+}
+
+// Whether a statement is proper, and its order lines can give their weights.
+fn can_write(statement: &Statement) -> bool
+    ensures { result ≡ passes statement.now }
+{
     if !statement.is_proper() {
         return false;
     }
-    can_give_weights(statement)
-}
-
-// Whether all order lines of a statement can give their weights.
-fn can_give_weights(statement: &Statement) -> bool
-    ensures { result ≡ gives_all_weights statement.now }
-{
     match statement {
         Statement::Symbol(_) => true,
         Statement::Element { .. } => true,
         Statement::Equivalence { .. } => true,
-        Statement::Block { lines, .. } => lines.get().iter().all(|line| can_give(line)),
+        Statement::Block { lines, .. } => all_can_give(lines.get()),
         Statement::SectionAfter { .. } => true,
         Statement::Reweight(line) => can_give(line),
     }
+}
+
+// Whether all of these order lines can give their weights.
+fn all_can_give(lines: &[OrderLine]) -> bool
+    ensures { result ≡ list_all gives_weights lines.now }
+{
+    lines.iter().all(|line| can_give(line))
 }
 
 // Whether an order line can give its weights.
@@ -69,17 +75,32 @@ fn is_alone(weights: &[Weight]) -> bool
 /// Whether this can be written as the name of a copy: at most 4,096 characters, and no control character below the space among them.
 /// It takes no memory.
 pub fn is_copy_name(name: &TextBuf) -> bool
-    ensures { IsTrue result ↔ IsCopyName name.now }
+    ensures value { result ≡ can_name_copy name.now }
+    ensures tells { IsTrue result ↔ IsCopyName name.now }
 {
-    if name.get().chars().count() > MOST_COPY_CHARS {
+    can_copy(name.get())
+}
+
+// Whether a text can be the name of a copy.
+fn can_copy(text: &str) -> bool
+    ensures { result ≡ can_name_copy (chars text.now) }
+{
+    if is_long(text) {
         return false;
     }
-    has_no_control(name.get())
+    has_no_control(text)
+}
+
+// Whether a text has too many characters for the name of a copy.
+fn is_long(text: &str) -> bool
+    ensures { result ≡ nat_lt 4096 (length (chars text.now)) }
+{
+    text.chars().count() > MOST_COPY_CHARS
 }
 
 // Whether no control character below the space is in a text.
 fn has_no_control(text: &str) -> bool
-    ensures { result ≡ list_all (λ c. nat_le space c) (chars text.now) }
+    ensures { result ≡ list_all is_above_controls (chars text.now) }
 {
     text.chars().all(|c| c >= ' ')
 }
