@@ -64,7 +64,8 @@ fn writable_copies(
     ensures { IfOk result (λ kept. All IsCopyName kept.items) }
 {
     let mut kept = Vec::new(alloc);
-    for CopyAt { place, name } in copies {
+    for copy in copies {
+        let CopyAt { place, name } = copy;
         if is_copy_name(&name) {
             kept.push(name)?;
         } else {
