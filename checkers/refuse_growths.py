@@ -1,5 +1,5 @@
 #!/usr/bin/env python3
-"""Refuses each growth of memory in turn, to tests of crates/coll_tests and to the program.
+"""Refuses each growth of memory in turn, to tests of crates/coll_tests and to the program, and to some runs each read and write.
 
 usage: checkers/refuse_growths.py
 
@@ -24,8 +24,13 @@ a session has the reply `refused 70 OutOfMemory`. Of that, a session says for ea
     reply     its reply, a value; empty if left out
     behind    the replies of the requests behind it where this one has that reply, a value; left out where they stay as they are
 
-Each request has to be refused in some run. `spared` is how many growths can be spared. The last line is 'N passed, M failed', and the one
-before it counts the growths.
+Each request has to be refused in some run. `spared` is how many growths can be spared.
+
+A run that names a file as `source` is repeated with each of its reads and writes refused as well. With a read refused it ends with
+fault 67, and has written nothing. With a write refused it ends with fault 68, in line 0 of this file, and has written a prefix of its
+output; or, where standard error was refused, as any other run.
+
+The last line is 'N passed, M failed', and the one before it counts the growths, reads and writes.
 """
 
 import collections
@@ -46,6 +51,7 @@ SECONDS = 60
 SAID = b"a growth was refused\n"
 REFUSED = b"refused 70 OutOfMemory\n"
 FAULT = re.compile(rb"(-|[^:]+\.txt):(\d+): 70 OutOfMemory\n")
+UNREAD = re.compile(rb"(-|[^:]+\.txt):0: 67 ReadFault\n")
 # Each test, and how many of its growths can be spared.
 SPARED = {
     "growths::a_table_is_loaded_with_no_growth_refused": 5,
@@ -64,7 +70,7 @@ WRONG = {
     "sessions::histories::a_session_may_lose_what_was_taken_back": b"what is written: ",
 }
 
-# How a run ended, and whether a growth was refused to it.
+# How a run ended, and whether something was refused to it.
 Run = collections.namedtuple("Run", "refused status output errors")
 
 
@@ -73,18 +79,18 @@ class Failed(Exception):
 
 
 class Shim:
-    """Runs programs with one growth refused."""
+    """Runs programs with one growth, read or write refused."""
 
     def __init__(self, room):
         self.library = f"{room}/refuse_growths.so"
         compiler = ["cc", "-O1", "-shared", "-fPIC", "-o", self.library, f"{ROOT}/checkers/refuse_growths.c"]
         subprocess.run(compiler, check=True)
 
-    def run(self, words, growth, counts, given=b""):
-        """Runs a program in the folder of the examples, with this growth refused, if it comes so far."""
+    def run(self, words, number, counts, given=b"", refuses="growths"):
+        """Runs a program in the folder of the examples, with the growth, read or write of this number refused, if it comes so far."""
         reads, tells = os.pipe()
         try:
-            told = {"LD_PRELOAD": self.library, "GROWTH": str(growth), "TELLS": str(tells), "COUNTS": counts}
+            told = {"LD_PRELOAD": self.library, "REFUSES": refuses, "NUMBER": str(number), "TELLS": str(tells), "COUNTS": counts}
             how = {"input": given, "capture_output": True, "timeout": SECONDS, "cwd": f"{ROOT}/examples"}
             ran = subprocess.run(words, env=told, pass_fds=[tells], check=False, **how)
         finally:
@@ -93,21 +99,21 @@ class Shim:
                 refused = file.read() != b""
         return Run(refused, ran.returncode, ran.stdout, ran.stderr)
 
-    def each(self, words, counts, judge, spared, given=b""):
-        """Runs a program with each growth refused in turn, and has each run judged, which tells whether the refusal shows in it. It
-        has to, but for the growths that can be spared. Returns how many were refused."""
-        for growth in itertools.count(1):
-            ran = self.run(words, growth, counts, given)
+    def each(self, words, counts, judge, spared, given=b"", refuses="growths"):
+        """Runs a program with each growth, read or write refused in turn, and has each run judged, which tells whether the refusal
+        shows in it. It has to, but for the growths that can be spared. Returns how many were refused."""
+        for number in itertools.count(1):
+            ran = self.run(words, number, counts, given, refuses)
             try:
                 shows = judge(ran)
             except Failed as why:
-                raise Failed(f"with growth {growth} refused: {why}") from why
+                raise Failed(f"with number {number} of the {refuses} refused: {why}") from why
             if not ran.refused:
                 break
             spared -= not shows
         if spared:
             raise Failed(f"{abs(spared)} {'more' if spared < 0 else 'fewer'} growths than stated could be spared")
-        return growth - 1
+        return number - 1
 
 
 def judge_test(ran):
@@ -167,6 +173,32 @@ def refuse_to_batch(shim, batch):
     return shim.each([PROGRAM, *batch["words"]], "program", judge, batch["spared"])
 
 
+def refuse_to_devices(shim, batch):
+    """Refuses each read and each write to a run that answers once. Returns how many were refused."""
+    output, errors = bytes_of(batch["output"]), bytes_of(batch.get("errors", ""))
+    unwritten = f"{batch['source']}:0: 68 WriteFault\n".encode()
+
+    def judge_read(ran):
+        is_told = ran.status == 2 and not ran.output and UNREAD.fullmatch(ran.errors)
+        if not (is_told if ran.refused else ran[1:] == (0, output, errors)):
+            raise wrong(ran)
+        return True
+
+    def judge_write(ran):
+        is_told = ran.status == 2 and output.startswith(ran.output) and ran.errors == unwritten
+        is_whole = ran.status == 0 and ran.output == output and (ran.refused or ran.errors == errors)
+        if not (is_whole or ran.refused and is_told):
+            raise wrong(ran)
+        return True
+
+    words = [PROGRAM, *batch["words"]]
+    reads = shim.each(words, "program", judge_read, 0, refuses="reads")
+    writes = shim.each(words, "program", judge_write, 0, refuses="writes")
+    if not (reads and writes):
+        raise Failed(f"{reads} reads and {writes} writes were refused")
+    return reads + writes
+
+
 def outputs_of(requests):
     """Returns the output of a session, and for each of its requests the one with its reply refused."""
     replies = [bytes_of(request.get("reply", "")) for request in requests]
@@ -207,7 +239,11 @@ def all_runs():
             found = json.load(text)
         if "requests" in found:
             runs.append((file, refuse_to_session, found))
-        runs += [(f"{file}, {' '.join(row['words'])}", refuse_to_batch, row) for row in found.get("rows", [])]
+        for row in found.get("rows", []):
+            name = f"{file}, {' '.join(row['words'])}"
+            runs.append((name, refuse_to_batch, row))
+            if "source" in row:
+                runs.append((f"{name}, reads and writes", refuse_to_devices, row))
     return runs
 
 
@@ -227,7 +263,7 @@ def run_all():
             except (Failed, OSError, subprocess.SubprocessError) as why:
                 print(f"FAILED: {name}: {why}", flush=True)
                 failed += 1
-    print(f"{growths} growths refused in {len(runs)} runs", flush=True)
+    print(f"{growths} growths, reads and writes refused in {len(runs)} runs", flush=True)
     return len(runs) - failed, failed
 
 

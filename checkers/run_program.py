@@ -18,6 +18,8 @@ tests/runs/NAME.json is one run, in a folder of its own, which has the examples 
     errors        what it writes to standard error, a value; empty if left out, and not looked at if null
     errors_to     the path that standard error is opened at; `errors` is then not looked at
     status        the exit status; 0 if left out
+    accepted      the words of a second run in the same folder, in which the file `output` has what the first wrote to standard
+                  output: it has to end with status 0, and to write nothing to standard error
     rows          a list of runs that have these members alike: the file is then as many runs as there are rows, and the
                   members of each row go over those of the file
 
@@ -43,7 +45,7 @@ ROOT = os.path.dirname(os.path.dirname(os.path.abspath(__file__)))
 PROGRAM = f"{ROOT}/crates/collbench/out/collbench"
 RUNS = f"{ROOT}/tests/runs"
 SECONDS = 120
-MEMBERS = {"shows", "words", "files", "input", "input_from", "turns", "output", "output_to", "errors", "errors_to", "status"}
+MEMBERS = {"shows", "words", "files", "input", "input_from", "turns", "output", "output_to", "errors", "errors_to", "status", "accepted"}
 
 
 def bytes_of(value):
@@ -114,6 +116,14 @@ def in_turns(words, turns, how):
     return wanted, subprocess.CompletedProcess(words, ran.returncode, read + late + rest, errors)
 
 
+def not_accepted(program, words, folder, output):
+    """Runs the program over what it wrote, and returns what it tells of that, a line for each thing that is not as wanted."""
+    with open(f"{folder}/output", "wb") as file:
+        file.write(output)
+    ended = subprocess.run([program, *map(bytes_of, words)], cwd=folder, timeout=SECONDS, check=False, capture_output=True)
+    return [f"not accepted: {shown(ended.stderr)}, status {ended.returncode}"] if ended.returncode or ended.stderr else []
+
+
 def differences(program, run):
     """Runs the program, and returns what differs from what is wanted, a line for each."""
     unknown = set(run) - MEMBERS
@@ -142,13 +152,13 @@ def differences(program, run):
                 told["output"], ended = in_turns([program, *words], run["turns"], {"cwd": folder, **how})
             else:
                 ended = subprocess.run([program, *words], cwd=folder, timeout=SECONDS, check=False, **how)
+            lines = not_accepted(program, run["accepted"], folder, ended.stdout) if "accepted" in run else []
         except subprocess.TimeoutExpired:
             return [f"the program had not ended after {SECONDS} seconds"]
         except OSError as error:
             return [f"the program did not start: {error}"]
     found = [] if "output_to" in run else [("output", ended.stdout)]
     found += [] if "errors_to" in run else [("errors", ended.stderr)]
-    lines = []
     for member, wrote in found:
         value = told.get(member, "")
         wanted = value if isinstance(value, bytes) else wrote if value is None else bytes_of(value)

@@ -19,7 +19,7 @@ use Rattle.coll_requests.specs.declared.delta_faults.DeltaFault.{DeltaFault}
 use Rattle.coll_requests.specs.declared.delta_files.StatementAt.{StatementAt}
 use Rattle.coll_requests.specs.declared.open_blocks.OpenBlock.{OpenBlock}
 use Rattle.coll_requests.specs.declared.session_lines.StandaloneLine.{StandaloneLine}
-use Rattle.coll_requests.specs.declared.session_lines.StandaloneLine.TheVariants as apart
+use Rattle.coll_requests.specs.declared.session_lines.StandaloneLine.TheVariants as standalone
 use Rattle.coll_requests.specs.declared.session_lines.Parsed.{Parsed}
 use Rattle.coll_requests.specs.declared.session_lines.Parsed.TheVariants as parsed
 use Rattle.coll_requests.specs.declared.session_lines.ParsedLine.{ParsedLine}
@@ -78,10 +78,10 @@ at_if : (n : ℕ) (full : Bool) (at : FaultAt) → at.line ≡ n → IsAt n (if 
 at_if n true at e = e
 at_if n false at e = tt
 
-apart_at : (n : ℕ) (a : StandaloneLine) → (standalone_fault n a).line ≡ n
-apart_at n (apart.Statement s) = refl
-apart_at n apart.NoEffect = refl
-apart_at n apart.EndsCategory = refl
+standalone_at : (n : ℕ) (a : StandaloneLine) → (standalone_fault n a).line ≡ n
+standalone_at n (standalone.Statement s) = refl
+standalone_at n standalone.NoEffect = refl
+standalone_at n standalone.EndsCategory = refl
 
 inside_at : (block : OpenBlock) (n : ℕ) (h : Parsed) → IsAt n (kept_fault_inside block n h)
 inside_at block n (parsed.Stops f) = refl
@@ -90,8 +90,8 @@ inside_at block n (parsed.Command c) = tt
 inside_at block n (parsed.BadCommand f) = tt
 inside_at block n (parsed.BlockStart target) = tt
 inside_at block n parsed.BlockEnd = tt
-inside_at block n (parsed.OrderLine order) = at_if n (is_full block.so_far) _ refl
-inside_at block n (parsed.Standalone a) = apart_at n a
+inside_at block n (parsed.OrderLine order) = at_if n (is_full block.status) _ refl
+inside_at block n (parsed.Standalone a) = standalone_at n a
 
 under_at : (block : Option OpenBlock) (line : ParsedLine) → IsAt line.number (kept_fault_under block line)
 under_at None line = outside_at line.number line.parsed

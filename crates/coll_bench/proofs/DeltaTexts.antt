@@ -1,18 +1,19 @@
 -- A delta file that is read line by line: what is known of it after some lines, and what each end of the reading says of it.
 use Rattle.std.proofs.Common.{◌≡◌, ℕ, Bool, true, false, List, [], ◌∷◌, ◌++◌, length, Option, Some, None, Result, Ok, Err, ◌⊎◌}
-use Rattle.std.proofs.Common.{⊎_elim, inl, inr, sym, ap, subst, ◌∙◌, refl, arith, append_assoc, append-nil, length-append}
-use Rattle.std.specs.Prelude.{◌+◌, if◌then◌else◌, option_map, IfErr, OnOk}
+use Rattle.std.proofs.Common.{⊎_elim, inl, inr, sym, ap, subst, ◌∙◌, refl, arith, append_assoc}
+use Rattle.std.specs.Prelude.{◌+◌, option_map, IfErr, OnOk}
 use Rattle.coll_devices.specs.LineReading.{ReaderState, no_line, Advances, GivesLine, GivesEnd, EndsAgain, StopsNow, StopsAgain}
+use Rattle.coll_lex.specs.EarlyEnds.{ends_at}
 use Rattle.coll_lex.specs.LogicalLines.{OpenLine, number_of}
-use Rattle.coll_devices.specs.PhysicalLines.{lines_of, with_feeds}
+use Rattle.coll_devices.specs.PhysicalLines.{lines_of}
 use Rattle.coll_devices.specs.declared.stops.ReadStop.{ReadStop}
 use Rattle.coll_devices.specs.declared.stops.ReadStop.TheVariants as stop
 use Rattle.coll_nodes.specs.Table.{Collation}
-use Rattle.coll_table.proofs.TextSteps.{LinesGiven, gives_first, was_last, stops_long, stops_short, none_given, one_given, all_given}
-use Rattle.coll_requests.specs.DeltaFiles.{DeltaOutcome, at_line, after_statements, delta_outcome}
+use Rattle.coll_table.proofs.TextSteps.{ReadSoFar, gives_first, stops_long, none_given, cut_behind, said_ahead, said_before, read_on, said_at_end, all_counted}
+use Rattle.coll_requests.specs.DeltaFaults.{early_fault}
+use Rattle.coll_requests.specs.DeltaFiles.{DeltaOutcome, after_statements, delta_outcome}
 use Rattle.coll_requests.specs.DeltaReading.{DeltaState, Step, first_delta, delta_line, early_end, delta_end}
 use Rattle.coll_requests.specs.Requests.{BlockLines}
-use Rattle.coll_requests.specs.declared.delta_faults.DeltaCause.TheVariants.{NoCategory, NoEnd}
 use Rattle.coll_requests.specs.declared.delta_faults.DeltaFault.{DeltaFault}
 use Rattle.coll_requests.specs.declared.delta_files.StatementAt.{StatementAt}
 use Rattle.coll_requests.proofs.DeltaSteps.{outcome_from, StandsAfter, CountsOne, stands_first}
@@ -54,21 +55,26 @@ line_step input table s line changed after e = by_answer (delta_line s line) ref
     by_answer (Err f) is e = absurd cc
 
 module _ (input : ℕ) (first : Collation) where
-  -- of the text these lines were taken, and the rest is unread; what they decide is what is decided from the table and the state of
-  -- the file's reader
-  pub record ReadSoFar (text : List ℕ) (reader : ReaderState) (left : Option (List ℕ)) (block : Option BlockLines) (table : Collation) (s : DeltaState) : Type 0 where
-    pub lines : LinesGiven text reader left
-    pub count : s.ended ≡ false → s.lexer.count ≡ length lines.whole
-    pub decides : (ends : Bool) (more : List (List ℕ)) → decision input first (delta_outcome ends (lines.whole ++ more)) ≡ decision input table (outcome_from ends block s more)
+  -- what lines of the file decide, by whether it ends with them
+  abbrev decided : Bool → List (List ℕ) → Decision
+  decided ends lines = decision input first (delta_outcome ends lines)
+
+  -- what further lines decide, where the table and the state of the file's reader are these
+  abbrev decided_from : Option BlockLines → Collation → DeltaState → Bool → List (List ℕ) → Decision
+  decided_from block table s ends more = decision input table (outcome_from ends block s more)
+
+  -- of the text lines were taken, which decide and say what is decided and said from here on
+  pub record TakenSoFar (text : List ℕ) (reader : ReaderState) (left : Option (List ℕ)) (block : Option BlockLines) (table : Collation) (s : DeltaState) : Type 0 where
+    pub read : ReadSoFar decided (decided_from block table s) s.ended s.lexer.count text reader left
     pub given : List StatementAt
-    pub says : (ends : Bool) (more : List (List ℕ)) → delta_outcome ends (lines.whole ++ more) ≡ after_statements given (outcome_from ends block s more)
+    pub says : (ends : Bool) (more : List (List ℕ)) → delta_outcome ends (read.lines.whole ++ more) ≡ after_statements given (outcome_from ends block s more)
 
   -- whatever text the device had, it was read so far
   pub record OnWay (start : Option (List ℕ)) (reader : ReaderState) (left : Option (List ℕ)) (table : Collation) (s : DeltaState) : Type 0 where
     pub block : Option BlockLines
     pub stands : StandsAfter block s
     pub opens : IsOpenWithin s.lexer
-    pub read : (text : List ℕ) → start ≡ Some text → ReadSoFar text reader left block table s
+    pub taken : (text : List ℕ) → start ≡ Some text → TakenSoFar text reader left block table s
 
   -- before the first line
   pub sets_out : (start : Option (List ℕ)) → OnWay start no_line start first first_delta
@@ -76,10 +82,8 @@ module _ (input : ℕ) (first : Collation) where
     block = None;
     stands = stands_first;
     opens = none_open first_delta.lexer refl;
-    read = λ text e. record {
-      lines = none_given text start e;
-      count = λ n. refl;
-      decides = λ ends more. refl;
+    taken = λ text e. record {
+      read = record { lines = none_given text start e; count = λ n. refl; decides = λ ends more. refl };
       given = [];
       says = λ ends more. refl;
     };
@@ -93,14 +97,12 @@ module _ (input : ℕ) (first : Collation) where
 
   module _ (start : Option (List ℕ)) (reader : ReaderState) (left : Option (List ℕ)) (table : Collation) (s : DeltaState) (way : OnWay start reader left table s) where
     -- what is decided of the text by the lines unread
-    from_here : (text : List ℕ) (e : start ≡ Some text) (lines : List (List ℕ)) → let at = way.read text e in lines_of at.lines.rest ≡ lines → decision input first (delta_outcome true (lines_of text))
+    from_here : (text : List ℕ) (e : start ≡ Some text) (lines : List (List ℕ)) → lines_of (way.taken text e).read.lines.rest ≡ lines → decision input first (delta_outcome true (lines_of text))
         ≡ decision input table (outcome_from true way.block s lines)
-    from_here text e lines ahead =
-        let at = way.read text e in
-        ap (λ ls. decision input first (delta_outcome true ls)) (at.lines.lines ∙ ap (λ l. at.lines.whole ++ l) ahead) ∙ at.decides true lines
+    from_here text e lines ahead = said_ahead decided (decided_from way.block table s) s.ended s.lexer.count text reader left (way.taken text e).read lines ahead
 
     -- a text of which a line decides is answered so
-    decided_so : (text : List ℕ) (e : start ≡ Some text) (line : List ℕ) (later : List (List ℕ)) (ended : RunFault) → let at = way.read text e in lines_of at.lines.rest ≡ line ∷ later
+    decided_so : (text : List ℕ) (e : start ≡ Some text) (line : List ℕ) (later : List (List ℕ)) (ended : RunFault) → lines_of (way.taken text e).read.lines.rest ≡ line ∷ later
         → line_taken input table s line ≡ Err ended → after_delta input first text ≡ Err ended
     decided_so text e line later ended ahead taken =
         let decides : LineDecides input way.block table s line (Err ended) = subst (LineDecides input way.block table s line) taken (line_decides input way.block table s line way.stands) in
@@ -109,7 +111,7 @@ module _ (input : ℕ) (first : Collation) where
     -- where the category has ended, the table is the answer
     pub given_whole : s.ended ≡ true → (text : List ℕ) → start ≡ Some text → after_delta input first text ≡ Ok table
     given_whole ended text e =
-        let at = way.read text e in
+        let at = (way.taken text e).read in
         answered_by text (Decided (Ok table)) (length (lines_of text))
         (from_here text e (lines_of at.lines.rest) refl ∙ given_here input way.block table s way.stands true (lines_of at.lines.rest) ended) refl
 
@@ -127,14 +129,13 @@ module _ (input : ℕ) (first : Collation) where
           block = leads.next;
           stands = leads.stands;
           opens = opens_on;
-          read = λ text e.
-              let at = way.read text e in
-              let whole = at.lines.whole in
+          taken = λ text e.
+              let at = way.taken text e in
+              let whole = at.read.lines.whole in
               record {
-                lines = one_given text reader new left left_after failed failed_after at.lines gives;
-                count = λ n. let one = leads.counts n in omega (arith, one.1, at.count going, length-append whole (new.line ∷ []));
-                decides = λ ends more.
-                    ap (λ ls. decision input first (delta_outcome ends ls)) (append_assoc whole (new.line ∷ []) more) ∙ (at.decides ends (new.line ∷ more) ∙ leads.decides ends more);
+                read =
+                    read_on decided (decided_from way.block table s) s.ended s.lexer.count text reader left at.read new left_after failed failed_after
+                    (decided_from leads.next changed after) after.ended after.lexer.count gives going (λ n. (leads.counts n).1) leads.decides;
                 given = at.given ++ leads.given;
                 says = λ ends more.
                     ap (λ ls. delta_outcome ends ls) (append_assoc whole (new.line ∷ []) more) ∙ (at.says ends (new.line ∷ more)
@@ -147,33 +148,32 @@ module _ (input : ℕ) (first : Collation) where
         counts on = leads.counts on
 
       -- the lines so far decide nothing
-      undecided : (text : List ℕ) (e : start ≡ Some text) → DecidesNothing (decision input first (delta_outcome false (way.read text e).lines.whole))
+      undecided : (text : List ℕ) (e : start ≡ Some text) → DecidesNothing (decision input first (delta_outcome false (way.taken text e).read.lines.whole))
       undecided text e =
-          let at = way.read text e in
-          subst DecidesNothing (sym (ap (λ ls. decision input first (delta_outcome false ls)) (sym (append-nil at.lines.whole)) ∙ at.decides false []))
+          subst DecidesNothing (sym (said_before decided (decided_from way.block table s) s.ended s.lexer.count text reader left (way.taken text e).read))
           (undecided_here input way.block table s way.stands going)
 
       -- a line more to which memory was refused
       starved : (number : ℕ) → GivesLine reader new left left_after failed failed_after → IsFaultNumber s new.line number → (text : List ℕ) → start ≡ Some text
           → DeltaStarvesWithin input first text number
       starved number gives is text e =
-          let first_line = gives_first reader new left left_after failed failed_after at.lines.rest at.lines.unread gives in
-          (at.lines.whole, new.line, lines_of first_line.rest, at.lines.lines ∙ ap (λ lines. at.lines.whole ++ lines) first_line.first, undecided text e, ⊎_elim of_line of_statement is)
+          let first_line = gives_first reader new left left_after failed failed_after at.read.lines.rest at.read.lines.unread gives in
+          (at.read.lines.whole, new.line, lines_of first_line.rest, at.read.lines.lines ∙ ap (λ lines. at.read.lines.whole ++ lines) first_line.first, undecided text e, ⊎_elim of_line of_statement is)
         where
-          at : ReadSoFar text reader left way.block table s
-          at = way.read text e
+          at : TakenSoFar text reader left way.block table s
+          at = way.taken text e
 
-          of_line : number ≡ number_of s.lexer → IsLineWithin number (length at.lines.whole + 1) ⊎ IsLineOfStatement (at.lines.whole ++ new.line ∷ []) number
-          of_line same = let within = next_within s.lexer way.opens in inl (omega (arith, same, within.0), omega (arith, same, within.1, at.count going))
+          of_line : number ≡ number_of s.lexer → IsLineWithin number (length at.read.lines.whole + 1) ⊎ IsLineOfStatement (at.read.lines.whole ++ new.line ∷ []) number
+          of_line same = let within = next_within s.lexer way.opens in inl (omega (arith, same, within.0), omega (arith, same, within.1, at.read.count going))
 
-          by_given : (given : List StatementAt) (after : DeltaState) → delta_line s new.line ≡ Ok (given, after) → IsNumberOf given number → IsLineOfStatement (at.lines.whole ++ new.line ∷ []) number
+          by_given : (given : List StatementAt) (after : DeltaState) → delta_line s new.line ≡ Ok (given, after) → IsNumberOf given number → IsLineOfStatement (at.read.lines.whole ++ new.line ∷ []) number
           by_given [] after step here = absurd here
           by_given (it ∷ more) after step here =
               let stated = line_states input way.block s new.line (it ∷ more) after way.stands step in
               (at.given, it, more ++ stated.0.statements, ap (λ (said : DeltaOutcome). said.statements) (at.says false (new.line ∷ []) ∙ ap (after_statements at.given) stated.1), here)
 
-          of_statement : (given : List StatementAt) × (after : DeltaState) × (delta_line s new.line ≡ Ok (given, after)) × IsNumberOf given number → IsLineWithin number (length at.lines.whole + 1)
-              ⊎ IsLineOfStatement (at.lines.whole ++ new.line ∷ []) number
+          of_statement : (given : List StatementAt) × (after : DeltaState) × (delta_line s new.line ≡ Ok (given, after)) × IsNumberOf given number → IsLineWithin number (length at.read.lines.whole + 1)
+              ⊎ IsLineOfStatement (at.read.lines.whole ++ new.line ∷ []) number
           of_statement h = inr (by_given h.0 h.1 h.2 h.3)
 
       -- a line more that was refused
@@ -183,7 +183,7 @@ module _ (input : ℕ) (first : Collation) where
       refused_by WriteFailed ended gives h number text e = h
       refused_by Starved ended gives h number text e = inr (starved ended.line gives number text e)
       refused_by Refused ended gives h number text e =
-          let at = way.read text e in
+          let at = (way.taken text e).read in
           let first_line = gives_first reader new left left_after failed failed_after at.lines.rest at.lines.unread gives in
           decided_so text e new.line (lines_of first_line.rest) ended first_line.first h
 
@@ -196,7 +196,7 @@ module _ (input : ℕ) (first : Collation) where
           → (text : List ℕ) → start ≡ Some text
           → after_delta input first text ≡ Err (stopped_in input (number_of s.lexer) stop.LineTooLong)
       stopped_long none stops text e =
-          let at = way.read text e in
+          let at = (way.taken text e).read in
           let long = stops_long reader new left left_after failed failed_after at.lines.rest at.lines.unread none stops in
           decided_so text e long.line long.later (stopped_in input (number_of s.lexer) stop.LineTooLong) long.first (long_line input way.block table s way.stands long.line long.long going)
 
@@ -204,22 +204,10 @@ module _ (input : ℕ) (first : Collation) where
       stopped_short : reader.stop ≡ None → StopsNow reader new left left_after failed failed_after stop.ReadFault ⊎ StopsAgain reader new left left_after failed failed_after stop.ReadFault
           → (text : List ℕ) → start ≡ Some text
           → DeltaFails ReadFailed input first text left_after (stopped_in input (number_of s.lexer) stop.ReadFault)
-      stopped_short none stops text e =
-          let at = way.read text e in
-          let cut = stops_short reader new left left_after failed failed_after at.lines.rest at.lines.unread none stops in (
-            refl,
-            (
-              at.lines.whole,
-              cut.part,
-              cut.rest,
-              cut.left,
-              at.lines.fed cut.went_on ∙ ap (λ rest. with_feeds at.lines.whole ++ rest) cut.all,
-              at.lines.lines ∙ ap (λ rest. at.lines.whole ++ lines_of rest) cut.all,
-              cut.whole,
-              cut.short,
-              undecided text e,
-            ),
-          )
+      stopped_short none stops text e = (
+        refl,
+        cut_behind text reader new left left_after failed failed_after (way.taken text e).read.lines (λ whole. DecidesNothing (decided false whole)) (undecided text e) none stops,
+      )
 
       -- a reader that stops
       pub stopped : (why : ReadStop) → reader.stop ≡ None → Advances reader new left left_after failed failed_after (Err why)
@@ -231,10 +219,11 @@ module _ (input : ℕ) (first : Collation) where
       all_read : GivesEnd reader new left left_after failed failed_after ⊎ EndsAgain reader new left left_after failed failed_after → (text : List ℕ) → start ≡ Some text
           → after_delta input first text ≡ Err (delta_fault_in input (early_end s s.lexer.line))
       all_read ends text e =
-          let at = way.read text e in
-          let none = was_last reader new left left_after failed failed_after at.lines.rest at.lines.unread ends in
-          let all = all_given text reader new left left_after failed failed_after at.lines ends in
-          answered_by text (decision input table (outcome_from true way.block s [])) s.lexer.count (from_here text e [] none) (ap length all ∙ sym (at.count going))
+          let at = (way.taken text e).read in
+          let from = decided_from way.block table s in
+          answered_by text (decision input table (outcome_from true way.block s [])) s.lexer.count
+          (said_at_end decided from s.ended s.lexer.count text reader left at new left_after failed failed_after ends)
+          (all_counted decided from s.ended s.lexer.count text reader left at new left_after failed failed_after ends going)
           ∙ ends_here input way.block table s way.stands going
 
       -- a file that ends before its category does: what its reader answers is the answer to the text
@@ -247,7 +236,7 @@ module _ (input : ℕ) (first : Collation) where
           λ text e. subst (λ (ended : RunFault). DeltaFails (ending_of ended) input first text left_after ended) same
           (subst (λ (kind : Ending). DeltaFails kind input first text left_after (delta_fault_in input f)) (sym (early_kind s.lexer.line)) (all_read ends text e))
         where
-          by_begun : (begun : Bool) → ending_of (delta_fault_in input (at_line s.lexer.count (if begun then NoEnd else NoCategory))) ≡ Refused
+          by_begun : (begun : Bool) → ending_of (delta_fault_in input (early_fault (ends_at begun s.lexer.count None))) ≡ Refused
           by_begun true = refl
           by_begun false = refl
 

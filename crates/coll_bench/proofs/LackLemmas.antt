@@ -25,7 +25,7 @@ use Rattle.coll_requests.specs.declared.session_lines.Command.{Command}
 use Rattle.coll_requests.specs.declared.session_lines.Command.TheVariants as command
 use Rattle.coll_requests.specs.declared.open_blocks.OpenBlock.{OpenBlock}
 use Rattle.coll_requests.specs.declared.open_blocks.BlockStatus.{BlockStatus}
-use Rattle.coll_requests.specs.declared.open_blocks.BlockStatus.TheVariants as so_far
+use Rattle.coll_requests.specs.declared.open_blocks.BlockStatus.TheVariants as status
 use Rattle.coll_requests.specs.declared.session_lines.Opening.{Opening}
 use Rattle.coll_requests.specs.declared.session_lines.Opening.TheVariants as opening
 use Rattle.coll_requests.specs.declared.session_lines.Parsed.{Parsed}
@@ -82,9 +82,9 @@ exact_later : (prefix written stated : List ℕ) → Exact written stated → Ex
 exact_later prefix written stated e = ⊎_elim (λ (same : written ≡ stated). inl (ap (λ (x : List ℕ). prefix ++ x) same)) (λ (shows : ShowsLack written). inr (shows_later prefix written shows)) e
 
 -- a request that is answered as if memory was there
-answered_step : (h : History) (asks : Request) (later : List RequestAt) (choices : List Bool) → ((h2 : History) → Exact (answers h2 later choices) (answers h2 later []))
-    → Exact (reply h asks ++ answers (history_after h asks) later choices) (reply h asks ++ answers (history_after h asks) later [])
-answered_step h asks later choices ih = exact_later (reply h asks) (answers (history_after h asks) later choices) (answers (history_after h asks) later []) (ih (history_after h asks))
+answered_step : (h : History) (request : Request) (later : List RequestAt) (choices : List Bool) → ((h2 : History) → Exact (answers h2 later choices) (answers h2 later []))
+    → Exact (reply h request ++ answers (history_after h request) later choices) (reply h request ++ answers (history_after h request) later [])
+answered_step h request later choices ih = exact_later (reply h request) (answers (history_after h request) later choices) (answers (history_after h request) later []) (ih (history_after h request))
 
 -- a withdrawal takes memory where a statement remains with the number, and is answered where none does
 withdraw_step : (h : History) (k : ℕ) (later : List RequestAt) (choices : List Bool) → ((h2 : History) → Exact (answers h2 later choices) (answers h2 later [])) → (remains : Bool)
@@ -107,10 +107,10 @@ command_step h command.History later choices ih = answered_step h (kind.Command 
 command_step h (command.Withdraw k) later choices ih = withdraw_step h k later choices ih (is_numbered h k)
 command_step h command.Check later choices ih = answered_step h (kind.Command command.Check) later choices ih
 
-answers_step : (c : Bool) (h : History) (asks : Request) (later : List RequestAt) (choices : List Bool) → ((h2 : History) → Exact (answers h2 later choices) (answers h2 later []))
-    → Exact (reply_if c h asks ++ answers (history_after_if c h asks) later choices) (reply_if false h asks ++ answers (history_after_if false h asks) later [])
-answers_step false h asks later choices ih =
-    exact_later (reply_if false h asks) (answers (history_after_if false h asks) later choices) (answers (history_after_if false h asks) later []) (ih (history_after_if false h asks))
+answers_step : (c : Bool) (h : History) (request : Request) (later : List RequestAt) (choices : List Bool) → ((h2 : History) → Exact (answers h2 later choices) (answers h2 later []))
+    → Exact (reply_if c h request ++ answers (history_after_if c h request) later choices) (reply_if false h request ++ answers (history_after_if false h request) later [])
+answers_step false h request later choices ih =
+    exact_later (reply_if false h request) (answers (history_after_if false h request) later choices) (answers (history_after_if false h request) later []) (ih (history_after_if false h request))
 answers_step true h (kind.Command c) later choices ih = command_step h c later choices ih
 answers_step true h (kind.Refused f) later choices ih = answered_step h (kind.Refused f) later choices ih
 answers_step true h (kind.Statement s) later choices ih = inr ([], answers h later choices, refl)
@@ -122,7 +122,7 @@ answers_exact h (request ∷ later) choices = answers_step (first_choice choices
 
 -- what is kept of a block, a line of which was refused for lack of memory
 abbrev starved_block : ℕ → ℕ → Option OpenBlock
-starved_block n w = Some (open_at n (so_far.Starved w))
+starved_block n w = Some (open_at n (status.Starved w))
 
 -- the last requests of such a block
 starved_last : (n w m : ℕ) (f : LexFault) → Lacks (map refused_at (kept_last_faults (starved_block n w) m f))
@@ -167,18 +167,18 @@ refused_lacks None n opening.ReorderAfter lines = starved_requests n n lines
 refused_lacks None n opening.ReorderEnd lines = lacks_first n _
 refused_lacks None n opening.Neither lines = lacks_first n _
 refused_lacks (Some block) n opening.ReorderAfter lines = lacks_later (kept_ended (Some block)) (kept_requests true (starved_block n n) lines) (starved_requests n n lines)
-refused_lacks (Some block) n opening.ReorderEnd lines = ended block.so_far
+refused_lacks (Some block) n opening.ReorderEnd lines = ended block.status
   where
     ended : (s : BlockStatus) → Lacks (kept_requests true (Some (open_at block.line s)) (refused_line_of n opening.ReorderEnd ∷ lines))
-    ended (so_far.Building g) = lacks_first n _
-    ended (so_far.Spoiled at) = lacks_first n _
-    ended (so_far.Starved w) = lacks_first w _
-refused_lacks (Some block) n opening.Neither lines = stays block.so_far
+    ended (status.Building g) = lacks_first n _
+    ended (status.Spoiled at) = lacks_first n _
+    ended (status.Starved w) = lacks_first w _
+refused_lacks (Some block) n opening.Neither lines = stays block.status
   where
     stays : (s : BlockStatus) → Lacks (kept_requests true (Some (open_at block.line s)) (refused_line_of n opening.Neither ∷ lines))
-    stays (so_far.Building g) = starved_requests block.line n lines
-    stays (so_far.Spoiled at) = starved_requests block.line n lines
-    stays (so_far.Starved w) = starved_requests block.line w lines
+    stays (status.Building g) = starved_requests block.line n lines
+    stays (status.Spoiled at) = starved_requests block.line n lines
+    stays (status.Starved w) = starved_requests block.line w lines
 
 pub starved_line_requests : (block : Option OpenBlock) (s : LexerState) (bytes : List ℕ) (lines : List ParsedLine) → takes_memory s bytes ≡ true
     → Lacks (kept_requests true block (option_to_list (parsed_at true s bytes) ++ lines))

@@ -3,6 +3,7 @@ pub mod BatchInputs
 pub mod DeltaDecisions
 pub mod DeltaNumbers
 pub mod DeltaTexts
+pub mod ExportLemmas
 pub mod LackCutLemmas
 pub mod LackLemmas
 pub mod LawLemmas

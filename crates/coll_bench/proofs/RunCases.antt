@@ -1,7 +1,7 @@
 -- How a run of a batch ends, by what its inputs and its output answered.
 use Rattle.std.proofs.Common.{◌≡◌, inl, inr, ⊎_elim, ℕ, zero, suc, pred, ◌<◌, ◌≤◌, Bool, true, false, if◌then◌else◌, List, []}
 use Rattle.std.proofs.Common.{◌++◌, Option, Some, None, Result, Ok, Err, refl, sym, ap, ◌∙◌, subst, arith, append-nil}
-use Rattle.std.specs.Prelude.{IfErr}
+use Rattle.std.specs.Prelude.{IfErr, IfOk}
 use Rattle.std.specs.Io.KnownBytes.{Appends}
 use Rattle.coll_nodes.specs.Table.{Collation}
 use Rattle.coll_nodes.specs.TableLayout.{TableValue, collation}
@@ -190,11 +190,16 @@ module _ (b : Batch) (left left_after : Option (List ℕ)) (lefts lefts_after : 
             own
 
 -- an answer to the output counts no read
-pub output_reads : (old new : List ℕ) (r : Result (Unit {0}) RunFault) → new ≡ old → IfErr r (λ ended. ReadsNone ended) → CountsInputs old new r
+pub output_reads : {T : Type 0} (old new : List ℕ) (r : Result T RunFault) → new ≡ old → IfErr r (λ ended. ReadsNone ended) → CountsInputs old new r
 output_reads old new (Ok done) same none = same
 output_reads old new (Err ended) same none = same ∙ ap (λ (b : Bool). if b then raised_at ended.input old else old) (sym none)
 
 -- a fault that comes with the output counts as one of the first input
-pub output_input : (count : ℕ) (r : Result (Unit {0}) RunFault) → IfErr r (λ ended. ended.input ≡ 0) → IfErr r (λ ended. ended.input ≤ count)
+pub output_input : {T : Type 0} (count : ℕ) (r : Result T RunFault) → IfErr r (λ ended. ended.input ≡ 0) → IfErr r (λ ended. ended.input ≤ count)
 output_input count (Ok done) first = first
 output_input count (Err ended) first = omega (arith, first)
+
+-- what holds of a value holds of an answer that has it
+pub given_holds : {T E : Type 0} (P : T → Type 0) (value : T) (r : Result T E) → IfOk r (λ given. given ≡ value) → P value → IfOk r P
+given_holds P value (Ok given) same h = subst P (sym same) h
+given_holds P value (Err e) same h = h

@@ -5,6 +5,7 @@ use Rattle.std.specs.List.{flat_map, list_any}
 use Rattle.coll_devices.specs.PhysicalLines.{lines_of}
 use Rattle.coll_nodes.specs.Table.{Collation}
 use Rattle.coll_texts.specs.CanonicalText.{text}
+use Rattle.coll_texts.specs.ExportedText.{exported_text}
 use Rattle.coll_table.specs.Delta.{delta}
 use Rattle.coll_texts.specs.Reading.{reads}
 use Rattle.coll_texts.specs.declared.load_faults.LoadFault.{LoadFault}
@@ -110,6 +111,7 @@ after_inputs table_text delta_texts = unless_faulty (table_or_fault (reads table
 abbrev pub texts_of : Batch → List (List ℕ)
 texts_of batch.Check = []
 texts_of batch.Print = []
+texts_of batch.Export = []
 texts_of batch.Compile = []
 texts_of (batch.Key texts) = texts
 texts_of (batch.Compare first second) = first ∷ second ∷ []
@@ -126,6 +128,7 @@ key_line table t = written_key table.rules (key_of table t) ++ 10 ∷ []
 unfoldable pub batch_output : Batch → Collation → List ℕ
 batch_output batch.Check table = checked_line table
 batch_output batch.Print table = text table
+batch_output batch.Export table = exported_text table
 batch_output batch.Compile table = compiled_listing table
 batch_output (batch.Key texts) table = flat_map (key_line table) texts
 batch_output (batch.Compare first second) table = order_word (order_of table first second) ++ 10 ∷ []

@@ -1,11 +1,10 @@
 -- A whole run of a batch: what was written and what was answered are stated functions of what its inputs have.
-use Rattle.std.specs.Prelude.{◌≡◌, ◌≤◌, ◌+◌, ◌==◌, ◌⊎◌, ℕ, zero, suc, false, if◌then◌else◌, List, [], ◌∷◌}
+use Rattle.std.specs.Prelude.{◌≡◌, ◌+◌, ◌==◌, ◌⊎◌, ℕ, zero, suc, false, if◌then◌else◌, List, [], ◌∷◌}
 use Rattle.std.specs.Prelude.{◌++◌, length, map, take, slice_get, Option, Some, Result, Ok, Err}
 use Rattle.coll_devices.specs.Devices.{raised}
-use Rattle.coll_devices.specs.Limits.{most_line_bytes}
-use Rattle.coll_devices.specs.PhysicalLines.{lines_of, IsInLine, with_feeds}
+use Rattle.coll_devices.specs.PhysicalLines.{lines_of}
 use Rattle.coll_nodes.specs.Table.{Collation}
-use Rattle.coll_table.specs.Loads.{IsLineWithin, StopsWithin, FaultSays}
+use Rattle.coll_table.specs.Loads.{IsLineWithin, IsCutBehind, StopsWithin, FaultSays}
 use Rattle.coll_texts.specs.declared.load_faults.LoadCause.TheVariants as load
 use Rattle.coll_texts.specs.Reading.{reads}
 use Rattle.coll_requests.specs.DeltaFiles.{delta_outcome}
@@ -37,13 +36,9 @@ abbrev pub DecidesNothing : Decision → Type 0
 DecidesNothing (Decided answer) = ⊥
 DecidesNothing (Undecided cause) = Unit {0}
 
--- a read of a delta file failed behind a part of a line: its text begins with the lines read before it, each with its line feed,
--- and these decide nothing; behind them stand that part, which is no longer than a line may be, and the rest, which is left
+-- a read of a delta file failed, and the lines read whole before it decide nothing
 abbrev pub DeltaStopsWithin : (input : ℕ) → Collation → (text : List ℕ) → (left : Option (List ℕ)) → Type 0
-DeltaStopsWithin input table text left =
-    (whole : List (List ℕ)) × (part : List ℕ) × (rest : List ℕ) × (left ≡ Some rest) × (text ≡ with_feeds whole ++ (part ++ rest))
-    × (lines_of text ≡ whole ++ lines_of (part ++ rest)) × IsInLine part × (length part ≤ most_line_bytes)
-    × DecidesNothing (decision input table (delta_outcome false whole))
+DeltaStopsWithin input table = IsCutBehind (λ whole. DecidesNothing (decision input table (delta_outcome false whole)))
 
 -- a read of one of the delta files failed, with so many before it, which give a table
 abbrev pub DeltasStopWithin : (before : ℕ) → Collation → (texts : List (List ℕ)) → (lefts : List (Option (List ℕ))) → Type 0
@@ -126,6 +121,11 @@ BatchRuns b left left_after lefts lefts_after taken taken_after r =
     (table_text : List ℕ) (delta_texts : List (List ℕ)) (before : List ℕ) → left ≡ Some table_text → lefts ≡ map Some delta_texts
     → taken ≡ Some before
     → (written : List ℕ) × (taken_after ≡ Some (before ++ written)) × BatchRan b table_text delta_texts left_after lefts_after written r
+
+-- an answer without the table that it hands on
+abbrev pub without_table : {T : Type 0} → Result T RunFault → Result (Unit {0}) RunFault
+without_table (Ok table) = Ok tt
+without_table (Err ended) = Err ended
 
 -- the counts of the inputs, that of one of them, by its number, one higher
 abbrev pub raised_at : ℕ → List ℕ → List ℕ

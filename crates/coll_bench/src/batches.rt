@@ -5,11 +5,11 @@
 //! `output` writes what the batch asks for. Every input is read before the first byte is written, and no history is kept. A new
 //! batch is a new variant of `Batch`, a case of `batch_output`, and of `write_output`.
 
-ghost use Rattle.std.specs.Prelude.{◌≡◌, ◌≤◌, ◌∷◌, length, map, IfErr};
+ghost use Rattle.std.specs.Prelude.{◌≡◌, ◌≤◌, ◌∷◌, length, map, IfErr, IfOk, Ok};
 ghost use Rattle.coll_bench.specs.BatchOutcome.{fault_in, texts_of as texts_asked, is_any_too_long as any_too_long};
 ghost use Rattle.coll_key.specs.KeyLimits.{is_too_long as too_long};
-ghost use Rattle.coll_bench.specs.BatchReading.{AnswersBatch};
-ghost use Rattle.coll_bench.specs.BatchRuns.{BatchRuns, CountsInputs};
+ghost use Rattle.coll_bench.specs.BatchReading.{AnswersBatch, ReadsInputs};
+ghost use Rattle.coll_bench.specs.BatchRuns.{BatchRuns, CountsInputs, without_table};
 ghost use Rattle.coll_bench.specs.Serving.{CountsWrites, ReadsNone};
 
 mod delta_files;
@@ -33,6 +33,8 @@ pub enum Batch {
     Check,
     /// Its canonical text.
     Print,
+    /// Its text in the form that `localedef` takes.
+    Export,
     /// Its compiled listing.
     Compile,
     /// The written sort key of each text, one a line, in their order.
@@ -55,10 +57,17 @@ pub fn run_batch<R: Source, W: Sink>(
     ensures reads { CountsInputs (R.failed table.old ∷ map R.failed deltas.old) (R.failed table.new ∷ map R.failed deltas.new) result }
     ensures writes { CountsWrites (W.failed output.old) (W.failed output.new) result }
 {
-    run_batch_keyed(alloc, HashKeys::zeros(), batch, table, deltas, output)
+    let keys = HashKeys::zeros();
+    match run_batch_keyed(alloc, keys, batch, table, deltas, output) {
+        Ok(changed) => {
+            drop(changed);
+            Ok(())
+        }
+        Err(ended) => Err(ended),
+    }
 }
 
-/// Reads a table, rewrites it by delta files in their order, and writes what is asked of the result.
+/// Reads a table, rewrites it by delta files in their order, writes what is asked of the result, and hands the result on.
 ///
 /// Input 0 is the table, input k the k-th delta file; nothing behind the end of a category is looked at. The first fault met is
 /// the answer, with its input and its line (of a refused block that of its `reorder-after`), and then nothing is written. After all
@@ -73,22 +82,43 @@ pub fn run_batch_keyed<R: Source, W: Sink>(
     table: &mut R,
     deltas: &mut [R],
     output: &mut W,
-) -> Result<(), RunFault>
+) -> Result<Table, RunFault>
     ensures run { BatchRuns batch (R.left table.old) (R.left table.new) (map R.left deltas.old) (map R.left deltas.new) (W.taken output.old)
-        (W.taken output.new) result }
+        (W.taken output.new) (without_table result) }
+    ensures table { IfOk result (λ changed. ReadsInputs (R.left table.old) (R.left table.new) (map R.left deltas.old) (map R.left deltas.new)
+        (Ok changed)) }
     ensures input { IfErr result (λ ended. ended.input ≤ length deltas.old) }
     ensures reads { CountsInputs (R.failed table.old ∷ map R.failed deltas.old) (R.failed table.new ∷ map R.failed deltas.new) result }
-    ensures writes { CountsWrites (W.failed output.old) (W.failed output.new) result }
+    ensures writes { CountsWrites (W.failed output.old) (W.failed output.new) (without_table result) }
 {
     match read_inputs(alloc, keys, table, deltas) {
-        Ok(changed) => {
-            let answer = answer_batch(alloc, &batch, &changed, output);
-            drop(changed);
-            drop(batch);
-            answer
-        }
+        Ok(changed) => answer_and_give(alloc, batch, changed, output),
         Err(ended) => {
             drop(batch);
+            Err(ended)
+        }
+    }
+}
+
+// Writes what a batch asks for of the table that its inputs gave, and hands the table on.
+fn answer_and_give<W: Sink>(
+    alloc: Global,
+    batch: Batch,
+    changed: Table,
+    output: &mut W,
+) -> Result<Table, RunFault>
+    ensures run { AnswersBatch batch changed (W.taken output.old) (W.taken output.new) (without_table result) }
+    ensures table { IfOk result (λ given. given ≡ changed) }
+    ensures input { IfErr result (λ ended. ended.input ≡ 0) }
+    ensures reads { IfErr result (λ ended. ReadsNone ended) }
+    ensures writes { CountsWrites (W.failed output.old) (W.failed output.new) (without_table result) }
+{
+    let answer = answer_batch(alloc, &batch, &changed, output);
+    drop(batch);
+    match answer {
+        Ok(()) => Ok(changed),
+        Err(ended) => {
+            drop(changed);
             Err(ended)
         }
     }
@@ -123,7 +153,7 @@ fn is_any_too_long(batch: &Batch) -> bool
     match batch {
         Batch::Key(texts) => texts.get().iter().any(is_too_long),
         Batch::Compare(first, second) => is_too_long(first) || is_too_long(second),
-        Batch::Check | Batch::Print | Batch::Compile => false,
+        Batch::Check | Batch::Print | Batch::Export | Batch::Compile => false,
     }
 }
 

@@ -26,22 +26,22 @@ use std::alloc::{AllocError, Global};
 use std::cmp::Ordering;
 use std::marker::Model;
 
-/// Most characters of what is looked up by itself, of two texts together: a look for so many takes some two milliseconds.
+// Most characters of what is looked up by itself, of two texts together: a look for so many takes some two milliseconds.
 const MOST_SHORT_LOOK: usize = 1_024;
 
-/// As many look-ups as take about the time of making the ranks of a large table.
+// As many look-ups as take about the time of making the ranks of a large table.
 const MOST_SHORT_WORK: u64 = 131_072;
 
 /// The ranks of a table, if they were made, and the places of its entries.
 #[derive(Drop)]
 pub(crate) struct KeptRanks {
-    /// All ranks, if they were made since the last change.
+    // All ranks, if they were made since the last change.
     ranks: Option<Ranks>,
-    /// The places of the entries as they were when these were given last. Their memory is kept over changes.
+    // The places of the entries as they were when these were given last. Their memory is kept over changes.
     numbers: EntryNumbers,
-    /// Whether these are the places in the table as it stands.
+    // Whether these are the places in the table as it stands.
     numbered: bool,
-    /// What the short looks since the last change have cost, in look-ups.
+    // What the short looks since the last change have cost, in look-ups.
     work: u64,
 }
 

@@ -9,6 +9,7 @@
 //!   and `texts` for `:key` and `:compare`; a batch writes its counts, keys and orders by the same functions;
 //! - `serving` for one line and `runs` for a text: a session (`Serving`, `Underway`, `Runs`);
 //! - `batches`: a table and delta files are read, and what is asked of the result is written (`BatchRuns` and those beside it);
+//! - `exports`: what is told of a table that is exported (`Exports`);
 //! - `laws`: what follows from these definitions (`Laws`);
 //! - `reports`: the line of a fault, and the exit status of the program (`Reports`).
 //!
@@ -16,6 +17,7 @@
 #![tactic(auto)]
 
 mod batches;
+mod exports;
 mod faults;
 mod kept_ranks;
 mod laws;
@@ -26,10 +28,9 @@ mod runs;
 mod serving;
 
 pub use batches::{Batch, run_batch, run_batch_keyed};
-pub use coll_history::{BenchFault, MOST_REMAINING, Session, limits_are_stated};
+pub use coll_history::{BenchFault, Session};
+pub use exports::write_symbols_behind;
 pub use faults::{Fault, RunFault};
 pub use laws::{lack_of_memory_shows, refused_lines_change_nothing};
-pub use ranked_sessions::RankedSession;
-pub use replies::{answer, refuse, write_checked, write_key_ended, write_order};
 pub use reports::{exit_status, write_fault};
 pub use runs::run_session;

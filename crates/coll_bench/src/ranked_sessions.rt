@@ -31,7 +31,7 @@ use std::marker::Model;
 
 /// A session, and what is kept beside its table.
 #[derive(Drop)]
-pub struct RankedSession {
+pub(crate) struct RankedSession {
     session: Session,
     kept: KeptRanks,
 }

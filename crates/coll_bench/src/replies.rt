@@ -1,7 +1,7 @@
 //! The replies of a session, written to its sink.
 //!
 //! Each request has one reply, which is written piece by piece, without taking memory, and flushed. Where a write or the
-//! flush fails, the device has taken a prefix of the reply. A new kind of request is a new case of `write_reply`, and of the
+//! flush fails, the device has taken a prefix of the reply. A new kind of request is a new case of `answer`, and of the
 //! definition of replies.
 
 ghost use Rattle.std.specs.Prelude.{◌≡◌, ◌≤◌, Bool, true, chars, codes, IfOk, OnOk};
@@ -29,13 +29,13 @@ use coll_texts::{Piece, write_pieces};
 use history_reply::write_history;
 use std::alloc::Global;
 use texts::{answer_compare, answer_key};
-pub use texts::{write_key_ended, write_order};
+pub(crate) use texts::{write_key_ended, write_order};
 
 /// Does what a request asks for, writes its reply and flushes it.
 ///
 /// What is refused has its reply as well, lack of memory included, and then changes nothing. Where the device fails, it has taken a
 /// prefix of the reply; the history is then as if the reply was written.
-pub fn answer<W: Sink>(
+pub(crate) fn answer<W: Sink>(
     alloc: Global,
     session: &mut RankedSession,
     request: Request,
@@ -47,12 +47,22 @@ pub fn answer<W: Sink>(
     ensures errors { CountsErr (W.failed out.old) (W.failed out.new) result }
     ensures flushed { OnOk result (W.flushed out.new ≡ true) }
 {
-    write_reply(alloc, session, request, out)?;
-    flush(out)
+    match request {
+        Request::Command(command) => {
+            obey(alloc, session, &command, out)?;
+            flush(out)
+        }
+        Request::Statement(statement) => {
+            let outcome = session.statement(statement);
+            write_outcome(out, b"ok", outcome)?;
+            flush(out)
+        }
+        Request::Refused(fault) => refuse(Fault::from(fault), out),
+    }
 }
 
 /// Writes the reply to a fault that ends a session, and flushes it. Where the device fails, it has taken a prefix of the reply.
-pub fn refuse<W: Sink>(fault: Fault, out: &mut W) -> Result<(), WriteStop>
+pub(crate) fn refuse<W: Sink>(fault: Fault, out: &mut W) -> Result<(), WriteStop>
     ensures sent { Sends (W.taken out.old) (W.taken out.new) (refused_line fault) result }
     ensures errors { CountsErr (W.failed out.old) (W.failed out.new) result }
     ensures flushed { OnOk result (W.flushed out.new ≡ true) }
@@ -70,28 +80,6 @@ fn flush<W: Sink>(out: &mut W) -> Result<(), WriteStop>
     match out.flush() {
         Ok(()) => Ok(()),
         Err(_) => Err(WriteStop::WriteFault),
-    }
-}
-
-// Does what a request asks for, and writes its reply.
-fn write_reply<W: Sink>(
-    alloc: Global,
-    session: &mut RankedSession,
-    request: Request,
-    out: &mut W,
-) -> Result<(), WriteStop>
-    requires { IsProperRequest request }
-    ensures answered { (starved : Bool) × Sends (W.taken out.old) (W.taken out.new) (reply_if starved session.old.history request) result
-        × (session.new.history ≡ history_after_if starved session.old.history request) }
-    ensures errors { CountsErr (W.failed out.old) (W.failed out.new) result }
-{
-    match request {
-        Request::Command(command) => obey(alloc, session, &command, out),
-        Request::Statement(statement) => {
-            let outcome = session.statement(statement);
-            write_outcome(out, b"ok", outcome)
-        }
-        Request::Refused(fault) => write_refused(out, Fault::from(fault)),
     }
 }
 
@@ -156,7 +144,7 @@ fn write_listing<W: Sink>(out: &mut W, table: &Table) -> Result<(), WriteStop>
 
 /// Writes how many entries, declarations, sections and levels a table has. Where a write fails, the device has taken a prefix of it.
 #[tactic(auto, unfolding(crate::specs::Replies::checked_line))]
-pub fn write_checked<W: Sink>(out: &mut W, table: &Table) -> Result<(), WriteStop>
+pub(crate) fn write_checked<W: Sink>(out: &mut W, table: &Table) -> Result<(), WriteStop>
     ensures sent { Sends (W.taken out.old) (W.taken out.new) (checked_line (collation table.now)) result }
     ensures errors { CountsErr (W.failed out.old) (W.failed out.new) result }
 {

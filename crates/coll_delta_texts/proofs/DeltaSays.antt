@@ -1,9 +1,9 @@
 -- Each line of a delta file is read as what it says.
-use Rattle.std.proofs.Common.{◌≡◌, ℕ, ◌+◌, ◌*◌, ◌<◌, ◌≤◌, Bool, true, false, List, [], ◌∷◌, ◌++◌, All, length, map, codes, Option, Some, None, Ok, ap, subst, ◌∙◌, refl, sym, arith}
+use Rattle.std.proofs.Common.{◌≡◌, ℕ, ◌+◌, ◌<◌, ◌≤◌, false, List, [], ◌∷◌, ◌++◌, All, length, map, codes, Option, Some, None, Ok, ap, ◌∙◌, refl, arith}
 use Rattle.std.specs.List.{flat_map}
 use lib.Utf8.{encode}
 use Rattle.std.proofs.lemmas.List.{length-append}
-use Rattle.std.proofs.lemmas.List.Elements.{All-nil, All-cons, All-head, All-tail}
+use Rattle.std.proofs.lemmas.List.Elements.{All-head, All-tail}
 use Rattle.coll_lex.specs.Blanks.{past_blanks}
 use Rattle.coll_lex.specs.Directives.{operand_of, directive}
 use Rattle.coll_lex.specs.Names.{IsName}
@@ -15,7 +15,7 @@ use Rattle.coll_syntax.specs.DeltaLines.{delta_line, begun_row}
 use Rattle.coll_syntax.specs.Keywords.{keyword_of}
 use Rattle.coll_syntax.specs.Operands.{and_then, read_as, ended, wanted}
 use Rattle.coll_syntax.specs.OrderLines.{weighted}
-use Rattle.coll_syntax.specs.Proper.{IsId, IsElementText, IsProperWeight, AreProperWeights, IsProperLine}
+use Rattle.coll_syntax.specs.Proper.{IsId, IsElementText, AreProperWeights, IsProperLine}
 use Rattle.coll_syntax.specs.declared.lines.DeltaLine.{DeltaLine}
 use Rattle.coll_syntax.specs.declared.lines.DeltaLine.TheVariants as line
 use Rattle.coll_syntax.specs.declared.identifiers.Id.{Id}
@@ -29,17 +29,18 @@ use Rattle.coll_nodes.specs.declared.declarations.Declaration.TheVariants as dec
 use Rattle.coll_texts.specs.CanonicalText.{spelled_id, declaration_line}
 use Rattle.coll_texts.specs.StatementText.{given_behind, order_line, target_line, section_after_line, statement_lines}
 use Rattle.coll_texts.proofs.PrintedSpellings.{is_clean, is_letter, spells_word, spells_id}
-use Rattle.coll_texts.proofs.PrintedTokens.{tokens_behind, tokens_joined, id_token, names_tokens, weight_tokens, own_read, weight_read}
+use Rattle.coll_texts.proofs.PrintedTokens.{tokens_behind, tokens_joined, id_token, weight_tokens, own_read, weight_read}
 use Rattle.coll_texts.proofs.PrintedTokens.{weights_are_read, some_weights, id_is_read, id_begins_order, weights_behind_id, element_is_read}
-use Rattle.coll_texts.proofs.PrintedLines.{IsLine, line_from, spells_begun, spells_names_apart, symbol_is_line, element_is_line, equivalence_is_line}
+use Rattle.coll_texts.proofs.PrintedLines.{IsLine, SaysTo, line_from, spells_begun, spells_names_apart, symbol_is_line, element_is_line, equivalence_is_line}
 use Rattle.coll_texts.proofs.PrintedLines.{id_is_line, weighted_is_line, category_end_is_line}
+use Rattle.coll_texts.proofs.PrintedReading.{SayAll, say_append, say_members, say_one}
 use Rattle.coll_delta_texts.specs.DeltaText.{copy_line}
-use Rattle.coll_delta_texts.specs.Writable.{is_own_alone, AreGiven, GivesWeights, GivesAllWeights, IsWritable, IsCopyName}
+use Rattle.coll_delta_texts.specs.Writable.{is_own_alone, AreGiven, GivesWeights, IsWritable, IsCopyName}
 use Rattle.coll_delta_texts.proofs.CopyLines.{copy_is_line}
 
--- a line that is read, and that says this to the grammar
+-- a line that says this to the grammar of deltas
 abbrev pub Says : List ℕ → DeltaLine → Type 0
-Says text read = (t : Token) × (ts : List Token) × IsLine text t ts × (delta_line (t ∷ ts) ≡ Ok read)
+Says text read = SaysTo delta_line text read
 
 -- The lines of one word or two.
 
@@ -158,30 +159,6 @@ given_says id (Some (w ∷ ws)) is proper fits =
 pub order_says : (o : OrderLine) → IsProperLine o → GivesWeights o → Says (order_line o) (line.Order o)
 order_says o proper fits = given_says o.id o.weights proper.0 proper.1 fits
 
--- Lists of lines.
-
--- each of these lines says what is read of it
-unfoldable pub SayAll : List (List ℕ) → List DeltaLine → Type 0
-SayAll [] [] = Unit {0}
-SayAll [] (read ∷ reads) = ⊥
-SayAll (text ∷ texts) [] = ⊥
-SayAll (text ∷ texts) (read ∷ reads) = Says text read × SayAll texts reads
-
-pub say_none : SayAll [] []
-unfolding SayAll
-say_none = tt
-
-pub say_more : (text : List ℕ) (texts : List (List ℕ)) (read : DeltaLine) (reads : List DeltaLine) → Says text read → SayAll texts reads → SayAll (text ∷ texts) (read ∷ reads)
-unfolding SayAll
-say_more text texts read reads h k = (h, k)
-
-pub say_append : (texts more : List (List ℕ)) (reads others : List DeltaLine) → SayAll texts reads → SayAll more others → SayAll (texts ++ more) (reads ++ others)
-unfolding SayAll
-say_append [] more [] others h k = k
-say_append [] more (read ∷ reads) others h k = absurd h
-say_append (text ∷ texts) more [] others h k = absurd h
-say_append (text ∷ texts) more (read ∷ reads) others h k = (h.0, say_append texts more reads others h.1 k)
-
 -- The lines of statements.
 
 -- the lines of a statement, as they are read
@@ -193,36 +170,32 @@ statement_reads (statement.Block target lines) = line.ReorderAfter target ∷ (m
 statement_reads (statement.SectionAfter moved after) = line.SectionAfter moved after ∷ []
 statement_reads (statement.Reweight order) = line.Order order ∷ []
 
-orders_say : (lines : List OrderLine) → All IsProperLine lines → All GivesWeights lines → SayAll (map order_line lines) (map line.Order lines)
-orders_say [] proper fits = say_none
+orders_say : (lines : List OrderLine) → All IsProperLine lines → All GivesWeights lines → SayAll delta_line (map order_line lines) (map line.Order lines)
+unfolding SayAll
+orders_say [] proper fits = tt
 orders_say (o ∷ os) proper fits =
-    say_more (order_line o) (map order_line os) (line.Order o) (map line.Order os) (order_says o (All-head IsProperLine o os proper) (All-head GivesWeights o os fits))
-    (orders_say os (All-tail IsProperLine o os proper) (All-tail GivesWeights o os fits))
+    (order_says o (All-head IsProperLine o os proper) (All-head GivesWeights o os fits), orders_say os (All-tail IsProperLine o os proper) (All-tail GivesWeights o os fits))
 
-say_one : (text : List ℕ) (read : DeltaLine) → Says text read → SayAll (text ∷ []) (read ∷ [])
-say_one text read h = say_more text [] read [] h say_none
-
-statement_says : (s : Statement) → IsWritable s → SayAll (statement_lines s) (statement_reads s)
-statement_says (statement.Symbol name) h = say_one (declaration_line (declaration.Symbol name)) (line.Symbol name) (symbol_says name h.0)
-statement_says (statement.Element name text) h = let is = h.0 in say_one (declaration_line (declaration.Element name text)) (line.Element name text) (element_says name text is.0 is.1)
-statement_says (statement.Equivalence name symbol) h =
-    let is = h.0 in say_one (declaration_line (declaration.Equivalence name symbol)) (line.Equivalence name symbol) (equivalence_says name symbol is.0 is.1)
+statement_says : (s : Statement) → IsWritable s → SayAll delta_line (statement_lines s) (statement_reads s)
+unfolding SayAll
+statement_says (statement.Symbol name) h = (symbol_says name h.0, tt)
+statement_says (statement.Element name text) h = let is = h.0 in (element_says name text is.0 is.1, tt)
+statement_says (statement.Equivalence name symbol) h = let is = h.0 in (equivalence_says name symbol is.0 is.1, tt)
 statement_says (statement.Block target lines) h =
-    let is = h.0 in
-    say_more (target_line target) (map order_line lines ++ codes "reorder-end" ∷ []) (line.ReorderAfter target) (map line.Order lines ++ line.ReorderEnd ∷ []) (target_says target is.0)
-    (say_append (map order_line lines) (codes "reorder-end" ∷ []) (map line.Order lines) (line.ReorderEnd ∷ []) (orders_say lines is.2 h.1)
-    (say_one (codes "reorder-end") line.ReorderEnd block_end_says))
-statement_says (statement.SectionAfter moved after) h =
-    let is = h.0 in say_one (section_after_line moved after) (line.SectionAfter moved after) (section_after_says moved after is.0 is.1)
-statement_says (statement.Reweight order) h = say_one (order_line order) (line.Order order) (order_says order h.0 h.1)
+    let is = h.0 in (
+      target_says target is.0,
+      say_append delta_line (map order_line lines) (codes "reorder-end" ∷ []) (map line.Order lines) (line.ReorderEnd ∷ []) (orders_say lines is.2 h.1)
+          (say_one delta_line (codes "reorder-end") line.ReorderEnd block_end_says),
+    )
+statement_says (statement.SectionAfter moved after) h = let is = h.0 in (section_after_says moved after is.0 is.1, tt)
+statement_says (statement.Reweight order) h = (order_says order h.0 h.1, tt)
 
-pub statements_say : (ss : List Statement) → All IsWritable ss → SayAll (flat_map statement_lines ss) (flat_map statement_reads ss)
-statements_say [] h = say_none
+pub statements_say : (ss : List Statement) → All IsWritable ss → SayAll delta_line (flat_map statement_lines ss) (flat_map statement_reads ss)
+unfolding SayAll
+statements_say [] h = tt
 statements_say (s ∷ ss) h =
-    say_append (statement_lines s) (flat_map statement_lines ss) (statement_reads s) (flat_map statement_reads ss) (statement_says s (All-head IsWritable s ss h))
+    say_append delta_line (statement_lines s) (flat_map statement_lines ss) (statement_reads s) (flat_map statement_reads ss) (statement_says s (All-head IsWritable s ss h))
     (statements_say ss (All-tail IsWritable s ss h))
 
-pub copies_say : (copies : List (List ℕ)) → All IsCopyName copies → SayAll (map copy_line copies) (map (λ _. line.Copy) copies)
-copies_say [] h = say_none
-copies_say (name ∷ names) h =
-    say_more (copy_line name) (map copy_line names) line.Copy (map (λ _. line.Copy) names) (copy_says name (All-head IsCopyName name names h)) (copies_say names (All-tail IsCopyName name names h))
+pub copies_say : (copies : List (List ℕ)) → All IsCopyName copies → SayAll delta_line (map copy_line copies) (map (λ _. line.Copy) copies)
+copies_say copies named = say_members delta_line copy_line (λ _. line.Copy) IsCopyName copy_says copies named

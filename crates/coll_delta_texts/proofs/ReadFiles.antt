@@ -1,16 +1,16 @@
 -- A delta file that is written is read as its statements.
-use Rattle.std.proofs.Common.{◌≡◌, ℕ, suc, ◌+◌, ◌<◌, ◌≤◌, true, false, List, [], ◌∷◌, ◌++◌, length, map, codes, None, Ok, sym, ap, subst, ◌∙◌, refl, arith}
+use Rattle.std.proofs.Common.{◌≡◌, ℕ, suc, ◌+◌, ◌<◌, ◌≤◌, true, List, [], ◌∷◌, ◌++◌, length, map, codes, None, sym, ap, subst, ◌∙◌, refl, arith}
 use Rattle.std.specs.Prelude.{All, encode_utf8_all}
 use Rattle.std.specs.List.{flat_map}
 use Rattle.std.proofs.lemmas.List.{map-append}
-use Rattle.std.proofs.lemmas.List.Elements.{All-nil, All-cons, All-append}
+use Rattle.std.proofs.lemmas.List.Elements.{All-append}
 use lib.Utf8.{encode}
 use Rattle.coll_devices.specs.PhysicalLines.{IsInLine, lines_of, without_return}
 use Rattle.coll_lex.specs.Blanks.{past_blanks}
 use Rattle.coll_lex.specs.Category.{begins_category}
 use Rattle.coll_lex.specs.Directives.{operand_of, named_character, directive}
 use Rattle.coll_lex.specs.Limits.{most_lines}
-use Rattle.coll_lex.specs.LogicalLines.{outside, first_line, logical_lines, first_state}
+use Rattle.coll_lex.specs.LogicalLines.{outside, first_line, logical_lines}
 use Rattle.coll_syntax.specs.DeltaLines.{delta_line}
 use Rattle.coll_syntax.specs.declared.lines.DeltaLine.{DeltaLine}
 use Rattle.coll_syntax.specs.declared.lines.DeltaLine.TheVariants as line
@@ -19,15 +19,15 @@ use Rattle.coll_requests.specs.SessionLines.{opening_of, delta_parsed, tokens_pa
 use Rattle.coll_requests.specs.DeltaFiles.{DeltaOutcome, Ended, outcome_within, outcome_before, delta_outcome, fault_at_end, delta_requests}
 use Rattle.coll_requests.specs.declared.delta_files.StatementAt.{StatementAt}
 use Rattle.coll_requests.specs.declared.session_lines.ParsedLine.{ParsedLine}
-use Rattle.coll_texts.specs.CanonicalText.{opening_lines, line_bytes}
+use Rattle.coll_texts.specs.CanonicalText.{opening_lines}
 use Rattle.coll_texts.specs.StatementText.{statement_lines}
-use Rattle.coll_texts.proofs.PrintedTexts.{in_line, lexer_at}
-use Rattle.coll_texts.proofs.PrintedReading.{bytes_of, logical_line, lines_of_feeds}
+use Rattle.coll_texts.proofs.PrintedTexts.{lexer_at}
+use Rattle.coll_texts.proofs.PrintedReading.{bytes_of, logical_line, SayAll, say_append, say_one, say_in_line, lines_of_feeds}
 use Rattle.coll_texts.proofs.PrintedTables.{opening_in_line}
 use Rattle.coll_delta_texts.specs.DeltaText.{copy_line, delta_lines, delta_text}
 use Rattle.coll_delta_texts.specs.Writable.{IsCopyName, IsWritable}
 use Rattle.coll_delta_texts.specs.ReadBack.{WrittenDeltasAreReadBack}
-use Rattle.coll_delta_texts.proofs.DeltaSays.{Says, SayAll, say_append, say_more, say_none, copies_say, statements_say, category_end_says, statement_reads}
+use Rattle.coll_delta_texts.proofs.DeltaSays.{Says, copies_say, statements_say, category_end_says, statement_reads}
 use Rattle.coll_delta_texts.proofs.SaidRequests.{parsed_of, any_opening, parsed_from, numbered_from, numbered_statements, statements_said, past_copies}
 
 -- Lines as they are parsed.
@@ -49,7 +49,7 @@ none_parsed : (count : ℕ) → map delta_file_parsed (logical_lines [] true (le
 unfolding logical_lines lexer_at
 none_parsed count = refl
 
-lines_parsed : (count : ℕ) (texts : List (List ℕ)) (reads : List DeltaLine) → SayAll texts reads → count + length texts ≤ most_lines
+lines_parsed : (count : ℕ) (texts : List (List ℕ)) (reads : List DeltaLine) → SayAll delta_line texts reads → count + length texts ≤ most_lines
     → map delta_file_parsed (logical_lines [] true (lexer_at count) (bytes_of texts)) ≡ parsed_from (suc count) reads
 unfolding SayAll parsed_from
 lines_parsed count [] [] h room = none_parsed count
@@ -64,16 +64,6 @@ opening_decides : (more : List (List ℕ)) → delta_outcome true (bytes_of open
 unfolding outcome_before outside directive operand_of named_character past_blanks begins_category without_return lexer_at encode
 opening_decides more = refl
 
--- lines that say something have no line feed in them
-say_in_line : (texts : List (List ℕ)) (reads : List DeltaLine) → SayAll texts reads → All IsInLine (bytes_of texts)
-unfolding SayAll
-say_in_line [] reads h = All-nil IsInLine
-say_in_line (text ∷ texts) [] h = absurd h
-say_in_line (text ∷ texts) (read ∷ reads) h =
-    let says = h.0 in
-    let is = says.2 in
-    All-cons IsInLine (encode_utf8_all text) (bytes_of texts) (in_line text is.clean) (say_in_line texts reads h.1)
-
 -- The text.
 
 -- the lines behind the opening ones
@@ -83,12 +73,12 @@ body_lines copies statements = map copy_line copies ++ (flat_map statement_lines
 abbrev body_reads : (copies : List (List ℕ)) → List Statement → List DeltaLine
 body_reads copies statements = map (λ _. line.Copy) copies ++ (flat_map statement_reads statements ++ line.EndCategory ∷ [])
 
-body_says : (copies : List (List ℕ)) (statements : List Statement) → All IsCopyName copies → All IsWritable statements → SayAll (body_lines copies statements) (body_reads copies statements)
+body_says : (copies : List (List ℕ)) (statements : List Statement) → All IsCopyName copies → All IsWritable statements → SayAll delta_line (body_lines copies statements) (body_reads copies statements)
 body_says copies statements named writable =
-    say_append (map copy_line copies) (flat_map statement_lines statements ++ codes "END LC_COLLATE" ∷ []) (map (λ _. line.Copy) copies)
+    say_append delta_line (map copy_line copies) (flat_map statement_lines statements ++ codes "END LC_COLLATE" ∷ []) (map (λ _. line.Copy) copies)
     (flat_map statement_reads statements ++ line.EndCategory ∷ []) (copies_say copies named)
-    (say_append (flat_map statement_lines statements) (codes "END LC_COLLATE" ∷ []) (flat_map statement_reads statements) (line.EndCategory ∷ []) (statements_say statements writable)
-    (say_more (codes "END LC_COLLATE") [] line.EndCategory [] category_end_says say_none))
+    (say_append delta_line (flat_map statement_lines statements) (codes "END LC_COLLATE" ∷ []) (flat_map statement_reads statements) (line.EndCategory ∷ []) (statements_say statements writable)
+    (say_one delta_line (codes "END LC_COLLATE") line.EndCategory category_end_says))
 
 -- the physical lines of the text
 text_lines : (copies : List (List ℕ)) (statements : List Statement) → All IsCopyName copies → All IsWritable statements
@@ -98,7 +88,7 @@ text_lines copies statements named writable =
     let body = body_lines copies statements in
     let parts : bytes_of (opening_lines ++ body) ≡ bytes_of opening_lines ++ bytes_of body = map-append encode_utf8_all opening_lines body in
     let in_lines : All IsInLine (bytes_of opening_lines ++ bytes_of body) =
-    All-append IsInLine (bytes_of opening_lines) (bytes_of body) opening_in_line (say_in_line body (body_reads copies statements) (body_says copies statements named writable)) in
+    All-append IsInLine (bytes_of opening_lines) (bytes_of body) opening_in_line (say_in_line delta_line body (body_reads copies statements) (body_says copies statements named writable)) in
     lines_of_feeds (opening_lines ++ body) (subst (All IsInLine) (sym parts) in_lines) ∙ parts
 
 -- what they say

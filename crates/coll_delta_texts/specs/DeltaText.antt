@@ -10,16 +10,16 @@ use Rattle.coll_texts.specs.CanonicalText.{spelled_all, opening_lines, line_byte
 use Rattle.coll_texts.specs.StatementText.{statement_lines}
 
 -- the characters that a string writes with an escape before them: `"`, `<` and `/`
-abbrev pub is_escaped : ℕ → Bool
-is_escaped c = (c == quotation_mark) || (c == less_than) || (c == slash)
+abbrev pub is_escaped_in_string : ℕ → Bool
+is_escaped_in_string c = (c == quotation_mark) || (c == less_than) || (c == slash)
 
 -- a character of a string that stands as it is
-abbrev pub spelled_char : ℕ → List ℕ → List ℕ
-spelled_char c rest = if is_escaped c then slash ∷ c ∷ rest else c ∷ rest
+abbrev pub spelled_in_string : ℕ → List ℕ → List ℕ
+spelled_in_string c rest = if is_escaped_in_string c then slash ∷ c ∷ rest else c ∷ rest
 
 -- a string whose characters stand as they are
 abbrev pub spelled_literally : List ℕ → List ℕ → List ℕ
-spelled_literally name rest = quotation_mark ∷ spelled_all spelled_char name (quotation_mark ∷ rest)
+spelled_literally name rest = quotation_mark ∷ spelled_all spelled_in_string name (quotation_mark ∷ rest)
 
 -- the line of a copy
 abbrev pub copy_line : List ℕ → List ℕ
@@ -35,8 +35,8 @@ unfoldable pub delta_text : (copies : List (List ℕ)) → List Statement → Li
 delta_text copies statements = flat_map line_bytes (delta_lines copies statements)
 
 -- the bytes of a character of a string
-abbrev pub char_bytes : ℕ → List ℕ
-char_bytes c = encode_utf8_all (spelled_char c [])
+abbrev pub string_char_bytes : ℕ → List ℕ
+string_char_bytes c = encode_utf8_all (spelled_in_string c [])
 
 -- the bytes of the line of a copy
 abbrev pub copy_bytes : List ℕ → List ℕ

@@ -7,7 +7,7 @@ ghost use Rattle.std.specs.Prelude.{chars};
 ghost use Rattle.std.specs.List.{flat_map};
 ghost use Rattle.coll_devices.specs.Devices.{CountsErr, Sends};
 ghost use Rattle.coll_texts.specs.StatementText.{statement_bytes};
-ghost use Rattle.coll_delta_texts.specs.DeltaText.{delta_text, char_bytes, copy_bytes};
+ghost use Rattle.coll_delta_texts.specs.DeltaText.{delta_text, string_char_bytes, copy_bytes};
 ghost use Rattle.coll_delta_texts.specs.ReadBack.{WrittenDeltasAreReadBack};
 
 use coll_devices::{Sink, WriteStop, write_bytes};
@@ -58,7 +58,7 @@ fn write_copy<W: Sink>(out: &mut W, name: &str) -> Result<(), WriteStop>
 
 // Writes the characters of a string as they are, with `/` before some.
 fn write_chars<W: Sink>(out: &mut W, text: &str) -> Result<(), WriteStop>
-    ensures sent { Sends (W.taken out.old) (W.taken out.new) (flat_map char_bytes (chars text.now)) result }
+    ensures sent { Sends (W.taken out.old) (W.taken out.new) (flat_map string_char_bytes (chars text.now)) result }
     ensures errors { CountsErr (W.failed out.old) (W.failed out.new) result }
 {
     for c in text.chars() {
@@ -71,7 +71,7 @@ fn write_chars<W: Sink>(out: &mut W, text: &str) -> Result<(), WriteStop>
 
 // Writes a character of a string as it is, with `/` before it where it would end the string, begin a symbol or be an escape.
 fn write_literally<W: Sink>(out: &mut W, c: char) -> Result<(), WriteStop>
-    ensures sent { Sends (W.taken out.old) (W.taken out.new) (char_bytes c) result }
+    ensures sent { Sends (W.taken out.old) (W.taken out.new) (string_char_bytes c) result }
     ensures errors { CountsErr (W.failed out.old) (W.failed out.new) result }
 {
     match c {

@@ -92,13 +92,6 @@ impl<T> Counted<T> {
         }
     }
 
-    /// The device itself.
-    pub fn device(&self) -> &T
-        ensures { result.now ≡ device_of self.now }
-    {
-        &self.device
-    }
-
     // Counts an error.
     fn count(&mut self)
         ensures errors { errors_of self.new ≡ raised (errors_of self.old) }

@@ -19,7 +19,7 @@ use std::alloc::{AllocError, Global};
 use std::io;
 use std::marker::Model;
 
-/// Bytes of the buffer: room for a line of the most bytes, and for as many read ahead.
+// Bytes of the buffer: room for a line of the most bytes, and for as many read ahead.
 const BUFFER_BYTES: usize = 2 * MOST_LINE_BYTES;
 
 /// A reader of physical lines, with one buffer of its own.

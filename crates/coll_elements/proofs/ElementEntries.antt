@@ -21,7 +21,7 @@ use Rattle.coll_nodes.specs.declared.declarations.Declaration.{Declaration}
 use Rattle.coll_nodes.specs.declared.declarations.Declaration.TheVariants as declaration
 use Rattle.coll_nodes.specs.declared.entries.Entry.{Entry}
 use Rattle.coll_lookups.proofs.Sameness.{same_name_decides}
-use Rattle.coll_elements.specs.Elements.{Element, beyond_first, begins_with, element_placed, element_text, elements_of, elements_placed, longer, longest, part_id, split}
+use Rattle.coll_elements.specs.Elements.{Element, beyond_first, begins_with, element_placed, element_text, elements_of, elements_placed, longer, longest, element_id, split}
 use Rattle.coll_elements.specs.ElementEntries.{longest_prefix, with_length, AreElementsOf, FindsPrefix, IsElementOf}
 use Rattle.coll_elements.specs.declared.element_entries.FoundPrefix.{FoundPrefix}
 use Rattle.coll_elements.specs.declared.element_entries.ElementEntry.{ElementEntry}
@@ -299,7 +299,7 @@ begins_named : (table : Collation) (text : List ℕ) (element : Element) (rest :
     → 0 < length element.text
     → elements_of table text ≡ Named element.name ∷ elements_of table rest
 unfolding elements_of
-begins_named table text element rest found whole some = split_found element_text (elements_placed table) part_id element (Named element.name) text rest found (λ c. refl) whole some
+begins_named table text element rest found whole some = split_found element_text (elements_placed table) element_id element (Named element.name) text rest found (λ c. refl) whole some
 
 -- a text that begins with none has its first character first
 pub begins_alone : (table : Collation) → IsWellFormed table → (c : ℕ) (text : List ℕ) → FindsPrefix (c ∷ text) (longest_prefix (element_entry table) (c ∷ text) (length (c ∷ text))) None
@@ -310,9 +310,9 @@ begins_alone table well c text finds =
     (longest_among table (c ∷ text) table.declared well.built.distinct_texts well.built.texts) finds where
       by : (element : Option Element) → longest element_text (elements_placed table) (c ∷ text) ≡ element → (prefix : Option (Entry × ℕ)) → IsThatOf (entries_of table) (c ∷ text) element prefix
           → FindsPrefix (c ∷ text) prefix None
-          → part_id (longest element_text (elements_placed table) (c ∷ text)) c ∷ split element_text (elements_placed table) part_id
-          (beyond_first element_text (longest element_text (elements_placed table) (c ∷ text))) text ≡ Char c ∷ split element_text (elements_placed table) part_id 0 text
-      by None e None h f = ap (λ l. part_id l c ∷ split element_text (elements_placed table) part_id (beyond_first element_text l) text) e
+          → element_id (longest element_text (elements_placed table) (c ∷ text)) c ∷ split element_text (elements_placed table) element_id
+          (beyond_first element_text (longest element_text (elements_placed table) (c ∷ text))) text ≡ Char c ∷ split element_text (elements_placed table) element_id 0 text
+      by None e None h f = ap (λ l. element_id l c ∷ split element_text (elements_placed table) element_id (beyond_first element_text l) text) e
       by None e (Some prefix) h f = absurd h
       by (Some element) e None h f = absurd h
       by (Some element) e (Some prefix) h f = absurd f

@@ -9,7 +9,7 @@ use Rattle.indexmap.specs.IndexMap.{insert_entry}
 use Rattle.coll_syntax.proofs.Spellings.{same_spelling}
 use Rattle.coll_syntax.specs.Identifier.{same_name}
 use Rattle.coll_lookups.proofs.Sameness.{same_name_decides, same_name_symmetric}
-use Rattle.coll_nodes.specs.LookUps.{characters_of}
+use Rattle.coll_lookups.specs.IdSets.{characters_of}
 use Rattle.coll_elements.specs.NameMaps.{named_numbers, number_named, AreKeys, IsText}
 
 -- the first name of a list has another number

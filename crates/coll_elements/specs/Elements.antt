@@ -47,20 +47,20 @@ beyond_first string_of (Some x) = length (string_of x) - 1
 
 -- the elements of a text behind this many characters: at each place the longest collating element, or else one character
 abbrev pub split : {X P : Type 0} → (X → List ℕ) → List X → (Option X → ℕ → P) → (skipped : ℕ) → List ℕ → List P
-split string_of xs part skipped [] = []
-split string_of xs part (suc skipped) (c ∷ text) = split string_of xs part skipped text
-split string_of xs part zero (c ∷ text) =
-    part (longest string_of xs (c ∷ text)) c ∷ split string_of xs part (beyond_first string_of (longest string_of xs (c ∷ text))) text
+split string_of xs element skipped [] = []
+split string_of xs element (suc skipped) (c ∷ text) = split string_of xs element skipped text
+split string_of xs element zero (c ∷ text) =
+    element (longest string_of xs (c ∷ text)) c ∷ split string_of xs element (beyond_first string_of (longest string_of xs (c ∷ text))) text
 
 -- the string of an element
 abbrev pub element_text : Element → List ℕ
 element_text element = element.text
 
 -- the identifier of an element of a text: that of a collating element, or else the character
-abbrev pub part_id : Option Element → ℕ → Id
-part_id (Some element) c = Named element.name
-part_id None c = Char c
+abbrev pub element_id : Option Element → ℕ → Id
+element_id (Some element) c = Named element.name
+element_id None c = Char c
 
 -- the elements of a text, by their identifiers
 unfoldable pub elements_of : Collation → List ℕ → List Id
-elements_of table text = split element_text (elements_placed table) part_id 0 text
+elements_of table text = split element_text (elements_placed table) element_id 0 text

@@ -2,7 +2,7 @@
 use Rattle.std.specs.Prelude.{◌≡◌, ℕ, if◌then◌else◌, List, [], ◌∷◌, Option, Some, None, map, encode_utf8_all, string_bytes}
 use Rattle.std.specs.declared.string.String.{String}
 use Rattle.coll_syntax.specs.Identifier.{same_name}
-use Rattle.coll_nodes.specs.LookUps.{characters_of}
+use Rattle.coll_lookups.specs.IdSets.{characters_of}
 
 -- a name and its number
 pub record NamedNumber : Type 0 where

@@ -9,7 +9,7 @@ ghost use Rattle.std.specs.Prelude.{◌≡◌, ◌<◌, ◌^◌, [], ℕ, if◌t
 use std::alloc::{AllocError, Global};
 use std::marker::Model;
 
-/// By how many places the list of numbers grows: so many that the tags and variation selectors, U+E0001 to U+E01EF, take one growth.
+// By how many places the list of numbers grows: so many that the tags and variation selectors, U+E0001 to U+E01EF, take one growth.
 const PLACES_AT_ONCE: usize = 1_024;
 
 /// Numbers by code point, one for each character, which is 0 until it is set.

@@ -26,7 +26,7 @@ pub enum ElementEntry<'a> {
     Absent(char),
 }
 
-/// The entry of an element whose string a text begins with, and the text behind the string.
+// The entry of an element whose string a text begins with, and the text behind the string.
 #[derive(Clone, Copy)]
 struct FoundPrefix<'a, 'b> {
     entry: &'a Entry,

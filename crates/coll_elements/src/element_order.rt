@@ -20,9 +20,9 @@ use std::alloc::{AllocError, Global};
 #[derive(Drop)]
 pub(crate) struct OrderedElement {
     text: TextBuf,
-    /// Its place in the order of the declarations.
+    // Its place in the order of the declarations.
     place: u32,
-    /// Among how many elements, from the first on, the last that its string begins with is the last; 0 where there is none.
+    // Among how many elements, from the first on, the last that its string begins with is the last; 0 where there is none.
     among: u32,
 }
 

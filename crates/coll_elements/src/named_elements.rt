@@ -14,7 +14,7 @@ use std::marker::Model;
 pub(crate) struct PlacedElement {
     name: TextBuf,
     text: TextBuf,
-    /// The number of characters of its string.
+    // The number of characters of its string.
     length: usize,
     rank: u32,
 }
@@ -23,7 +23,7 @@ pub(crate) struct PlacedElement {
 #[derive(Drop)]
 pub(crate) struct NamedElements {
     elements: Vec<PlacedElement>,
-    /// The place of each element among all, by its name.
+    // The place of each element among all, by its name.
     places: NameNumbers,
     alloc: Global,
 }

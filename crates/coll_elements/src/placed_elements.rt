@@ -23,11 +23,11 @@ use std::marker::Model;
 #[derive(Drop)]
 pub struct PlacedElements {
     named: NamedElements,
-    /// The same in the order of their strings.
+    // The same in the order of their strings.
     ordered: Vec<OrderedElement>,
-    /// For each character, from which place on those stand whose strings begin with it.
+    // For each character, from which place on those stand whose strings begin with it.
     starts: CodePoints,
-    /// And behind which place none of them stands; 0 where there is none.
+    // And behind which place none of them stands; 0 where there is none.
     ends: CodePoints,
 }
 

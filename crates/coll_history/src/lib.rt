@@ -18,4 +18,4 @@ mod withdrawing;
 pub use histories::Session;
 pub use history_faults::BenchFault;
 pub use laws::undo_restores;
-pub use limits::{MOST_REMAINING, limits_are_stated};
+pub use limits::limits_are_stated;

@@ -6,7 +6,7 @@ ghost use Rattle.std.specs.Prelude.{◌≡◌};
 ghost use Rattle.coll_history.specs.Limits.{most_remaining};
 
 /// Most statements that remain.
-pub const MOST_REMAINING: usize = 65_535;
+pub(crate) const MOST_REMAINING: usize = 65_535;
 
 /// The limit is the number of the definitions: 65,535 statements that remain.
 ///

@@ -1,10 +1,9 @@
 //! The order of a table that is made of a source: its sections and entries, in their order, no identifier placed twice.
 
 use coll_lex::TextBuf;
-use coll_lookups::HashKeys;
+use coll_lookups::{HashKeys, IdSet};
 use coll_nodes::{MOST_ENTRIES, MOST_SECTIONS};
 use coll_sources::{Adjustment, Lost, Report, SourceFault, SourcePlace};
-use coll_statements::IdSet;
 use coll_syntax::OrderLine;
 use coll_texts::LoadCause;
 use indexmap::IndexSet;

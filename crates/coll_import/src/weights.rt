@@ -2,8 +2,8 @@
 
 use crate::meanings::Meanings;
 use coll_lex::ListBuf;
+use coll_lookups::IdSet;
 use coll_sources::{Adjustment, Lost, Report, SourceFault, SourcePlace};
-use coll_statements::IdSet;
 use coll_syntax::{Id, OrderLine, Weight};
 use std::alloc::Global;
 

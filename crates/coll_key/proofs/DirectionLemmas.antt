@@ -1,12 +1,12 @@
--- The items of a level in its direction are those of its parts, each in this direction.
+-- The items of a level in its direction are those of its elements, each in this direction.
 use Rattle.std.proofs.Common.{◌≡◌, ℕ, Bool, true, false, List, [], ◌∷◌, ◌++◌, length, map, reverse, Some, refl, sym, ap, ◌∙◌, append-nil}
 use Rattle.std.proofs.lemmas.Grind.{flat_map-append}
 use Rattle.std.proofs.lemmas.List.{reverse-append, map-append, length-reverse}
 use Rattle.coll_key.specs.LevelList.{items_of, items, directed}
 
--- the numbers of a part in the direction of a level
+-- the numbers of an element in the direction of a level
 abbrev pub directed_numbers : {P : Type 0} → (backward : Bool) → (P → List ℕ) → P → List ℕ
-directed_numbers backward numbers part = directed backward (numbers part)
+directed_numbers backward numbers element = directed backward (numbers element)
 
 -- mapping and reversing
 pub map-reverse : {X Y : Type 0} (f : X → Y) (xs : List X) → map f (reverse xs) ≡ reverse (map f xs)
@@ -32,7 +32,7 @@ items_of_some : (ns : List ℕ) (n : ℕ) → items_of (ns ++ n ∷ []) ≡ map 
 items_of_some [] n = refl
 items_of_some (m ∷ ns) n = refl
 
--- the items of a part, reversed
+-- the items of an element, reversed
 items_of-reverse : (ns : List ℕ) → reverse (items_of ns) ≡ items_of (reverse ns)
 items_of-reverse [] = refl
 items_of-reverse (n ∷ ns) =
@@ -41,7 +41,7 @@ items_of-reverse (n ∷ ns) =
     ∙ sym (items_of_some (reverse ns) n)
     ∙ ap items_of (sym (reverse-append (n ∷ []) ns))
 
--- the items of all parts, reversed
+-- the items of all elements, reversed
 items-reverse : {P : Type 0} (f : P → List ℕ) (ps : List P) → reverse (items f ps) ≡ items (directed_numbers true f) (reverse ps)
 items-reverse f [] = refl
 items-reverse f (p ∷ ps) =

@@ -22,29 +22,29 @@ pub none_left : {X : Type 0} (xs : List X) → length xs ≡ 0 → xs ≡ []
 none_left [] none = refl
 none_left (x ∷ xs) none = absurd (omega arith)
 
--- a part is one gap at most
+-- an element is one gap at most
 pub gap_count_small : (xs : List ℕ) → gap_count xs ≤ 1
 gap_count_small [] = omega arith
 gap_count_small (x ∷ xs) = omega arith
 
-module _ {P : Type 0} (f : P → List ℕ) (g₀ g : ℕ → ℕ) (old ranks : List ℕ) (held parts : List P) (part : P) (none : old ≡ []) (next : held ≡ part ∷ parts) (weighs : map g ranks ≡ f part) where
-  -- what is left begins with this part
-  begins : items_left f (map g₀ old) held ≡ items_of (map g ranks) ++ items f parts
-  begins = ap (λ os. items_left f (map g₀ os) held) none ∙ ap (items f) next ∙ ap (λ ns. items_of ns ++ items f parts) (sym weighs)
+module _ {P : Type 0} (f : P → List ℕ) (g₀ g : ℕ → ℕ) (old ranks : List ℕ) (held elements : List P) (element : P) (none : old ≡ []) (next : held ≡ element ∷ elements) (weighs : map g ranks ≡ f element) where
+  -- what is left begins with this element
+  begins : items_left f (map g₀ old) held ≡ items_of (map g ranks) ++ items f elements
+  begins = ap (λ os. items_left f (map g₀ os) held) none ∙ ap (items f) next ∙ ap (λ ns. items_of ns ++ items f elements) (sym weighs)
 
-  -- a part is taken, and may be a gap
-  pub part_taken : (p : Bool) (gaps n : ℕ) → n ≡ gap_count ranks → listed p gaps (items_left f (map g₀ old) held) ≡ listed p (gaps + n) (items_left f (map g ranks) parts)
-  part_taken p gaps n count = ap (listed p gaps) begins ∙ counted ranks ∙ ap (λ k. listed p (gaps + k) (items_left f (map g ranks) parts)) (sym count)
+  -- an element is taken, and may be a gap
+  pub element_taken : (p : Bool) (gaps n : ℕ) → n ≡ gap_count ranks → listed p gaps (items_left f (map g₀ old) held) ≡ listed p (gaps + n) (items_left f (map g ranks) elements)
+  element_taken p gaps n count = ap (listed p gaps) begins ∙ counted ranks ∙ ap (λ k. listed p (gaps + k) (items_left f (map g ranks) elements)) (sym count)
     where
-      counted : (rs : List ℕ) → listed p gaps (items_of (map g rs) ++ items f parts) ≡ listed p (gaps + gap_count rs) (items_left f (map g rs) parts)
-      counted [] = ap (λ k. listed p k (items f parts)) (sym (add-one gaps))
-      counted (r ∷ rs) = ap (λ k. listed p k (items_left f (map g (r ∷ rs)) parts)) (sym (add-zero gaps))
+      counted : (rs : List ℕ) → listed p gaps (items_of (map g rs) ++ items f elements) ≡ listed p (gaps + gap_count rs) (items_left f (map g rs) elements)
+      counted [] = ap (λ k. listed p k (items f elements)) (sym (add-one gaps))
+      counted (r ∷ rs) = ap (λ k. listed p k (items_left f (map g (r ∷ rs)) elements)) (sym (add-zero gaps))
 
   -- it leaves no more than there was
-  pub part_shorter : length (items_left f (map g ranks) parts) ≤ length (items_left f (map g₀ old) held)
-  part_shorter = omega (arith, ap length begins, no_longer ranks)
+  pub element_shorter : length (items_left f (map g ranks) elements) ≤ length (items_left f (map g₀ old) held)
+  element_shorter = omega (arith, ap length begins, no_longer ranks)
     where
-      no_longer : (rs : List ℕ) → length (items_left f (map g rs) parts) ≤ length (items_of (map g rs) ++ items f parts)
+      no_longer : (rs : List ℕ) → length (items_left f (map g rs) elements) ≤ length (items_of (map g rs) ++ items f elements)
       no_longer [] = omega arith
       no_longer (r ∷ rs) = omega arith
 

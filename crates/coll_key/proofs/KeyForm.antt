@@ -57,14 +57,14 @@ level_before rule rules xs ks positive paired others =
     ∙ others
 
 -- the lists of levels, each ended by 0
-lists_form : {P : Type 0} (f : ℕ → P → List ℕ) (positive : (level : ℕ) (part : P) → All IsPositive (f level part)) (rules : List Rule) (level : ℕ) (parts : List P)
-    → has_key_form rules (flat_map ended (level_lists_from rules level f parts)) ≡ true
-lists_form f positive [] level parts = refl
-lists_form f positive (rule ∷ rules) level parts =
-    level_before rule rules (level_list rule (f level) parts) (flat_map ended (level_lists_from rules (suc level) f parts))
-    (level_positive f positive rule level parts)
-    (listed_paired rule.position 0 (directed rule.backward (items (f level) parts)))
-    (lists_form f positive rules (suc level) parts)
+lists_form : {P : Type 0} (f : ℕ → P → List ℕ) (positive : (level : ℕ) (element : P) → All IsPositive (f level element)) (rules : List Rule) (level : ℕ) (elements : List P)
+    → has_key_form rules (flat_map ended (level_lists_from rules level f elements)) ≡ true
+lists_form f positive [] level elements = refl
+lists_form f positive (rule ∷ rules) level elements =
+    level_before rule rules (level_list rule (f level) elements) (flat_map ended (level_lists_from rules (suc level) f elements))
+    (level_positive f positive rule level elements)
+    (listed_paired rule.position 0 (directed rule.backward (items (f level) elements)))
+    (lists_form f positive rules (suc level) elements)
 
 -- a key has the form of one
 pub key_form : (table : Collation) → IsWellFormed table → (text : List ℕ) → has_key_form table.rules (key_of table text) ≡ true

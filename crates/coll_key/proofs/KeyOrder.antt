@@ -87,16 +87,16 @@ listed_positive true gaps (Some n ∷ sequence) all =
 listed_positive false gaps (Some n ∷ sequence) all =
     All-cons IsPositive n (listed false 0 sequence) (All-first IsPositiveItem (Some n) sequence all) (listed_positive false 0 sequence (All-others IsPositiveItem (Some n) sequence all))
 
-module _ {P : Type 0} (f : ℕ → P → List ℕ) (positive : (level : ℕ) (part : P) → All IsPositive (f level part)) where
-  items_positive : (level : ℕ) (parts : List P) → All IsPositiveItem (items (f level) parts)
+module _ {P : Type 0} (f : ℕ → P → List ℕ) (positive : (level : ℕ) (element : P) → All IsPositive (f level element)) where
+  items_positive : (level : ℕ) (elements : List P) → All IsPositiveItem (items (f level) elements)
   items_positive level [] = All-nil IsPositiveItem
-  items_positive level (part ∷ parts) =
-      All-append IsPositiveItem (items_of (f level part)) (items (f level) parts) (items_of_positive (f level part) (positive level part)) (items_positive level parts)
+  items_positive level (element ∷ elements) =
+      All-append IsPositiveItem (items_of (f level element)) (items (f level) elements) (items_of_positive (f level element) (positive level element)) (items_positive level elements)
 
   -- the list of a level has no 0
-  pub level_positive : (rule : Rule) (level : ℕ) (parts : List P) → All IsPositive (level_list rule (f level) parts)
-  level_positive rule level parts =
-      listed_positive rule.position 0 (directed rule.backward (items (f level) parts)) (directed_positive rule.backward (items (f level) parts) (items_positive level parts))
+  pub level_positive : (rule : Rule) (level : ℕ) (elements : List P) → All IsPositive (level_list rule (f level) elements)
+  level_positive rule level elements =
+      listed_positive rule.position 0 (directed rule.backward (items (f level) elements)) (directed_positive rule.backward (items (f level) elements) (items_positive level elements))
 
   -- the lists of levels, each ended by 0, have the order of the first that differ
   ended_lists_order : (rules : List Rule) (level : ℕ) (ps qs : List P) → list_order (flat_map ended (level_lists_from rules level f ps)) (flat_map ended (level_lists_from rules level f qs))

@@ -1,4 +1,4 @@
--- The lists of levels depend on the numbers of the parts alone, so those of a text are those of its parts.
+-- The lists of levels depend on the numbers of the elements alone, so those of a text are those of its elements.
 use Rattle.std.proofs.Common.{◌≡◌, ℕ, suc, ◌+◌, ◌<◌, ◌≤◌, false, List, [], ◌∷◌, ◌++◌, length, map, nat_lt, refl, sym, ap, ◌∙◌, arith}
 use Rattle.std.specs.List.{flat_map}
 use Rattle.std.specs.Prelude.{chars, Bool, Result, Ok, Err, IfErr}
@@ -15,10 +15,10 @@ use Rattle.coll_elements.specs.Elements.{elements_of}
 use Rattle.coll_key.specs.LevelList.{items_of, items, directed, listed, level_list, level_lists_from}
 use Rattle.coll_ranks.specs.WeightNumbers.{numbers_at}
 use Rattle.coll_elements.specs.RankedElements.{ranked_text}
-use Rattle.coll_ranks.specs.Ranks.{RanksValue, AreRanksOf, parts_of, part_numbers, part_with}
+use Rattle.coll_ranks.specs.Ranks.{RanksValue, AreRanksOf, elements_by_ranks, compiled_numbers, element_with}
 use Rattle.coll_key.specs.TextOrder.{level_lists}
 use Rattle.coll_elements.proofs.SplitTexts.{few_split}
-use Rattle.coll_ranks.proofs.PartNumbers.{numbers_are}
+use Rattle.coll_ranks.proofs.ElementNumbers.{numbers_are}
 
 -- items are those of the numbers
 items_by_map : {P : Type 0} (f : P → List ℕ) (ps : List P) → items f ps ≡ flat_map items_of (map f ps)
@@ -38,23 +38,23 @@ level_lists_same (rule ∷ rules) from f g ps qs same =
     ap (λ xs. xs ∷ level_lists_from rules (suc from) f ps) (level_list_same rule (f from) (g from) ps qs (same from (omega arith) (omega arith)))
     ∙ ap (λ xs. level_list rule (g from) qs ∷ xs) (level_lists_same rules (suc from) f g ps qs (λ level low high. same level (omega arith) (omega arith)))
 
--- the lists of a text are those of parts with the numbers of its elements
-pub level_lists_by_numbers : {P : Type 0} (table : Collation) (text : List ℕ) (f : ℕ → P → List ℕ) (parts : List P)
-    → ((level : ℕ) → level < length table.rules → map (f level) parts ≡ map (numbers_at table level) (elements_of table text)) → level_lists table text ≡ level_lists_from table.rules 0 f parts
+-- the lists of a text are those of elements with the numbers of its elements
+pub level_lists_by_numbers : {P : Type 0} (table : Collation) (text : List ℕ) (f : ℕ → P → List ℕ) (elements : List P)
+    → ((level : ℕ) → level < length table.rules → map (f level) elements ≡ map (numbers_at table level) (elements_of table text)) → level_lists table text ≡ level_lists_from table.rules 0 f elements
 unfolding level_lists
-level_lists_by_numbers table text f parts numbers =
-    sym (level_lists_same table.rules 0 f (numbers_at table) parts (elements_of table text) (λ level low high. numbers level (omega arith)))
+level_lists_by_numbers table text f elements numbers =
+    sym (level_lists_same table.rules 0 f (numbers_at table) elements (elements_of table text) (λ level low high. numbers level (omega arith)))
 
--- so they are those of its parts by the ranks of the table
-pub level_lists_by_parts : (ranks : RanksValue) (table : Collation) → AreRanksOf ranks table → IsWellFormed table → (text : List ℕ)
-    → level_lists table text ≡ level_lists_from table.rules 0 (part_numbers ranks.compiled) (parts_of ranks text)
-level_lists_by_parts ranks table are well text =
-    level_lists_by_numbers table text (part_numbers ranks.compiled) (parts_of ranks text) (λ level within. numbers_are ranks table are well level within text)
+-- so they are those of its elements by the ranks of the table
+pub level_lists_by_elements : (ranks : RanksValue) (table : Collation) → AreRanksOf ranks table → IsWellFormed table → (text : List ℕ)
+    → level_lists table text ≡ level_lists_from table.rules 0 (compiled_numbers ranks.compiled) (elements_by_ranks ranks text)
+level_lists_by_elements ranks table are well text =
+    level_lists_by_numbers table text (compiled_numbers ranks.compiled) (elements_by_ranks ranks text) (λ level within. numbers_are ranks table are well level within text)
 
--- a text that isn't too long has few parts
-pub few_parts : (ranks : RanksValue) (text : List ℕ) → nat_lt 65_536 (length text) ≡ false → length (parts_of ranks text) ≤ 65_536
-unfolding parts_of
-few_parts ranks text short = omega (arith, few_split ranked_text ranks.elements (part_with ranks.ids) 0 text, ltb-false 65_536 (length text) short)
+-- a text that isn't too long has few elements
+pub few_by_ranks : (ranks : RanksValue) (text : List ℕ) → nat_lt 65_536 (length text) ≡ false → length (elements_by_ranks ranks text) ≤ 65_536
+unfolding elements_by_ranks
+few_by_ranks ranks text short = omega (arith, few_split ranked_text ranks.elements (element_with ranks.ids) 0 text, ltb-false 65_536 (length text) short)
 
 -- a text of few bytes isn't too long
 pub few_bytes : (bytes : List ℕ) → shadow (Utf8 bytes) → length bytes ≤ 16 → nat_lt 65_536 (length (chars bytes)) ≡ false

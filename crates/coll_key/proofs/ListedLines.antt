@@ -35,7 +35,7 @@ use Rattle.coll_ranks.specs.Ranks.{RanksValue, AreRanksOf, compiled_by, compiled
 use Rattle.coll_ranks.specs.WeightNumbers.{undefined_weights, weights_or}
 use Rattle.coll_key.specs.WrittenKey.{level_end}
 use Rattle.coll_key.specs.ListingParts.{spaced, spaced_number, is_star, level_bytes, spelled_with, levels_bytes, ranked_line, line_if_weighted, visited_line, ranked_lines, HasFewWeights}
-use Rattle.coll_ranks.proofs.PartNumbers.{compiled_for}
+use Rattle.coll_ranks.proofs.ElementNumbers.{compiled_for}
 use Rattle.coll_ranks.proofs.RowNumbers.{filled_length, row_at}
 use Rattle.coll_elements.proofs.TableElementLemmas.{or_none}
 use Rattle.coll_elements.proofs.Tests.{by_test}

@@ -5,18 +5,18 @@ use Rattle.std.specs.List.{flat_map}
 use Rattle.std.specs.Ordering.{is_ne, ordering_then}
 use Rattle.std.proofs.lemmas.List.{at_drop_more, at_drop_all}
 use Rattle.coll_syntax.specs.declared.rules.Rule.{Rule}
-use Rattle.coll_ranks.proofs.PartNumbers.{numbers_are}
+use Rattle.coll_ranks.proofs.ElementNumbers.{numbers_are}
 use Rattle.coll_elements.specs.Elements.{elements_of}
 use Rattle.coll_ranks.specs.WeightNumbers.{numbers_at}
 use Rattle.coll_nodes.specs.Table.{Collation}
 use Rattle.coll_nodes.specs.WellFormed.{IsWellFormed}
 use Rattle.coll_key.specs.LevelList.{level_list, level_lists_from}
 use Rattle.coll_ranks.specs.RankLists.{WeightsValue}
-use Rattle.coll_ranks.specs.Ranks.{RanksValue, AreRanksOf, parts_of, part_numbers}
-use Rattle.coll_ranks.specs.declared.parts.TextElement.{TextElement}
+use Rattle.coll_ranks.specs.Ranks.{RanksValue, AreRanksOf, elements_by_ranks, compiled_numbers}
+use Rattle.coll_ranks.specs.declared.text_elements.TextElement.{TextElement}
 use Rattle.coll_key.specs.SortKey.{ended, key_of}
 use Rattle.coll_key.specs.TextOrder.{list_order, first_difference, order_of, level_lists}
-use Rattle.coll_key.proofs.LevelLemmas.{level_lists_by_numbers, level_lists_by_parts}
+use Rattle.coll_key.proofs.LevelLemmas.{level_lists_by_numbers, level_lists_by_elements}
 
 -- an order that isn't `Equal` decides
 ne_decides : (order later : Ordering) → true ≡ is_ne order → ordering_then order later ≡ order
@@ -61,26 +61,26 @@ module _ {P : Type 0} (f : ℕ → P → List ℕ) (ps qs : List P) where
   pub order_undecided : (level : ℕ) (items rules : List Rule) → items ≡ rules → length items ≤ level → order_from level (drop level rules) ≡ Equal
   order_undecided level items rules same past = ap (λ rs. order_from level (drop level rs)) (sym same) ∙ at_drop_all (order_from level) items level past
 
--- the order of two texts is that of their parts
-pub order_by_parts : (ranks : RanksValue) (table : Collation) → AreRanksOf ranks table → IsWellFormed table → (text other : List ℕ)
-    → order_of table text other ≡ order_from (part_numbers ranks.compiled) (parts_of ranks text) (parts_of ranks other) 0 table.rules
+-- the order of two texts is that of their elements
+pub order_by_elements : (ranks : RanksValue) (table : Collation) → AreRanksOf ranks table → IsWellFormed table → (text other : List ℕ)
+    → order_of table text other ≡ order_from (compiled_numbers ranks.compiled) (elements_by_ranks ranks text) (elements_by_ranks ranks other) 0 table.rules
 unfolding order_of
-order_by_parts ranks table are well text other =
-    ap (λ lists. first_difference lists (level_lists table other)) (level_lists_by_parts ranks table are well text)
-    ∙ ap (first_difference (level_lists_from table.rules 0 (part_numbers ranks.compiled) (parts_of ranks text))) (level_lists_by_parts ranks table are well other)
+order_by_elements ranks table are well text other =
+    ap (λ lists. first_difference lists (level_lists table other)) (level_lists_by_elements ranks table are well text)
+    ∙ ap (first_difference (level_lists_from table.rules 0 (compiled_numbers ranks.compiled) (elements_by_ranks ranks text))) (level_lists_by_elements ranks table are well other)
 
--- the key of a text is that of parts with the numbers of its elements
-pub key_by_numbers : {P : Type 0} (table : Collation) (text : List ℕ) (f : ℕ → P → List ℕ) (parts : List P)
-    → ((level : ℕ) → level < length table.rules → map (f level) parts ≡ map (numbers_at table level) (elements_of table text))
-    → key_of table text ≡ flat_map ended (level_lists_from table.rules 0 f parts)
+-- the key of a text is that of elements with the numbers of its elements
+pub key_by_numbers : {P : Type 0} (table : Collation) (text : List ℕ) (f : ℕ → P → List ℕ) (elements : List P)
+    → ((level : ℕ) → level < length table.rules → map (f level) elements ≡ map (numbers_at table level) (elements_of table text))
+    → key_of table text ≡ flat_map ended (level_lists_from table.rules 0 f elements)
 unfolding key_of
-key_by_numbers table text f parts numbers = ap (flat_map ended) (level_lists_by_numbers table text f parts numbers)
+key_by_numbers table text f elements numbers = ap (flat_map ended) (level_lists_by_numbers table text f elements numbers)
 
--- so it is that of its parts by the ranks of the table
-pub key_by_parts : (ranks : RanksValue) (table : Collation) → AreRanksOf ranks table → IsWellFormed table → (text : List ℕ)
-    → key_of table text ≡ flat_map ended (level_lists_from table.rules 0 (part_numbers ranks.compiled) (parts_of ranks text))
-key_by_parts ranks table are well text =
-    key_by_numbers table text (part_numbers ranks.compiled) (parts_of ranks text) (λ level within. numbers_are ranks table are well level within text)
+-- so it is that of its elements by the ranks of the table
+pub key_by_elements : (ranks : RanksValue) (table : Collation) → AreRanksOf ranks table → IsWellFormed table → (text : List ℕ)
+    → key_of table text ≡ flat_map ended (level_lists_from table.rules 0 (compiled_numbers ranks.compiled) (elements_by_ranks ranks text))
+key_by_elements ranks table are well text =
+    key_by_numbers table text (compiled_numbers ranks.compiled) (elements_by_ranks ranks text) (λ level within. numbers_are ranks table are well level within text)
 
 -- a key goes on by the list of a level, and its end
 pub key_goes_on : {P : Type 0} (f : ℕ → P → List ℕ) (level : ℕ) (rules : List Rule) (ps : List P) (rule : Rule) (old grown now whole : List ℕ) → level < length rules
@@ -110,13 +110,13 @@ key_is_whole f ps level rules key whole past so_far =
     ∙ ap (λ lists. key ++ lists) (at_drop_all (λ rs. flat_map ended (level_lists_from rs level f ps)) rules level past)
     ∙ append-nil key)
 
--- the key of a text is that of its parts, by the weights and the rules of a table
+-- the key of a text is that of its elements, by the weights and the rules of a table
 pub key_is_made : (ranks : RanksValue) (table : Collation) → AreRanksOf ranks table → IsWellFormed table
-    → (text : List ℕ) (weights : WeightsValue) (rules : List Rule) (parts : List TextElement) (key : List ℕ) → weights ≡ ranks.compiled → rules ≡ table.rules → parts ≡ parts_of ranks text
-    → key ≡ flat_map ended (level_lists_from rules 0 (part_numbers weights) parts) → key ≡ key_of table text
-key_is_made ranks table are well text weights rules parts key by_weights by_rules by_parts made =
+    → (text : List ℕ) (weights : WeightsValue) (rules : List Rule) (elements : List TextElement) (key : List ℕ) → weights ≡ ranks.compiled → rules ≡ table.rules → elements ≡ elements_by_ranks ranks text
+    → key ≡ flat_map ended (level_lists_from rules 0 (compiled_numbers weights) elements) → key ≡ key_of table text
+key_is_made ranks table are well text weights rules elements key by_weights by_rules by_elements made =
     made
-    ∙ ap (λ ws. flat_map ended (level_lists_from rules 0 (part_numbers ws) parts)) by_weights
-    ∙ ap (λ rs. flat_map ended (level_lists_from rs 0 (part_numbers ranks.compiled) parts)) by_rules
-    ∙ ap (λ ps. flat_map ended (level_lists_from table.rules 0 (part_numbers ranks.compiled) ps)) by_parts
-    ∙ sym (key_by_parts ranks table are well text)
+    ∙ ap (λ ws. flat_map ended (level_lists_from rules 0 (compiled_numbers ws) elements)) by_weights
+    ∙ ap (λ rs. flat_map ended (level_lists_from rs 0 (compiled_numbers ranks.compiled) elements)) by_rules
+    ∙ ap (λ ps. flat_map ended (level_lists_from table.rules 0 (compiled_numbers ranks.compiled) ps)) by_elements
+    ∙ sym (key_by_elements ranks table are well text)

@@ -5,7 +5,7 @@ use Rattle.coll_key.specs.declared.forward_numbers.Step.{Step}
 
 -- the items that are left: the numbers that are left of an element, and then the items of the elements behind it
 abbrev pub items_left : {P : Type 0} → (P → List ℕ) → List ℕ → List P → List (Option ℕ)
-items_left numbers left parts = map Some left ++ items numbers parts
+items_left numbers left elements = map Some left ++ items numbers elements
 
 -- the numbers of a step, before others: its number, with `position` behind its position
 abbrev pub before : (position : Bool) → Step → List ℕ → List ℕ

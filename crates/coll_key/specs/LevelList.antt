@@ -11,7 +11,7 @@ items_of (n ∷ ns) = map Some (n ∷ ns)
 
 -- the items of all elements, in order, where this gives the numbers of one
 abbrev pub items : {P : Type 0} → (P → List ℕ) → List P → List (Option ℕ)
-items numbers parts = flat_map (λ part. items_of (numbers part)) parts
+items numbers elements = flat_map (λ element. items_of (numbers element)) elements
 
 -- `backward` reverses the whole sequence, and so the numbers of an element too (7.3.2.3)
 abbrev pub directed : {X : Type 0} → (backward : Bool) → List X → List X
@@ -31,10 +31,10 @@ listed position gaps (Some n ∷ sequence) = position_of position gaps ++ n ∷ 
 
 -- the list of a level with this rule, where this gives the numbers of an element
 abbrev pub level_list : {P : Type 0} → Rule → (P → List ℕ) → List P → List ℕ
-level_list rule numbers parts = listed rule.position 0 (directed rule.backward (items numbers parts))
+level_list rule numbers elements = listed rule.position 0 (directed rule.backward (items numbers elements))
 
 -- the lists of levels with these rules, from a level on
 abbrev pub level_lists_from : {P : Type 0} → List Rule → (level : ℕ) → (ℕ → P → List ℕ) → List P → List (List ℕ)
-level_lists_from [] level numbers parts = []
-level_lists_from (rule ∷ rules) level numbers parts =
-    level_list rule (numbers level) parts ∷ level_lists_from rules (suc level) numbers parts
+level_lists_from [] level numbers elements = []
+level_lists_from (rule ∷ rules) level numbers elements =
+    level_list rule (numbers level) elements ∷ level_lists_from rules (suc level) numbers elements

@@ -9,15 +9,15 @@ ghost use Rattle.coll_nodes.specs.TableLayout.{collation};
 ghost use Rattle.coll_key.specs.ForwardNumbers.{before};
 ghost use Rattle.coll_key.specs.KeyLimits.{is_too_long};
 ghost use Rattle.coll_key.specs.LevelList.{level_list, listed};
-ghost use Rattle.coll_ranks.specs.Ranks.{AreRanksOf, parts_of, part_numbers};
+ghost use Rattle.coll_ranks.specs.Ranks.{AreRanksOf, elements_by_ranks, compiled_numbers};
 ghost use Rattle.coll_key.specs.TextOrder.{list_order, order_of, IsForward};
 ghost use Rattle.coll_key.specs.declared.key_faults.KeyFault.TheVariants.{TextTooLong, OutOfMemory};
 
+use crate::element_rows::kept_rows;
 use crate::forward_numbers::{ForwardNumbers, Step};
 use crate::key_faults::KeyFault;
 use crate::levels::with_level;
 use crate::limits::is_too_long;
-use crate::text_parts::kept_rows;
 use coll_ranks::Ranks;
 use coll_syntax::Rule;
 use coll_table::Table;
@@ -69,11 +69,11 @@ fn level_order(
     other: &str,
 ) -> Result<Ordering, KeyFault>
     requires level { level < ranks.now.compiled.levels }
-    requires few { length (parts_of ranks.now (chars text.now)) ≤ 65_536 }
-    requires few_others { length (parts_of ranks.now (chars other.now)) ≤ 65_536 }
+    requires few { length (elements_by_ranks ranks.now (chars text.now)) ≤ 65_536 }
+    requires few_others { length (elements_by_ranks ranks.now (chars other.now)) ≤ 65_536 }
     ensures ok { IfOk result (λ order. order
-        ≡ list_order (level_list rule (part_numbers ranks.now.compiled level) (parts_of ranks.now (chars text.now)))
-        (level_list rule (part_numbers ranks.now.compiled level) (parts_of ranks.now (chars other.now)))) }
+        ≡ list_order (level_list rule (compiled_numbers ranks.now.compiled level) (elements_by_ranks ranks.now (chars text.now)))
+        (level_list rule (compiled_numbers ranks.now.compiled level) (elements_by_ranks ranks.now (chars other.now)))) }
     ensures err { IfErr result (λ fault. fault ≢ OutOfMemory → (is_too_long (chars text.now) || is_too_long (chars other.now)) ≡ true) }
     ensures memory { rule.backward ≡ false → IsOk result }
 {
@@ -95,9 +95,9 @@ fn backward_list(
     text: &str,
 ) -> Result<Vec<u64>, KeyFault>
     requires level { level < ranks.now.compiled.levels }
-    requires few { length (parts_of ranks.now (chars text.now)) ≤ 65_536 }
+    requires few { length (elements_by_ranks ranks.now (chars text.now)) ≤ 65_536 }
     ensures ok { IfOk result (λ list. list.items
-        ≡ level_list rule (part_numbers ranks.now.compiled level) (parts_of ranks.now (chars text.now))) }
+        ≡ level_list rule (compiled_numbers ranks.now.compiled level) (elements_by_ranks ranks.now (chars text.now))) }
     ensures err { IfErr result (λ fault. fault ≢ OutOfMemory → is_too_long (chars text.now) ≡ true) }
 {
     let rows = kept_rows(alloc, ranks, text)?;
@@ -108,11 +108,11 @@ fn backward_list(
 // The order of two texts at a forward level. It takes no memory.
 fn forward_order(ranks: &Ranks, level: usize, position: bool, text: &str, other: &str) -> Ordering
     requires level { level < ranks.now.compiled.levels }
-    requires few { length (parts_of ranks.now (chars text.now)) ≤ 65_536 }
-    requires few_others { length (parts_of ranks.now (chars other.now)) ≤ 65_536 }
-    ensures { result ≡ list_order (level_list (record { backward = false; position = position }) (part_numbers ranks.now.compiled level)
-        (parts_of ranks.now (chars text.now))) (level_list (record { backward = false; position = position })
-        (part_numbers ranks.now.compiled level) (parts_of ranks.now (chars other.now))) }
+    requires few { length (elements_by_ranks ranks.now (chars text.now)) ≤ 65_536 }
+    requires few_others { length (elements_by_ranks ranks.now (chars other.now)) ≤ 65_536 }
+    ensures { result ≡ list_order (level_list (record { backward = false; position = position }) (compiled_numbers ranks.now.compiled level)
+        (elements_by_ranks ranks.now (chars text.now))) (level_list (record { backward = false; position = position })
+        (compiled_numbers ranks.now.compiled level) (elements_by_ranks ranks.now (chars other.now))) }
 {
     let (later, later_other) = ranks.past_common(text, other);
     order_along(

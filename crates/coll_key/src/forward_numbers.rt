@@ -6,7 +6,7 @@
 ghost use Rattle.std.specs.Prelude.{◌≡◌, ◌<◌, ◌≤◌, [], Bool, chars, length, IfSome, MatchOption};
 ghost use Rattle.coll_key.specs.ForwardNumbers.{gap_count};
 ghost use Rattle.coll_key.specs.LevelList.{items, listed};
-ghost use Rattle.coll_ranks.specs.Ranks.{parts_of, part_numbers};
+ghost use Rattle.coll_ranks.specs.Ranks.{elements_by_ranks, compiled_numbers};
 
 use crate::levels::number_of;
 use coll_ranks::{ElementWeight, Ranks};
@@ -26,23 +26,23 @@ pub(crate) struct Step {
 pub(crate) struct ForwardNumbers<'a> {
     ranks: &'a Ranks,
     level: usize,
-    /// The text behind the element at hand.
+    // The text behind the element at hand.
     text: &'a str,
-    /// What is left of the element at hand.
+    // What is left of the element at hand.
     weight: ElementWeight<'a>,
 }
 
 impl<'a> Model for ForwardNumbers<'a> {
     ghost use Rattle.std.specs.Prelude.{◌≤◌, ◌<◌, List, Option, ℕ, chars, length, map};
     ghost use Rattle.coll_key.specs.ForwardNumbers.{items_left};
-    ghost use Rattle.coll_ranks.specs.Ranks.{added_to, parts_of, part_numbers};
+    ghost use Rattle.coll_ranks.specs.Ranks.{added_to, elements_by_ranks, compiled_numbers};
 
     ghost Value = { List (Option ℕ) };
 
-    ghost view = { λ n. items_left (part_numbers n.ranks.now.compiled n.level) (map (added_to n.weight.added) n.weight.ranks.now)
-        (parts_of n.ranks.now (chars n.text.now)) };
+    ghost view = { λ n. items_left (compiled_numbers n.ranks.now.compiled n.level) (map (added_to n.weight.added) n.weight.ranks.now)
+        (elements_by_ranks n.ranks.now (chars n.text.now)) };
 
-    ghost invariant = { λ n. (n.level < n.ranks.now.compiled.levels) × (length (parts_of n.ranks.now (chars n.text.now)) ≤ 65_536) };
+    ghost invariant = { λ n. (n.level < n.ranks.now.compiled.levels) × (length (elements_by_ranks n.ranks.now (chars n.text.now)) ≤ 65_536) };
 }
 
 impl<'a> ForwardNumbers<'a> {
@@ -52,8 +52,8 @@ impl<'a> ForwardNumbers<'a> {
     #[inline(always)]
     pub(crate) fn new(ranks: &'a Ranks, level: usize, text: &'a str) -> ForwardNumbers<'a>
         requires level { level < ranks.now.compiled.levels }
-        requires few { length (parts_of ranks.now (chars text.now)) ≤ 65_536 }
-        ensures { result ≡ items (part_numbers ranks.now.compiled level) (parts_of ranks.now (chars text.now)) }
+        requires few { length (elements_by_ranks ranks.now (chars text.now)) ≤ 65_536 }
+        ensures { result ≡ items (compiled_numbers ranks.now.compiled level) (elements_by_ranks ranks.now (chars text.now)) }
     {
         ForwardNumbers {
             ranks,
@@ -83,11 +83,11 @@ impl<'a> ForwardNumbers<'a> {
                     number,
                 });
             }
-            let Some(first) = self.ranks.first_part(self.text) else {
+            let Some(first) = self.ranks.first_element(self.text) else {
                 return None;
             };
             self.text = first.rest;
-            self.weight = self.ranks.weights().weight(first.part, self.level);
+            self.weight = self.ranks.weights().weight(first.element, self.level);
             gaps += gap_count(self.weight.ranks);
         }
     }

@@ -9,20 +9,20 @@ ghost use Rattle.coll_nodes.specs.TableLayout.{collation};
 ghost use Rattle.coll_key.specs.KeyLimits.{is_too_long};
 ghost use Rattle.coll_key.specs.LevelList.{level_lists_from};
 ghost use Rattle.coll_ranks.specs.LevelWeights.{row_numbers};
-ghost use Rattle.coll_ranks.specs.Ranks.{AreRanksOf, part_numbers, parts_of};
+ghost use Rattle.coll_ranks.specs.Ranks.{AreRanksOf, compiled_numbers, elements_by_ranks};
 ghost use Rattle.coll_key.specs.SortKey.{ended, key_of, KeysAreOrderedAsTexts};
 ghost use Rattle.coll_key.specs.WrittenKey.{has_key_form};
 ghost use Rattle.coll_key.specs.declared.key_faults.KeyFault.TheVariants.{OutOfMemory};
 
+use crate::element_rows::{kept_rows, put_rows};
 use crate::key_faults::KeyFault;
 use crate::levels::with_level;
-use crate::text_parts::{kept_rows, put_rows};
 use coll_ranks::{CompiledWeights, ElementRow, Ranks};
 use coll_syntax::Rule;
 use coll_table::Table;
 use std::alloc::{AllocError, Global};
 
-/// Most bytes of a text whose rows stand on the stack, which spares a block of memory. Words have fewer.
+// Most bytes of a text whose rows stand on the stack, which spares a block of memory. Words have fewer.
 const MOST_WORD_BYTES: usize = 16;
 
 /// The sort key of a text: for each level its list of numbers, followed by 0.
@@ -56,7 +56,7 @@ fn key_of_word(
 ) -> Result<Vec<u64>, AllocError>
     requires { length text.now ≤ MOST_WORD_BYTES }
     ensures { IfOk result (λ key. key.items
-        ≡ flat_map ended (level_lists_from rules.now 0 (part_numbers ranks.now.compiled) (parts_of ranks.now (chars text.now)))) }
+        ≡ flat_map ended (level_lists_from rules.now 0 (compiled_numbers ranks.now.compiled) (elements_by_ranks ranks.now (chars text.now)))) }
 {
     let mut rows = [ElementRow { first: 0, code: 0 }; MOST_WORD_BYTES];
     let count = put_rows(&mut rows[..], ranks, text);
@@ -89,10 +89,10 @@ pub fn keys_are_ordered_as_texts()
 {}
 
 // The numbers of a key whose weights name one identifier each, at most. A key of longer weights grows beyond that.
-fn likely_numbers(parts: usize, levels: usize) -> usize
-    ensures { result ≤ (parts * 2 + 1) * levels }
+fn likely_numbers(elements: usize, levels: usize) -> usize
+    ensures { result ≤ (elements * 2 + 1) * levels }
 {
-    parts
+    elements
         .saturating_mul(2)
         .saturating_add(1)
         .saturating_mul(levels)

@@ -96,7 +96,7 @@ fn with_rows(
             WeightRanks::Several(ranks) => {
                 let added = at_level.added(row);
                 let weight = ElementWeight { ranks, added };
-                let long = with_long_part(with, weight, backward, position, gaps, later.len())?;
+                let long = with_long_element(with, weight, backward, position, gaps, later.len())?;
                 with = long.0;
                 gaps = long.1;
             }
@@ -108,23 +108,23 @@ fn with_rows(
 // Puts the numbers of an element behind a key, with so many gaps before it, and makes room for those of so many later elements;
 // gives the gaps behind it too. Few elements have several.
 #[inline(always)]
-fn with_long_part(
+fn with_long_element(
     key: Vec<u64>,
     weight: ElementWeight<'_>,
     backward: bool,
     position: bool,
     gaps: u64,
-    later_parts: usize,
+    later_elements: usize,
 ) -> Result<(Vec<u64>, u64), AllocError>
     requires few { gaps < 65_536 }
-    requires few_later { later_parts ≤ 65_536 }
+    requires few_later { later_elements ≤ 65_536 }
     ensures few { IfOk result (λ with. with.1 ≤ gaps + 1) }
     ensures numbers { IfOk result (λ with. (later : List (Option ℕ))
         → key.items ++ listed position gaps (items_of (directed backward (map (added_to weight.entry.added) weight.entry.ranks.now))
         ++ later) ≡ with.0.items ++ listed position with.1 later) }
-    ensures room { IfOk result (λ with. vec_len with.0 + later_parts * 2 + 1 ≤ vec_capacity with.0) }
+    ensures room { IfOk result (λ with. vec_len with.0 + later_elements * 2 + 1 ≤ vec_capacity with.0) }
 {
-    let key = with_room(key, weight.ranks.len() + later_parts)?;
+    let key = with_room(key, weight.ranks.len() + later_elements)?;
     let Some((first, others)) = split_towards(weight.ranks, backward) else {
         return Ok((key, gaps + 1));
     };

@@ -4,7 +4,7 @@
 //! `key_of_text` and `compare_texts` answer without them, for short texts of a table that changes.
 //! A way through the crate, each file with its definitions in `specs/`:
 //!
-//! - `text_parts` and `levels`: the elements of a text, kept, and the list of a level (`LevelList`);
+//! - `element_rows` and `levels`: the elements of a text, kept, and the list of a level (`LevelList`);
 //! - `forward_numbers`: the numbers of a text at a forward level, one after another (`ForwardNumbers`);
 //! - `keys`, `comparison` and `written_keys`: what they are for (`SortKey`, `TextOrder`, `WrittenKey`);
 //! - `text_keys`: keys and comparison of short texts, by a table whose entries are numbered;
@@ -13,6 +13,7 @@
 #![tactic(auto)]
 
 mod comparison;
+mod element_rows;
 mod forward_numbers;
 mod key_faults;
 mod keys;
@@ -20,7 +21,6 @@ mod levels;
 mod limits;
 mod listing;
 mod text_keys;
-mod text_parts;
 mod written_keys;
 
 pub use coll_lookups::EntryNumbers;

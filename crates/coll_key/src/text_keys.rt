@@ -90,7 +90,7 @@ fn short_key(
 {
     let made = TextWeights::new(alloc, table, numbers, text)?;
     let weights = made.weights();
-    let rows = rows_of(alloc, weights, made.parts())?;
+    let rows = rows_of(alloc, weights, made.elements())?;
     key_of_rows(alloc, weights, table.rules(), &rows)
 }
 
@@ -98,9 +98,12 @@ fn short_key(
 fn rows_of(
     alloc: Global,
     weights: &CompiledWeights,
-    parts: &[TextElement],
+    elements: &[TextElement],
 ) -> Result<Vec<ElementRow>, AllocError>
-    ensures { IfOk result (λ rows. rows.items ≡ map (row_of weights.now) parts.now) }
+    ensures { IfOk result (λ rows. rows.items ≡ map (row_of weights.now) elements.now) }
 {
-    parts.iter().map(|part| weights.row(*part)).collect(alloc)
+    elements
+        .iter()
+        .map(|element| weights.row(*element))
+        .collect(alloc)
 }

@@ -3,6 +3,7 @@ pub mod Buffers
 pub mod Category
 pub mod Characters
 pub mod Directives
+pub mod EarlyEnds
 pub mod Faults
 pub mod Kinds
 pub mod Lexer

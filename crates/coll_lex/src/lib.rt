@@ -9,6 +9,7 @@
 //! - `directives`, `category` and `blanks`: what is recognised by a line's bytes, before any escape is read;
 //! - `scanning`, with `names`: the characters of a line, read into tokens (`Marked`, `Kinds`, `Scanning`);
 //! - `logical_lines`: physical lines joined, and their tokens (`LogicalLines`, `Lexer`, with `Limits`);
+//! - `early_ends`: how a text ends before its category does (`EarlyEnds`);
 //! - `faults`: why a line is refused;
 //! - `spelling`: names and characters, written, and read back (`ReadingBack`).
 #![tactic(auto)]
@@ -17,6 +18,7 @@ mod blanks;
 mod buffers;
 mod category;
 mod directives;
+mod early_ends;
 mod faults;
 mod limits;
 mod logical_lines;
@@ -28,11 +30,11 @@ mod tokens;
 pub use blanks::past_blanks;
 pub use buffers::{ListBuf, TextBuf};
 pub use coll_devices::{
-    Counted, LineReader, MOST_LINE_BYTES, ReadStop, Sink, Source, WriteStop, without_return,
-    write_bytes,
+    Counted, LineReader, ReadStop, Sink, Source, WriteStop, without_return, write_bytes,
 };
+pub use early_ends::EarlyEnd;
 pub use faults::LexFault;
-pub use limits::{MOST_LINES, MOST_NAME_CHARS, limits_are_stated};
+pub use limits::{MOST_LINES, limits_are_stated};
 pub use logical_lines::{Lexer, lexers_hold_text, lines_have_tokens};
 pub use names::is_name;
 pub use spelling::{spellings_are_read_back, write_char, write_symbol};

@@ -10,7 +10,7 @@ ghost use Rattle.coll_lex.specs.Limits.{most_lines, most_name_chars};
 pub const MOST_LINES: u32 = 4_194_304;
 
 /// Most characters of a name.
-pub const MOST_NAME_CHARS: usize = 64;
+pub(crate) const MOST_NAME_CHARS: usize = 64;
 
 /// The limits are the numbers of the definitions: 4,194,304 lines and 64 characters.
 ///

@@ -11,7 +11,7 @@ ghost use Rattle.coll_lex.specs.Names.{LinesHaveTokens, LexersHoldText};
 use crate::category::begins_category;
 use crate::directives::directive;
 use crate::scanning::Scan;
-use crate::{Chars, LexFault, Line, ListBuf, MOST_LINES, Token};
+use crate::{Chars, EarlyEnd, LexFault, Line, ListBuf, MOST_LINES, Token};
 use coll_devices::{MOST_LINE_BYTES, without_return};
 use std::alloc::{AllocError, Global};
 use std::marker::Model;
@@ -125,6 +125,7 @@ impl Lexer {
     ghost use Rattle.std.specs.Prelude.{option_map, IsSome, IsTrue, IfSome, IfOk, IfErr, OnOk, OnErr};
     ghost use Rattle.coll_devices.specs.PhysicalLines.{without_return};
     ghost use Rattle.coll_lex.specs.Directives.{directive};
+    ghost use Rattle.coll_lex.specs.EarlyEnds.{early_end};
     ghost use Rattle.coll_lex.specs.LogicalLines.{first_state, pending, dropped, line_fault, answer_in, fed_as, fed};
     ghost use Rattle.coll_lex.specs.LogicalLines.{needs_memory, takes_memory, outside, number_of};
     ghost use Rattle.coll_lex.specs.Lexer.{line_in, added, IsSoundOpen};
@@ -173,6 +174,17 @@ impl Lexer {
         match &self.open {
             Some(open) => open.number,
             None => self.count + 1,
+        }
+    }
+
+    /// How a text ends that ends here, before its category does, which has begun or hasn't. It takes no memory.
+    pub fn early_end(&self, begun: bool) -> EarlyEnd
+        ensures { result ≡ early_end begun self.now }
+    {
+        match &self.open {
+            Some(open) => EarlyEnd::LeftOpen(open.number),
+            None if begun => EarlyEnd::WithinCategory(self.count),
+            None => EarlyEnd::BeforeCategory(self.count),
         }
     }
 

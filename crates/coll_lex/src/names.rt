@@ -10,8 +10,8 @@ ghost use Rattle.coll_lex.specs.Limits.{most_name_chars};
 ghost use Rattle.coll_lex.specs.Names.{is_proper_name};
 ghost use Rattle.coll_lex.specs.Tokens.{is_name as has_only_name_chars, code_point_of, hex_number, is_hex_digit, is_control};
 
-use crate::MOST_NAME_CHARS;
 use crate::blanks::is_blank;
+use crate::limits::MOST_NAME_CHARS;
 
 /// Whether a text is a name: 1 to 64 characters, none of them blank or control, and not `U` with four to eight
 /// hexadecimal digits. It takes no memory.

@@ -13,7 +13,7 @@ ghost use Rattle.coll_devices.specs.Devices.{CountsErr, Sends};
 ghost use Rattle.coll_lex.specs.ReadingBack.{NamesReadBack, NamesReadBackQuoted, CodesReadBack, CodesReadBackQuoted};
 ghost use Rattle.coll_lex.specs.Spelling.{is_escaped, spelled_char, spelled_name, spelled_symbol, spelled_code, hex_digit, hex_digits};
 
-use crate::MOST_NAME_CHARS;
+use crate::limits::MOST_NAME_CHARS;
 use arrayvec::ArrayVec;
 use coll_devices::{Sink, WriteStop, write_bytes};
 

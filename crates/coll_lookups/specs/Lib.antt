@@ -1,5 +1,6 @@
 pub mod EntryNumbers
 pub mod HashKeys
+pub mod IdSets
 pub mod NameKeys
 pub mod NamePlaces
 pub mod NodeLookUps

@@ -14,7 +14,7 @@ use coll_order::NodeId;
 use std::alloc::{AllocError, Global};
 use std::marker::Model;
 
-/// By how many places the list of numbers grows.
+// By how many places the list of numbers grows.
 const PLACES_AT_ONCE: usize = 64;
 
 /// A number for each node that is an entry: the place of the entry, from 1.

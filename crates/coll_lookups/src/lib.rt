@@ -1,4 +1,4 @@
-//! Look-ups of nodes: by name, by identifier and by text, found by hash under keys.
+//! Look-ups by hash under keys: of nodes by name, by identifier and by text, and of identifiers in a set.
 //!
 //! A look-up says which node of a store of rings a key leads to, and knows nothing of what nodes are or in which ring they stand:
 //! whoever has a table keeps its look-ups in step with it. A key that came in stays for good, so that it can lead to a node again
@@ -7,18 +7,22 @@
 //! - `hash_keys`: keys, under which no text can choose names that are slow to find (`HashKeys`);
 //! - `name_keys` and `node_names`: a name as a key, and which node a name leads to (`NameKeys`, `NodeLookUps`, `NodeMaps`);
 //! - `node_ids`: which node an identifier leads to, a name or a character (`NodeLookUps`, `NodeMaps`);
-//! - `entry_numbers`: a number for each node (`EntryNumbers`); `name_places`: names with the numbers of their nodes (`NamePlaces`).
+//! - `entry_numbers`: a number for each node (`EntryNumbers`); `name_places`: names with the numbers of their nodes (`NamePlaces`);
+//! - `id_sets`, with `names`: which identifiers a block has had, or a source has placed (`IdSets`).
 #![tactic(auto)]
 
 mod entry_numbers;
 mod hash_keys;
+mod id_sets;
 mod name_keys;
 mod name_places;
+mod names;
 mod node_ids;
 mod node_names;
 
 pub use entry_numbers::EntryNumbers;
 pub use hash_keys::HashKeys;
+pub use id_sets::IdSet;
 pub use name_places::NamePlaces;
 pub use node_ids::NodeIds;
 pub use node_names::NodeNames;

@@ -22,9 +22,9 @@ use std::rc::Rc;
 /// Nodes by name. It has as many names as memory has room for, and a name that came in stays as a key.
 #[derive(Drop)]
 pub struct NodeNames {
-    /// The names, in the order in which they came in. Copies share them until one of them gets a further name.
+    // The names, in the order in which they came in. Copies share them until one of them gets a further name.
     names: Rc<IndexSet<NameKey, HashKeys>>,
-    /// The node that each of them leads to, if it does.
+    // The node that each of them leads to, if it does.
     nodes: Vec<Option<NodeId>>,
     alloc: Global,
 }

@@ -7,7 +7,6 @@ pub mod Entries
 pub mod KeyedNodes
 pub mod Limits
 pub mod Linking
-pub mod LookUps
 pub mod Moving
 pub mod NodeNumbers
 pub mod OwnNames

@@ -31,11 +31,11 @@ use std::marker::Model;
 #[derive(Drop)]
 pub struct Body {
     nodes: Nodes,
-    /// The ring of the declarations.
+    // The ring of the declarations.
     declarations: RingId,
-    /// The ring of the sections.
+    // The ring of the sections.
     sections: RingId,
-    /// The nodes by their keys.
+    // The nodes by their keys.
     keys: NodeKeys,
     counts: Counts,
 }

@@ -12,7 +12,7 @@
 //! - `walks` and `visited_nodes`: a body, read in order (`Walks`, `WalkStates`, `WalkItems`);
 //! - `numbered_rings` and `bodies/numbering`: the places of entries, kept beside a body, and those of names, kept apart from it
 //!   (`NodeNumbers`); `bodies/elements`: elements by their strings (`ElementTexts`);
-//! - and, for the look-ups of blocks in `coll_statements`, `LookUps`; for all who judge lines and statements, `Causes`.
+//! - and, for all who judge lines and statements, `Causes`.
 #![tactic(auto)]
 
 mod bodies;
@@ -28,7 +28,6 @@ mod visited_nodes;
 mod walks;
 
 pub use bodies::Body;
-pub use coll_lookups::{EntryNumbers, HashKeys, NamePlaces};
 pub use contents::Content;
 pub use declarations::Declaration;
 pub use entries::Entry;

@@ -21,7 +21,7 @@ use std::marker::Model;
 #[derive(Drop)]
 pub(crate) struct Nodes {
     rings: Rings,
-    /// What each node is, by its tag.
+    // What each node is, by its tag.
     contents: Slab<Content>,
 }
 

@@ -41,11 +41,11 @@ pub enum DeclaredItem<'a> {
 #[derive(Drop)]
 pub struct Walk<'a> {
     nodes: &'a Nodes,
-    /// The ring of the section in which the walk stands.
+    // The ring of the section in which the walk stands.
     ring: RingId,
-    /// The next entry of that section.
+    // The next entry of that section.
     entry: Option<NodeId>,
-    /// The next section.
+    // The next section.
     section: Option<NodeId>,
 }
 
@@ -109,7 +109,7 @@ impl<'a> Iterator for Walk<'a> {
 #[derive(Drop)]
 pub struct Declared<'a> {
     nodes: &'a Nodes,
-    /// The next declaration.
+    // The next declaration.
     next: Option<NodeId>,
 }
 

@@ -23,7 +23,7 @@ use std::marker::Model;
 #[derive(Drop)]
 pub struct Rings {
     store: Store,
-    /// The ring steps taken, modulo 2 to the power 64.
+    // The ring steps taken, modulo 2 to the power 64.
     steps: u64,
 }
 

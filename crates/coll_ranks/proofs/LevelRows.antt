@@ -1,31 +1,31 @@
--- The numbers of a part are those of its row, and the weights of one level give them too.
+-- The numbers of an element are those of its row, and the weights of one level give them too.
 use Rattle.std.proofs.Common.{◌≡◌, ℕ, ◌+◌, ◌*◌, Bool, true, false, if◌then◌else◌, List, [], ◌∷◌, map, drop, slice_index_or, refl, ap, ◌∙◌, arith}
 use Rattle.std.proofs.lemmas.List.{get_or-drop}
 use Rattle.coll_ranks.specs.RankLists.{WeightsValue}
-use Rattle.coll_ranks.specs.Ranks.{added_to, added_at, part_numbers}
+use Rattle.coll_ranks.specs.Ranks.{added_to, added_at, compiled_numbers}
 use Rattle.coll_ranks.specs.LevelWeights.{row_of, row_numbers}
-use Rattle.coll_ranks.specs.declared.parts.TextElement.{TextElement}
-use Rattle.coll_ranks.specs.declared.parts.TextElement.TheVariants.{Placed, Absent}
-use Rattle.coll_ranks.specs.declared.parts.ElementRow.{ElementRow}
+use Rattle.coll_ranks.specs.declared.text_elements.TextElement.{TextElement}
+use Rattle.coll_ranks.specs.declared.text_elements.TextElement.TheVariants.{Placed, Absent}
+use Rattle.coll_ranks.specs.declared.text_elements.ElementRow.{ElementRow}
 
 -- nothing is added to what has an entry
 added_none : (own : Bool) → let none : ℕ = 0 in (if own then none else none) ≡ none
 added_none true = refl
 added_none false = refl
 
--- the numbers of a part are those of its row
-pub row_of_part : (weights : WeightsValue) (level : ℕ) (part : TextElement) → row_numbers weights level (row_of weights part) ≡ part_numbers weights level part
-row_of_part weights level (Placed rank) = ap (λ added. map (added_to added) (slice_index_or weights.lists (rank * weights.levels + level) [])) (added_none (slice_index_or weights.own level false))
-row_of_part weights level (Absent c) =
+-- the numbers of an element are those of its row
+pub row_of_element : (weights : WeightsValue) (level : ℕ) (element : TextElement) → row_numbers weights level (row_of weights element) ≡ compiled_numbers weights level element
+row_of_element weights level (Placed rank) = ap (λ added. map (added_to added) (slice_index_or weights.lists (rank * weights.levels + level) [])) (added_none (slice_index_or weights.own level false))
+row_of_element weights level (Absent c) =
     let same : 0 + level ≡ 0 * weights.levels + level = omega arith in
     ap (λ place. map (added_to (added_at weights level c)) (slice_index_or weights.lists place [])) same
 
--- and those of parts are those of their rows
-pub rows_of_parts : (weights : WeightsValue) (level : ℕ) (parts : List TextElement) → map (row_numbers weights level) (map (row_of weights) parts) ≡ map (part_numbers weights level) parts
-rows_of_parts weights level [] = refl
-rows_of_parts weights level (part ∷ parts) =
-    ap (λ ns. ns ∷ map (row_numbers weights level) (map (row_of weights) parts)) (row_of_part weights level part)
-    ∙ ap (λ nss. part_numbers weights level part ∷ nss) (rows_of_parts weights level parts)
+-- and those of elements are those of their rows
+pub rows_of_elements : (weights : WeightsValue) (level : ℕ) (elements : List TextElement) → map (row_numbers weights level) (map (row_of weights) elements) ≡ map (compiled_numbers weights level) elements
+rows_of_elements weights level [] = refl
+rows_of_elements weights level (element ∷ elements) =
+    ap (λ ns. ns ∷ map (row_numbers weights level) (map (row_of weights) elements)) (row_of_element weights level element)
+    ∙ ap (λ nss. compiled_numbers weights level element ∷ nss) (rows_of_elements weights level elements)
 
 -- a member behind others
 behind : {X : Type 0} (start place : ℕ) (xs : List X) (d : X) → slice_index_or (drop start xs) place d ≡ slice_index_or xs (place + start) d

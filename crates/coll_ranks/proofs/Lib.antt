@@ -1,7 +1,7 @@
 pub mod AlikePrefixes
 pub mod CellLemmas
 pub mod LevelRows
-pub mod PartNumbers
+pub mod ElementNumbers
 pub mod RankListLemmas
 pub mod RankingLemmas
 mod RecentLemmas

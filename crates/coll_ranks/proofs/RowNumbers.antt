@@ -14,9 +14,9 @@ use Rattle.coll_nodes.specs.declared.entries.Entry.{Entry}
 use Rattle.coll_nodes.proofs.EntryLemmas.{entry_there, found_id}
 use Rattle.coll_elements.specs.Rank.{known_rank}
 use Rattle.coll_ranks.specs.RankLists.{WeightsValue}
-use Rattle.coll_ranks.specs.Ranks.{part_numbers, added_to, added_at, compiled_weight, compiled_by, compiled_row_by, filled_up}
+use Rattle.coll_ranks.specs.Ranks.{compiled_numbers, added_to, added_at, compiled_weight, compiled_by, compiled_row_by, filled_up}
 use Rattle.coll_ranks.specs.WeightNumbers.{number_of, numbers_at, weight_at, weights_or, weight_numbers, undefined_weights, code_point}
-use Rattle.coll_ranks.specs.declared.parts.TextElement.TheVariants.{Placed, Absent}
+use Rattle.coll_ranks.specs.declared.text_elements.TextElement.TheVariants.{Placed, Absent}
 
 -- Rows of compiled weights.
 
@@ -84,7 +84,7 @@ pub record BeginWithUndefined (weights : WeightsValue) (table : Collation) (late
 module _ (weights : WeightsValue) (table : Collation) (later : List (List ℕ)) (begin : BeginWithUndefined weights table later) (level : ℕ) (within : level < length table.rules) where
   -- what has an entry, and its weights in this row
   pub entry_numbers : (id : Id) (entry : Entry) (row : ℕ) → entry_at (entries_of table) id ≡ Some entry
-      → compiled_weight weights row level ≡ compiled_by (known_rank table) entry.id (get_or entry.weights level Ignore) → part_numbers weights level (Placed row) ≡ numbers_at table level id
+      → compiled_weight weights row level ≡ compiled_by (known_rank table) entry.id (get_or entry.weights level Ignore) → compiled_numbers weights level (Placed row) ≡ numbers_at table level id
   unfolding numbers_at
   entry_numbers id entry row found compiled =
       let placed : is_placed table id ≡ true = entry_there (entries_of table) id ∙ ap is_some found in
@@ -112,7 +112,7 @@ module _ (weights : WeightsValue) (table : Collation) (later : List (List ℕ)) 
       ap₂ (λ (n : ℕ) (rs : List ℕ). map (added_to n) rs) counted (absent_compiled id none) ∙ numbers_absent table id (weight_at table level id) absent
 
   -- a character without an entry
-  pub character_absent : (c : ℕ) → entry_at (entries_of table) (Char c) ≡ None → part_numbers weights level (Absent c) ≡ numbers_at table level (Char c)
+  pub character_absent : (c : ℕ) → entry_at (entries_of table) (Char c) ≡ None → compiled_numbers weights level (Absent c) ≡ numbers_at table level (Char c)
   character_absent c none =
       let own : slice_index_or weights.own level false ≡ is_own (get_or (undefined_weights table) level Ignore) =
       ap (λ o. get_or o level false) begin.own ∙ get_or-map is_own (undefined_weights table) level Ignore in

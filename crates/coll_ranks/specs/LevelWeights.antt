@@ -4,11 +4,11 @@ use Rattle.coll_ranks.specs.RankLists.{WeightsValue}
 use Rattle.coll_ranks.specs.Ranks.{added_to, added_at}
 use Rattle.coll_ranks.specs.WeightCells.{cell_list}
 use Rattle.coll_ranks.specs.declared.level_weights.LevelWeights.{LevelWeights}
-use Rattle.coll_ranks.specs.declared.parts.TextElement.{TextElement}
-use Rattle.coll_ranks.specs.declared.parts.TextElement.TheVariants.{Placed, Absent}
-use Rattle.coll_ranks.specs.declared.parts.ElementRow.{ElementRow}
-use Rattle.coll_ranks.specs.declared.parts.WeightRanks.{WeightRanks}
-use Rattle.coll_ranks.specs.declared.parts.WeightRanks.TheVariants.{Ignored, Single, Several}
+use Rattle.coll_ranks.specs.declared.text_elements.TextElement.{TextElement}
+use Rattle.coll_ranks.specs.declared.text_elements.TextElement.TheVariants.{Placed, Absent}
+use Rattle.coll_ranks.specs.declared.text_elements.ElementRow.{ElementRow}
+use Rattle.coll_ranks.specs.declared.text_elements.WeightRanks.{WeightRanks}
+use Rattle.coll_ranks.specs.declared.text_elements.WeightRanks.TheVariants.{Ignored, Single, Several}
 
 -- the ranks of a weight, as a list
 abbrev pub ranks_in : WeightRanks → List ℕ

@@ -15,8 +15,8 @@ use Rattle.coll_elements.specs.Rank.{rank_of, known_rank}
 use Rattle.coll_elements.specs.RankedElements.{RankedElement, ranked_text, ranked_in}
 use Rattle.coll_ranks.specs.RankLists.{WeightsValue}
 use Rattle.coll_ranks.specs.WeightNumbers.{number_of, undefined_weights}
-use Rattle.coll_ranks.specs.declared.parts.TextElement.{TextElement}
-use Rattle.coll_ranks.specs.declared.parts.TextElement.TheVariants.{Placed, Absent}
+use Rattle.coll_ranks.specs.declared.text_elements.TextElement.{TextElement}
+use Rattle.coll_ranks.specs.declared.text_elements.TextElement.TheVariants.{Placed, Absent}
 
 -- the ranks of identifiers: the places of names, a list with a number for each code point, 0 for a character that has none, and the
 -- rank of UNDEFINED
@@ -61,27 +61,27 @@ abbrev pub added_at : WeightsValue → (level : ℕ) → ℕ → ℕ
 added_at weights level c = if slice_index_or weights.own level false then c else 0
 
 -- the numbers of an element of a text at a level
-abbrev pub part_numbers : WeightsValue → (level : ℕ) → TextElement → List ℕ
-part_numbers weights level (Placed rank) = map (added_to 0) (compiled_weight weights rank level)
-part_numbers weights level (Absent c) = map (added_to (added_at weights level c)) (compiled_weight weights 0 level)
+abbrev pub compiled_numbers : WeightsValue → (level : ℕ) → TextElement → List ℕ
+compiled_numbers weights level (Placed rank) = map (added_to 0) (compiled_weight weights rank level)
+compiled_numbers weights level (Absent c) = map (added_to (added_at weights level c)) (compiled_weight weights 0 level)
 
 -- the element that a character with this rank is, if it has one
-abbrev pub character_part : Option ℕ → ℕ → TextElement
-character_part None c = Absent c
-character_part (Some rank) c = Placed rank
+abbrev pub character_element : Option ℕ → ℕ → TextElement
+character_element None c = Absent c
+character_element (Some rank) c = Placed rank
 
 -- an element of a text: a collating element, or else the character
-abbrev pub part_with : RanksById → Option RankedElement → ℕ → TextElement
-part_with ids (Some ranked) c = Placed ranked.rank
-part_with ids None c = character_part (rank_with ids (Char c)) c
+abbrev pub element_with : RanksById → Option RankedElement → ℕ → TextElement
+element_with ids (Some ranked) c = Placed ranked.rank
+element_with ids None c = character_element (rank_with ids (Char c)) c
 
 -- the elements of a text behind this many characters
-abbrev pub parts_behind : RanksValue → (skipped : ℕ) → List ℕ → List TextElement
-parts_behind ranks skipped text = split ranked_text ranks.elements (part_with ranks.ids) skipped text
+abbrev pub elements_behind : RanksValue → (skipped : ℕ) → List ℕ → List TextElement
+elements_behind ranks skipped text = split ranked_text ranks.elements (element_with ranks.ids) skipped text
 
 -- the elements of a text, by their ranks
-unfoldable pub parts_of : RanksValue → List ℕ → List TextElement
-parts_of ranks text = parts_behind ranks 0 text
+unfoldable pub elements_by_ranks : RanksValue → List ℕ → List TextElement
+elements_by_ranks ranks text = elements_behind ranks 0 text
 
 -- When they are those of a table.
 

@@ -9,9 +9,9 @@ ghost use Rattle.coll_elements.specs.Rank.{known_rank};
 ghost use Rattle.coll_ranks.specs.Ranks.{compiled_row_by, compiled_entry};
 
 use crate::level_weights::LevelWeights;
-use crate::parts::{ElementRow, ElementWeight, TextElement};
 use crate::recent_ranks::RecentRanks;
 use crate::table_ranks::TableRanks;
+use crate::text_elements::{ElementRow, ElementWeight, TextElement};
 use crate::weight_cells::WeightCells;
 use coll_nodes::Entry;
 use coll_syntax::{Id, Weight};
@@ -23,7 +23,7 @@ use std::marker::Model;
 pub struct CompiledWeights {
     levels: usize,
     lists: WeightCells,
-    /// For each level whether `UNDEFINED` stands for itself there.
+    // For each level whether `UNDEFINED` stands for itself there.
     own: Vec<bool>,
 }
 
@@ -41,8 +41,8 @@ impl Model for CompiledWeights {
 impl CompiledWeights {
     ghost use Rattle.coll_ranks.specs.RankLists.{AddsRow};
     ghost use Rattle.coll_ranks.specs.LevelWeights.{level_numbers, row_numbers, row_of};
-    ghost use Rattle.coll_ranks.specs.Ranks.{compiled_weight, part_numbers, added_to, added_at};
-    ghost use Rattle.coll_ranks.specs.declared.parts.ElementRow.{ElementRow};
+    ghost use Rattle.coll_ranks.specs.Ranks.{compiled_weight, compiled_numbers, added_to, added_at};
+    ghost use Rattle.coll_ranks.specs.declared.text_elements.ElementRow.{ElementRow};
 
     /// The weights of `UNDEFINED` at so many levels, with room for those of so many entries.
     pub(crate) fn new(
@@ -76,10 +76,10 @@ impl CompiledWeights {
 
     /// The row of an element.
     #[inline(always)]
-    pub fn row(&self, part: TextElement) -> ElementRow
-        ensures { result ≡ row_of self.now part }
+    pub fn row(&self, element: TextElement) -> ElementRow
+        ensures { result ≡ row_of self.now element }
     {
-        match part {
+        match element {
             TextElement::Placed(rank) => ElementRow {
                 first: rank as usize * self.levels,
                 code: 0,
@@ -114,11 +114,11 @@ impl CompiledWeights {
 
     /// What an element weighs at a level.
     #[inline(always)]
-    pub fn weight(&self, part: TextElement, level: usize) -> ElementWeight<'_>
+    pub fn weight(&self, element: TextElement, level: usize) -> ElementWeight<'_>
         requires { level < self.now.levels }
-        ensures { map (added_to result.added) result.ranks.now ≡ part_numbers self.now level part }
+        ensures { map (added_to result.added) result.ranks.now ≡ compiled_numbers self.now level element }
     {
-        match part {
+        match element {
             TextElement::Placed(rank) => ElementWeight {
                 ranks: self.compiled(rank, level),
                 added: 0,

@@ -6,7 +6,7 @@
 ghost use Rattle.std.specs.Prelude.{◌≡◌, chars};
 ghost use Rattle.coll_syntax.specs.declared.identifiers.Id.TheVariants.{Char, Named};
 
-use crate::parts::TextElement;
+use crate::text_elements::TextElement;
 use coll_elements::CodePoints;
 use coll_lookups::NamePlaces;
 use coll_syntax::Id;
@@ -29,7 +29,7 @@ impl Model for IdRanks {
 }
 
 impl IdRanks {
-    ghost use Rattle.coll_ranks.specs.Ranks.{rank_with, character_part};
+    ghost use Rattle.coll_ranks.specs.Ranks.{rank_with, character_element};
 
     /// The ranks of names, of characters, and that of `UNDEFINED`.
     pub(crate) fn new(names: NamePlaces, characters: CodePoints, undefined: u32) -> IdRanks
@@ -78,8 +78,8 @@ impl IdRanks {
     }
 
     /// The element that a character is which stands alone.
-    pub(crate) fn part(&self, c: char) -> TextElement
-        ensures { result ≡ character_part (rank_with self.now (Char c)) c }
+    pub(crate) fn element(&self, c: char) -> TextElement
+        ensures { result ≡ character_element (rank_with self.now (Char c)) c }
     {
         match self.rank_of_character(c) {
             Some(rank) => TextElement::Placed(rank),

@@ -5,8 +5,8 @@
 
 ghost use Rattle.std.specs.Prelude.{◌≡◌, ◌≤◌, ◌*◌};
 
-use crate::parts::{ElementRow, WeightRanks};
 use crate::rank_lists::RankLists;
+use crate::text_elements::{ElementRow, WeightRanks};
 use crate::weight_cells::{WeightCell, ranks_at};
 
 /// The weights of one level.

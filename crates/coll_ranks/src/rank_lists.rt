@@ -16,7 +16,7 @@ use std::marker::Model;
 #[derive(Drop)]
 pub(crate) struct RankLists {
     ranks: Vec<u32>,
-    /// Where each list ends, which is where the next one begins.
+    // Where each list ends, which is where the next one begins.
     ends: Vec<usize>,
 }
 

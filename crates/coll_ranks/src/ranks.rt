@@ -12,8 +12,8 @@ ghost use Rattle.coll_ranks.specs.AlikePrefixes.{BeginAlike};
 
 use crate::compiled_weights::CompiledWeights;
 use crate::id_ranks::IdRanks;
-use crate::parts::{FirstElement, TextElement};
 use crate::ranking::ids_and_weights;
+use crate::text_elements::{FirstElement, TextElement};
 use coll_elements::{PlacedElements, ranked_elements};
 use coll_lex::TextBuf;
 use coll_syntax::Id;
@@ -44,7 +44,7 @@ impl Ranks {
     ghost use Rattle.coll_nodes.specs.Table.{Collation};
     ghost use Rattle.coll_elements.specs.Rank.{rank_of};
     ghost use Rattle.coll_elements.specs.RankedElements.{last_string};
-    ghost use Rattle.coll_ranks.specs.Ranks.{AreRanksOf, rank_with, part_with, parts_of, compiled_weight};
+    ghost use Rattle.coll_ranks.specs.Ranks.{AreRanksOf, rank_with, element_with, elements_by_ranks, compiled_weight};
 
     /// The ranks of a table, in new memory.
     pub fn new(alloc: Global, table: &Table) -> Result<Ranks, AllocError>
@@ -70,9 +70,9 @@ impl Ranks {
 
     /// The element that a text begins with.
     #[inline(always)]
-    pub fn first_part<'a>(&self, text: &'a str) -> Option<FirstElement<'a>>
-        ensures parts { MatchOption result (parts_of self.now (chars text.now) ≡ []) (λ first. parts_of self.now (chars text.now)
-            ≡ first.part ∷ parts_of self.now (chars first.rest.now)) }
+    pub fn first_element<'a>(&self, text: &'a str) -> Option<FirstElement<'a>>
+        ensures elements { MatchOption result (elements_by_ranks self.now (chars text.now) ≡ []) (λ first. elements_by_ranks self.now (chars text.now)
+            ≡ first.element ∷ elements_by_ranks self.now (chars first.rest.now)) }
         ensures characters { MatchOption result (length (chars text.now) ≡ 0)
             (λ first. length (chars text.now) ≡ first.characters + length (chars first.rest.now)) }
         ensures some { IfSome result (λ first. 0 < first.characters) }
@@ -85,7 +85,7 @@ impl Ranks {
         }
         match self.elements.longest(text, first) {
             Some(found) => Some(FirstElement {
-                part: TextElement::Placed(found.rank),
+                element: TextElement::Placed(found.rank),
                 characters: found.length,
                 rest: found.rest,
             }),
@@ -96,12 +96,12 @@ impl Ranks {
     // The element that a character is which stands alone, before this text.
     #[inline(always)]
     fn alone<'a>(&self, first: char, rest: &'a str) -> FirstElement<'a>
-        ensures part { result.part ≡ part_with self.now.ids None first }
+        ensures element { result.element ≡ element_with self.now.ids None first }
         ensures characters { result.characters ≡ 1 }
         ensures rest { result.rest.now ≡ rest.now }
     {
         FirstElement {
-            part: self.ids.part(first),
+            element: self.ids.element(first),
             characters: 1,
             rest,
         }
@@ -110,8 +110,8 @@ impl Ranks {
     /// Two texts behind characters that both begin with, and that are elements of each.
     #[inline(always)]
     pub fn past_common<'a, 'b>(&self, text: &'a str, other: &'b str) -> (&'a str, &'b str)
-        ensures { BeginAlike (parts_of self.now (chars text.now)) (parts_of self.now (chars other.now))
-            (parts_of self.now (chars result.0.now)) (parts_of self.now (chars result.1.now)) }
+        ensures { BeginAlike (elements_by_ranks self.now (chars text.now)) (elements_by_ranks self.now (chars other.now))
+            (elements_by_ranks self.now (chars result.0.now)) (elements_by_ranks self.now (chars result.1.now)) }
     {
         let mut left = text;
         let mut right = other;
@@ -125,8 +125,8 @@ impl Ranks {
     // Two texts behind the first character of both, if it is the same and no element may begin with it.
     #[inline(always)]
     fn past_same<'a, 'b>(&self, text: &'a str, other: &'b str) -> Option<(&'a str, &'b str)>
-        ensures same { IfSome result (λ later. BeginAlike (parts_of self.now (chars text.now)) (parts_of self.now (chars other.now))
-            (parts_of self.now (chars later.0.now)) (parts_of self.now (chars later.1.now))) }
+        ensures same { IfSome result (λ later. BeginAlike (elements_by_ranks self.now (chars text.now)) (elements_by_ranks self.now (chars other.now))
+            (elements_by_ranks self.now (chars later.0.now)) (elements_by_ranks self.now (chars later.1.now))) }
         ensures shorter { IfSome result (λ later. length (chars later.0.now) < length (chars text.now)) }
     {
         let mut letters = text.chars();

@@ -1,10 +1,11 @@
-//! Ranks of a table, of which those told last are kept.
+//! Ranks of a table, of which some are kept from one entry to the next.
 //!
 //! Most weights name their own entry, or what the weight of the entry before names at their level, or the entry that stands directly
-//! behind that one in the table. So a `RecentRanks` keeps the rank of the entry that was begun last, in two slots for each level the ranks
-//! that were told there last and were not that entry's own, and the entries that were begun one after another from the table's first on
-//! (a walk), and tells these by a comparison of identifiers. What is told in no other way is looked up. Which slot is asked, and
-//! whether anything is kept at all, is for speed alone; that each rank that is kept is right is the invariant.
+//! behind that one in the table. So a `RecentRanks` keeps, with its identifier, the rank of the entry that was begun last, and in two
+//! slots for each level the last rank that was told there and was not the own one of the entry begun then; and it keeps the identifiers
+//! of the entries that were begun in a walk: one after another, from the table's first on. A rank that is kept is told by a comparison
+//! of identifiers, and any other is looked up. Which slot is asked, and whether anything is kept at all, is for speed alone; that each
+//! rank that is kept is right is the invariant.
 
 ghost use Rattle.std.specs.Prelude.{◌≡◌, Some, IfSome, IfOk};
 ghost use Rattle.std.specs.List.{All};
@@ -17,10 +18,10 @@ use coll_syntax::Id;
 use std::alloc::{AllocError, Global};
 use std::marker::Model;
 
-/// How many levels have ranks that are kept: as many as a table has at most.
+// How many levels have ranks that are kept: as many as a table has at most.
 const LEVELS: usize = 4;
 
-/// Of each level two ranks are kept: that of the first identifier of a weight, and that of a later one.
+// Of each level two ranks are kept: that of the first identifier of a weight, and that of a later one.
 const SLOTS: usize = 2 * LEVELS;
 
 /// An identifier with its rank.
@@ -34,12 +35,12 @@ pub(crate) struct RecentRank<'a> {
 #[derive(Drop)]
 pub(crate) struct RecentRanks<'a> {
     table: &'a TableRanks<'a>,
-    /// The rank of the entry whose weights are put in.
+    // The rank of the entry whose weights are put in.
     owner: Option<RecentRank<'a>>,
-    /// The ranks that were told last and were not the entry's own: for each level that of the first identifier of a weight, and then
-    /// for each that of a later one.
+    // A slot for the first identifier of a weight at each level, and then one for a later identifier at each: the last rank that was
+    // told there, and was not the own one of the entry begun then.
     last: [Option<RecentRank<'a>>; SLOTS],
-    /// The identifiers of the first entries of the table, in order, as far as they were begun one after another.
+    // The identifiers of the first entries of the table, in order, as far as a walk has begun them.
     entries: Vec<&'a Id>,
 }
 
@@ -68,7 +69,7 @@ impl<'a> RecentRanks<'a> {
         }
     }
 
-    /// The same for a walk that meets so many entries, with room for them.
+    /// The same, with room for the entries of a walk: so many are begun, one after another from the table's first on.
     pub(crate) fn on_walk(
         alloc: Global,
         table: &'a TableRanks<'a>,

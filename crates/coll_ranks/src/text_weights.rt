@@ -11,16 +11,16 @@ ghost use Rattle.coll_nodes.specs.TableLayout.{collation};
 ghost use Rattle.coll_elements.specs.Elements.{elements_of};
 ghost use Rattle.coll_elements.specs.Rank.{known_rank};
 ghost use Rattle.coll_ranks.specs.RankLists.{AddsRow};
-ghost use Rattle.coll_ranks.specs.Ranks.{part_numbers};
-ghost use Rattle.coll_ranks.specs.TextWeights.{element_parts, element_row};
+ghost use Rattle.coll_ranks.specs.Ranks.{compiled_numbers};
+ghost use Rattle.coll_ranks.specs.TextWeights.{elements_by_rows, element_row};
 ghost use Rattle.coll_ranks.specs.WeightNumbers.{numbers_at};
 ghost use Rattle.coll_elements.specs.declared.element_entries.ElementEntry.{ElementEntry};
 
 use crate::compiled_weights::CompiledWeights;
-use crate::parts::TextElement;
 use crate::ranking::compiled_undefined;
 use crate::recent_ranks::RecentRanks;
 use crate::table_ranks::TableRanks;
+use crate::text_elements::TextElement;
 use coll_elements::{ElementEntry, split_text};
 use coll_lookups::EntryNumbers;
 use coll_table::Table;
@@ -32,7 +32,7 @@ use std::marker::Model;
 /// They are those of the table as it stood when they were made.
 #[derive(Drop)]
 pub struct TextWeights {
-    parts: Vec<TextElement>,
+    elements: Vec<TextElement>,
     weights: CompiledWeights,
 }
 
@@ -41,7 +41,7 @@ impl Model for TextWeights {
 
     ghost Value = { TextWeightsValue };
 
-    ghost view = { λ t. record { parts = t.parts.items; weights = t.weights } };
+    ghost view = { λ t. record { elements = t.elements.items; weights = t.weights } };
 }
 
 impl TextWeights {
@@ -56,23 +56,26 @@ impl TextWeights {
         requires few { length (chars text.now) ≤ 65_536 }
         ensures levels { IfOk result (λ made. made.weights.levels ≡ length (collation table.now).rules) }
         ensures numbers { IfOk result (λ made. (level : ℕ) → level < length (collation table.now).rules
-            → map (part_numbers made.weights level) made.parts
+            → map (compiled_numbers made.weights level) made.elements
             ≡ map (numbers_at (collation table.now) level) (elements_of (collation table.now) (chars text.now))) }
-        ensures count { IfOk result (λ made. length made.parts ≤ length (chars text.now)) }
+        ensures count { IfOk result (λ made. length made.elements ≤ length (chars text.now)) }
     {
         let elements = split_text(alloc, table, text)?;
         let ranks = TableRanks::new(table, numbers);
         let mut weights = compiled_undefined(alloc, table, &ranks, elements.len())?;
         let mut recent = RecentRanks::new(alloc, &ranks);
-        let parts = compiled_parts(alloc, &mut weights, &mut recent, &elements)?;
-        Ok(TextWeights { parts, weights })
+        let text_elements = compiled_elements(alloc, &mut weights, &mut recent, &elements)?;
+        Ok(TextWeights {
+            elements: text_elements,
+            weights,
+        })
     }
 
     /// The elements of the text.
-    pub fn parts(&self) -> &[TextElement]
-        ensures { result.now ≡ self.now.parts }
+    pub fn elements(&self) -> &[TextElement]
+        ensures { result.now ≡ self.now.elements }
     {
-        &self.parts
+        &self.elements
     }
 
     /// The weights of these elements.
@@ -84,28 +87,28 @@ impl TextWeights {
 }
 
 // The elements of a text by their rows, where the weights of each are put behind those of `UNDEFINED`.
-fn compiled_parts<'a>(
+fn compiled_elements<'a>(
     alloc: Global,
     weights: &mut CompiledWeights,
     ranks: &mut RecentRanks<'a>,
     elements: &[ElementEntry<'a>],
 ) -> Result<Vec<TextElement>, AllocError>
     requires { length elements.now ≤ 65_536 }
-    ensures parts { IfOk result (λ parts. parts.items ≡ element_parts 1 elements.now) }
+    ensures text_elements { IfOk result (λ text_elements. text_elements.items ≡ elements_by_rows 1 elements.now) }
     ensures rows { OnOk result (AddsRow weights.old weights.new
         (flat_map (element_row (known_rank ranks.old) weights.old.levels) elements.now)) }
 {
-    let mut parts = Vec::with_capacity(alloc, elements.len())?;
+    let mut text_elements = Vec::with_capacity(alloc, elements.len())?;
     let mut row = 1;
     for element in elements {
-        row = push_element(&mut parts, weights, ranks, *element, row)?;
+        row = push_element(&mut text_elements, weights, ranks, *element, row)?;
     }
-    Ok(parts)
+    Ok(text_elements)
 }
 
 // Puts an element behind others, and if it has an entry its weights too, which are this row; and gives the next row.
 fn push_element<'a>(
-    parts: &mut Vec<TextElement>,
+    text_elements: &mut Vec<TextElement>,
     weights: &mut CompiledWeights,
     ranks: &mut RecentRanks<'a>,
     element: ElementEntry<'a>,
@@ -113,19 +116,19 @@ fn push_element<'a>(
 ) -> Result<u32, AllocError>
     requires { row < 1_000_000 }
     ensures few { IfOk result (λ next. next ≤ row + 1) }
-    ensures parts { IfOk result (λ next. (later : List ElementEntry) → parts.new.items ++ element_parts next later
-        ≡ parts.old.items ++ element_parts row (element.entry ∷ later)) }
+    ensures text_elements { IfOk result (λ next. (later : List ElementEntry) → text_elements.new.items ++ elements_by_rows next later
+        ≡ text_elements.old.items ++ elements_by_rows row (element.entry ∷ later)) }
     ensures rows { OnOk result (AddsRow weights.old weights.new (element_row (known_rank ranks.old) weights.old.levels element.entry)) }
     ensures same { ranks.new ≡ ranks.old }
 {
     match element {
         ElementEntry::Placed(entry) => {
             weights.push(ranks, entry)?;
-            parts.push(TextElement::Placed(row))?;
+            text_elements.push(TextElement::Placed(row))?;
             Ok(row + 1)
         }
         ElementEntry::Absent(c) => {
-            parts.push(TextElement::Absent(c))?;
+            text_elements.push(TextElement::Absent(c))?;
             Ok(row)
         }
     }

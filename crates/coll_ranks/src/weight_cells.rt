@@ -9,9 +9,9 @@ ghost use Rattle.coll_ranks.specs.Ranks.{compiled_by, compiled_row_by};
 ghost use Rattle.coll_ranks.specs.WeightCells.{cell_list};
 ghost use Rattle.coll_ranks.specs.LevelWeights.{ranks_in};
 
-use crate::parts::WeightRanks;
 use crate::rank_lists::RankLists;
 use crate::recent_ranks::RecentRanks;
+use crate::text_elements::WeightRanks;
 use coll_syntax::{Id, Weight};
 use std::alloc::{AllocError, Global};
 use std::marker::Model;

@@ -13,8 +13,8 @@ use Rattle.coll_requests.specs.Requests.{BlockLines, fault_at, order_by, orders_
 use Rattle.coll_requests.specs.Requests.{lack_in, stated_unless, request_of, starved_at, unless_starved, block_request, requests_at, block_after, not_ended}
 use Rattle.coll_requests.specs.Requests.{block_left_open, end_faults, dropped_faults, last_faults, refusals, stop_of, last_or, requests}
 use Rattle.coll_requests.specs.Limits.{most_block_lines}
-use Rattle.coll_requests.specs.OpenBlocks.{after_fault, after_order, spoiled_by, spoiled, joined, request_so_far, kept_request, left_open_so_far, kept_left_open, dropped_so_far, kept_after}
-use Rattle.coll_requests.specs.OpenBlocks.{kept_requests_at, kept_end_faults, kept_dropped_faults, kept_last_faults, kept_last_or, kept_requests, gathered_unless, gathered_of, starved_or, open_at}
+use Rattle.coll_requests.specs.OpenBlocks.{after_fault, after_order, spoiled_by, spoiled, joined, request_by_status, kept_request, left_open_by_status, kept_left_open, dropped_by_status, kept_after}
+use Rattle.coll_requests.specs.OpenBlocks.{kept_requests_at, kept_end_faults, kept_dropped_faults, kept_last_faults, kept_last_or, kept_requests, status_unless, status_of, starved_or, open_at}
 use Rattle.coll_requests.specs.OpenBlocks.{kept}
 use Rattle.coll_requests.specs.declared.request_faults.RequestFault.{RequestFault}
 use Rattle.coll_requests.specs.declared.request_faults.RequestFault.TheVariants as fault
@@ -62,31 +62,31 @@ lack_in-push block line =
     ∙ or_else-assoc (target_lack block.line block.target) (first_lack block.lines) (lack_by line.number line.parsed)
 
 -- what is kept, by the three things that decide it
-abbrev pub gathered_by : ℕ → Result Id RequestFault → Option FaultAt → List OrderLine → BlockStatus
-gathered_by line (Ok target) spoiler orders = gathered_unless spoiler target orders
-gathered_by line (Err f) spoiler orders = Spoiled (fault_at line f)
+abbrev pub status_by : ℕ → Result Id RequestFault → Option FaultAt → List OrderLine → BlockStatus
+status_by line (Ok target) spoiler orders = status_unless spoiler target orders
+status_by line (Err f) spoiler orders = Spoiled (fault_at line f)
 
-gathered_is : (line : ℕ) (target : Result Id RequestFault) (lines : List ParsedLine) → gathered_of line target lines ≡ gathered_by line target (first_spoiler [] lines) (orders_in lines)
-gathered_is line (Ok target) lines = refl
-gathered_is line (Err f) lines = refl
+status_of_is : (line : ℕ) (target : Result Id RequestFault) (lines : List ParsedLine) → status_of line target lines ≡ status_by line target (first_spoiler [] lines) (orders_in lines)
+status_of_is line (Ok target) lines = refl
+status_of_is line (Err f) lines = refl
 
-abbrev pub so_far_by : Option ℕ → ℕ → Result Id RequestFault → Option FaultAt → List OrderLine → BlockStatus
-so_far_by lack line target spoiler orders = starved_or lack (gathered_by line target spoiler orders)
+abbrev pub kept_status_by : Option ℕ → ℕ → Result Id RequestFault → Option FaultAt → List OrderLine → BlockStatus
+kept_status_by lack line target spoiler orders = starved_or lack (status_by line target spoiler orders)
 
-pub so_far_is : (block : BlockLines) → starved_or (lack_in block) (gathered_of block.line block.target block.lines)
-    ≡ so_far_by (lack_in block) block.line block.target (first_spoiler [] block.lines) (orders_in block.lines)
-so_far_is block = ap (starved_or (lack_in block)) (gathered_is block.line block.target block.lines)
+pub kept_status_is : (block : BlockLines) → starved_or (lack_in block) (status_of block.line block.target block.lines)
+    ≡ kept_status_by (lack_in block) block.line block.target (first_spoiler [] block.lines) (orders_in block.lines)
+kept_status_is block = ap (starved_or (lack_in block)) (status_of_is block.line block.target block.lines)
 
 -- what is kept of a block with one more line
-so_far-push : (block : BlockLines) (line : ParsedLine) → starved_or (lack_in (with_line block line)) (gathered_of block.line block.target (block.lines ++ line ∷ []))
-    ≡ so_far_by (or_else (lack_in block) (lack_by line.number line.parsed)) block.line block.target (or_else (first_spoiler [] block.lines) (spoils block.lines line))
+status-push : (block : BlockLines) (line : ParsedLine) → starved_or (lack_in (with_line block line)) (status_of block.line block.target (block.lines ++ line ∷ []))
+    ≡ kept_status_by (or_else (lack_in block) (lack_by line.number line.parsed)) block.line block.target (or_else (first_spoiler [] block.lines) (spoils block.lines line))
     (orders_in block.lines ++ order_by line.parsed)
-so_far-push block line =
-    so_far_is (with_line block line)
-    ∙ ap (λ (w : Option ℕ). so_far_by w block.line block.target (first_spoiler [] (block.lines ++ line ∷ [])) (orders_in (block.lines ++ line ∷ []))) (lack_in-push block line)
-    ∙ ap (λ (s : Option FaultAt). so_far_by (or_else (lack_in block) (lack_by line.number line.parsed)) block.line block.target s (orders_in (block.lines ++ line ∷ [])))
+status-push block line =
+    kept_status_is (with_line block line)
+    ∙ ap (λ (w : Option ℕ). kept_status_by w block.line block.target (first_spoiler [] (block.lines ++ line ∷ [])) (orders_in (block.lines ++ line ∷ []))) (lack_in-push block line)
+    ∙ ap (λ (s : Option FaultAt). kept_status_by (or_else (lack_in block) (lack_by line.number line.parsed)) block.line block.target s (orders_in (block.lines ++ line ∷ [])))
     (first_spoiler-push [] block.lines line)
-    ∙ ap (so_far_by (or_else (lack_in block) (lack_by line.number line.parsed)) block.line block.target (or_else (first_spoiler [] block.lines) (spoils block.lines line)))
+    ∙ ap (kept_status_by (or_else (lack_in block) (lack_by line.number line.parsed)) block.line block.target (or_else (first_spoiler [] block.lines) (spoils block.lines line)))
     (orders_in-push block.lines line)
 
 -- a refused line, by whether memory was refused to it
@@ -101,7 +101,7 @@ after_fault_is (Spoiled first) at = refl
 after_fault_is (Starved line) at = refl
 
 fault_cases : (b : Bool) (lack : Option ℕ) (line : ℕ) (target : Result Id RequestFault) (spoiler : Option FaultAt) (orders : List OrderLine) (at : FaultAt)
-    → so_far_by (or_else lack (if b then Some at.line else None)) line target (or_else spoiler (Some at)) (orders ++ []) ≡ after_fault_by b (so_far_by lack line target spoiler orders) at
+    → kept_status_by (or_else lack (if b then Some at.line else None)) line target (or_else spoiler (Some at)) (orders ++ []) ≡ after_fault_by b (kept_status_by lack line target spoiler orders) at
 fault_cases b (Some w) line target spoiler orders at = refl
 fault_cases true None line (Ok target) None orders at = refl
 fault_cases true None line (Ok target) (Some s) orders at = refl
@@ -117,26 +117,26 @@ kept_with_fault : (block : BlockLines) (line : ParsedLine) (at : FaultAt) → la
 unfolding kept
 kept_with_fault block line at lack spoiler none =
     ap (open_at block.line)
-    (so_far-push block line
-    ∙ ap (λ (w : Option ℕ). so_far_by (or_else (lack_in block) w) block.line block.target (or_else (first_spoiler [] block.lines) (spoils block.lines line))
+    (status-push block line
+    ∙ ap (λ (w : Option ℕ). kept_status_by (or_else (lack_in block) w) block.line block.target (or_else (first_spoiler [] block.lines) (spoils block.lines line))
     (orders_in block.lines ++ order_by line.parsed)) lack
-    ∙ ap (λ (s : Option FaultAt). so_far_by (or_else (lack_in block) (if is_lack_of_memory at.fault then Some at.line else None)) block.line block.target (or_else (first_spoiler [] block.lines) s)
+    ∙ ap (λ (s : Option FaultAt). kept_status_by (or_else (lack_in block) (if is_lack_of_memory at.fault then Some at.line else None)) block.line block.target (or_else (first_spoiler [] block.lines) s)
     (orders_in block.lines ++ order_by line.parsed)) spoiler
-    ∙ ap (λ (os : List OrderLine). so_far_by (or_else (lack_in block) (if is_lack_of_memory at.fault then Some at.line else None)) block.line block.target
+    ∙ ap (λ (os : List OrderLine). kept_status_by (or_else (lack_in block) (if is_lack_of_memory at.fault then Some at.line else None)) block.line block.target
     (or_else (first_spoiler [] block.lines) (Some at)) (orders_in block.lines ++ os)) none
     ∙ fault_cases (is_lack_of_memory at.fault) (lack_in block) block.line block.target (first_spoiler [] block.lines) (orders_in block.lines) at
-    ∙ ap (λ (s : BlockStatus). after_fault_by (is_lack_of_memory at.fault) s at) (sym (so_far_is block))
-    ∙ after_fault_is (starved_or (lack_in block) (gathered_of block.line block.target block.lines)) at)
+    ∙ ap (λ (s : BlockStatus). after_fault_by (is_lack_of_memory at.fault) s at) (sym (kept_status_is block))
+    ∙ after_fault_is (starved_or (lack_in block) (status_of block.line block.target block.lines)) at)
 
 order_chosen : (b : Bool) (target : Id) (orders : List OrderLine) (order : OrderLine) (at : FaultAt)
-    → gathered_unless (if b then Some at else None) target (orders ++ order ∷ []) ≡ (if b then Spoiled at else Building (record { target = target; lines = orders ++ order ∷ [] }))
+    → status_unless (if b then Some at else None) target (orders ++ order ∷ []) ≡ (if b then Spoiled at else Building (record { target = target; lines = orders ++ order ∷ [] }))
 order_chosen true target orders order at = refl
 order_chosen false target orders order at = refl
 
 order_cases : (lack : Option ℕ) (line : ℕ) (target : Result Id RequestFault) (spoiler : Option FaultAt) (orders : List OrderLine) (n : ℕ) (order : OrderLine)
-    → so_far_by (or_else lack None) line target (or_else spoiler (if nat_le most_block_lines (length orders) then Some (fault_at n (fault.Syntax syntax.BlockTooLong)) else None))
+    → kept_status_by (or_else lack None) line target (or_else spoiler (if nat_le most_block_lines (length orders) then Some (fault_at n (fault.Syntax syntax.BlockTooLong)) else None))
     (orders ++ order ∷ [])
-    ≡ after_order (so_far_by lack line target spoiler orders) n order
+    ≡ after_order (kept_status_by lack line target spoiler orders) n order
 order_cases (Some w) line target spoiler orders n order = refl
 order_cases None line (Ok target) None orders n order = order_chosen (nat_le most_block_lines (length orders)) target orders order (fault_at n (fault.Syntax syntax.BlockTooLong))
 order_cases None line (Ok target) (Some s) orders n order = refl
@@ -147,16 +147,16 @@ kept_with_order : (block : BlockLines) (n : ℕ) (order : OrderLine) → kept (w
 unfolding kept
 kept_with_order block n order =
     ap (open_at block.line)
-    (so_far-push block (record { number = n; parsed = parsed.OrderLine order })
+    (status-push block (record { number = n; parsed = parsed.OrderLine order })
     ∙ order_cases (lack_in block) block.line block.target (first_spoiler [] block.lines) (orders_in block.lines) n order
-    ∙ ap (λ (s : BlockStatus). after_order s n order) (sym (so_far_is block)))
+    ∙ ap (λ (s : BlockStatus). after_order s n order) (sym (kept_status_is block)))
 
 command_cases : (lack : Option ℕ) (line : ℕ) (target : Result Id RequestFault) (spoiler : Option FaultAt) (orders : List OrderLine)
-    → so_far_by (or_else lack None) line target (or_else spoiler None) (orders ++ []) ≡ so_far_by lack line target spoiler orders
+    → kept_status_by (or_else lack None) line target (or_else spoiler None) (orders ++ []) ≡ kept_status_by lack line target spoiler orders
 command_cases lack line target spoiler orders =
-    ap (λ (w : Option ℕ). so_far_by w line target (or_else spoiler None) (orders ++ [])) (or_else-none lack)
-    ∙ ap (λ (s : Option FaultAt). so_far_by lack line target s (orders ++ [])) (or_else-none spoiler)
-    ∙ ap (so_far_by lack line target spoiler) (append-nil orders)
+    ap (λ (w : Option ℕ). kept_status_by w line target (or_else spoiler None) (orders ++ [])) (or_else-none lack)
+    ∙ ap (λ (s : Option FaultAt). kept_status_by lack line target s (orders ++ [])) (or_else-none spoiler)
+    ∙ ap (kept_status_by lack line target spoiler) (append-nil orders)
 
 -- what is kept after a command
 kept_with_command : (block : BlockLines) (line : ParsedLine) → lack_by line.number line.parsed ≡ None → spoils block.lines line ≡ None → order_by line.parsed ≡ []
@@ -164,13 +164,13 @@ kept_with_command : (block : BlockLines) (line : ParsedLine) → lack_by line.nu
 unfolding kept
 kept_with_command block line lack spoiler none =
     ap (open_at block.line)
-    (so_far-push block line
-    ∙ ap (λ (w : Option ℕ). so_far_by (or_else (lack_in block) w) block.line block.target (or_else (first_spoiler [] block.lines) (spoils block.lines line))
+    (status-push block line
+    ∙ ap (λ (w : Option ℕ). kept_status_by (or_else (lack_in block) w) block.line block.target (or_else (first_spoiler [] block.lines) (spoils block.lines line))
     (orders_in block.lines ++ order_by line.parsed)) lack
-    ∙ ap (λ (s : Option FaultAt). so_far_by (or_else (lack_in block) None) block.line block.target (or_else (first_spoiler [] block.lines) s) (orders_in block.lines ++ order_by line.parsed)) spoiler
-    ∙ ap (λ (os : List OrderLine). so_far_by (or_else (lack_in block) None) block.line block.target (or_else (first_spoiler [] block.lines) None) (orders_in block.lines ++ os)) none
+    ∙ ap (λ (s : Option FaultAt). kept_status_by (or_else (lack_in block) None) block.line block.target (or_else (first_spoiler [] block.lines) s) (orders_in block.lines ++ order_by line.parsed)) spoiler
+    ∙ ap (λ (os : List OrderLine). kept_status_by (or_else (lack_in block) None) block.line block.target (or_else (first_spoiler [] block.lines) None) (orders_in block.lines ++ os)) none
     ∙ command_cases (lack_in block) block.line block.target (first_spoiler [] block.lines) (orders_in block.lines)
-    ∙ sym (so_far_is block))
+    ∙ sym (kept_status_is block))
 
 begun_cases : (b : Bool) (n : ℕ) (f : RequestFault) → open_at n (starved_or (or_else (if b then Some n else None) None) (Spoiled (fault_at n f)))
     ≡ open_at n (if b then Starved n else Spoiled (fault_at n f))
@@ -209,12 +209,12 @@ kept_step block line = by_parsed block line.number line.parsed
     by_parsed None n (parsed.Standalone a) = refl
     by_parsed (Some block) n (parsed.Standalone a) = ap Some (sym (kept_with_fault block (record { number = n; parsed = parsed.Standalone a }) (fault_at n fault.BlockOpen) refl refl refl))
 
-request_cases : (lack : Option ℕ) (line : ℕ) (target : Result Id RequestFault) (lines : List ParsedLine) → request_so_far line (starved_or lack (gathered_of line target lines))
+request_cases : (lack : Option ℕ) (line : ℕ) (target : Result Id RequestFault) (lines : List ParsedLine) → request_by_status line (starved_or lack (status_of line target lines))
     ≡ unless_starved lack (request_of line target lines)
 request_cases (Some w) line target lines = refl
 request_cases None line (Ok target) lines = stated (first_spoiler [] lines)
   where
-    stated : (spoiler : Option FaultAt) → request_so_far line (gathered_unless spoiler target (orders_in lines)) ≡ stated_unless spoiler line target (orders_in lines)
+    stated : (spoiler : Option FaultAt) → request_by_status line (status_unless spoiler target (orders_in lines)) ≡ stated_unless spoiler line target (orders_in lines)
     stated None = refl
     stated (Some at) = refl
 request_cases None line (Err f) lines = refl
@@ -257,7 +257,7 @@ requests_step block line = by_parsed block line.number line.parsed
     by_parsed (Some block) n (parsed.Standalone a) = refl
 
 left_open_cases : (lack : Option ℕ) (line : ℕ) (target : Result Id RequestFault) (spoiler : Option FaultAt) (orders : List OrderLine)
-    → left_open_so_far line (so_far_by lack line target spoiler orders) ≡ not_ended line lack
+    → left_open_by_status line (kept_status_by lack line target spoiler orders) ≡ not_ended line lack
 left_open_cases (Some w) line target spoiler orders = refl
 left_open_cases None line (Ok target) None orders = refl
 left_open_cases None line (Ok target) (Some at) orders = refl
@@ -266,10 +266,10 @@ left_open_cases None line (Err f) spoiler orders = refl
 left_open_kept : (block : BlockLines) → kept_left_open (kept block) ≡ block_left_open block
 unfolding kept block_left_open
 left_open_kept block =
-    ap (left_open_so_far block.line) (so_far_is block) ∙ left_open_cases (lack_in block) block.line block.target (first_spoiler [] block.lines) (orders_in block.lines)
+    ap (left_open_by_status block.line) (kept_status_is block) ∙ left_open_cases (lack_in block) block.line block.target (first_spoiler [] block.lines) (orders_in block.lines)
 
 dropped_cases : (lack : Option ℕ) (line : ℕ) (target : Result Id RequestFault) (spoiler : Option FaultAt) (orders : List OrderLine)
-    → option_to_list (dropped_so_far (so_far_by lack line target spoiler orders)) ≡ map starved_at (option_to_list lack)
+    → option_to_list (dropped_by_status (kept_status_by lack line target spoiler orders)) ≡ map starved_at (option_to_list lack)
 dropped_cases (Some w) line target spoiler orders = refl
 dropped_cases None line (Ok target) None orders = refl
 dropped_cases None line (Ok target) (Some at) orders = refl
@@ -279,7 +279,7 @@ dropped_kept : (block : Option BlockLines) → kept_dropped_faults (option_map k
 unfolding kept dropped_faults
 dropped_kept None = refl
 dropped_kept (Some block) =
-    ap (λ (s : BlockStatus). option_to_list (dropped_so_far s)) (so_far_is block) ∙ dropped_cases (lack_in block) block.line block.target (first_spoiler [] block.lines) (orders_in block.lines)
+    ap (λ (s : BlockStatus). option_to_list (dropped_by_status s)) (kept_status_is block) ∙ dropped_cases (lack_in block) block.line block.target (first_spoiler [] block.lines) (orders_in block.lines)
 
 end_kept : (block : Option BlockLines) (continued : Option ℕ) → kept_end_faults (option_map kept block) continued ≡ end_faults block continued
 end_kept None continued = refl

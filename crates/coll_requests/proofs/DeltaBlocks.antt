@@ -18,20 +18,20 @@ use Rattle.coll_requests.specs.declared.request_faults.RequestFault.{RequestFaul
 use Rattle.coll_requests.specs.declared.request_faults.RequestFault.TheVariants as fault
 use Rattle.coll_requests.specs.declared.requests.FaultAt.{FaultAt}
 use Rattle.coll_requests.specs.declared.requests.RequestAt.{RequestAt}
-use Rattle.coll_requests.proofs.BlockLemmas.{so_far_by, so_far_is, request_kept}
+use Rattle.coll_requests.proofs.BlockLemmas.{kept_status_by, kept_status_is, request_kept}
 
-full_by : (lack : Option ℕ) (line : ℕ) (target : Result Id RequestFault) (spoiler : Option FaultAt) (orders : List OrderLine) → Unspoiled (so_far_by lack line target spoiler orders)
-    → is_full (so_far_by lack line target spoiler orders) ≡ nat_le most_block_lines (length orders)
+full_by : (lack : Option ℕ) (line : ℕ) (target : Result Id RequestFault) (spoiler : Option FaultAt) (orders : List OrderLine) → Unspoiled (kept_status_by lack line target spoiler orders)
+    → is_full (kept_status_by lack line target spoiler orders) ≡ nat_le most_block_lines (length orders)
 full_by (Some w) line target spoiler orders sound = absurd sound
 full_by None line (Ok target) None orders sound = refl
 full_by None line (Ok target) (Some at) orders sound = absurd sound
 full_by None line (Err f) spoiler orders sound = absurd sound
 
 -- a block that isn't spoiled has all lines that it may have where it has so many order lines
-full_kept : (block : BlockLines) → Unspoiled (kept block).so_far → is_full (kept block).so_far ≡ nat_le most_block_lines (length (orders_in block.lines))
+full_kept : (block : BlockLines) → Unspoiled (kept block).status → is_full (kept block).status ≡ nat_le most_block_lines (length (orders_in block.lines))
 unfolding kept
 full_kept block sound =
-    ap is_full (so_far_is block) ∙ full_by (lack_in block) block.line block.target (first_spoiler [] block.lines) (orders_in block.lines) (subst Unspoiled (so_far_is block) sound)
+    ap is_full (kept_status_is block) ∙ full_by (lack_in block) block.line block.target (first_spoiler [] block.lines) (orders_in block.lines) (subst Unspoiled (kept_status_is block) sound)
 
 -- the fault of a line by what is kept is that of the definition
 pub fault_step : (block : Option BlockLines) (line : ParsedLine) → IsUnspoiled (option_map kept block) → kept_fault_under (option_map kept block) line ≡ fault_under block line

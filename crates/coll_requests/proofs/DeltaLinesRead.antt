@@ -7,7 +7,7 @@ use Rattle.coll_requests.specs.SessionLines.{delta_file_parsed}
 use Rattle.coll_requests.specs.Requests.{BlockLines}
 use Rattle.coll_requests.specs.DeltaFiles.{DeltaOutcome, AtFault, Undecided, DeltaRequests, at_line, ends_so, after_statements, fault_at_end, outcome_within, delta_outcome, delta_requests}
 use Rattle.coll_requests.specs.DeltaReading.{DeltaState, first_delta, Step, by_where, unless_faulty, delta_line, early_end}
-use Rattle.coll_requests.specs.DeltaReading.{delta_end, past_line, answers_to, end_so_far, past_line_so_far, answers_so_far}
+use Rattle.coll_requests.specs.DeltaReading.{delta_end, past_line, answers_to, end_from, past_line_from, answers_from}
 use Rattle.coll_requests.specs.declared.delta_faults.DeltaFault.{DeltaFault}
 use Rattle.coll_requests.specs.declared.delta_faults.DeltaCause.TheVariants.{Request as RequestCause, NoCategory, NoEnd}
 use Rattle.coll_requests.specs.declared.delta_files.StatementAt.{StatementAt}
@@ -115,17 +115,17 @@ lines_read lines = reads_ahead (length lines) lines None first_delta stands_firs
 
 -- Where the end of the file isn't seen.
 
-faulty_so_far : (s : DeltaState) (f : DeltaFault) (lines : List (List ℕ)) → s.fault ≡ Some f → answers_so_far s lines ≡ ends_so (AtFault f)
-unfolding answers_so_far
-faulty_so_far s f [] e = ap (λ (o : Option DeltaFault). ends_so (end_so_far s o)) e
-faulty_so_far s f (line ∷ lines) e = ap (λ (r : Step). past_line_so_far r (λ after. answers_so_far after lines)) (faulty_line s f line e)
+faulty_from : (s : DeltaState) (f : DeltaFault) (lines : List (List ℕ)) → s.fault ≡ Some f → answers_from s lines ≡ ends_so (AtFault f)
+unfolding answers_from
+faulty_from s f [] e = ap (λ (o : Option DeltaFault). ends_so (end_from s o)) e
+faulty_from s f (line ∷ lines) e = ap (λ (r : Step). past_line_from r (λ after. answers_from after lines)) (faulty_line s f line e)
 
 undecided : (block : Option BlockLines) (s : DeltaState) (begun : Bool) → StandsAfter block s → s.ended ≡ false → s.begun ≡ begun
-    → end_so_far s s.fault ≡ Undecided (if begun then NoEnd else NoCategory)
+    → end_from s s.fault ≡ Undecided (if begun then NoEnd else NoCategory)
 undecided block s begun stands e f = rw stands.faultless (rw e (rw f refl))
 
 stops_here : (block : Option BlockLines) (s : DeltaState) (ended begun : Bool) → StandsAfter block s → s.ended ≡ ended → s.begun ≡ begun
-    → ends_so (end_so_far s s.fault) ≡ outcome_from false block s []
+    → ends_so (end_from s s.fault) ≡ outcome_from false block s []
 stops_here block s true begun stands e f = rw stands.faultless (rw e refl)
 stops_here block s false true stands e f =
     ap ends_so (undecided block s true stands e f)
@@ -133,18 +133,18 @@ stops_here block s false true stands e f =
 stops_here block s false false stands e f = ap ends_so (undecided block s false stands e f) ∙ sym (from_before false block s [] e f ∙ outcome_before-nil false s.lexer)
 
 past_taken : (block : Option BlockLines) (s : DeltaState) (first : List ℕ) (lines : List (List ℕ)) (r : Step) → Judged block s first r
-    → ((next : Option BlockLines) (after : DeltaState) → StandsAfter next after → answers_so_far after lines ≡ outcome_from false next after lines)
-    → past_line_so_far r (λ after. answers_so_far after lines) ≡ outcome_from false block s (first ∷ lines)
+    → ((next : Option BlockLines) (after : DeltaState) → StandsAfter next after → answers_from after lines ≡ outcome_from false next after lines)
+    → past_line_from r (λ after. answers_from after lines) ≡ outcome_from false block s (first ∷ lines)
 past_taken block s first lines (Err f) h later = sym (h false lines)
 past_taken block s first lines (Ok (given, after)) h later =
     ⊎_elim (λ (on : LeadsOn block s first given after). ap (after_statements given) (later on.next after on.stands) ∙ sym (on.says false lines))
-    (λ (at : IsFaultBehind block s first given after). ap (after_statements given) (faulty_so_far after at.fault lines at.stored) ∙ sym (at.says false lines)) h
+    (λ (at : IsFaultBehind block s first given after). ap (after_statements given) (faulty_from after at.fault lines at.stored) ∙ sym (at.says false lines)) h
 
-taken_ahead : (lines : List (List ℕ)) (block : Option BlockLines) (s : DeltaState) → StandsAfter block s → answers_so_far s lines ≡ outcome_from false block s lines
-unfolding answers_so_far
+taken_ahead : (lines : List (List ℕ)) (block : Option BlockLines) (s : DeltaState) → StandsAfter block s → answers_from s lines ≡ outcome_from false block s lines
+unfolding answers_from
 taken_ahead [] block s stands = stops_here block s s.ended s.begun stands refl refl
 taken_ahead (first ∷ lines) block s stands = past_taken block s first lines (delta_line s first) (judged_line block s first stands) (λ next after now. taken_ahead lines next after now)
 
 -- handing in the first lines of a delta file answers what these say
-pub lines_taken : (lines : List (List ℕ)) → answers_so_far first_delta lines ≡ delta_outcome false lines
+pub lines_taken : (lines : List (List ℕ)) → answers_from first_delta lines ≡ delta_outcome false lines
 lines_taken lines = taken_ahead lines None first_delta stands_first

@@ -19,7 +19,7 @@ use Rattle.coll_requests.specs.Taking.{IsOrder, TakesParsing}
 use Rattle.coll_requests.specs.DeltaFaults.{lacks_memory}
 use Rattle.coll_requests.specs.DeltaFiles.{file_fault, statements_in, ends_category}
 use Rattle.coll_requests.specs.DeltaReading.{DeltaState, Unspoiled, IsUnspoiled, kept_fault_under, kept_ended_before, faulty, judged, by_parsed}
-use Rattle.coll_requests.specs.DeltaReading.{by_physical, is_lack, is_order, IsWanting, refuses, is_refused, is_starved, leaves_lack}
+use Rattle.coll_requests.specs.DeltaReading.{by_physical, is_lack, is_order, MayLackMemory, refuses, is_refused, is_starved, leaves_lack}
 use Rattle.coll_requests.specs.declared.delta_faults.DeltaFault.{DeltaFault}
 use Rattle.coll_requests.specs.declared.delta_files.StatementAt.{StatementAt}
 use Rattle.coll_requests.specs.declared.parsing.Parsing.{Parsing}
@@ -75,10 +75,10 @@ module _ (s new : DeltaState) (line : ParsedLine) (at : FaultAt) (r : Answer) (i
         by_answer (Ok given) = tt
         by_answer (Err f) = λ _. no_lack
 
-    pub fault_takes_none : IfErr r (λ f. f ≡ file_fault at) → IfErr r (λ f. lacks_memory f.cause ≡ true → IsWanting s.block line)
+    pub fault_takes_none : IfErr r (λ f. f ≡ file_fault at) → IfErr r (λ f. lacks_memory f.cause ≡ true → MayLackMemory s.block line)
     fault_takes_none own = by_answer r own
       where
-        by_answer : (r : Answer) → IfErr r (λ f. f ≡ file_fault at) → IfErr r (λ f. lacks_memory f.cause ≡ true → IsWanting s.block line)
+        by_answer : (r : Answer) → IfErr r (λ f. f ≡ file_fault at) → IfErr r (λ f. lacks_memory f.cause ≡ true → MayLackMemory s.block line)
         by_answer (Ok given) own = tt
         by_answer (Err f) own = λ lack. absurd (false≢true (sym not_lack ∙ sym (ap (λ (g : DeltaFault). lacks_memory g.cause) own) ∙ lack))
 
@@ -121,10 +121,10 @@ starved_shows : (block next : Option OpenBlock) (request : Option RequestAt) (n 
 starved_shows None next request n opening.ReorderAfter sound kept completes = first_of_two (is_starved next) (is_refused request) (ap is_starved kept)
 starved_shows None next request n opening.ReorderEnd sound kept completes = second_of_two (is_starved next) (is_refused request) (request_refused request _ completes refl)
 starved_shows None next request n opening.Neither sound kept completes = second_of_two (is_starved next) (is_refused request) (request_refused request _ completes refl)
-starved_shows (Some block) next request n o sound kept completes = by_block block.line block.so_far o sound kept completes
+starved_shows (Some block) next request n o sound kept completes = by_block block.line block.status o sound kept completes
   where
-    by_block : (l : ℕ) (so_far : BlockStatus) (o : Opening) → Unspoiled so_far → next ≡ kept_by (Some (open_at l so_far)) n (no_memory o)
-        → option_to_list request ≡ kept_requests_by (Some (open_at l so_far)) n (no_memory o) → (is_starved next || is_refused request) ≡ true
+    by_block : (l : ℕ) (status : BlockStatus) (o : Opening) → Unspoiled status → next ≡ kept_by (Some (open_at l status)) n (no_memory o)
+        → option_to_list request ≡ kept_requests_by (Some (open_at l status)) n (no_memory o) → (is_starved next || is_refused request) ≡ true
     by_block l (Building g) opening.ReorderAfter sound kept completes = first_of_two (is_starved next) (is_refused request) (ap is_starved kept)
     by_block l (Building g) opening.ReorderEnd sound kept completes = second_of_two (is_starved next) (is_refused request) (request_refused request _ completes refl)
     by_block l (Building g) opening.Neither sound kept completes = first_of_two (is_starved next) (is_refused request) (ap is_starved kept)
@@ -148,18 +148,18 @@ taken_unless_lacking starved block was next h request order sound is taken order
     taken_whole starved block next h request sound (subst (λ (b : Option OpenBlock). TakesParsing starved b h next request) is taken)
     (sym (served ∙ ap (λ (o : Bool). leaves_lack o next request) ordered))
 
-unless_full : (full : Bool) (at : FaultAt) (spoiled : FaultAt) (so_far : BlockStatus) → Unspoiled so_far → (if full then Some at else None) ≡ None
-    → Unspoiled (if full then Spoiled spoiled else so_far)
-unless_full true at spoiled so_far sound e = absurd cc
-unless_full false at spoiled so_far sound e = sound
+unless_full : (full : Bool) (at : FaultAt) (spoiled : FaultAt) (status : BlockStatus) → Unspoiled status → (if full then Some at else None) ≡ None
+    → Unspoiled (if full then Spoiled spoiled else status)
+unless_full true at spoiled status sound e = absurd cc
+unless_full false at spoiled status sound e = sound
 
 -- a line without a fault spoils no block
 pub unspoiled_after : (block : Option OpenBlock) (line : ParsedLine) → IsUnspoiled block → kept_fault_under block line ≡ None → IsUnspoiled (kept_after block line)
 unfolding kept_after
 unspoiled_after block line sound faultless = by_parsed block line.number line.parsed sound faultless
   where
-    inside : (l : ℕ) (so_far : BlockStatus) (n : ℕ) (order : OrderLine) → Unspoiled so_far → kept_fault_under (Some (open_at l so_far)) (record { number = n; parsed = parsed.OrderLine order }) ≡ None
-        → IsUnspoiled (kept_by (Some (open_at l so_far)) n (parsed.OrderLine order))
+    inside : (l : ℕ) (status : BlockStatus) (n : ℕ) (order : OrderLine) → Unspoiled status → kept_fault_under (Some (open_at l status)) (record { number = n; parsed = parsed.OrderLine order }) ≡ None
+        → IsUnspoiled (kept_by (Some (open_at l status)) n (parsed.OrderLine order))
     inside l (Building g) n order sound e = unless_full _ _ _ _ tt e
     inside l (Spoiled at) n order sound e = absurd sound
     inside l (Starved first) n order sound e = absurd sound
@@ -173,7 +173,7 @@ unspoiled_after block line sound faultless = by_parsed block line.number line.pa
     by_parsed block n (parsed.BlockStart target) sound e = tt
     by_parsed block n parsed.BlockEnd sound e = tt
     by_parsed None n (parsed.OrderLine order) sound e = tt
-    by_parsed (Some block) n (parsed.OrderLine order) sound e = inside block.line block.so_far n order sound e
+    by_parsed (Some block) n (parsed.OrderLine order) sound e = inside block.line block.status n order sound e
     by_parsed None n (parsed.Standalone a) sound e = tt
     by_parsed (Some block) n (parsed.Standalone a) sound e = absurd cc
 
@@ -260,25 +260,25 @@ fault_parsed_is o lex.BadCharDirective = inr refl
 fault_parsed_is o lex.TooManyLines = inl refl
 fault_parsed_is o lex.OutOfMemory = inr refl
 
-stops_lacks : (block : Option OpenBlock) (n : ℕ) (f : LexFault) → IsWanting block (record { number = n; parsed = parsed.Stops f }) → is_lack_of_memory (fault.Lex f) ≡ true
+stops_lacks : (block : Option OpenBlock) (n : ℕ) (f : LexFault) → MayLackMemory block (record { number = n; parsed = parsed.Stops f }) → is_lack_of_memory (fault.Lex f) ≡ true
 stops_lacks None n f lack = ⊎_elim (λ w. w) (λ order. absurd (false≢true order)) lack
 stops_lacks (Some block) n f lack = ⊎_elim (λ w. w) (λ order. absurd (false≢true order)) lack
 
-refused_lacks : (block : Option OpenBlock) (n : ℕ) (o : Opening) (f : RequestFault) → IsWanting block (record { number = n; parsed = parsed.Refused o f }) → is_lack_of_memory f ≡ true
+refused_lacks : (block : Option OpenBlock) (n : ℕ) (o : Opening) (f : RequestFault) → MayLackMemory block (record { number = n; parsed = parsed.Refused o f }) → is_lack_of_memory f ≡ true
 refused_lacks None n o f lack = ⊎_elim (λ w. w) (λ order. absurd (false≢true order)) lack
 refused_lacks (Some block) n o f lack = ⊎_elim (λ w. w) (λ order. absurd (false≢true order)) lack
 
-abbrev wanting_at : Option OpenBlock → ℕ → Parsed → Type 0
-wanting_at block n h = IsWanting block (record { number = n; parsed = h })
+abbrev may_lack_memory_at : Option OpenBlock → ℕ → Parsed → Type 0
+may_lack_memory_at block n h = MayLackMemory block (record { number = n; parsed = h })
 
-fault_lacks : (block : Option OpenBlock) (n : ℕ) (o : Opening) (f : LexFault) → wanting_at block n (fault_parsed o f) → is_lack_of_memory (fault.Lex f) ≡ true
+fault_lacks : (block : Option OpenBlock) (n : ℕ) (o : Opening) (f : LexFault) → may_lack_memory_at block n (fault_parsed o f) → is_lack_of_memory (fault.Lex f) ≡ true
 fault_lacks block n o f lack =
-    ⊎_elim (λ (is : fault_parsed o f ≡ parsed.Stops f). stops_lacks block n f (subst (wanting_at block n) is lack))
-    (λ (is : fault_parsed o f ≡ parsed.Refused o (fault.Lex f)). refused_lacks block n o (fault.Lex f) (subst (wanting_at block n) is lack)) (fault_parsed_is o f)
+    ⊎_elim (λ (is : fault_parsed o f ≡ parsed.Stops f). stops_lacks block n f (subst (may_lack_memory_at block n) is lack))
+    (λ (is : fault_parsed o f ≡ parsed.Refused o (fault.Lex f)). refused_lacks block n o (fault.Lex f) (subst (may_lack_memory_at block n) is lack)) (fault_parsed_is o f)
 
-abbrev IsWantingIf : Option OpenBlock → Option ParsedLine → Type 0
-IsWantingIf block None = ⊥
-IsWantingIf block (Some line) = IsWanting block line
+abbrev MayLackMemoryIf : Option OpenBlock → Option ParsedLine → Type 0
+MayLackMemoryIf block None = ⊥
+MayLackMemoryIf block (Some line) = MayLackMemory block line
 
 module _ (s : LexerState) (line : List ℕ) where
   never : (f : LexFault) → fed s line ≡ Err f → is_lack_of_memory (fault.Lex f) ≡ true → ⊥
@@ -294,17 +294,17 @@ module _ (s : LexerState) (line : List ℕ) where
       by_choice false e = absurd (never f e lack)
 
   -- memory may be taken for each line that is refused for lack of it, and for each order line
-  pub wanting_takes : (block : Option OpenBlock) (starved : Bool) (new : LexerState) (h : ParsedLine) → Parses false starved s new line (Some h) → IsWanting block h → takes_memory s line ≡ true
+  pub lacking_takes : (block : Option OpenBlock) (starved : Bool) (new : LexerState) (h : ParsedLine) → Parses false starved s new line (Some h) → MayLackMemory block h → takes_memory s line ≡ true
   unfolding parsed_in
-  wanting_takes block starved new h parses lack = by_answer (served starved s line) refl (subst (IsWantingIf block) parses.parsed_is lack)
+  lacking_takes block starved new h parses lack = by_answer (served starved s line) refl (subst (MayLackMemoryIf block) parses.parsed_is lack)
     where
-      by_answer : (r : Result (Option Line × LexerState) LexFault) → served starved s line ≡ r → IsWantingIf block (parsed_by false (number_of s) (opening_of (first_line s line)) r)
+      by_answer : (r : Result (Option Line × LexerState) LexFault) → served starved s line ≡ r → MayLackMemoryIf block (parsed_by false (number_of s) (opening_of (first_line s line)) r)
           → takes_memory s line ≡ true
       by_answer (Ok (None, after)) e lack = absurd lack
       by_answer (Ok (Some given, after)) e lack = fed-takes s line given after (served_fed starved s line (Some given, after) e)
       by_answer (Err f) e lack = refused_takes starved f e (fault_lacks block (number_of s) (opening_of (first_line s line)) f lack)
 
   pub physical_takes : (block : Option OpenBlock) (starved : Bool) (new : LexerState) (h : ParsedLine) (r : Answer) → Parses false starved s new line (Some h)
-      → IfErr r (λ f. lacks_memory f.cause ≡ true → IsWanting block h) → IfErr r (λ f. lacks_memory f.cause ≡ true → IsTrue (takes_memory s line))
+      → IfErr r (λ f. lacks_memory f.cause ≡ true → MayLackMemory block h) → IfErr r (λ f. lacks_memory f.cause ≡ true → IsTrue (takes_memory s line))
   physical_takes block starved new h (Ok given) parses lacks = tt
-  physical_takes block starved new h (Err f) parses lacks = λ lack. wanting_takes block starved new h parses (lacks lack)
+  physical_takes block starved new h (Err f) parses lacks = λ lack. lacking_takes block starved new h parses (lacks lack)

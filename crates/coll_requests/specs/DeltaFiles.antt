@@ -12,7 +12,7 @@ use Rattle.coll_requests.specs.declared.delta_faults.DeltaCause.TheVariants.{Req
 use Rattle.coll_requests.specs.declared.delta_files.StatementAt.{StatementAt}
 use Rattle.coll_requests.specs.declared.request_faults.RequestFault.TheVariants as fault
 use Rattle.coll_requests.specs.declared.session_lines.StandaloneLine.{StandaloneLine}
-use Rattle.coll_requests.specs.declared.session_lines.StandaloneLine.TheVariants as apart
+use Rattle.coll_requests.specs.declared.session_lines.StandaloneLine.TheVariants as standalone
 use Rattle.coll_requests.specs.declared.session_lines.Opening.TheVariants as opening
 use Rattle.coll_requests.specs.declared.session_lines.Parsed.{Parsed}
 use Rattle.coll_requests.specs.declared.session_lines.Parsed.TheVariants as parsed
@@ -62,9 +62,9 @@ statements_in us = flat_map (λ (u : RequestAt). statement_in u.line u.request) 
 
 -- the fault of a line that no block takes, where one is open: the category can't end there
 abbrev pub standalone_fault : ℕ → StandaloneLine → FaultAt
-standalone_fault n (apart.Statement s) = fault_at n fault.BlockOpen
-standalone_fault n apart.NoEffect = fault_at n fault.BlockOpen
-standalone_fault n apart.EndsCategory = fault_at n fault.BlockNotEnded
+standalone_fault n (standalone.Statement s) = fault_at n fault.BlockOpen
+standalone_fault n standalone.NoEffect = fault_at n fault.BlockOpen
+standalone_fault n standalone.EndsCategory = fault_at n fault.BlockNotEnded
 
 -- the fault of a line in an open block: a line that no block takes, or any other that spoils the block, is at fault at once
 abbrev pub fault_inside : BlockLines → ℕ → Parsed → Option FaultAt
@@ -101,7 +101,7 @@ ended_before block _ = []
 
 -- a line ends the category
 abbrev pub ends_category : Parsed → Bool
-ends_category (parsed.Standalone apart.EndsCategory) = true
+ends_category (parsed.Standalone standalone.EndsCategory) = true
 ends_category _ = false
 
 -- what lines say of which this is the first, by its fault: a line without one completes its requests, and unless it ends the

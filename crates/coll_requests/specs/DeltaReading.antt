@@ -1,14 +1,15 @@
 -- A delta file handed in line by line: what is stored of the lines before, and what one more line makes of it.
 use Rattle.std.specs.Prelude.{◌≡◌, ℕ, Bool, true, false, IsTrue, ◌&&◌, ◌||◌, ◌⊎◌, if◌then◌else◌, List}
 use Rattle.std.specs.Prelude.{[], ◌∷◌, ◌++◌, Option, Some, None, is_some, Result, Ok, Err}
+use Rattle.coll_lex.specs.EarlyEnds.{ends_at}
 use Rattle.coll_lex.specs.LogicalLines.{LexerState, OpenLine, first_state, number_of, outside, fed, takes_memory, state_by}
 use Rattle.coll_lex.specs.declared.faults.LexFault.{LexFault}
-use Rattle.coll_lex.specs.declared.faults.LexFault.TheVariants as lex
 use Rattle.coll_syntax.specs.declared.syntax_faults.SyntaxFault.TheVariants as syntax
+use Rattle.coll_requests.specs.DeltaFaults.{early_fault}
 use Rattle.coll_requests.specs.Parsing.{parsed_in}
 use Rattle.coll_requests.specs.RequestFaults.{is_lack_of_memory}
 use Rattle.coll_requests.specs.Requests.{fault_at}
-use Rattle.coll_requests.specs.OpenBlocks.{is_full, dropped_so_far, kept_after, kept_requests_at, kept_ended}
+use Rattle.coll_requests.specs.OpenBlocks.{is_full, dropped_by_status, kept_after, kept_requests_at, kept_ended}
 use Rattle.coll_requests.specs.DeltaFiles.{DeltaEnd, Ended, AtFault, Undecided, DeltaOutcome, DeltaRequests, at_line}
 use Rattle.coll_requests.specs.DeltaFiles.{ends_so, after_statements, file_fault, statements_in, standalone_fault}
 use Rattle.coll_requests.specs.DeltaFiles.{fault_outside, ends_category, delta_outcome, delta_requests}
@@ -50,7 +51,7 @@ Unspoiled (Starved line) = ⊥
 -- the block that is open, if one is, isn't spoiled
 abbrev pub IsUnspoiled : Option OpenBlock → Type 0
 IsUnspoiled None = Unit {0}
-IsUnspoiled (Some block) = Unspoiled block.so_far
+IsUnspoiled (Some block) = Unspoiled block.status
 
 -- what holds of every reader: no line has spoiled the block that is open
 abbrev pub IsSoundDelta : DeltaState → Type 0
@@ -69,7 +70,7 @@ kept_fault_inside block n (parsed.BadCommand f) = None
 kept_fault_inside block n (parsed.BlockStart target) = None
 kept_fault_inside block n parsed.BlockEnd = None
 kept_fault_inside block n (parsed.OrderLine order) =
-    if is_full block.so_far then Some (fault_at n (fault.Syntax syntax.BlockTooLong)) else None
+    if is_full block.status then Some (fault_at n (fault.Syntax syntax.BlockTooLong)) else None
 kept_fault_inside block n (parsed.Standalone a) = Some (standalone_fault n a)
 
 -- the fault of a line, by the block that is kept before it
@@ -125,10 +126,9 @@ unless_faulty None step = step
 unfoldable pub delta_line : DeltaState → List ℕ → Step
 delta_line s line = unless_faulty s.fault (by_where s line)
 
--- the fault of a file that ends before its category does: of a line that is left open, or of the end
+-- the fault of a file that ends here: of a line that is left open, or of the end
 abbrev pub early_end : DeltaState → Option OpenLine → DeltaFault
-early_end s (Some open_line) = at_line open_line.number (RequestCause (fault.Lex lex.DanglingEscape))
-early_end s None = at_line s.lexer.count (if s.begun then NoEnd else NoCategory)
+early_end s left = early_fault (ends_at s.begun s.lexer.count left)
 
 -- the fault at the end of the file, unless one stands
 abbrev pub or_at_end : Option DeltaFault → Option DeltaFault → Option DeltaFault
@@ -157,8 +157,8 @@ is_order (parsed.OrderLine order) = true
 is_order _ = false
 
 -- a line to which memory may be refused: it is refused for lack of memory, or is an order line
-abbrev pub IsWanting : Option OpenBlock → ParsedLine → Type 0
-IsWanting block line = (is_lack (kept_fault_under block line) ≡ true) ⊎ (is_order line.parsed ≡ true)
+abbrev pub MayLackMemory : Option OpenBlock → ParsedLine → Type 0
+MayLackMemory block line = (is_lack (kept_fault_under block line) ≡ true) ⊎ (is_order line.parsed ≡ true)
 
 -- a request that is refused
 abbrev pub refuses : Request → Bool
@@ -173,7 +173,7 @@ is_refused (Some request) = refuses request.request
 -- a block in which memory was refused to a line
 abbrev pub is_starved : Option OpenBlock → Bool
 is_starved None = false
-is_starved (Some block) = is_some (dropped_so_far block.so_far)
+is_starved (Some block) = is_some (dropped_by_status block.status)
 
 -- memory was refused to a line, as what it leaves tells: it is an order line, and the block after it is starved, or the request
 -- that it completes is refused
@@ -195,20 +195,20 @@ abbrev pub DeltaLinesAreRead : Type 0
 DeltaLinesAreRead = (lines : List (List ℕ)) → answers_to first_delta lines ≡ delta_requests lines
 
 -- how the lines handed in so far end: with a fault, with the category, or with neither yet
-abbrev pub end_so_far : DeltaState → Option DeltaFault → DeltaEnd
-end_so_far s (Some f) = AtFault f
-end_so_far s None = if s.ended then Ended else Undecided (if s.begun then NoEnd else NoCategory)
+abbrev pub end_from : DeltaState → Option DeltaFault → DeltaEnd
+end_from s (Some f) = AtFault f
+end_from s None = if s.ended then Ended else Undecided (if s.begun then NoEnd else NoCategory)
 
 -- what follows a line, unless it is at fault, where the end of the file isn't seen
-abbrev pub past_line_so_far : Step → (DeltaState → DeltaOutcome) → DeltaOutcome
-past_line_so_far (Ok (given, after)) later = after_statements given (later after)
-past_line_so_far (Err f) later = ends_so (AtFault f)
+abbrev pub past_line_from : Step → (DeltaState → DeltaOutcome) → DeltaOutcome
+past_line_from (Ok (given, after)) later = after_statements given (later after)
+past_line_from (Err f) later = ends_so (AtFault f)
 
 -- what is answered to lines that are handed in one after another
-unfoldable pub answers_so_far : DeltaState → List (List ℕ) → DeltaOutcome
-answers_so_far s [] = ends_so (end_so_far s s.fault)
-answers_so_far s (line ∷ lines) = past_line_so_far (delta_line s line) (λ after. answers_so_far after lines)
+unfoldable pub answers_from : DeltaState → List (List ℕ) → DeltaOutcome
+answers_from s [] = ends_so (end_from s s.fault)
+answers_from s (line ∷ lines) = past_line_from (delta_line s line) (λ after. answers_from after lines)
 
 -- handing in the first lines of a delta file one after another answers what these say
 abbrev pub DeltaLinesAreTaken : Type 0
-DeltaLinesAreTaken = (lines : List (List ℕ)) → answers_so_far first_delta lines ≡ delta_outcome false lines
+DeltaLinesAreTaken = (lines : List (List ℕ)) → answers_from first_delta lines ≡ delta_outcome false lines

@@ -26,7 +26,7 @@ use Rattle.coll_requests.specs.declared.open_blocks.OpenBlock.{OpenBlock}
 
 -- what is kept of a block that began at this line
 abbrev pub open_at : ℕ → BlockStatus → OpenBlock
-open_at line so_far = record { line = line; so_far = so_far }
+open_at line status = record { line = line; status = status }
 
 -- a block that no line has spoiled has all the lines that it may have
 abbrev pub is_full : BlockStatus → Bool
@@ -59,37 +59,37 @@ after_order (Starved first) line order = Starved first
 
 -- the block after a refused line
 abbrev pub spoiled : OpenBlock → FaultAt → OpenBlock
-spoiled block at = open_at block.line (after_fault block.so_far at)
+spoiled block at = open_at block.line (after_fault block.status at)
 
 -- the block after an order line
 abbrev pub joined : OpenBlock → ℕ → OrderLine → OpenBlock
-joined block line order = open_at block.line (after_order block.so_far line order)
+joined block line order = open_at block.line (after_order block.status line order)
 
 -- the request of what is kept, at the block's end
-abbrev pub request_so_far : ℕ → BlockStatus → RequestAt
-request_so_far line (Building g) = asked_at line (kind.Statement (statement.Block g.target g.lines))
-request_so_far line (Spoiled at) = refused_at at
-request_so_far line (Starved first) = refused_at (starved_at first)
+abbrev pub request_by_status : ℕ → BlockStatus → RequestAt
+request_by_status line (Building g) = asked_at line (kind.Statement (statement.Block g.target g.lines))
+request_by_status line (Spoiled at) = refused_at at
+request_by_status line (Starved first) = refused_at (starved_at first)
 
 -- the request of a block that is kept, at its end
 abbrev pub kept_request : OpenBlock → RequestAt
-kept_request block = request_so_far block.line block.so_far
+kept_request block = request_by_status block.line block.status
 
 -- the fault of what is kept, where the text ends
-abbrev pub left_open_so_far : ℕ → BlockStatus → FaultAt
-left_open_so_far line (Building g) = fault_at line fault.BlockNotEnded
-left_open_so_far line (Spoiled at) = fault_at line fault.BlockNotEnded
-left_open_so_far line (Starved first) = starved_at first
+abbrev pub left_open_by_status : ℕ → BlockStatus → FaultAt
+left_open_by_status line (Building g) = fault_at line fault.BlockNotEnded
+left_open_by_status line (Spoiled at) = fault_at line fault.BlockNotEnded
+left_open_by_status line (Starved first) = starved_at first
 
 -- the fault of a block that is kept, where the text ends
 abbrev pub kept_left_open : OpenBlock → FaultAt
-kept_left_open block = left_open_so_far block.line block.so_far
+kept_left_open block = left_open_by_status block.line block.status
 
 -- the fault of what is kept, if it has one where the block is dropped
-abbrev pub dropped_so_far : BlockStatus → Option FaultAt
-dropped_so_far (Building g) = None
-dropped_so_far (Spoiled at) = None
-dropped_so_far (Starved first) = Some (starved_at first)
+abbrev pub dropped_by_status : BlockStatus → Option FaultAt
+dropped_by_status (Building g) = None
+dropped_by_status (Spoiled at) = None
+dropped_by_status (Starved first) = Some (starved_at first)
 
 -- the block, if one is kept, after a refused line
 abbrev pub and_fault : Option OpenBlock → FaultAt → Option OpenBlock
@@ -168,7 +168,7 @@ kept_end_faults (Some block) continued = kept_left_open block ∷ []
 -- the fault of a block that is dropped, if one is kept and has one
 abbrev pub kept_dropped_faults : Option OpenBlock → List FaultAt
 kept_dropped_faults None = []
-kept_dropped_faults (Some block) = option_to_list (dropped_so_far block.so_far)
+kept_dropped_faults (Some block) = option_to_list (dropped_by_status block.status)
 
 -- the last faults, at a line after which no other comes, by the block that is kept
 abbrev pub kept_last_faults : Option OpenBlock → ℕ → LexFault → List FaultAt
@@ -187,20 +187,20 @@ kept_requests ends block (line ∷ lines) =
     kept_last_or (stop_of line.parsed) block line.number (kept_requests_at block line ++ kept_requests ends (kept_after block line) lines)
 
 -- what is kept of a block without lack of memory, by its first line that spoils it
-abbrev pub gathered_unless : Option FaultAt → Id → List OrderLine → BlockStatus
-gathered_unless None target orders = Building (record { target = target; lines = orders })
-gathered_unless (Some at) target orders = Spoiled at
+abbrev pub status_unless : Option FaultAt → Id → List OrderLine → BlockStatus
+status_unless None target orders = Building (record { target = target; lines = orders })
+status_unless (Some at) target orders = Spoiled at
 
 -- what is kept of a block without lack of memory
-abbrev pub gathered_of : ℕ → Result Id RequestFault → List ParsedLine → BlockStatus
-gathered_of line (Ok target) lines = gathered_unless (first_spoiler [] lines) target (orders_in lines)
-gathered_of line (Err f) lines = Spoiled (fault_at line f)
+abbrev pub status_of : ℕ → Result Id RequestFault → List ParsedLine → BlockStatus
+status_of line (Ok target) lines = status_unless (first_spoiler [] lines) target (orders_in lines)
+status_of line (Err f) lines = Spoiled (fault_at line f)
 
 -- what is kept, by the line of the block that memory was refused for, if there is one
 abbrev pub starved_or : Option ℕ → BlockStatus → BlockStatus
-starved_or (Some line) so_far = Starved line
-starved_or None so_far = so_far
+starved_or (Some line) status = Starved line
+starved_or None status = status
 
 -- what is kept of a block
 unfoldable pub kept : BlockLines → OpenBlock
-kept block = open_at block.line (starved_or (lack_in block) (gathered_of block.line block.target block.lines))
+kept block = open_at block.line (starved_or (lack_in block) (status_of block.line block.target block.lines))

@@ -1,7 +1,7 @@
 -- What is parsed of a line is proper, and so is what requests state: their names are names, and their lists within the limits.
 use Rattle.coll_syntax.specs.Proper.{IsId, IsProperLine, IsProper}
 use Rattle.coll_requests.specs.declared.session_lines.StandaloneLine.{StandaloneLine}
-use Rattle.coll_requests.specs.declared.session_lines.StandaloneLine.TheVariants as apart
+use Rattle.coll_requests.specs.declared.session_lines.StandaloneLine.TheVariants as standalone
 use Rattle.coll_requests.specs.declared.session_lines.Parsed.{Parsed}
 use Rattle.coll_requests.specs.declared.session_lines.Parsed.TheVariants as parsed
 use Rattle.coll_requests.specs.declared.requests.Request.{Request}
@@ -9,9 +9,9 @@ use Rattle.coll_requests.specs.declared.requests.Request.TheVariants as kind
 
 -- the statement of a line that no block takes, if it has one, is proper
 abbrev pub IsProperStandalone : StandaloneLine → Type 0
-IsProperStandalone (apart.Statement s) = IsProper s
-IsProperStandalone apart.NoEffect = Unit {0}
-IsProperStandalone apart.EndsCategory = Unit {0}
+IsProperStandalone (standalone.Statement s) = IsProper s
+IsProperStandalone standalone.NoEffect = Unit {0}
+IsProperStandalone standalone.EndsCategory = Unit {0}
 
 -- the target, the order line or the statement of a line, if it has one, is proper
 abbrev pub IsProperParsed : Parsed → Type 0

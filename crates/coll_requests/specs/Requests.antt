@@ -18,7 +18,7 @@ use Rattle.coll_requests.specs.Limits.{most_block_lines}
 use Rattle.coll_requests.specs.declared.request_faults.RequestFault.{RequestFault}
 use Rattle.coll_requests.specs.declared.request_faults.RequestFault.TheVariants as fault
 use Rattle.coll_requests.specs.declared.session_lines.StandaloneLine.{StandaloneLine}
-use Rattle.coll_requests.specs.declared.session_lines.StandaloneLine.TheVariants as apart
+use Rattle.coll_requests.specs.declared.session_lines.StandaloneLine.TheVariants as standalone
 use Rattle.coll_requests.specs.declared.session_lines.Opening.TheVariants as opening
 use Rattle.coll_requests.specs.declared.session_lines.Parsed.{Parsed}
 use Rattle.coll_requests.specs.declared.session_lines.Parsed.TheVariants as parsed
@@ -30,7 +30,7 @@ use Rattle.coll_requests.specs.declared.requests.FaultAt.{FaultAt}
 
 -- a request of this line, which asks for this
 abbrev pub asked_at : ℕ → Request → RequestAt
-asked_at line asks = record { line = line; request = asks }
+asked_at line request = record { line = line; request = request }
 
 -- a line with this fault
 abbrev pub fault_at : ℕ → RequestFault → FaultAt
@@ -187,9 +187,9 @@ own_requests (Some block) own = []
 
 -- the request of a line that no block takes: its statement, if it has one
 abbrev pub standalone_requests : ℕ → StandaloneLine → List RequestAt
-standalone_requests n (apart.Statement s) = asked_at n (kind.Statement s) ∷ []
-standalone_requests n apart.NoEffect = []
-standalone_requests n apart.EndsCategory = []
+standalone_requests n (standalone.Statement s) = asked_at n (kind.Statement s) ∷ []
+standalone_requests n standalone.NoEffect = []
+standalone_requests n standalone.EndsCategory = []
 
 -- the requests that a line completes, under the block that is open before it
 abbrev pub requests_by : Option BlockLines → ℕ → Parsed → List RequestAt

@@ -19,7 +19,7 @@ use Rattle.coll_requests.specs.declared.request_faults.RequestFault.TheVariants 
 use Rattle.coll_requests.specs.declared.session_lines.Command.{Command}
 use Rattle.coll_requests.specs.declared.session_lines.Opening.{Opening}
 use Rattle.coll_requests.specs.declared.session_lines.Opening.TheVariants as openings
-use Rattle.coll_requests.specs.declared.session_lines.StandaloneLine.TheVariants as apart
+use Rattle.coll_requests.specs.declared.session_lines.StandaloneLine.TheVariants as standalone
 use Rattle.coll_requests.specs.declared.session_lines.Parsed.{Parsed}
 use Rattle.coll_requests.specs.declared.session_lines.ParsedLine.{ParsedLine}
 use Rattle.coll_requests.specs.declared.session_lines.Parsed.TheVariants as kind
@@ -37,16 +37,16 @@ command_parsed (Err f) = kind.BadCommand f
 
 -- a line of a delta, or a line that the grammar refuses
 abbrev pub delta_parsed : Opening → Result DeltaLine SyntaxFault → Parsed
-delta_parsed opening (Ok (delta.Symbol name)) = kind.Standalone (apart.Statement (statement.Symbol name))
-delta_parsed opening (Ok (delta.Element name text)) = kind.Standalone (apart.Statement (statement.Element name text))
-delta_parsed opening (Ok (delta.Equivalence name symbol)) = kind.Standalone (apart.Statement (statement.Equivalence name symbol))
-delta_parsed opening (Ok delta.Script) = kind.Standalone apart.NoEffect
-delta_parsed opening (Ok delta.Category) = kind.Standalone apart.NoEffect
-delta_parsed opening (Ok delta.EndCategory) = kind.Standalone apart.EndsCategory
-delta_parsed opening (Ok delta.Copy) = kind.Standalone apart.NoEffect
+delta_parsed opening (Ok (delta.Symbol name)) = kind.Standalone (standalone.Statement (statement.Symbol name))
+delta_parsed opening (Ok (delta.Element name text)) = kind.Standalone (standalone.Statement (statement.Element name text))
+delta_parsed opening (Ok (delta.Equivalence name symbol)) = kind.Standalone (standalone.Statement (statement.Equivalence name symbol))
+delta_parsed opening (Ok delta.Script) = kind.Standalone standalone.NoEffect
+delta_parsed opening (Ok delta.Category) = kind.Standalone standalone.NoEffect
+delta_parsed opening (Ok delta.EndCategory) = kind.Standalone standalone.EndsCategory
+delta_parsed opening (Ok delta.Copy) = kind.Standalone standalone.NoEffect
 delta_parsed opening (Ok (delta.ReorderAfter target)) = kind.BlockStart target
 delta_parsed opening (Ok delta.ReorderEnd) = kind.BlockEnd
-delta_parsed opening (Ok (delta.SectionAfter moved after)) = kind.Standalone (apart.Statement (statement.SectionAfter moved after))
+delta_parsed opening (Ok (delta.SectionAfter moved after)) = kind.Standalone (standalone.Statement (statement.SectionAfter moved after))
 delta_parsed opening (Ok (delta.Order line)) = kind.OrderLine line
 delta_parsed opening (Err f) = kind.Refused opening (fault.Syntax f)
 

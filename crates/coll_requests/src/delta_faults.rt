@@ -6,6 +6,7 @@
 ghost use Rattle.std.specs.Prelude.{◌≡◌};
 
 use crate::request_faults::RequestFault;
+use coll_lex::{EarlyEnd, LexFault};
 use std::fmt;
 use thiserror::Error;
 
@@ -82,6 +83,24 @@ impl DeltaCause {
             DeltaCause::NoCategory => false,
             DeltaCause::NoEnd => false,
         }
+    }
+}
+
+impl From<EarlyEnd> for DeltaFault {
+    ghost use Rattle.coll_requests.specs.DeltaFaults.{early_fault};
+
+    ghost from_gives = { λ end fault. fault ≡ early_fault end };
+
+    fn from(end: EarlyEnd) -> DeltaFault {
+        let (line, cause) = match end {
+            EarlyEnd::LeftOpen(line) => (
+                line,
+                DeltaCause::Request(RequestFault::Lex(LexFault::DanglingEscape)),
+            ),
+            EarlyEnd::WithinCategory(line) => (line, DeltaCause::NoEnd),
+            EarlyEnd::BeforeCategory(line) => (line, DeltaCause::NoCategory),
+        };
+        DeltaFault { line, cause }
     }
 }
 

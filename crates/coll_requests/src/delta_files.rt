@@ -15,7 +15,7 @@ ghost use Rattle.coll_syntax.specs.Proper.{IsProper};
 ghost use Rattle.coll_requests.specs.DeltaFaults.{lacks_memory};
 ghost use Rattle.coll_requests.specs.DeltaFiles.{file_fault as fault_in_file, fault_outside as fault_of_outside};
 ghost use Rattle.coll_requests.specs.DeltaFiles.{statements_in, ends_category as ends_the_category};
-ghost use Rattle.coll_requests.specs.DeltaReading.{DeltaLinesAreRead, DeltaLinesAreTaken, MayTakeDelta, IsWanting};
+ghost use Rattle.coll_requests.specs.DeltaReading.{DeltaLinesAreRead, DeltaLinesAreTaken, MayTakeDelta, MayLackMemory};
 ghost use Rattle.coll_requests.specs.DeltaReading.{kept_fault_under, kept_fault_inside, kept_ended_before, is_lack};
 ghost use Rattle.coll_requests.specs.DeltaReading.{is_order as is_order_line, leaves_lack as lack_is_left};
 ghost use Rattle.coll_requests.specs.ProperLines.{IsProperParsed, IsProperRequest};
@@ -71,7 +71,7 @@ impl Model for DeltaReader {
 }
 
 impl DeltaReader {
-    ghost use Rattle.coll_requests.specs.DeltaReading.{first_delta, delta_line, delta_end, early_end, by_where};
+    ghost use Rattle.coll_requests.specs.DeltaReading.{first_delta, delta_line, delta_end, by_where};
     ghost use Rattle.coll_requests.specs.DeltaReading.{by_outside, by_physical, by_parsed, judged, faulty};
 
     /// A reader before the first line.
@@ -102,7 +102,7 @@ impl DeltaReader {
         ensures err { IfErr result (λ fault. lacks_memory fault.cause ≡ false → delta_line self.old line.now ≡ Err fault) }
         ensures again { (first : DeltaFault) → self.old.fault ≡ Some first → result ≡ Err first }
         ensures behind { self.old.fault ≡ None → self.old.ended ≡ true → result ≡ Ok None }
-        ensures idle { self.old.fault ≡ None → self.old.ended ≡ true → self.new ≡ self.old }
+        ensures behind_end { self.old.fault ≡ None → self.old.ended ≡ true → self.new ≡ self.old }
         ensures memory { IfErr result (λ fault. lacks_memory fault.cause ≡ true → self.old.fault ≡ None → MayTakeDelta self.old line.now) }
         ensures line { IfErr result (λ fault. self.old.fault ≡ None → fault.line ≡ number_of self.old.lexer) }
         ensures stays { IfErr result (λ fault. self.new.fault ≡ Some fault) }
@@ -164,26 +164,7 @@ impl DeltaReader {
         if self.ended {
             return Ok(());
         }
-        Err(self.early_end())
-    }
-
-    // The fault of a file that ends here, before its category does.
-    fn early_end(&self) -> DeltaFault
-        ensures { result ≡ early_end self.now self.now.lexer.line }
-    {
-        let next = self.parser.next_number();
-        if let Some(line) = self.parser.pending() {
-            let fault = RequestFault::Lex(LexFault::DanglingEscape);
-            return file_fault(FaultAt { line, fault });
-        }
-        DeltaFault {
-            line: next - 1,
-            cause: if self.begun {
-                DeltaCause::NoEnd
-            } else {
-                DeltaCause::NoCategory
-            },
-        }
+        Err(DeltaFault::from(self.parser.early_end(self.begun)))
     }
 
     // Judges a line by where it stands: behind the category, in it, or before it.
@@ -192,7 +173,7 @@ impl DeltaReader {
         ensures err { IfErr result (λ fault. lacks_memory fault.cause ≡ false → by_where self.old line.now ≡ Err fault) }
         ensures memory { IfErr result (λ fault. lacks_memory fault.cause ≡ true → MayTakeDelta self.old line.now) }
         ensures behind { self.old.ended ≡ true → result ≡ Ok None }
-        ensures idle { self.old.ended ≡ true → self.new ≡ self.old }
+        ensures behind_end { self.old.ended ≡ true → self.new ≡ self.old }
         ensures line { IfErr result (λ fault. fault.line ≡ number_of self.old.lexer) }
         ensures ended { OnErr result (self.new.ended ≡ self.old.ended) }
         ensures proper { IfOk result (λ given. IfSome given (λ at. IsProper at.statement)) }
@@ -253,7 +234,7 @@ impl DeltaReader {
         ensures err { IfErr result (λ fault. lacks_memory fault.cause ≡ false → by_parsed self.old (Some parsing.line) ≡ Err fault) }
         ensures refused { IfErr result (λ fault. lacks_memory fault.cause ≡ false → is_lack (kept_fault_under self.old.block parsing.line)
             ≡ false) }
-        ensures memory { IfErr result (λ fault. lacks_memory fault.cause ≡ true → IsWanting self.old.block parsing.line) }
+        ensures memory { IfErr result (λ fault. lacks_memory fault.cause ≡ true → MayLackMemory self.old.block parsing.line) }
         ensures line { IfErr result (λ fault. fault.line ≡ parsing.line.number) }
         ensures ended { OnErr result (self.new.ended ≡ self.old.ended) }
         ensures proper { IfOk result (λ given. IfSome given (λ at. IsProper at.statement)) }
@@ -444,5 +425,5 @@ fn leaves_lack(order: bool, block: &Option<OpenBlock>, request: &Option<RequestA
 /// It does nothing; its contract is the law.
 pub fn delta_lines_are_read()
     ensures whole { DeltaLinesAreRead }
-    ensures so_far { DeltaLinesAreTaken }
+    ensures taken { DeltaLinesAreTaken }
 {}

@@ -9,9 +9,9 @@ ghost use Rattle.coll_syntax.specs.Proper.{IsId, IsProperLine, IsProper};
 ghost use Rattle.coll_requests.specs.ProperLines.{IsProperParsed, IsProperRequest};
 ghost use Rattle.coll_requests.specs.Taking.{TakesParsing};
 ghost use Rattle.coll_requests.specs.Requests.{asked_at, fault_at, refused_at, order_by, standalone_requests, starved_at as line_starved};
-ghost use Rattle.coll_requests.specs.OpenBlocks.{is_full as is_full_so_far, open_at, begun_at, spoiled_by as kept_of_fault};
+ghost use Rattle.coll_requests.specs.OpenBlocks.{is_full as is_full_status, open_at, begun_at, spoiled_by as kept_of_fault};
 ghost use Rattle.coll_requests.specs.OpenBlocks.{after_fault as kept_after_fault, after_order as kept_after_order, spoiled as kept_spoiled};
-ghost use Rattle.coll_requests.specs.OpenBlocks.{joined as kept_joined, kept_request, kept_left_open, dropped_so_far, kept_by};
+ghost use Rattle.coll_requests.specs.OpenBlocks.{joined as kept_joined, kept_request, kept_left_open, dropped_by_status, kept_by};
 ghost use Rattle.coll_requests.specs.OpenBlocks.{kept_requests_by};
 
 use crate::block_builder::BlockBuilder;
@@ -68,10 +68,10 @@ impl BlockStatus {
 /// A block that is open.
 #[derive(Drop)]
 pub struct OpenBlock {
-    /// The number of the line that opened it.
+    // The number of the line that opened it.
     line: u32,
-    /// What its lines amount to so far.
-    so_far: BlockStatus,
+    // What its lines amount to so far.
+    status: BlockStatus,
 }
 
 impl OpenBlock {
@@ -80,8 +80,8 @@ impl OpenBlock {
         requires { IsId target }
         ensures { result ≡ begun_at line target }
     {
-        let so_far = BlockStatus::Building(BlockBuilder::begin(alloc, target));
-        OpenBlock { line, so_far }
+        let status = BlockStatus::Building(BlockBuilder::begin(alloc, target));
+        OpenBlock { line, status }
     }
 
     // A block whose first line was refused.
@@ -90,7 +90,7 @@ impl OpenBlock {
     {
         OpenBlock {
             line: at.line,
-            so_far: spoiled_by(at),
+            status: spoiled_by(at),
         }
     }
 
@@ -98,9 +98,9 @@ impl OpenBlock {
     fn spoil(self, at: FaultAt) -> OpenBlock
         ensures { result ≡ kept_spoiled self at }
     {
-        let OpenBlock { line, so_far } = self;
-        let so_far = so_far.after_fault(at);
-        OpenBlock { line, so_far }
+        let OpenBlock { line, status } = self;
+        let status = status.after_fault(at);
+        OpenBlock { line, status }
     }
 
     // Takes a further order line, or is spoiled by a line too many. A growth that is refused leaves the block as it was.
@@ -109,14 +109,14 @@ impl OpenBlock {
         ensures ok { OnOk result (self.new ≡ kept_joined self.old number order) }
         ensures err { OnErr result (self.new ≡ self.old) }
     {
-        self.so_far.take_order(number, order)
+        self.status.take_order(number, order)
     }
 
     /// Whether the block has all the lines that it may have, and no line has spoiled it.
     pub(crate) fn is_full(&self) -> bool
-        ensures { result ≡ is_full_so_far self.now.so_far }
+        ensures { result ≡ is_full_status self.now.status }
     {
-        match &self.so_far {
+        match &self.status {
             BlockStatus::Building(block) => block.is_full(),
             _ => false,
         }
@@ -127,8 +127,8 @@ impl OpenBlock {
         ensures request { result ≡ kept_request self }
         ensures proper { IsProperRequest result.request }
     {
-        let OpenBlock { line, so_far } = self;
-        match so_far {
+        let OpenBlock { line, status } = self;
+        match status {
             BlockStatus::Building(block) => asked(line, Request::Statement(block.statement())),
             BlockStatus::Spoiled(first) => refused(first.line, first.fault),
             BlockStatus::Starved(first) => refused(first, RequestFault::Lex(LexFault::OutOfMemory)),
@@ -139,7 +139,7 @@ impl OpenBlock {
     pub fn left_open(&self) -> FaultAt
         ensures { result ≡ kept_left_open self.now }
     {
-        match &self.so_far {
+        match &self.status {
             BlockStatus::Starved(first) => starved_at(*first),
             _ => FaultAt {
                 line: self.line,
@@ -150,9 +150,9 @@ impl OpenBlock {
 
     /// The fault of the block where it is dropped: none, unless memory was refused for a line of it.
     pub fn dropped(&self) -> Option<FaultAt>
-        ensures { result ≡ dropped_so_far self.now.so_far }
+        ensures { result ≡ dropped_by_status self.now.status }
     {
-        match &self.so_far {
+        match &self.status {
             BlockStatus::Starved(first) => Some(starved_at(*first)),
             _ => None,
         }

@@ -22,7 +22,7 @@ use crate::commands::{command_of, is_command};
 use crate::request_faults::RequestFault;
 use crate::session_lines::{Opening, Parsed, ParsedLine, StandaloneLine};
 use coll_devices::without_return;
-use coll_lex::{LexFault, Lexer, Line, Token, past_blanks};
+use coll_lex::{EarlyEnd, LexFault, Lexer, Line, Token, past_blanks};
 use coll_syntax::{DeltaLine, Statement, SyntaxFault, parse_delta_line};
 use std::alloc::{AllocError, Global};
 use std::marker::Model;
@@ -50,7 +50,7 @@ impl Parsing {
 #[derive(Drop)]
 pub struct LineParser {
     lexer: Lexer,
-    /// What the logical line that is open begins with, where one is.
+    // What the logical line that is open begins with, where one is.
     opening: Opening,
 }
 
@@ -67,6 +67,7 @@ impl Model for LineParser {
 }
 
 impl LineParser {
+    ghost use Rattle.coll_lex.specs.EarlyEnds.{early_end};
     ghost use Rattle.coll_lex.specs.LogicalLines.{first_state};
 
     /// A parser at the beginning of a text.
@@ -133,6 +134,13 @@ impl LineParser {
         self.lexer.next_number()
     }
 
+    /// How a delta file ends that ends here, before its category does, which has begun or hasn't.
+    pub(crate) fn early_end(&self, begun: bool) -> EarlyEnd
+        ensures { result ≡ early_end begun self.now }
+    {
+        self.lexer.early_end(begun)
+    }
+
     /// Ends the text, and answers the number of the line that is continued there, if one is, which is dropped.
     pub fn finish(&mut self) -> Option<u32>
         ensures continued { result ≡ pending self.old }
@@ -141,13 +149,6 @@ impl LineParser {
         let continued = self.lexer.pending();
         let _ = self.lexer.finish();
         continued
-    }
-
-    /// The number of the line that is left open to be continued, if one is.
-    pub(crate) fn pending(&self) -> Option<u32>
-        ensures { result ≡ pending self.now }
-    {
-        self.lexer.pending()
     }
 
     // What the logical line begins with that this physical line belongs to.

@@ -1,0 +1,2 @@
+mod AnyLemmas
+mod DigitLemmas

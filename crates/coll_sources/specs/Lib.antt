@@ -1,2 +1,4 @@
 pub mod SourceFaults
 pub mod Readers
+pub mod NameRanges
+pub mod Reports

@@ -7,6 +7,7 @@ use coll_lex::TextBuf;
 use coll_syntax::Id;
 use coll_texts::LoadCause;
 use std::alloc::{AllocError, Global};
+use std::marker::Model;
 
 /// A kind of change between a source and what is made of it.
 #[derive(Clone, Copy, Debug, PartialEq, Eq)]
@@ -162,9 +163,21 @@ pub struct Report {
     losses: Vec<Loss>,
 }
 
+impl Model for Report {
+    ghost use Rattle.coll_sources.specs.Reports.{ReportValue};
+
+    ghost Value = { ReportValue };
+
+    ghost view = { λ r. record { tallies = r.tallies.items; losses = r.losses.items } };
+}
+
 impl Report {
+    ghost use Rattle.std.specs.Prelude.{◌≡◌, ◌≢◌, ◌++◌, ◌∷◌, [], All, Contains, OnOk, OnErr, IfNone, IfSome};
+
     /// Nothing is told yet. It takes no memory.
-    pub fn new(alloc: Global) -> Report {
+    pub fn new(alloc: Global) -> Report
+        ensures { result ≡ record { tallies = []; losses = [] } }
+    {
         Report {
             tallies: Vec::new(alloc),
             losses: Vec::new(alloc),
@@ -172,7 +185,9 @@ impl Report {
     }
 
     /// Counts a change.
-    pub fn count(&mut self, adjustment: Adjustment, place: SourcePlace) -> Result<(), AllocError> {
+    pub fn count(&mut self, adjustment: Adjustment, place: SourcePlace) -> Result<(), AllocError>
+        ensures losses { self.new.losses ≡ self.old.losses }
+    {
         for tally in self.tallies.iter_mut() {
             if tally.adjustment == adjustment {
                 tally.count = tally.count.saturating_add(1);
@@ -194,7 +209,11 @@ impl Report {
         adjustment: Adjustment,
         place: SourcePlace,
         what: Lost,
-    ) -> Result<(), SourceFault> {
+    ) -> Result<(), SourceFault>
+        ensures lost { OnOk result (self.new.losses
+            ≡ self.old.losses ++ record { place = place; adjustment = adjustment; what = what } ∷ []) }
+        ensures kept { OnErr result (self.new.losses ≡ self.old.losses) }
+    {
         if self.losses.len() >= MOST_LOSSES {
             return Err(place.load_fault(LoadCause::Full));
         }
@@ -208,7 +227,11 @@ impl Report {
     }
 
     /// How often a kind of change was made, if it was.
-    pub fn tally(&self, adjustment: Adjustment) -> Option<Tally> {
+    pub fn tally(&self, adjustment: Adjustment) -> Option<Tally>
+        ensures kind { IfSome result (λ tally. tally.adjustment ≡ adjustment) }
+        ensures among { IfSome result (λ tally. Contains self.now.tallies tally) }
+        ensures none { IfNone result (All (λ tally. tally.adjustment ≢ adjustment) self.now.tallies) }
+    {
         self.tallies
             .iter()
             .find(|tally| tally.adjustment == adjustment)
@@ -216,7 +239,9 @@ impl Report {
     }
 
     /// What was lost, in the order in which it was met.
-    pub fn losses(&self) -> &[Loss] {
+    pub fn losses(&self) -> &[Loss]
+        ensures { result.now ≡ self.now.losses }
+    {
         self.losses.as_slice()
     }
 }

@@ -1,5 +1,9 @@
 //! Ranges of names: letters that all have, and then a number of as many digits in each.
 
+ghost use Rattle.std.specs.Prelude.{◌≡◌, ◌<◌, ◌≤◌, ◌++◌, chars, string_bytes, IfOk, OnOk};
+ghost use Rattle.coll_lex.specs.Spelling.{hex_digit};
+ghost use Rattle.coll_sources.specs.NameRanges.{base_of, digits_in, range_name};
+
 use coll_lex::TextBuf;
 use std::alloc::{AllocError, Global};
 
@@ -13,6 +17,18 @@ pub(crate) enum Digits {
     Decimal,
     /// `..`.
     Hexadecimal,
+}
+
+impl Digits {
+    // The number of these digits.
+    fn base(self) -> u32
+        ensures { result ≡ base_of self }
+    {
+        match self {
+            Digits::Decimal => 10,
+            Digits::Hexadecimal => 16,
+        }
+    }
 }
 
 /// A range of names.
@@ -97,35 +113,38 @@ fn with_digit(number: u32, digit: u8, spelled: Digits) -> Option<u32> {
 }
 
 /// The name of a range that has this number, in new memory.
-pub fn name_at(alloc: Global, range: &NameRange, number: u32) -> Result<TextBuf, AllocError> {
+pub fn name_at(alloc: Global, range: &NameRange, number: u32) -> Result<TextBuf, AllocError>
+    ensures { IfOk result (λ name. name ≡ range_name range.now number) }
+{
     let mut name = String::from_str(alloc, range.letters.get())?;
-    let spelled = spelled_digits(number, range.digits);
-    for digit in spelled.iter().skip(MOST_DIGITS.saturating_sub(range.width)) {
-        name.push(char::from(*digit))?;
-    }
+    push_digits(&mut name, range.digits.base(), range.width, number)?;
     Ok(TextBuf::new(name))
 }
 
-// The last eight digits of a number.
-fn spelled_digits(number: u32, spelled: Digits) -> [u8; MOST_DIGITS] {
-    let mut digits = [b'0'; MOST_DIGITS];
-    let mut left = number;
-    for digit in digits.iter_mut().rev() {
-        let (value, rest) = match spelled {
-            Digits::Decimal => (left % 10, left / 10),
-            Digits::Hexadecimal => (left % 16, left / 16),
-        };
-        *digit = digit_of(value);
-        left = rest;
+// Puts the last digits of a number at the end of a name, as many as are asked for.
+#[tactic(auto, unfolding(crate::specs::NameRanges::digits_in))]
+fn push_digits(name: &mut String, base: u32, count: usize, number: u32) -> Result<(), AllocError>
+    requires some { 0 < base }
+    requires digits { base ≤ 16 }
+    ensures { OnOk result (chars (string_bytes name.new) ≡ chars (string_bytes name.old) ++ digits_in base count number) }
+{
+    if count == 0 {
+        return Ok(());
     }
-    digits
+    push_digits(name, base, count - 1, number / base)?;
+    name.push(digit(number % base))?;
+    Ok(())
 }
 
-// The digit of a value below sixteen.
-fn digit_of(value: u32) -> u8 {
-    match u8::try_from(value) {
-        Ok(small) if small < 10 => b'0' + small,
-        Ok(small) if small < 16 => b'A' + (small - 10),
-        _ => b'0',
+// A digit, in upper case.
+fn digit(value: u32) -> char
+    requires { value < 16 }
+    ensures value { result ≡ hex_digit value }
+    ensures ascii { result < 128 }
+{
+    if value < 10 {
+        char::from(b'0' + value as u8)
+    } else {
+        char::from(b'A' - 10 + value as u8)
     }
 }

@@ -5,12 +5,16 @@
 //! wanted once, however often it is copied; all lines together, those of a text that is copied again counted again, are at most as
 //! many as a text may have, and have at most `MOST_BYTES` bytes. So texts that copy each other many times over end with that fault.
 //!
+//! Where a tailoring is read, a text that is copied and orders everything is the table that is tailored: it has to be there, and is not
+//! read in. Its `copy` is kept as a line (`Said::Base`).
+//!
 //! Only the category LC_COLLATE is looked at. A line under a condition that doesn't hold counts for nothing, but it has to be a line.
 
 ghost use Rattle.std.specs.Prelude.{IfOk};
 ghost use Rattle.coll_lex.specs.Names.{AreTokens};
 ghost use Rattle.coll_sources.specs.Readers.{HasTokens};
 
+use crate::bases::orders_everything;
 use crate::conditions::Conditions;
 use crate::grammar::said;
 use crate::operands::Unread;
@@ -20,12 +24,22 @@ use coll_devices::{LineReader, ReadStop, Source};
 use coll_lex::{LexFault, Lexer, Line, MOST_LINES, Piece, TextBuf, Token};
 use coll_lookups::HashKeys;
 use coll_syntax::{Id, SyntaxFault, characters, copied_name, id_of, is_word};
-use coll_texts::LoadCause;
+use coll_texts::{LoadCause, LoadFault};
 use indexmap::IndexSet;
 use std::alloc::{AllocError, Global};
+use std::marker::Model;
 
 // Most bytes of all lines that are read, line feeds included.
 const MOST_BYTES: usize = 67_108_864;
+
+/// What a source is read as.
+#[derive(Clone, Copy, PartialEq, Eq)]
+pub enum SourceKind {
+    /// It orders everything, with what it copies.
+    Table,
+    /// It changes a table, which it copies.
+    Tailoring,
+}
 
 // A text that was handed in.
 #[derive(Drop)]
@@ -33,6 +47,8 @@ struct Held {
     text: String,
     // Whether it is being read.
     is_open: bool,
+    // Whether it is the table that is tailored, and is not read.
+    is_base: bool,
 }
 
 // A text that is being read.
@@ -72,12 +88,15 @@ enum Step {
 /// Reads a source, and what it copies.
 #[derive(Drop)]
 pub struct SourceReader {
+    kind: SourceKind,
     // The names of the texts, in the order in which they were wanted.
     names: IndexSet<String, HashKeys>,
     // Those that have been handed in, in the same order.
     texts: Vec<Held>,
     // What has been handed in of the text that is wanted.
     coming: Vec<u8>,
+    // Where the text that is wanted is copied; nowhere, if it is the source itself.
+    copied_at: Option<SourcePlace>,
     // The texts that are being read, each copied by the one before.
     frames: Vec<Frame>,
     // What is defined.
@@ -90,14 +109,38 @@ pub struct SourceReader {
     alloc: Global,
 }
 
+impl Model for SourceReader {
+    ghost use Rattle.std.specs.Prelude.{map, string_bytes, vec_len};
+    ghost use Rattle.coll_sources.specs.Readers.{ReaderValue};
+
+    ghost Value = { ReaderValue };
+
+    ghost view = { λ r. record {
+      names = map string_bytes r.names.keys;
+      held = vec_len r.texts;
+      defined = map string_bytes r.defined.keys;
+      lines = r.lines.items;
+      report = r.report;
+    } };
+}
+
 impl SourceReader {
-    /// A reader that wants the text of this name, where these names are defined.
+    ghost use Rattle.std.specs.Prelude.{◌≡◌, ◌∷◌, [], length, IfOk, option_map, slice_get};
+    ghost use Rattle.coll_sources.specs.Readers.{is_defined};
+    ghost use Rattle.coll_sources.specs.declared.source_faults.SourceCause.TheVariants.{Load};
+    ghost use Rattle.coll_texts.specs.declared.load_faults.LoadCause.TheVariants.{ReadFault};
+
+    /// A reader of such a source, which wants the text of this name, where these names are defined.
     pub fn new(
         alloc: Global,
         keys: HashKeys,
+        kind: SourceKind,
         source: &str,
         defined: &[&str],
-    ) -> Result<SourceReader, AllocError> {
+    ) -> Result<SourceReader, AllocError>
+        ensures wants { IfOk result (λ reader. reader.names ≡ source.now ∷ []) }
+        ensures first { IfOk result (λ reader. reader.held ≡ 0) }
+    {
         let mut names = IndexSet::with_hasher(alloc, keys);
         names.insert(String::from_str(alloc, source)?)?;
         let mut all = IndexSet::with_hasher(alloc, keys);
@@ -105,9 +148,11 @@ impl SourceReader {
             all.insert(String::from_str(alloc, name)?)?;
         }
         Ok(SourceReader {
+            kind,
             names,
             texts: Vec::new(alloc),
             coming: Vec::new(alloc),
+            copied_at: None,
             frames: Vec::new(alloc),
             defined: all,
             taken: 0,
@@ -119,7 +164,9 @@ impl SourceReader {
     }
 
     /// The names of the texts, in the order in which they were wanted: a place tells its text by its number here.
-    pub fn text_name(&self, text: usize) -> Option<&str> {
+    pub fn text_name(&self, text: usize) -> Option<&str>
+        ensures { option_map (λ name. name.now) result ≡ slice_get self.now.names text }
+    {
         match self.names.get_index(text) {
             Some(name) => Some(name.as_str()),
             None => None,
@@ -127,12 +174,16 @@ impl SourceReader {
     }
 
     /// The name of the text that is wanted, if one is.
-    pub fn wanted(&self) -> Option<&str> {
+    pub fn wanted(&self) -> Option<&str>
+        ensures { option_map (λ name. name.now) result ≡ slice_get self.now.names self.now.held }
+    {
         self.text_name(self.texts.len())
     }
 
     /// Whether a name is defined, by the texts read so far or from the start.
-    pub fn defines(&self, name: &str) -> bool {
+    pub fn defines(&self, name: &str) -> bool
+        ensures { result ≡ is_defined self.now name.now }
+    {
         self.defined.contains(name)
     }
 
@@ -155,7 +206,9 @@ impl SourceReader {
     }
 
     // A line of the text that is wanted.
-    fn wanted_at(&self, line: u32) -> SourcePlace {
+    fn wanted_at(&self, line: u32) -> SourcePlace
+        ensures { result ≡ record { text = self.now.held; line = line } }
+    {
         SourcePlace {
             text: self.texts.len(),
             line,
@@ -171,7 +224,9 @@ impl SourceReader {
     }
 
     /// The fault where the text that is wanted can't be read.
-    pub fn unread(&self) -> SourceFault {
+    pub fn unread(&self) -> SourceFault
+        ensures { result ≡ record { place = record { text = self.now.held; line = 0 }; cause = Load ReadFault } }
+    {
         self.wanted_at(0).load_fault(LoadCause::ReadFault)
     }
 
@@ -189,17 +244,48 @@ impl SourceReader {
     fn end_text(&mut self) -> Result<(), SourceFault> {
         let coming = std::mem::replace(&mut self.coming, Vec::new(self.alloc));
         let text = text_of(self.alloc, coming)?;
+        let is_base = self.is_base(text.as_str())?;
         let number = self.texts.len();
         self.texts.push(Held {
             text,
             is_open: false,
+            is_base,
         })?;
-        self.enter(number)?;
+        match self.copied_at.take() {
+            Some(place) => self.follow(number, place)?,
+            None => self.enter(number)?,
+        }
         self.read_on()
     }
 
+    // Whether the text that was wanted is the table that is tailored. The source itself never is.
+    fn is_base(&self, text: &str) -> Result<bool, AllocError> {
+        match (self.kind, self.copied_at) {
+            (SourceKind::Tailoring, Some(_)) => orders_everything(self.alloc, text),
+            _ => Ok(false),
+        }
+    }
+
+    // Follows the copy of a text that is there: the text is read next, or it is the table that is tailored, and the copy is kept.
+    fn follow(&mut self, text: usize, place: SourcePlace) -> Result<(), SourceFault> {
+        if !self.texts.get(text).is_some_and(|held| held.is_base) {
+            self.report.count(Adjustment::CopyInlined, place)?;
+            self.enter(text)?;
+            return Ok(());
+        }
+        self.report.count(Adjustment::CopyKept, place)?;
+        if let Some(name) = self.text_name(text) {
+            let said = Said::Base(TextBuf::copied(self.alloc, name)?);
+            self.lines.push(SourceLine { place, said })?;
+        }
+        Ok(())
+    }
+
     /// What the source says, and what is told of it, once no text is wanted any more.
-    pub fn into_parts(self) -> (Vec<SourceLine>, Report) {
+    pub fn into_parts(self) -> (Vec<SourceLine>, Report)
+        ensures lines { result.0.items ≡ self.lines }
+        ensures report { result.1 ≡ self.report }
+    {
         let SourceReader { lines, report, .. } = self;
         (lines, report)
     }
@@ -349,7 +435,7 @@ impl SourceReader {
         Ok(())
     }
 
-    // Copies a text: it is read next, or wanted.
+    // Copies a text: it is followed, or wanted.
     fn copy(
         &mut self,
         frame: Frame,
@@ -370,11 +456,11 @@ impl SourceReader {
         if self.texts.get(text).is_some_and(|held| held.is_open) {
             return Err(place.fault(SourceCause::CopyOfItself));
         }
-        self.report.count(Adjustment::CopyInlined, place)?;
         if text >= self.texts.len() {
+            self.copied_at = Some(place);
             return Ok(Step::Wants);
         }
-        self.enter(text)?;
+        self.follow(text, place)?;
         Ok(Step::Line)
     }
 
@@ -424,16 +510,8 @@ fn fed(frame: &mut Frame, place: SourcePlace, line: &[u8]) -> Result<Next, Sourc
 
 // The fault of a text that ends before its category does.
 fn early_end(frame: &Frame) -> SourceFault {
+    let LoadFault { line, cause } = LoadFault::from(frame.lexer.early_end(frame.begun));
     let text = frame.text;
-    if let Some(line) = frame.lexer.pending() {
-        return SourcePlace { text, line }.lex_fault(LexFault::DanglingEscape);
-    }
-    let line = frame.lexer.next_number().saturating_sub(1);
-    let cause = if frame.begun {
-        LoadCause::NoEnd
-    } else {
-        LoadCause::NoCategory
-    };
     SourcePlace { text, line }.load_fault(cause)
 }
 

@@ -15,7 +15,7 @@ use coll_syntax::{Id, Weight};
 use std::alloc::AllocError;
 
 /// Whether an identifier is a second name.
-pub fn is_second(body: &Body, id: &Id) -> bool
+pub(crate) fn is_second(body: &Body, id: &Id) -> bool
     ensures { result ≡ is_second (declared_at body.now.layout) id.now }
 {
     match id {

@@ -18,7 +18,7 @@ use coll_lex::{Piece, TextBuf, Token};
 use std::alloc::{AllocError, Global};
 
 /// Fewest characters that a collating element stands for.
-pub const LEAST_ELEMENT_CHARS: usize = 2;
+pub(crate) const LEAST_ELEMENT_CHARS: usize = 2;
 
 /// Most characters that a collating element stands for.
 pub const MOST_ELEMENT_CHARS: usize = 16;

@@ -26,7 +26,7 @@ mod weight_lists;
 mod weights;
 
 pub use delta_lines::parse_delta_line;
-pub use elements::{LEAST_ELEMENT_CHARS, MOST_ELEMENT_CHARS, characters};
+pub use elements::{MOST_ELEMENT_CHARS, characters};
 pub use identifiers::Id;
 pub use keywords::is_word;
 pub use lines::{DeltaLine, TableLine};

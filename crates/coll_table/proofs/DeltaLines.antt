@@ -12,7 +12,7 @@ use Rattle.coll_table.proofs.DeltaRefusals.{has_push}
 use Rattle.coll_table.specs.Delta.{line_refusal, lines_refusal, weights_refusal}
 use Rattle.coll_nodes.specs.Causes.{refused_if}
 use Rattle.coll_table.specs.Judging.{HaveSame, entries_added, line_ids}
-use Rattle.coll_nodes.specs.LookUps.{AddsId}
+use Rattle.coll_lookups.specs.IdSets.{AddsId}
 use Rattle.coll_nodes.specs.Table.{Collation, is_known, is_placed}
 use Rattle.coll_table.specs.declared.refusals.Refusal.{Refusal}
 use Rattle.coll_table.specs.declared.refusals.Refusal.TheVariants.{NotDeclared, TwiceInBlock}

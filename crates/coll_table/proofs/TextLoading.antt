@@ -1,10 +1,10 @@
 -- A text that is read line by line: what is known of it after some lines, and what each end of the reading says of it.
 use Rattle.std.proofs.Common.{◌≡◌, ◌≢◌, ℕ, Bool, true, false, List, [], ◌∷◌, ◌++◌, length, Option, Some, None, Result, Ok, Err, ◌⊎◌}
-use Rattle.std.proofs.Common.{inr, ⊎_elim, sym, ap, subst, ◌∙◌, refl, arith, append_assoc, append-nil, length-append}
+use Rattle.std.proofs.Common.{inr, ⊎_elim, sym, ap, subst, ◌∙◌, refl, arith}
 use Rattle.std.proofs.lemmas.Bool.{false≢true}
 use Rattle.std.specs.Prelude.{IfOk, IfErr}
 use Rattle.coll_devices.specs.LineReading.{ReaderState, no_line, Advances, GivesLine, GivesEnd, EndsAgain, StopsNow, StopsAgain}
-use Rattle.coll_devices.specs.PhysicalLines.{lines_of, with_feeds}
+use Rattle.coll_devices.specs.PhysicalLines.{lines_of}
 use Rattle.coll_lex.specs.LogicalLines.{number_of}
 use Rattle.coll_lex.specs.declared.faults.LexFault.TheVariants as lex
 use Rattle.coll_devices.specs.declared.stops.ReadStop.{ReadStop}
@@ -23,19 +23,17 @@ use Rattle.coll_texts.specs.declared.load_faults.LoadCause.TheVariants.{Lex, Syn
 use Rattle.coll_table.proofs.LoadEnds.{loaded_ended, ends_here, undecided_here, long_line}
 use Rattle.coll_table.proofs.LineNumbers.{next_within}
 use Rattle.coll_table.proofs.LoadSteps.{outcome_from, StandsAfter, CountsOne, LeadsOn, Judged, stands_first, from_ended, judged}
-use Rattle.coll_table.proofs.TextSteps.{LinesGiven, gives_first, was_last, stops_long, stops_short, none_given, one_given, all_given}
+use Rattle.coll_table.proofs.TextSteps.{ReadSoFar, gives_first, stops_long, none_given, cut_behind, said_ahead, said_before, read_on, said_at_end, all_counted}
 
--- of the text these lines were taken, and the rest is unread; what they decide is what the loader decides
-pub record ReadSoFar (text : List ℕ) (reader : ReaderState) (left : Option (List ℕ)) (before : List Numbered) (s : LoaderState) : Type 0 where
-  pub lines : LinesGiven text reader left
-  pub count : s.ended ≡ false → s.lexer.count ≡ length lines.whole
-  pub decides : (ends : Bool) (more : List (List ℕ)) → outcome_of ends (lines.whole ++ more) ≡ outcome_from ends before s more
+-- what further lines decide, where the loader stands here
+abbrev decided_from : List Numbered → LoaderState → Bool → List (List ℕ) → Outcome
+decided_from before s ends more = outcome_from ends before s more
 
 -- whatever text the device had, it was read so far
 pub record OnWay (start : Option (List ℕ)) (reader : ReaderState) (left : Option (List ℕ)) (s : LoaderState) : Type 0 where
   pub before : List Numbered
   pub stands : StandsAfter before s
-  pub read : (text : List ℕ) → start ≡ Some text → ReadSoFar text reader left before s
+  pub read : (text : List ℕ) → start ≡ Some text → ReadSoFar outcome_of (decided_from before s) s.ended s.lexer.count text reader left
 
 -- before the first line
 pub sets_out : (start : Option (List ℕ)) → OnWay start no_line start first_loader
@@ -77,17 +75,13 @@ fault_says text left line _ own starves h = h (λ e. cc)
 
 module _ (start : Option (List ℕ)) (reader : ReaderState) (left : Option (List ℕ)) (s : LoaderState) (way : OnWay start reader left s) (going : s.ended ≡ false) where
   -- what is decided of the text by the lines unread
-  from_here : (text : List ℕ) (e : start ≡ Some text) (lines : List (List ℕ)) → let at =
-      way.read text e in lines_of at.lines.rest ≡ lines → outcome_of true (lines_of text) ≡ outcome_from true way.before s lines
-  from_here text e lines ahead =
-      let at = way.read text e in
-      ap (outcome_of true) (at.lines.lines ∙ ap (λ l. at.lines.whole ++ l) ahead) ∙ at.decides true lines
+  from_here : (text : List ℕ) (e : start ≡ Some text) (lines : List (List ℕ)) → lines_of (way.read text e).lines.rest ≡ lines → outcome_of true (lines_of text) ≡ outcome_from true way.before s lines
+  from_here text e lines ahead = said_ahead outcome_of (decided_from way.before s) s.ended s.lexer.count text reader left (way.read text e) lines ahead
 
   -- the lines so far decide nothing
   undecided : (text : List ℕ) (e : start ≡ Some text) → IsUndecided (outcome_of false (way.read text e).lines.whole)
   undecided text e =
-      let at = way.read text e in
-      subst IsUndecided (sym (ap (outcome_of false) (sym (append-nil at.lines.whole)) ∙ at.decides false [])) (undecided_here way.before s way.stands going)
+      subst IsUndecided (sym (said_before outcome_of (decided_from way.before s) s.ended s.lexer.count text reader left (way.read text e))) (undecided_here way.before s way.stands going)
 
   module _ (new : ReaderState) (left_after : Option (List ℕ)) (failed failed_after : ℕ) where
     -- a line more that was taken
@@ -98,13 +92,8 @@ module _ (start : Option (List ℕ)) (reader : ReaderState) (left : Option (List
           before = leads.next;
           stands = leads.stands;
           read = λ text e.
-              let at = way.read text e in
-              let whole = at.lines.whole in
-              record {
-                lines = one_given text reader new left left_after failed failed_after at.lines gives;
-                count = λ n. let one = leads.counts n in omega (arith, one.1, at.count going, length-append whole (new.line ∷ []));
-                decides = λ ends more. ap (outcome_of ends) (append_assoc whole (new.line ∷ []) more) ∙ (at.decides ends (new.line ∷ more) ∙ leads.decides ends more);
-              };
+              read_on outcome_of (decided_from way.before s) s.ended s.lexer.count text reader left (way.read text e) new left_after failed failed_after
+              (decided_from leads.next after) after.ended after.lexer.count gives going (λ n. (leads.counts n).1) leads.decides;
         }
 
     -- a line more to which memory was refused
@@ -150,20 +139,9 @@ module _ (start : Option (List ℕ)) (reader : ReaderState) (left : Option (List
     stopped_short : reader.stop ≡ None → StopsNow reader new left left_after failed failed_after stop.ReadFault ⊎ StopsAgain reader new left left_after failed failed_after stop.ReadFault
         → Loads start left_after (Err (stop_fault (number_of s.lexer) stop.ReadFault))
     stopped_short none stops = λ text e.
-        let at = way.read text e in
-        let cut = stops_short reader new left left_after failed failed_after at.lines.rest at.lines.unread none stops in (
+        let at = way.read text e in (
           refl,
-          (
-            at.lines.whole,
-            cut.part,
-            cut.rest,
-            cut.left,
-            at.lines.fed cut.went_on ∙ ap (λ rest. with_feeds at.lines.whole ++ rest) cut.all,
-            at.lines.lines ∙ ap (λ rest. at.lines.whole ++ lines_of rest) cut.all,
-            cut.whole,
-            cut.short,
-            undecided text e,
-          ),
+          cut_behind text reader new left left_after failed failed_after at.lines (λ whole. IsUndecided (outcome_of false whole)) (undecided text e) none stops,
         )
 
     -- a reader that stops
@@ -181,9 +159,9 @@ module _ (start : Option (List ℕ)) (reader : ReaderState) (left : Option (List
     pub all_read : GivesEnd reader new left left_after failed failed_after ⊎ EndsAgain reader new left left_after failed failed_after → (text : List ℕ) → start ≡ Some text → reads text ≡ loaded s
     all_read ends text e =
         let at = way.read text e in
-        let none = was_last reader new left left_after failed failed_after at.lines.rest at.lines.unread ends in
-        let all = all_given text reader new left left_after failed failed_after at.lines ends in
-        reads_by text s.lexer.count (outcome_from true way.before s []) (from_here text e [] none) (ap length all ∙ sym (at.count going))
+        let from = decided_from way.before s in
+        reads_by text s.lexer.count (outcome_from true way.before s []) (said_at_end outcome_of from s.ended s.lexer.count text reader left at new left_after failed failed_after ends)
+        (all_counted outcome_of from s.ended s.lexer.count text reader left at new left_after failed failed_after ends going)
         ∙ ends_here way.before s way.stands
 
 -- the category has ended

@@ -1,5 +1,6 @@
 -- What a reader's answer to one call says of the lines of the text that is unread, and which lines it has given so far.
-use Rattle.std.proofs.Common.{◌≡◌, ℕ, ◌<◌, ◌≤◌, Bool, true, false, List, [], ◌∷◌, ◌++◌, length, Option, Some, None, ◌⊎◌, ⊎_elim, sym, ap, subst, ◌∙◌, refl, append_assoc, append-nil}
+use Rattle.std.proofs.Common.{◌≡◌, ℕ, ◌<◌, ◌≤◌, Bool, true, false, List, [], ◌∷◌, ◌++◌, length, Option, Some, None, ◌⊎◌, ⊎_elim, sym, ap, subst, ◌∙◌, refl, arith, append_assoc, append-nil, length-append}
+use Rattle.std.specs.Prelude.{◌+◌}
 use Rattle.std.proofs.lemmas.Grind.{flat_map-append}
 use Rattle.std.proofs.lemmas.Bool.{false≢true}
 use Rattle.std.specs.Io.KnownBytes.{prepend_known, Keeps, IsAtEnd}
@@ -8,6 +9,7 @@ use Rattle.coll_devices.specs.PhysicalLines.{line_feed, lines_of, IsInLine, with
 use Rattle.coll_devices.specs.Limits.{most_line_bytes}
 use Rattle.coll_devices.specs.declared.stops.ReadStop.{ReadStop}
 use Rattle.coll_devices.specs.declared.stops.ReadStop.TheVariants as stop
+use Rattle.coll_table.specs.Loads.{IsCutBehind}
 use Rattle.coll_devices.proofs.PhysicalLinesLemmas.{lines_of-nil, lines_of-cut, lines_of-long}
 
 -- this text is still to be given; where the end of the input was met there is none
@@ -158,3 +160,56 @@ module _ (text : List ℕ) (old new : ReaderState) (left left_after : Option (Li
   pub all_given : GivesEnd old new left left_after failed failed_after ⊎ EndsAgain old new left left_after failed failed_after → lines_of text ≡ given.whole
   all_given ends =
       given.lines ∙ (ap (λ lines. given.whole ++ lines) (was_last old new left left_after failed failed_after given.rest given.unread ends) ∙ append-nil given.whole)
+
+  -- a read that failed behind these lines, of which this holds
+  pub cut_behind : (Holds : List (List ℕ) → Type 0) → Holds given.whole → old.stop ≡ None
+      → StopsNow old new left left_after failed failed_after stop.ReadFault ⊎ StopsAgain old new left left_after failed failed_after stop.ReadFault → IsCutBehind Holds text left_after
+  cut_behind Holds holds none stops =
+      let cut = stops_short old new left left_after failed failed_after given.rest given.unread none stops in
+      (
+        given.whole,
+        cut.part,
+        cut.rest,
+        cut.left,
+        given.fed cut.went_on ∙ ap (λ rest. with_feeds given.whole ++ rest) cut.all,
+        given.lines ∙ ap (λ rest. given.whole ++ lines_of rest) cut.all,
+        cut.whole,
+        cut.short,
+        holds,
+      )
+
+-- What the lines of a text say, where this is what lines say, by whether the text ends with them.
+module _ {O : Type 0} (says : Bool → List (List ℕ) → O) where
+  -- of the text these lines were taken, and the rest is unread; with further lines they say what is said of these from here on.
+  -- They are counted until what they are read for has ended
+  pub record ReadSoFar (from : Bool → List (List ℕ) → O) (ended : Bool) (counted : ℕ) (text : List ℕ) (reader : ReaderState) (left : Option (List ℕ)) : Type 0 where
+    pub lines : LinesGiven text reader left
+    pub count : ended ≡ false → counted ≡ length lines.whole
+    pub decides : (ends : Bool) (more : List (List ℕ)) → says ends (lines.whole ++ more) ≡ from ends more
+
+  module _ (from : Bool → List (List ℕ) → O) (ended : Bool) (counted : ℕ) (text : List ℕ) (reader : ReaderState) (left : Option (List ℕ)) (at : ReadSoFar from ended counted text reader left) where
+    -- what the text says is what is said of the lines unread
+    pub said_ahead : (lines : List (List ℕ)) → lines_of at.lines.rest ≡ lines → says true (lines_of text) ≡ from true lines
+    said_ahead lines ahead = ap (says true) (at.lines.lines ∙ ap (λ l. at.lines.whole ++ l) ahead) ∙ at.decides true lines
+
+    -- what the lines taken say, where the end isn't seen
+    pub said_before : says false at.lines.whole ≡ from false []
+    said_before = ap (says false) (sym (append-nil at.lines.whole)) ∙ at.decides false []
+
+    module _ (new : ReaderState) (left_after : Option (List ℕ)) (failed failed_after : ℕ) where
+      -- one line more
+      abbrev pub read_on : (later : Bool → List (List ℕ) → O) (ended_later : Bool) (counted_later : ℕ) → GivesLine reader new left left_after failed failed_after → ended ≡ false
+          → (ended_later ≡ false → counted_later ≡ counted + 1) → ((ends : Bool) (more : List (List ℕ)) → from ends (new.line ∷ more) ≡ later ends more)
+          → ReadSoFar later ended_later counted_later text new left_after
+      read_on later ended_later counted_later gives going one leads = record {
+        lines = one_given text reader new left left_after failed failed_after at.lines gives;
+        count = λ n. omega (arith, one n, at.count going, length-append at.lines.whole (new.line ∷ []));
+        decides = λ ends more. ap (says ends) (append_assoc at.lines.whole (new.line ∷ []) more) ∙ (at.decides ends (new.line ∷ more) ∙ leads ends more);
+      }
+
+      -- no line more: the text says what is said from here of none, and its lines are counted
+      pub said_at_end : GivesEnd reader new left left_after failed failed_after ⊎ EndsAgain reader new left left_after failed failed_after → says true (lines_of text) ≡ from true []
+      said_at_end ends = said_ahead [] (was_last reader new left left_after failed failed_after at.lines.rest at.lines.unread ends)
+
+      pub all_counted : GivesEnd reader new left left_after failed failed_after ⊎ EndsAgain reader new left left_after failed failed_after → ended ≡ false → length (lines_of text) ≡ counted
+      all_counted ends going = ap length (all_given text reader new left left_after failed failed_after at.lines ends) ∙ sym (at.count going)

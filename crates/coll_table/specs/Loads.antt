@@ -25,13 +25,16 @@ abbrev pub stop_fault : ℕ → ReadStop → LoadFault
 stop_fault number stop.LineTooLong = at_line number (Lex lex.LineTooLong)
 stop_fault number stop.ReadFault = at_line 0 ReadFault
 
--- a read failed behind a part of a line: the text begins with the lines read before it, each with its line feed, and these
--- decide nothing; behind them stand that part, which is no longer than a line may be, and the rest
-abbrev pub StopsWithin : List ℕ → Option (List ℕ) → Type 0
-StopsWithin text left =
+-- a read failed behind a part of a line: the text begins with the lines read before it, each with its line feed, of which this
+-- holds; behind them stand that part, which is no longer than a line may be, and the rest, which is left
+abbrev pub IsCutBehind : (List (List ℕ) → Type 0) → List ℕ → Option (List ℕ) → Type 0
+IsCutBehind Holds text left =
     (whole : List (List ℕ)) × (part : List ℕ) × (rest : List ℕ) × (left ≡ Some rest) × (text ≡ with_feeds whole ++ (part ++ rest))
-    × (lines_of text ≡ whole ++ lines_of (part ++ rest)) × IsInLine part × (length part ≤ most_line_bytes)
-    × IsUndecided (outcome_of false whole)
+    × (lines_of text ≡ whole ++ lines_of (part ++ rest)) × IsInLine part × (length part ≤ most_line_bytes) × Holds whole
+
+-- a read failed, and the lines read whole before it decide nothing
+abbrev pub StopsWithin : List ℕ → Option (List ℕ) → Type 0
+StopsWithin = IsCutBehind (λ whole. IsUndecided (outcome_of false whole))
 
 -- the number of one of so many lines, from 1
 abbrev pub IsLineWithin : (number count : ℕ) → Type 0

@@ -5,7 +5,7 @@
 //! and spells the canonical one, and on `coll_statements`, which takes a statement by own names; what a user of tables needs of
 //! them is handed on here. A way through the crate, each file with its definitions in `specs/`:
 //!
-//! - `tables`: a table, read and printed;
+//! - `tables`: a table, read, printed and exported;
 //! - `loaders` and `loading`: a text, read line by line (`SoundLoaders`, `Loads`);
 //! - `deltas`, with `deltas/judging` and `deltas/preparing`, and `refusals`: a statement, judged, prepared and
 //!   applied (`OwnStatements`, `Delta`, `Judging`, `Prepared`, `Growth`, `StatementItems`, `Applied`, `Refusals`);
@@ -22,12 +22,11 @@ mod tables;
 mod turning;
 
 pub use coll_lookups::{EntryNumbers, HashKeys, NamePlaces};
-pub use coll_nodes::{
-    Declaration, Declared, DeclaredItem, Entry, MOST_DECLARATIONS, MOST_ENTRIES, MOST_SECTIONS,
-    Walk, WalkItem, limits_are_stated,
-};
+pub use coll_nodes::{Declaration, Declared, DeclaredItem, Entry, Walk, WalkItem};
 pub use coll_statements::second_names_are_not_placed;
-pub use coll_texts::{LoadCause, LoadFault, printed_tables_are_read_back, write_id};
+pub use coll_texts::{
+    LoadCause, LoadFault, exported_tables_are_read_back, printed_tables_are_read_back,
+};
 pub use loaders::{Loader, lines_are_read};
 pub use loading::{load, load_keyed, texts_are_well_formed};
 pub use record_laws::{

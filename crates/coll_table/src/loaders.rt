@@ -18,7 +18,7 @@ ghost use Rattle.coll_nodes.specs.WellFormed.{IsWellFormed};
 ghost use Rattle.coll_texts.specs.declared.load_faults.LoadCause.TheVariants.{OutOfMemory};
 
 use crate::Table;
-use coll_lex::{LexFault, Lexer, Line};
+use coll_lex::{Lexer, Line};
 use coll_lookups::HashKeys;
 use coll_syntax::parse_table_line;
 use coll_texts::{LoadCause, LoadFault, TableBuilder};
@@ -166,20 +166,7 @@ impl Loader {
         ensures cause { IsLineCause result.cause }
         ensures spared { result.cause ≢ OutOfMemory }
     {
-        if let Some(number) = self.lexer.pending() {
-            return LoadFault {
-                line: number,
-                cause: LoadCause::Lex(LexFault::DanglingEscape),
-            };
-        }
-        LoadFault {
-            line: self.lexer.next_number() - 1,
-            cause: if self.begun {
-                LoadCause::NoEnd
-            } else {
-                LoadCause::NoCategory
-            },
-        }
+        LoadFault::from(self.lexer.early_end(self.begun))
     }
 
     // Judges a line by where it stands: behind the category, in it, or before it.

@@ -11,7 +11,7 @@ use coll_devices::{Sink, WriteStop};
 use coll_lookups::{EntryNumbers, HashKeys, NamePlaces};
 use coll_nodes::{Body, Declared, Entry, Walk};
 use coll_syntax::{Id, Rule, Rules};
-use coll_texts::{TableBuilder, write_table};
+use coll_texts::{TableBuilder, write_exported, write_table};
 use std::alloc::{AllocError, Global};
 use std::marker::Model;
 
@@ -56,6 +56,7 @@ impl Table {
     ghost use Rattle.coll_nodes.specs.WellFormed.{IsWellFormed};
     ghost use Rattle.coll_texts.specs.BuilderStates.{table_of};
     ghost use Rattle.coll_texts.specs.CanonicalText.{text};
+    ghost use Rattle.coll_texts.specs.ExportedText.{exported_text};
 
     /// The table of a builder that has ended its category.
     pub fn built(builder: TableBuilder) -> Table
@@ -165,6 +166,14 @@ impl Table {
         self.body.resolve(name)
     }
 
+    /// Whether an identifier is a collating symbol. It takes no memory.
+    #[tactic(auto, unfolding(coll_nodes::specs::TableLayout::collation))]
+    pub fn is_symbol(&self, id: &Id) -> bool
+        ensures { result ≡ is_symbol (collation self.now).declared id.now }
+    {
+        self.body.is_symbol(id)
+    }
+
     /// A walk through the sections and entries, in order. It takes no memory.
     pub fn walk(&self) -> Walk<'_>
         ensures { result ≡ visited (collation self.now).sections }
@@ -188,6 +197,17 @@ impl Table {
         ensures errors { CountsErr (W.failed out.old) (W.failed out.new) result }
     {
         write_table(out, self.rules(), self.declared(), self.walk())
+    }
+
+    /// Writes the text in the form that `localedef` takes. It takes no memory.
+    ///
+    /// It is read as the same table. Where it stops, the device has taken a prefix of the text.
+    pub fn export<W: Sink>(&self, out: &mut W) -> Result<(), WriteStop>
+        ensures sent { Sends (W.taken out.old) (W.taken out.new) (exported_text (collation self.now)) result }
+        ensures errors { CountsErr (W.failed out.old) (W.failed out.new) result }
+    {
+        self.lemma_well_formed();
+        write_exported(out, self.rules(), self.declared(), self.walk(), self.walk())
     }
 
     /// The number of ring steps that its changes have taken, modulo 2 to the power 64.
@@ -242,13 +262,5 @@ impl Table {
         ensures { result ≡ is_known (collation self.now).declared id.now }
     {
         self.body.is_known(id)
-    }
-
-    /// Whether an identifier is a collating symbol.
-    #[tactic(auto, unfolding(coll_nodes::specs::TableLayout::collation))]
-    pub(crate) fn is_symbol(&self, id: &Id) -> bool
-        ensures { result ≡ is_symbol (collation self.now).declared id.now }
-    {
-        self.body.is_symbol(id)
     }
 }

@@ -8,9 +8,8 @@ use crate::later_weights::{LaterWeights, LineAt};
 use crate::steps::{Step, StepAt};
 use coll_import::{Meanings, SourceStatement, WeightLookUp, proper_line, without_symbol_weights};
 use coll_lex::ListBuf;
-use coll_lookups::HashKeys;
+use coll_lookups::{HashKeys, IdSet};
 use coll_sources::{Adjustment, Lost, Report, SourceFault, SourcePlace};
-use coll_statements::IdSet;
 use coll_syntax::{Id, MOST_BLOCK_LINES, OrderLine, Statement, Weight};
 use std::alloc::{AllocError, Global};
 
@@ -25,6 +24,14 @@ struct Block {
     ids: IdSet,
     // Whether it is left out, since its target is placed nowhere.
     is_left_out: bool,
+}
+
+// What a block is made into a statement of.
+#[derive(Drop)]
+struct BlockParts {
+    place: SourcePlace,
+    target: Id,
+    lines: Vec<LineAt>,
 }
 
 /// What is known of the table and of the tailoring as a whole.
@@ -89,21 +96,61 @@ impl Blocks {
 
     /// The statements that are made of all steps: a block that is open is ended, and the weights that wait are given.
     pub(crate) fn end(mut self, report: &mut Report) -> Result<Vec<SourceStatement>, SourceFault> {
-        if let Some(block) = &self.block {
-            if !block.is_left_out {
-                report.count(Adjustment::BlockClosed, block.place)?;
+        match self.finish(report) {
+            Ok(()) => Ok(self.into_made()),
+            Err(fault) => {
+                drop(self);
+                Err(fault)
             }
         }
+    }
+
+    // The statements that have been made.
+    fn into_made(self) -> Vec<SourceStatement> {
+        let Blocks {
+            known,
+            placed,
+            block,
+            later,
+            made,
+            keys: _,
+            alloc: _,
+        } = self;
+        drop(known);
+        drop(placed);
+        drop(block);
+        drop(later);
+        made
+    }
+
+    // Ends a block that is open, and gives the weights that wait.
+    fn finish(&mut self, report: &mut Report) -> Result<(), SourceFault> {
+        self.count_open(report)?;
         self.close(report)?;
         let later = std::mem::replace(&mut self.later, LaterWeights::new(self.alloc, self.keys));
         for line in later.into_lines() {
-            if let Some(LineAt { place, line }) = line {
-                let line = self.look_up(&self.placed).line(place, line, report)?;
-                self.make(place, Statement::Reweight(line))?;
+            if let Some(line) = line {
+                self.give(line, report)?;
             }
         }
-        let Blocks { made, .. } = self;
-        Ok(made)
+        Ok(())
+    }
+
+    // Counts a block that is open where the source ends.
+    fn count_open(&self, report: &mut Report) -> Result<(), AllocError> {
+        match &self.block {
+            Some(block) if !block.is_left_out => {
+                report.count(Adjustment::BlockClosed, block.place)
+            }
+            _ => Ok(()),
+        }
+    }
+
+    // Gives weights that waited, by what is placed in the end.
+    fn give(&mut self, line: LineAt, report: &mut Report) -> Result<(), SourceFault> {
+        let LineAt { place, line } = line;
+        let line = self.look_up(&self.placed).line(place, line, report)?;
+        Ok(self.make(place, Statement::Reweight(line))?)
     }
 
     // Takes an order line. One of a block that is left out is passed over.
@@ -159,23 +206,45 @@ impl Blocks {
 
     // Ends the block that is open, if one is, and makes a statement of it, if it has a line.
     fn close(&mut self, report: &mut Report) -> Result<(), SourceFault> {
-        let Some(
-            Block {
-                place,
-                target,
-                lines,
-                ..
-            },
-        ) = self.block.take()
-        else {
-            return Ok(());
-        };
-        if lines.is_empty() {
+        match self.block.take() {
+            Some(block) => self.put_block(block, report),
+            None => Ok(()),
+        }
+    }
+
+    // Makes a statement of a block, if it has a line.
+    fn put_block(&mut self, block: Block, report: &mut Report) -> Result<(), SourceFault> {
+        if block.lines.is_empty() {
+            drop(block);
             return Ok(());
         }
-        self.place_all(lines.as_slice())?;
-        let lines = self.all_for_now(lines, report)?;
-        Ok(self.make(place, Statement::Block { target, lines })?)
+        let BlockParts {
+            place,
+            target,
+            lines,
+        } = block.into_parts();
+        match self.given_lines(lines, report) {
+            Ok(lines) => Ok(self.make(place, Statement::Block { target, lines })?),
+            Err(fault) => {
+                drop(target);
+                Err(fault)
+            }
+        }
+    }
+
+    // The lines of a block, which are placed from now on, with the weights that can be given now.
+    fn given_lines(
+        &mut self,
+        lines: Vec<LineAt>,
+        report: &mut Report,
+    ) -> Result<ListBuf<OrderLine>, SourceFault> {
+        match self.place_all(lines.as_slice()) {
+            Ok(()) => self.all_for_now(lines, report),
+            Err(error) => {
+                drop(lines);
+                Err(SourceFault::from(error))
+            }
+        }
     }
 
     // Notes what these lines place.
@@ -206,20 +275,34 @@ impl Blocks {
         line: OrderLine,
         report: &mut Report,
     ) -> Result<OrderLine, SourceFault> {
+        if self.keep_later(place, &line, report)? {
+            // What is left out for now is told at the end, where it is left out then.
+            let mut untold = Report::new(self.alloc);
+            return self.look_up(&self.placed).line(place, line, &mut untold);
+        }
+        Ok(line)
+    }
+
+    // Keeps the weights of a line for the end, where some name what isn't placed yet, and answers whether that is so. Others take back
+    // what was kept of a line of the same identifier.
+    fn keep_later(
+        &mut self,
+        place: SourcePlace,
+        line: &OrderLine,
+        report: &mut Report,
+    ) -> Result<bool, SourceFault> {
         let Some(weights) = &line.weights else {
-            return Ok(line);
+            return Ok(false);
         };
         if self.look_up(&self.placed).all_stay(weights.get()) {
             self.later.take_back(&line.id)?;
-            return Ok(line);
+            return Ok(false);
         }
         report.count(Adjustment::WeightsLater, place)?;
         let id = line.id.clone()?;
         let weights = Some(weights.clone()?);
         self.later.keep(place, OrderLine { id, weights })?;
-        // What is left out for now is told at the end, where it is left out then.
-        let mut untold = Report::new(self.alloc);
-        self.look_up(&self.placed).line(place, line, &mut untold)
+        Ok(true)
     }
 
     // An order line of the block that is open.
@@ -381,6 +464,23 @@ impl Blocks {
 }
 
 impl Block {
+    // What a statement is made of.
+    fn into_parts(self) -> BlockParts {
+        let Block {
+            place,
+            target,
+            lines,
+            ids,
+            is_left_out: _,
+        } = self;
+        drop(ids);
+        BlockParts {
+            place,
+            target,
+            lines,
+        }
+    }
+
     // Whether it can't go on with a line of this identifier.
     fn must_end_before(&self, id: &Id) -> bool {
         if self.lines.is_empty() {

@@ -5,11 +5,10 @@
 //! the last line it is known what the table and all blocks place.
 
 use coll_import::{Ellipses, Meanings, Run};
-use coll_lex::{LexFault, MOST_LINES, TextBuf};
-use coll_lookups::HashKeys;
+use coll_lex::{LexFault, ListBuf, MOST_LINES, TextBuf};
+use coll_lookups::{HashKeys, IdSet};
 use coll_sources::{Adjustment, Lost, Report, Said, SourceFault, SourceLine, SourcePlace};
-use coll_statements::IdSet;
-use coll_syntax::{Id, OrderLine, SyntaxFault};
+use coll_syntax::{Id, OrderLine, SyntaxFault, Weight};
 use coll_texts::LoadCause;
 use indexmap::IndexSet;
 use std::alloc::{AllocError, Global};
@@ -100,9 +99,28 @@ impl Steps {
 
     /// What all lines say.
     pub(crate) fn end(mut self, report: &mut Report) -> Result<Stepped, SourceFault> {
-        self.ellipses.leave(report)?;
-        let Steps { said, .. } = self;
-        Ok(said)
+        match self.ellipses.leave(report) {
+            Ok(()) => Ok(self.into_said()),
+            Err(fault) => {
+                drop(self);
+                Err(fault)
+            }
+        }
+    }
+
+    // What the lines taken so far say.
+    fn into_said(self) -> Stepped {
+        let Steps {
+            said,
+            bases,
+            within,
+            ellipses,
+            alloc: _,
+        } = self;
+        drop(bases);
+        drop(within);
+        drop(ellipses);
+        said
     }
 
     /// Takes a line. What it declares is known already.
@@ -118,10 +136,7 @@ impl Steps {
                 first,
                 last,
                 weights,
-            } => {
-                let (before, range) = self.ellipses.range(place, first, last, weights, report)?;
-                self.orders(before, range, report)
-            }
+            } => self.orders(place, first, last, weights, report),
             Said::Ellipsis(weights) => self.ellipses.dots(place, weights, report),
             Said::ReorderAfter(target) => self.after(place, target, report),
             Said::ReorderEnd => self.end_block(place, report),
@@ -226,16 +241,63 @@ impl Steps {
         line: OrderLine,
         report: &mut Report,
     ) -> Result<(), SourceFault> {
-        if let Within::Sections(after) = &self.within {
-            let after = after.try_copy()?;
-            return self.section(place, &line, after, report);
+        match self.section_before()? {
+            Some(after) => {
+                let moved = self.section(place, &line, after, report);
+                drop(line);
+                moved
+            }
+            None => self.order_line(place, line, report),
         }
+    }
+
+    // The section that a next one is placed behind, if sections are moved here.
+    fn section_before(&self) -> Result<Option<TextBuf>, AllocError> {
+        match &self.within {
+            Within::Sections(after) => Ok(Some(after.try_copy()?)),
+            Within::Nothing | Within::Block => Ok(None),
+        }
+    }
+
+    // An order line. An ellipsis before it is written out first.
+    fn order_line(
+        &mut self,
+        place: SourcePlace,
+        line: OrderLine,
+        report: &mut Report,
+    ) -> Result<(), SourceFault> {
+        let line = self.meant(line)?;
+        match self.put_before(&line.id, report) {
+            Ok(()) => self.put(place, line, report),
+            Err(fault) => {
+                drop(line);
+                Err(fault)
+            }
+        }
+    }
+
+    // An order line, whose identifier is what it means.
+    fn meant(&self, line: OrderLine) -> Result<OrderLine, AllocError> {
         let OrderLine { id, weights } = line;
-        let id = self.said.meanings.resolved(id)?;
-        if let Some(before) = self.ellipses.before(&id, report)? {
-            self.put_run(&before, report)?;
+        match self.said.meanings.resolved(id) {
+            Ok(id) => Ok(OrderLine { id, weights }),
+            Err(error) => {
+                drop(weights);
+                Err(error)
+            }
         }
-        self.put(place, OrderLine { id, weights }, report)
+    }
+
+    // What an ellipsis stands for, if there is one before this identifier.
+    fn put_before(&mut self, id: &Id, report: &mut Report) -> Result<(), SourceFault> {
+        match self.ellipses.before(id, report)? {
+            Some(before) => {
+                let put = self.put_run(&before, report);
+                drop(before);
+                put
+            }
+            None => Ok(()),
+        }
     }
 
     // A section that is placed behind the one before.
@@ -258,14 +320,30 @@ impl Steps {
     // An order line for each character of a range. An ellipsis before it is written out first.
     fn orders(
         &mut self,
-        before: Option<Run>,
-        range: Run,
+        place: SourcePlace,
+        first: char,
+        last: char,
+        weights: Option<ListBuf<Weight>>,
+        report: &mut Report,
+    ) -> Result<(), SourceFault> {
+        let (before, range) = self.ellipses.range(place, first, last, weights, report)?;
+        let put = self.put_runs(&before, &range, report);
+        drop(before);
+        drop(range);
+        put
+    }
+
+    // An order line for each character of these runs.
+    fn put_runs(
+        &mut self,
+        before: &Option<Run>,
+        range: &Run,
         report: &mut Report,
     ) -> Result<(), SourceFault> {
         if let Some(before) = before {
-            self.put_run(&before, report)?;
+            self.put_run(before, report)?;
         }
-        self.put_run(&range, report)
+        self.put_run(range, report)
     }
 
     // An order line for each character of a run.

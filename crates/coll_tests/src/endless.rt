@@ -60,22 +60,25 @@ fn assert_ended(rt: &impl Abort, answer: Result<(), RunFault>, input: usize, rea
 }
 
 fn assert_session(rt: &impl Abort, alloc: Global, reader: &Reader) {
-    let mut output = Counted::new(Vec::new(alloc));
-    let answer = run(rt, alloc, BASE_TABLE, &mut reader.open(b""), &mut output);
+    let mut output = Vec::new(alloc);
+    let mut taken = Counted::new(&mut output);
+    let answer = run(rt, alloc, BASE_TABLE, &mut reader.open(b""), &mut taken);
+    drop(taken);
     assert_ended(rt, answer, 0, reader);
-    assert_text(rt, alloc, output.device().as_slice(), reader.reply);
+    assert_text(rt, alloc, output.as_slice(), reader.reply);
 }
 
 // Asserts the fault of a batch with this reader as its table, and as its delta file. A reader isn't read behind the end of a table.
 fn assert_batch(rt: &impl Abort, alloc: Global, reader: &Reader, table: &[u8]) {
-    let mut output = Counted::new(Vec::new(alloc));
+    let mut output = Vec::new(alloc);
+    let mut taken = Counted::new(&mut output);
     let mut deltas = [reader.open(b"")];
     let answer = run_batch(
         alloc,
         Batch::Check,
         &mut reader.open(b""),
         &mut deltas,
-        &mut output,
+        &mut taken,
     );
     assert_ended(rt, answer, 0, reader);
     let answer = run_batch(
@@ -83,10 +86,11 @@ fn assert_batch(rt: &impl Abort, alloc: Global, reader: &Reader, table: &[u8]) {
         Batch::Check,
         &mut reader.open(table),
         &mut deltas,
-        &mut output,
+        &mut taken,
     );
+    drop(taken);
     assert_ended(rt, answer, 1, reader);
-    assert_same(rt, "the output", output.device().len(), 0);
+    assert_same(rt, "the output", output.len(), 0);
 }
 
 #[test]

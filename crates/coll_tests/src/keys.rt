@@ -32,7 +32,7 @@ fn ranks_of<R: Abort + Print>(rt: &R, alloc: Global, table: &Table) -> Ranks
     }
 }
 
-// Two texts, and their order.
+/// Two texts, and their order.
 pub(crate) type Compared = (&'static str, &'static str, Ordering);
 
 fn assert_order<R: Abort + Print>(
@@ -83,7 +83,7 @@ fn a_comparison_at_a_backward_level_takes_memory(rt: HostRuntime) {
     drop(table);
 }
 
-// Texts, and their keys by the base table, with a zero behind each level. A rank counts 2,097,152.
+/// Texts, and their keys by the base table, with a zero behind each level. A rank counts 2,097,152.
 pub(crate) const KEYS: &[(&str, &[u64])] = &[
     (
         "ab",
@@ -101,7 +101,7 @@ pub(crate) const KEYS: &[(&str, &[u64])] = &[
     ),
 ];
 
-// Texts, and their orders by the base table.
+/// Texts, and their orders by the base table.
 pub(crate) const ORDERS: &[Compared] = &[
     ("a", "A", Ordering::Less),
     ("ab", "a-b", Ordering::Less),

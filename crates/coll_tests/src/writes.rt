@@ -26,6 +26,8 @@ use std::process::Abort;
 enum Written {
     // The base table's canonical text.
     Canonical,
+    // Its text in the form of `localedef`.
+    Exported,
     // The key of `a-b` by it.
     Key,
     // Its compiled listing.
@@ -40,7 +42,32 @@ enum Written {
     Printed,
 }
 
-type Output = Counted<ShortWriter>;
+type Output<'a> = Counted<&'a mut ShortWriter>;
+
+// The exported text of the base table, line by line.
+const EXPORTED: Lines = &[
+    "comment_char %",
+    "escape_char /",
+    "LC_COLLATE",
+    "collating-symbol <BASE>",
+    "collating-symbol <MIN>",
+    "collating-symbol <CAP>",
+    "script <PUNCT>",
+    "order_start forward;backward;forward;forward,position",
+    "<BASE>",
+    "<MIN>",
+    "<CAP>",
+    "<U0061> <U0061>;<BASE>;<MIN>;IGNORE",
+    "<U0041> <U0061>;<BASE>;<CAP>;IGNORE",
+    "<U0062> <U0062>;<BASE>;<MIN>;IGNORE",
+    "<U0063> <U0063>;<BASE>;<MIN>;IGNORE",
+    "<U0064> <U0064>;<BASE>;<MIN>;IGNORE",
+    "order_end",
+    "order_start <PUNCT>;forward;backward;forward;forward,position",
+    "<U002D> IGNORE;IGNORE;IGNORE;<U002D>",
+    "order_end",
+    "END LC_COLLATE",
+];
 
 const LONG_LINE: RunFault = RunFault {
     input: 0,
@@ -103,6 +130,7 @@ fn write_of_table(
     let table = loaded_lines(alloc, BASE_TABLE).expect(rt, "a table");
     let answer = match what {
         Written::Canonical => table.print(out),
+        Written::Exported => table.export(out),
         _ => write_ranked(rt, alloc, &table, what, out),
     };
     drop(table);
@@ -171,6 +199,7 @@ fn lines(rt: &impl Abort, alloc: Global, lines: Lines) -> Vec<u8> {
 fn wanted(rt: &impl Abort, alloc: Global, what: Written) -> Vec<u8> {
     match what {
         Written::Canonical => lines(rt, alloc, BASE_TABLE),
+        Written::Exported => lines(rt, alloc, EXPORTED),
         Written::Key => {
             let mut key = Vec::new(alloc);
             key.extend_from_slice(b"4 6 | 1 1 | 2 2 | @2 9 |")
@@ -195,11 +224,12 @@ fn is_whole(
     at: usize,
 ) -> bool {
     let script = Script::ButFor(at, fails);
-    let mut output = Counted::new(ShortWriter::scripted(Vec::new(alloc), script));
+    let mut device = ShortWriter::scripted(Vec::new(alloc), script);
+    let mut output = Counted::new(&mut device);
     let answer = write(rt, alloc, what, &mut output);
     let errors = u64::from(answer.is_err());
     assert_same(rt, "the errors", output.errors(), errors);
-    let device = output.device();
+    drop(output);
     let taken = device.taken.as_slice();
     if answer.is_ok() {
         assert_same(rt, at, taken, wanted);
@@ -222,6 +252,7 @@ fn assert_prefixes(rt: &impl Abort, alloc: Global, what: Written) {
 
 const ALL: &[Written] = &[
     Written::Canonical,
+    Written::Exported,
     Written::Key,
     Written::Listing,
     Written::Fault,

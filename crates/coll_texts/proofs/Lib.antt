@@ -2,6 +2,9 @@ pub mod AgainJudged
 pub mod BuilderSteps
 pub mod BuiltTables
 pub mod EndedStates
+pub mod ExportedLines
+pub mod ExportedParts
+pub mod ExportedTables
 pub mod FirstCauses
 pub mod LayoutEnds
 pub mod OwnChanges

@@ -1,5 +1,5 @@
 -- Each canonical line is read as its tokens.
-use Rattle.std.proofs.Common.{◌≡◌, ℕ, ◌+◌, ◌*◌, ◌≤◌, Bool, true, false, if◌then◌else◌, List, [], ◌∷◌, ◌++◌, All, length, map, codes, Some, None, Ok, ap, subst, ◌∙◌, refl, arith}
+use Rattle.std.proofs.Common.{◌≡◌, ℕ, ◌+◌, ◌*◌, ◌≤◌, Bool, true, false, if◌then◌else◌, List, [], ◌∷◌, ◌++◌, All, length, map, codes, Some, None, Result, Ok, ap, subst, ◌∙◌, refl, arith}
 use Rattle.std.specs.Prelude.{encode_utf8_all}
 use Rattle.std.specs.List.{list_all}
 use lib.Utf8.{scalars, encode}
@@ -19,6 +19,7 @@ use Rattle.coll_lex.specs.declared.tokens.Piece.TheVariants as piece
 use Rattle.coll_syntax.specs.Proper.{IsId, IsWeightId, IsElementText, IsProperWeight}
 use Rattle.coll_syntax.specs.TableLines.{table_line}
 use Rattle.coll_syntax.specs.declared.lines.TableLine.{TableLine}
+use Rattle.coll_syntax.specs.declared.syntax_faults.SyntaxFault.{SyntaxFault}
 use Rattle.coll_syntax.specs.declared.lines.TableLine.TheVariants as line
 use Rattle.coll_syntax.specs.declared.identifiers.Id.{Id}
 use Rattle.coll_syntax.specs.declared.identifiers.Id.TheVariants.{Char, Named, Undefined}
@@ -90,6 +91,10 @@ spells_rule r h =
     spells_wider (spelled_rule r) (token.Word (direction_word r.backward) ∷ position_tokens r.position) (8 + 9) 8258 (omega arith)
     (spells_both (λ rest. direction_word r.backward ++ rest) (spelled_position r.position) (token.Word (direction_word r.backward) ∷ []) (position_tokens r.position) 8 9 (spells_direction r.backward)
     (spells_position r.position) (position_ends r.position))
+
+-- rules with a semicolon between them
+pub spells_rules : (rules : List Rule) → Spells (spelled_joined spelled_rule rules) (tokens_joined (map rule_tokens rules)) (8259 * length rules)
+spells_rules rules = spells_joined spelled_rule rule_tokens (λ r. Unit {0}) spells_rule rules (λ k d below. tt)
 
 -- Weights.
 
@@ -178,8 +183,7 @@ pub rules_is_line : (rules : List Rule) → length rules ≤ 4 → IsLine (rules
 unfolding is_letter is_clean directive operand_of past_blanks encode
 rules_is_line rules few =
     line_from (λ rest. codes "order_start" ++ 32 ∷ spelled_joined spelled_rule rules rest) (token.Word (codes "order_start")) (tokens_joined (map rule_tokens rules)) (11 + (1 + 8259 * length rules))
-    (spells_begun 111 (codes "rder_start") (spelled_joined spelled_rule rules) (tokens_joined (map rule_tokens rules)) (8259 * length rules) refl
-    (spells_joined spelled_rule rule_tokens (λ r. Unit {0}) spells_rule rules (λ k d below. tt))) (omega arith) (λ special. refl)
+    (spells_begun 111 (codes "rder_start") (spelled_joined spelled_rule rules) (tokens_joined (map rule_tokens rules)) (8259 * length rules) refl (spells_rules rules)) (omega arith) (λ special. refl)
 
 -- The line of a declaration.
 
@@ -281,9 +285,13 @@ entry_is_line id ws false e h hs few = weighted_is_line id id ws h h hs few
 
 -- What a line says.
 
--- a line that is read, and that says this to the grammar
+-- a line that is read, and that says this to a grammar
+abbrev pub SaysTo : {R : Type 0} → (List Token → Result R SyntaxFault) → List ℕ → R → Type 0
+SaysTo grammar line read = (t : Token) × (ts : List Token) × IsLine line t ts × (grammar (t ∷ ts) ≡ Ok read)
+
+-- a line that says this to the grammar of tables
 abbrev pub Says : List ℕ → TableLine → Type 0
-Says line read = (t : Token) × (ts : List Token) × IsLine line t ts × (table_line (t ∷ ts) ≡ Ok read)
+Says line read = SaysTo table_line line read
 
 -- the line of a declaration
 pub declaration_says : (d : Declaration) → IsSpelledDeclaration d → Says (declaration_line d) (declaration_read d)

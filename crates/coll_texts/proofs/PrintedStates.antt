@@ -29,8 +29,8 @@ use Rattle.coll_nodes.specs.WellFormed.{AreDistinct, IsNamed, FirstIsUnnamed, Is
 use Rattle.coll_nodes.specs.Limits.{most_entries, most_declarations, most_sections}
 use Rattle.coll_nodes.specs.Table.{has_text}
 use Rattle.coll_nodes.specs.Causes.{refused_if}
-use Rattle.coll_texts.specs.BuilderStates.{BuilderState, state_of, table_of, own_order, with_own_weights, meaning_cause, declaration_cause}
-use Rattle.coll_texts.specs.BuilderStates.{order_cause, cause_after, weight_cause, ids_cause, entries_fault, weights_fault, line_fault, is_end}
+use Rattle.coll_texts.specs.BuilderStates.{BuilderState, state_of, table_of, own_order, with_own_weights, meaning_cause, declaration_cause, rules_differ}
+use Rattle.coll_texts.specs.BuilderStates.{section_cause, order_cause, cause_after, weight_cause, ids_cause, entries_fault, weights_fault, line_fault, is_end}
 use Rattle.coll_texts.specs.declared.load_faults.LoadCause.{LoadCause}
 use Rattle.coll_texts.specs.Loading.{with_last, with_section, state_with}
 use Rattle.coll_nodes.specs.Walks.{Visited, VisitedSection, VisitedEntry, visited_name, visited_in, visited, entry_visited}
@@ -39,6 +39,7 @@ use Rattle.coll_lookups.proofs.Sameness.{neither, same_id_decides, same_name_sym
 use Rattle.coll_nodes.proofs.DistinctLists.{distinct_before}
 use Rattle.coll_nodes.proofs.OwnNames.{symbol_own, named_own_same, own_id_known, own_table, meant_before, means_something}
 use Rattle.coll_texts.proofs.BuiltTables.{entries_with_section, names_with_section, unnamed_with_section, entries_with_last, names_with_last, length_with_last, unnamed_with_last}
+use Rattle.coll_texts.proofs.RuleLists.{differ_unless_same}
 use Rattle.coll_texts.proofs.VisitedEntries.{visited_all}
 use Rattle.coll_texts.proofs.PrintedTokens.{own_read, weight_read, order_read, declaration_read}
 
@@ -205,10 +206,10 @@ unfoldable pub name_visited : Visited → List (List ℕ)
 name_visited (VisitedSection name) = name ∷ []
 name_visited (VisitedEntry entry) = []
 
--- what is met, as a line of a table
-unfoldable pub visited_read : Visited → TableLine
-visited_read (VisitedSection name) = line.Section name
-visited_read (VisitedEntry entry) = line.Order (order_read entry.id entry.weights)
+-- what is met, as lines of a table, by those that begin a section
+unfoldable pub visited_read : (begun : List ℕ → List TableLine) → Visited → List TableLine
+visited_read begun (VisitedSection name) = begun name
+visited_read begun (VisitedEntry entry) = line.Order (order_read entry.id entry.weights) ∷ []
 
 -- the sections with what is met behind them
 sections_past : List Section → List Visited → List Section
@@ -278,10 +279,35 @@ unfolding order_read
 own_as_read levels declared sections e ms can =
     ap (λ id. record (order_read e.id e.weights) { id = id }) (own_id_known declared e.id can.declared_once (All-head (IsKnown declared) e.id (ids_of (flat_map entry_visited ms)) can.known))
 
+-- lines that begin a section behind these sections, where nothing is against its name
+pub BeginSections : List Rule → (begun : List ℕ → List TableLine) → Type 1
+BeginSections rules begun =
+    (declared : List Declaration) (sections : List Section) (numbers : List ℕ) (name : List ℕ) (number : ℕ) (rest : List TableLine) (Last : BuilderState → Type 0)
+    → section_cause (open_state rules declared sections numbers) name ≡ None
+    → ((number : ℕ) → Leads (open_state rules declared (with_section sections name) numbers) number rest Last)
+    → Leads (open_state rules declared sections numbers) number (begun name ++ rest) Last
+
+-- a line of its own begins one
+pub section_begins : (rules : List Rule) → BeginSections rules (λ name. line.Section name ∷ [])
+unfolding Leads open_state state_with BeginSections
+section_begins rules declared sections numbers name number rest Last new goes_on =
+    (faultless (open_state rules declared sections numbers) number (line.Section name) refl new, refl, goes_on (suc number))
+
+-- and so does an `order_start` with its name and the same rules, once the order before it is closed
+pub start_begins : (rules : List Rule) → BeginSections rules (λ name. line.OrderEnd ∷ line.OrderStart (Some name) (Some rules) ∷ [])
+unfolding Leads open_state state_with BeginSections
+start_begins rules declared sections numbers name number rest Last new goes_on =
+    let closed = record (open_state rules declared sections numbers) { order_open = false } in
+    let same : rules_differ (Some rules) (Some rules) ≡ false = sym (differ_unless_same true rules rules (λ _. refl, λ _. refl)) in (
+      faultless (open_state rules declared sections numbers) number line.OrderEnd refl refl,
+      refl,
+      (faultless closed (suc number) (line.OrderStart (Some name) (Some rules)) refl (passes _ _ _ same new), refl, goes_on (suc (suc number))),
+    )
+
 module _ (rules : List Rule) (declared : List Declaration) (sections : List Section) (numbers : List ℕ) where
-  -- a section is accepted
+  -- nothing is against a section
   section_passes : (name : List ℕ) (ms : List Visited) → CanFollow (length rules) declared sections (VisitedSection name ∷ ms)
-      → cause_after (open_state rules declared sections numbers) (line.Section name) ≡ None
+      → section_cause (open_state rules declared sections numbers) name ≡ None
   unfolding open_state name_visited
   section_passes name ms can =
       let new : has_name (section_names sections) name ≡ false = distinct_before same_name same_name_symmetric (section_names sections) name (flat_map name_visited ms) can.distinct_names in
@@ -305,25 +331,25 @@ module _ (rules : List Rule) (declared : List Declaration) (sections : List Sect
       (passes _ _ _ (count_passes (length rules) (is_symbol declared e.id) e weighted) (passes _ _ _ room refl)))))
 
 -- all that is met, accepted one after another
-meets_lead : (rules : List Rule) (declared : List Declaration) (sections : List Section) (numbers : List ℕ) (ms : List Visited) (number : ℕ) (rest : List TableLine) (Last : BuilderState → Type 0)
-    → CanFollow (length rules) declared sections ms
+meets_lead : (rules : List Rule) (begun : List ℕ → List TableLine) (declared : List Declaration) (sections : List Section) (numbers : List ℕ) (ms : List Visited) (number : ℕ) (rest : List TableLine)
+    (Last : BuilderState → Type 0) → BeginSections rules begun → CanFollow (length rules) declared sections ms
     → ((numbers : List ℕ) (number : ℕ) → Leads (open_state rules declared (sections_past sections ms) numbers) number rest Last)
-    → Leads (open_state rules declared sections numbers) number (map visited_read ms ++ rest) Last
-unfolding Leads open_state state_with sections_past visited_read
-meets_lead rules declared sections numbers [] number rest Last can goes_on = goes_on numbers number
-meets_lead rules declared sections numbers (VisitedSection name ∷ ms) number rest Last can goes_on = (
-  faultless (open_state rules declared sections numbers) number (line.Section name) refl (section_passes rules declared sections numbers name ms can),
-  refl,
-  meets_lead rules declared (with_section sections name) numbers ms (suc number) rest Last (section_on (length rules) declared sections name ms can) goes_on,
-)
-meets_lead rules declared sections numbers (VisitedEntry e ∷ ms) number rest Last can goes_on =
+    → Leads (open_state rules declared sections numbers) number (flat_map (visited_read begun) ms ++ rest) Last
+unfolding Leads open_state state_with sections_past visited_read BeginSections
+meets_lead rules begun declared sections numbers [] number rest Last begins can goes_on = goes_on numbers number
+meets_lead rules begun declared sections numbers (VisitedSection name ∷ ms) number rest Last begins can goes_on =
+    let later = flat_map (visited_read begun) ms in
+    subst (λ ls. Leads (open_state rules declared sections numbers) number ls Last) (sym (append_assoc (begun name) later rest))
+    (begins declared sections numbers name number (later ++ rest) Last (section_passes rules declared sections numbers name ms can)
+    (λ number. meets_lead rules begun declared (with_section sections name) numbers ms number rest Last begins (section_on (length rules) declared sections name ms can) goes_on))
+meets_lead rules begun declared sections numbers (VisitedEntry e ∷ ms) number rest Last begins can goes_on =
     let order = order_read e.id e.weights in
     let same : e ≡ entry_of (length rules) declared (own_order declared order) =
     sym (entry_as_it_was (length rules) declared e (weighted_first can)) ∙ ap (entry_of (length rules) declared) (sym (own_as_read (length rules) declared sections e ms can)) in (
       faultless (open_state rules declared sections numbers) number (line.Order order) refl (entry_passes rules declared sections numbers e ms can),
       refl,
-      subst (λ (entry : Entry). Leads (open_state rules declared (with_last sections entry) (numbers ++ number ∷ [])) (suc number) (map visited_read ms ++ rest) Last) same
-          (meets_lead rules declared (with_last sections e) (numbers ++ number ∷ []) ms (suc number) rest Last (entry_on (length rules) declared sections e ms can) goes_on),
+      subst (λ (entry : Entry). Leads (open_state rules declared (with_last sections entry) (numbers ++ number ∷ [])) (suc number) (flat_map (visited_read begun) ms ++ rest) Last) same
+          (meets_lead rules begun declared (with_last sections e) (numbers ++ number ∷ []) ms (suc number) rest Last begins (entry_on (length rules) declared sections e ms can) goes_on),
     ) where
       weighted_first : CanFollow (length rules) declared sections (VisitedEntry e ∷ ms) → IsWeighted (length rules) declared e
       weighted_first can = All-head (IsWeighted (length rules) declared) e (flat_map entry_visited ms) can.weighted
@@ -449,11 +475,25 @@ module _ (table : Collation) (w : IsWellFormed table) (numbers : List ℕ) where
 
 -- The whole table.
 
--- the lines of a table but for the last, as they are read
-unfoldable pub said : Collation → List TableLine
-said table = map declaration_read table.declared ++ (line.OrderStart None (Some table.rules) ∷ (map visited_read (visited table.sections) ++ line.OrderEnd ∷ []))
+-- a line without effect
+abbrev pub script_read : List ℕ → TableLine
+script_read note = line.Script
 
-module _ (table : Collation) (w : IsWellFormed table) where
+-- the lines of a table but for the last, as they are read, with lines without effect before the order, and by those that begin a
+-- section
+unfoldable pub said : (notes : List (List ℕ)) → (begun : List ℕ → List TableLine) → Collation → List TableLine
+said notes begun table =
+    map declaration_read table.declared
+    ++ (map script_read notes ++ (line.OrderStart None (Some table.rules) ∷ (flat_map (visited_read begun) (visited table.sections) ++ line.OrderEnd ∷ [])))
+
+-- lines without effect lead on
+scripts_lead : (d : BuilderState) (notes : List (List ℕ)) (number : ℕ) (rest : List TableLine) (Last : BuilderState → Type 0) → ((number : ℕ) → Leads d number rest Last)
+    → Leads d number (map script_read notes ++ rest) Last
+unfolding Leads state_with
+scripts_lead d [] number rest Last goes_on = goes_on number
+scripts_lead d (note ∷ notes) number rest Last goes_on = (faultless d number line.Script refl refl, refl, scripts_lead d notes (suc number) rest Last goes_on)
+
+module _ (table : Collation) (w : IsWellFormed table) (notes : List (List ℕ)) (begun : List ℕ → List TableLine) (begins : BeginSections table.rules begun) where
   -- what is met may stand behind a first section that is empty
   can_follow : CanFollow (length table.rules) table.declared (record { name = None; entries = [] } ∷ []) (visited table.sections)
   can_follow =
@@ -480,18 +520,20 @@ module _ (table : Collation) (w : IsWellFormed table) where
       subst (λ sections. Leads (open_state table.rules table.declared sections numbers) number (line.OrderEnd ∷ []) (EndsAs table)) (sym (past_all table.sections w.built.first_unnamed))
       (faultless (open_state table.rules table.declared table.sections numbers) number line.OrderEnd refl refl, refl, ends_as table w numbers)
 
-  -- behind the declarations the order begins
-  rules_lead : (number : ℕ) → Leads (declared_state table.declared) number (line.OrderStart None (Some table.rules) ∷ (map visited_read (visited table.sections) ++ line.OrderEnd ∷ [])) (EndsAs table)
+  -- behind the declarations and the lines without effect the order begins
+  rules_lead : (number : ℕ)
+      → Leads (declared_state table.declared) number (line.OrderStart None (Some table.rules) ∷ (flat_map (visited_read begun) (visited table.sections) ++ line.OrderEnd ∷ [])) (EndsAs table)
   unfolding Leads declared_state state_with open_state
   rules_lead number = (
     faultless (declared_state table.declared) number (line.OrderStart None (Some table.rules)) refl refl,
     refl,
-    meets_lead table.rules table.declared (record { name = None; entries = [] } ∷ []) [] (visited table.sections) (suc number) (line.OrderEnd ∷ []) (EndsAs table) can_follow order_leads,
+    meets_lead table.rules begun table.declared (record { name = None; entries = [] } ∷ []) [] (visited table.sections) (suc number) (line.OrderEnd ∷ []) (EndsAs table) begins can_follow order_leads,
   )
 
   -- the lines of a table, accepted one after another, say it
-  pub said_leads : (number : ℕ) → Leads (state_of []) number (said table) (EndsAs table)
+  pub said_leads : (number : ℕ) → Leads (state_of []) number (said notes begun table) (EndsAs table)
   unfolding said declared_state state_of
   said_leads number =
-      declarations_lead [] table.declared number (line.OrderStart None (Some table.rules) ∷ (map visited_read (visited table.sections) ++ line.OrderEnd ∷ [])) (EndsAs table)
-      w.built.distinct_names w.built.distinct_texts w.built.meant w.built.few_declarations rules_lead
+      let order = line.OrderStart None (Some table.rules) ∷ (flat_map (visited_read begun) (visited table.sections) ++ line.OrderEnd ∷ []) in
+      declarations_lead [] table.declared number (map script_read notes ++ order) (EndsAs table) w.built.distinct_names w.built.distinct_texts w.built.meant w.built.few_declarations
+      (λ number. scripts_lead (declared_state table.declared) notes number order (EndsAs table) rules_lead)

@@ -294,6 +294,16 @@ unfolding table_line rules_tokens keyword_of
 rules_line_is_read [] some short = absurd (omega (arith, some))
 rules_line_is_read (r ∷ rs) some short = opened_by_rules r rs ∙ ap (read_as (λ given. line.OrderStart None (Some given))) (rules_are_read r rs short)
 
+-- the tokens of a line that begins a section and has the rules again
+unfoldable pub start_tokens : (name : List ℕ) → List Rule → List Token
+start_tokens name rs = token.Word (codes "order_start") ∷ token.Symbol name ∷ token.Semicolon ∷ tokens_joined (map rule_tokens rs)
+
+-- such a line is read
+pub start_is_read : (name : List ℕ) (rs : List Rule) → 1 ≤ length rs → length rs ≤ 4 → table_line (start_tokens name rs) ≡ Ok (line.OrderStart (Some name) (Some rs))
+unfolding table_line start_tokens keyword_of
+start_is_read name [] some short = absurd (omega (arith, some))
+start_is_read name (r ∷ rs) some short = ap (λ given. read_as (line.OrderStart (Some name)) (read_as Some given)) (rules_are_read r rs short)
+
 -- the tokens of the line of a declaration
 unfoldable pub declaration_tokens : Declaration → List Token
 declaration_tokens (declaration.Symbol name) = token.Word (codes "collating-symbol") ∷ token.Symbol name ∷ []
@@ -331,6 +341,14 @@ section_tokens name = token.Word (codes "section") ∷ token.Symbol name ∷ []
 pub section_is_read : (name : List ℕ) → table_line (section_tokens name) ≡ Ok (line.Section name)
 unfolding table_line section_tokens keyword_of
 section_is_read name = refl
+
+-- the line that tells the name of a section has no effect
+unfoldable pub script_tokens : List ℕ → List Token
+script_tokens name = token.Word (codes "script") ∷ token.Symbol name ∷ []
+
+pub script_is_read : (name : List ℕ) → table_line (script_tokens name) ≡ Ok line.Script
+unfolding table_line script_tokens keyword_of
+script_is_read name = refl
 
 pub order_end_is_read : table_line (token.Word (codes "order_end") ∷ []) ≡ Ok line.OrderEnd
 unfolding table_line keyword_of

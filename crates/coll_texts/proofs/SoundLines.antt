@@ -60,7 +60,7 @@ declaration_told declared new absent means no_text =
     let meant = ap (λ b. refused_if b NotDeclared (refused_if (means_no_symbol declared new) NotASymbol None)) (means_something declared new means) ∙ ap (λ b. refused_if b NotASymbol None) means in
     ap (λ b. refused_if b DeclaredTwice (option_or (meaning_cause declared new) texts)) absent ∙ (ap (λ cause. option_or cause texts) meant ∙ ap (λ b. refused_if b StringTwice full) no_text)
 
--- where there is room it isn't refused, and else for want of room
+-- where there is room it isn't refused; where there is none it is, as one too many
 pub declaration_fits : (declared : List Declaration) (new : Declaration) → is_declared declared (name_of new) ≡ false → means_no_symbol declared new ≡ false → has_text declared (text_of new) ≡ false
     → length declared < most_declarations → declaration_cause declared new ≡ None
 declaration_fits declared new absent means no_text room = declaration_told declared new absent means no_text ∙ ap (λ b. refused_if b Full None) (lt-leb most_declarations (length declared) room)

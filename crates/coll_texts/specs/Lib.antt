@@ -1,6 +1,8 @@
 pub mod BuilderStates
 pub mod Building
 pub mod CanonicalText
+pub mod ExportedParts
+pub mod ExportedText
 pub mod LoadFaults
 pub mod Loading
 pub mod OwnWeights

@@ -1,6 +1,8 @@
 -- Why a load was refused: the cause that a fault below is, and the numbers and the names that messages show.
 use Rattle.std.specs.Prelude.{ℕ, List, codes}
 use Rattle.coll_lex.specs.Faults.{lex_fault_number, lex_fault_name}
+use Rattle.coll_lex.specs.declared.early_ends.EarlyEnd.{EarlyEnd}
+use Rattle.coll_lex.specs.declared.early_ends.EarlyEnd.TheVariants as early
 use Rattle.coll_lex.specs.declared.faults.LexFault.{LexFault}
 use Rattle.coll_lex.specs.declared.faults.LexFault.TheVariants as lex
 use Rattle.coll_syntax.specs.SyntaxFaults.{syntax_fault_number, syntax_fault_name}
@@ -22,6 +24,12 @@ lex_cause fault = Lex fault
 abbrev pub syntax_cause : SyntaxFault → LoadCause
 syntax_cause syntax.OutOfMemory = OutOfMemory
 syntax_cause fault = Syntax fault
+
+-- the fault of a text that ends before its category does
+abbrev pub early_fault : EarlyEnd → LoadFault
+early_fault (early.LeftOpen number) = record { line = number; cause = Lex lex.DanglingEscape }
+early_fault (early.WithinCategory count) = record { line = count; cause = NoEnd }
+early_fault (early.BeforeCategory count) = record { line = count; cause = NoCategory }
 
 -- the number of a cause
 abbrev pub load_cause_number : LoadCause → ℕ

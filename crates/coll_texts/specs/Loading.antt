@@ -1,9 +1,9 @@
 -- A table text handed in line by line: what is stored of the lines before, and what one more line makes of it.
 use Rattle.std.specs.Prelude.{◌≡◌, ℕ, Bool, true, false, if◌then◌else◌, List, [], ◌∷◌, ◌++◌, Option, Some, None, Result, Ok, Err}
 use Rattle.coll_devices.specs.PhysicalLines.{lines_of}
+use Rattle.coll_lex.specs.EarlyEnds.{ends_at}
 use Rattle.coll_lex.specs.LogicalLines.{LexerState, OpenLine, first_state, number_of, fed, outside}
 use Rattle.coll_lex.specs.declared.faults.LexFault.{LexFault}
-use Rattle.coll_lex.specs.declared.faults.LexFault.TheVariants as lex
 use Rattle.coll_lex.specs.declared.tokens.Line.{Line}
 use Rattle.coll_syntax.specs.TableLines.{table_line}
 use Rattle.coll_syntax.specs.declared.lines.TableLine.{TableLine}
@@ -17,9 +17,10 @@ use Rattle.coll_nodes.specs.Table.{Collation, Section}
 use Rattle.coll_nodes.specs.Entries.{entry_of}
 use Rattle.coll_texts.specs.BuilderStates.{Numbered, BuilderState, state_of, table_of, second_name, own_order}
 use Rattle.coll_texts.specs.BuilderStates.{with_own_weights, line_fault, at_line, is_end, levels_of, rules_given}
+use Rattle.coll_texts.specs.LoadFaults.{early_fault}
 use Rattle.coll_texts.specs.Reading.{reads}
 use Rattle.coll_texts.specs.declared.load_faults.LoadFault.{LoadFault}
-use Rattle.coll_texts.specs.declared.load_faults.LoadCause.TheVariants.{Lex, Syntax, NoCategory, NoEnd}
+use Rattle.coll_texts.specs.declared.load_faults.LoadCause.TheVariants.{Lex, Syntax}
 
 -- What one more accepted line makes of what the lines before it say.
 
@@ -119,10 +120,9 @@ by_where s physical =
 unfoldable pub loaded_line : LoaderState → List ℕ → Result LoaderState LoadFault
 loaded_line s physical = unless_faulty s.fault (by_where s physical)
 
--- the fault of a text that ends before its category does: of a line that is left open, or of the end
+-- the fault of a text that ends here: of a line that is left open, or of the end
 abbrev pub early_end : LoaderState → Option OpenLine → LoadFault
-early_end s (Some open_line) = at_line open_line.number (Lex lex.DanglingEscape)
-early_end s None = at_line s.lexer.count (if s.begun then NoEnd else NoCategory)
+early_end s left = early_fault (ends_at s.begun s.lexer.count left)
 
 -- the table, where the category has ended, or the fault
 unfoldable pub loaded : LoaderState → Result Collation LoadFault

@@ -8,7 +8,7 @@ use Rattle.coll_syntax.specs.declared.identifiers.Id.{Id}
 use Rattle.coll_syntax.specs.declared.rules.Rule.{Rule}
 use Rattle.coll_nodes.specs.declared.declarations.Declaration.{Declaration}
 use Rattle.coll_nodes.specs.Walks.{Visited}
-use Rattle.coll_texts.specs.CanonicalText.{spelled_id, declaration_line, visited_line, rules_line, line_bytes}
+use Rattle.coll_texts.specs.CanonicalText.{spelled_id, spelled_rule, spelled_joined, declaration_line, visited_line, rules_line, line_bytes}
 
 -- an identifier
 abbrev pub id_bytes : Id → List ℕ
@@ -46,9 +46,16 @@ element_bytes name chars = symbol_bytes name ++ (codes " from \"" ++ text_bytes 
 abbrev pub names_bytes : (first second : List ℕ) → List ℕ
 names_bytes first second = symbol_bytes first ++ (codes " " ++ (symbol_bytes second ++ line_feed ∷ []))
 
+-- the rules, and the line's end
+abbrev pub rules_bytes : List Rule → List ℕ
+rules_bytes rules = encode_utf8_all (spelled_joined spelled_rule rules []) ++ line_feed ∷ []
+
+-- the lines before the order of a table that declares this
+abbrev pub opening_bytes : List Declaration → List ℕ
+opening_bytes declared = codes "comment_char %\nescape_char /\nLC_COLLATE\n" ++ flat_map declaration_bytes declared
+
 -- the text of a table with these rules, that declares this, and of which a walk visits this
 abbrev pub table_bytes : List Rule → List Declaration → List Visited → List ℕ
 table_bytes rules declared items =
-    codes "comment_char %\nescape_char /\nLC_COLLATE\n"
-    ++ (flat_map declaration_bytes declared
-    ++ (line_bytes (rules_line rules) ++ (flat_map visited_bytes items ++ codes "order_end\nEND LC_COLLATE\n")))
+    opening_bytes declared
+    ++ (line_bytes (rules_line rules) ++ (flat_map visited_bytes items ++ codes "order_end\nEND LC_COLLATE\n"))

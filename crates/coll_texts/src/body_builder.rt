@@ -22,9 +22,9 @@ use std::marker::Model;
 #[derive(Drop)]
 pub(crate) struct BodyBuilder {
     body: Body,
-    /// The place behind the last section.
+    // The place behind the last section.
     sections_end: Place,
-    /// The place behind the last entry of the last section.
+    // The place behind the last entry of the last section.
     entries_end: Place,
 }
 

@@ -7,7 +7,7 @@ ghost use Rattle.std.specs.Prelude.{◌++◌};
 ghost use Rattle.std.specs.List.{flat_map};
 ghost use Rattle.coll_devices.specs.Devices.{CountsErr, Sends};
 ghost use Rattle.coll_texts.specs.CanonicalText.{PrintedTablesAreReadBack};
-ghost use Rattle.coll_texts.specs.PrintedParts.{declaration_bytes, table_bytes, visited_bytes};
+ghost use Rattle.coll_texts.specs.PrintedParts.{declaration_bytes, opening_bytes, table_bytes, visited_bytes};
 
 use crate::spelled_lines::{write_declaration, write_rules_line, write_visited};
 use coll_devices::{Sink, WriteStop, write_bytes};
@@ -26,11 +26,19 @@ pub fn write_table<W: Sink>(
     ensures sent { Sends (W.taken out.old) (W.taken out.new) (table_bytes rules.now declared.entry walk.entry) result }
     ensures errors { CountsErr (W.failed out.old) (W.failed out.new) result }
 {
-    write_bytes(out, b"comment_char %\nescape_char /\nLC_COLLATE\n")?;
-    write_declarations(out, declared)?;
+    write_opening(out, declared)?;
     write_rules_line(out, rules)?;
     write_walk(out, walk)?;
     write_bytes(out, b"order_end\nEND LC_COLLATE\n")
+}
+
+/// Writes the lines before the order: those that open the category, and one for each declaration.
+pub(crate) fn write_opening<W: Sink>(out: &mut W, declared: Declared<'_>) -> Result<(), WriteStop>
+    ensures sent { Sends (W.taken out.old) (W.taken out.new) (opening_bytes declared.entry) result }
+    ensures errors { CountsErr (W.failed out.old) (W.failed out.new) result }
+{
+    write_bytes(out, b"comment_char %\nescape_char /\nLC_COLLATE\n")?;
+    write_declarations(out, declared)
 }
 
 // Writes a line for each declaration.

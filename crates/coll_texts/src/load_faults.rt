@@ -8,7 +8,7 @@
 ghost use Rattle.std.specs.Prelude.{◌≡◌};
 ghost use Rattle.coll_texts.specs.declared.load_faults.LoadCause.TheVariants.{OutOfMemory};
 
-use coll_lex::LexFault;
+use coll_lex::{EarlyEnd, LexFault};
 use coll_syntax::SyntaxFault;
 use std::alloc::{AllocError, AllocFailed};
 use std::fmt;
@@ -159,6 +159,21 @@ impl From<AllocError> for LoadFault {
             line: 0,
             cause: LoadCause::OutOfMemory,
         }
+    }
+}
+
+impl From<EarlyEnd> for LoadFault {
+    ghost use Rattle.coll_texts.specs.LoadFaults.{early_fault};
+
+    ghost from_gives = { λ end fault. fault ≡ early_fault end };
+
+    fn from(end: EarlyEnd) -> LoadFault {
+        let (line, cause) = match end {
+            EarlyEnd::LeftOpen(line) => (line, LoadCause::Lex(LexFault::DanglingEscape)),
+            EarlyEnd::WithinCategory(line) => (line, LoadCause::NoEnd),
+            EarlyEnd::BeforeCategory(line) => (line, LoadCause::NoCategory),
+        };
+        LoadFault { line, cause }
     }
 }
 

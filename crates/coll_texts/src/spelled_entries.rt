@@ -155,7 +155,7 @@ fn write_ids<W: Sink>(out: &mut W, ids: &[Id]) -> Result<(), WriteStop>
 /// Writes an identifier in its canonical spelling: a character by its code point, a name between `<` and `>`, or `UNDEFINED`.
 ///
 /// Where it stops, the device has taken a prefix of this.
-pub fn write_id<W: Sink>(out: &mut W, id: &Id) -> Result<(), WriteStop>
+pub(crate) fn write_id<W: Sink>(out: &mut W, id: &Id) -> Result<(), WriteStop>
     ensures sent { Sends (W.taken out.old) (W.taken out.new) (id_bytes id.now) result }
     ensures errors { CountsErr (W.failed out.old) (W.failed out.new) result }
 {

@@ -8,7 +8,7 @@ ghost use Rattle.std.specs.List.{flat_map};
 ghost use Rattle.coll_devices.specs.Devices.{CountsErr, Sends};
 ghost use Rattle.coll_devices.specs.PhysicalLines.{line_feed};
 ghost use Rattle.coll_texts.specs.CanonicalText.{spelled_rule, spelled_joined, rules_line, line_bytes};
-ghost use Rattle.coll_texts.specs.PrintedParts.{char_bytes, behind_bytes, declaration_bytes, visited_bytes};
+ghost use Rattle.coll_texts.specs.PrintedParts.{char_bytes, behind_bytes, declaration_bytes, rules_bytes, visited_bytes};
 ghost use Rattle.coll_texts.specs.PrintedParts.{symbol_bytes, element_bytes, names_bytes};
 ghost use Rattle.coll_nodes.specs.WalkItems.{visited_by, declared_by};
 
@@ -47,8 +47,12 @@ pub(crate) fn write_visited<W: Sink>(out: &mut W, item: WalkItem<'_>) -> Result<
     }
 }
 
-// Writes a line of a word and a name.
-fn write_named<'a, W: Sink>(out: &mut W, word: &'a [u8], name: &'a str) -> Result<(), WriteStop>
+/// Writes a line of a word and a name.
+pub(crate) fn write_named<'a, W: Sink>(
+    out: &mut W,
+    word: &'a [u8],
+    name: &'a str,
+) -> Result<(), WriteStop>
     ensures sent { Sends (W.taken out.old) (W.taken out.new) (word.now ++ (symbol_bytes (chars name.now) ++ line_feed ∷ [])) result }
     ensures errors { CountsErr (W.failed out.old) (W.failed out.new) result }
 {
@@ -118,6 +122,14 @@ pub(crate) fn write_rules_line<W: Sink>(out: &mut W, rules: &[Rule]) -> Result<(
     ensures errors { CountsErr (W.failed out.old) (W.failed out.new) result }
 {
     write_bytes(out, b"order_start ")?;
+    write_rules_ended(out, rules)
+}
+
+/// Writes rules with a semicolon between them, and the line's end.
+pub(crate) fn write_rules_ended<W: Sink>(out: &mut W, rules: &[Rule]) -> Result<(), WriteStop>
+    ensures sent { Sends (W.taken out.old) (W.taken out.new) (rules_bytes rules.now) result }
+    ensures errors { CountsErr (W.failed out.old) (W.failed out.new) result }
+{
     write_rules(out, rules)?;
     write_bytes(out, b"\n")
 }

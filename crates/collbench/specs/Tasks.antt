@@ -10,11 +10,13 @@ use Rattle.collbench.specs.declared.command_line.Task.TheVariants as task
 abbrev pub subcommand_name : Subcommand → List ℕ
 subcommand_name subcommand.Check = codes "check"
 subcommand_name subcommand.Print = codes "print"
+subcommand_name subcommand.Export = codes "export"
 subcommand_name subcommand.Compile = codes "compile"
 subcommand_name subcommand.Key = codes "key"
 subcommand_name subcommand.Compare = codes "compare"
 subcommand_name subcommand.Session = codes "session"
 subcommand_name subcommand.Import = codes "import"
+subcommand_name subcommand.ImportDelta = codes "import-delta"
 
 -- a comparison is of two texts
 abbrev pub comparison : (texts : List (List ℕ)) → Option Task
@@ -25,8 +27,10 @@ comparison texts = None
 abbrev pub task_for : Subcommand → (texts : List (List ℕ)) → Option Task
 task_for subcommand.Check texts = Some (task.Batch batch.Check)
 task_for subcommand.Print texts = Some (task.Batch batch.Print)
+task_for subcommand.Export texts = Some (task.Batch batch.Export)
 task_for subcommand.Compile texts = Some (task.Batch batch.Compile)
 task_for subcommand.Key texts = Some (task.Batch (batch.Key texts))
 task_for subcommand.Compare texts = comparison texts
 task_for subcommand.Session texts = Some task.Session
 task_for subcommand.Import texts = Some (task.Import texts)
+task_for subcommand.ImportDelta texts = Some (task.ImportDelta texts)

@@ -14,7 +14,7 @@ use coll_bench::Batch;
 use coll_lex::{ListBuf, TextBuf};
 use std::alloc::{AllocError, Global};
 
-// The names of the words that a subcommand takes, as usage shows them.
+// The names of the words that a subcommand takes, as usage shows them. SOURCE stands behind a TABLE, or in place of one.
 const TABLE: &str = "TABLE";
 
 const DELTA: &str = "DELTA";
@@ -32,24 +32,32 @@ const NAME: &str = "NAME";
 // The name of the subcommand that takes no table.
 const VERSION: &str = "version";
 
+// What help says first of a subcommand that takes delta files.
+const COPIES: &str =
+    "A source with `copy` goes through `collbench import-delta` first: in a delta file `copy` has no effect.";
+
 const EXAMPLES: &str = "Examples:
   collbench check base.txt                     table entries 9 declared 3 sections 2 levels 4
   collbench print base.txt c_behind_a.txt      the table, in which c goes behind a
+  collbench export base.txt > base.localedef   the table, in the form that localedef takes
   collbench compile base.txt                   the rank of each entry, and its weights as ranks
   collbench key base.txt ab                    4 6 | 1 1 | 2 2 | |
   collbench compare base.txt a A               less
   collbench session base.txt < lines.txt       a reply to each line
-  collbench import iso14651_t1 > common.txt    the table of a published source";
+  collbench import iso14651_t1 > common.txt    the table of a published source
+  collbench import-delta common.txt sv_SE      the delta file of a published tailoring, for that table";
 
 // The subcommands that work on a table or make one, in the order in which help tells them.
-const SUBCOMMANDS: [Subcommand; 7] = [
+const SUBCOMMANDS: [Subcommand; 8] = [
     Subcommand::Check,
     Subcommand::Print,
+    Subcommand::Export,
     Subcommand::Compile,
     Subcommand::Key,
     Subcommand::Compare,
     Subcommand::Session,
     Subcommand::Import,
+    Subcommand::ImportDelta,
 ];
 
 /// A subcommand that works on a table, or makes one.
@@ -59,6 +67,8 @@ pub enum Subcommand {
     Check,
     /// Prints a table.
     Print,
+    /// Prints a table in the form that `localedef` takes.
+    Export,
     /// Prints the compiled listing of a table.
     Compile,
     /// Prints the sort keys of texts.
@@ -69,6 +79,8 @@ pub enum Subcommand {
     Session,
     /// Makes a table of a published source.
     Import,
+    /// Makes a delta file for a table of a published tailoring.
+    ImportDelta,
 }
 
 /// What is done with a table, or with a source.
@@ -80,6 +92,8 @@ pub enum Task {
     Session,
     /// A source is read, where these names are defined, and the table that is made of it is printed.
     Import(ListBuf<TextBuf>),
+    /// It is read, then a tailoring, where these names are defined, and the delta file that is made of that is printed.
+    ImportDelta(ListBuf<TextBuf>),
 }
 
 /// What the words of a command line ask for.
@@ -87,7 +101,7 @@ pub enum Task {
 pub struct Request<'a> {
     /// What is done with the table, or with the source.
     pub task: Task,
-    /// The names of the files: that of the table or the source, and then those of the delta files, in their order.
+    /// The names of the files: that of the table, if one is read, and then those of the delta files, in their order, or of the source.
     pub files: Vec<&'a str>,
 }
 
@@ -207,13 +221,16 @@ fn version<'a>(alloc: Global) -> Command<'a> {
 // A subcommand with the words that it takes.
 fn taking<'a>(alloc: Global, subcommand: Subcommand) -> Result<Command<'a>, AllocError> {
     match subcommand {
-        Subcommand::Check | Subcommand::Print | Subcommand::Compile => {
-            over_table(alloc, subcommand)?.arg(deltas(alloc))
+        Subcommand::Check | Subcommand::Print | Subcommand::Export | Subcommand::Compile => {
+            over_table(alloc, subcommand)?
+                .before_help(COPIES)
+                .arg(deltas(alloc))
         }
         Subcommand::Key => over_table(alloc, subcommand)?.arg(texts(alloc)),
         Subcommand::Compare => over_two_texts(alloc, subcommand),
         Subcommand::Session => over_table(alloc, subcommand),
         Subcommand::Import => over_source(alloc, subcommand),
+        Subcommand::ImportDelta => over_table_and_source(alloc, subcommand),
     }
 }
 
@@ -241,12 +258,29 @@ fn over_source<'a>(alloc: Global, subcommand: Subcommand) -> Result<Command<'a>,
         .arg(names(alloc))
 }
 
+// A subcommand that takes a table and a tailoring.
+fn over_table_and_source<'a>(
+    alloc: Global,
+    subcommand: Subcommand,
+) -> Result<Command<'a>, AllocError> {
+    over_table(alloc, subcommand)?
+        .arg(tailoring(alloc))?
+        .arg(names(alloc))
+}
+
 // A source, which stands in place of a table.
 fn source<'a>(alloc: Global) -> Arg<'a> {
     Arg::new(alloc, TABLE)
         .value_name(SOURCE)
         .required(true)
         .help("The file of a source that orders everything; what it copies lies in the same folder")
+}
+
+// A source that changes a table.
+fn tailoring<'a>(alloc: Global) -> Arg<'a> {
+    Arg::new(alloc, SOURCE).required(true).help(
+        "The file of a source that changes the table; what it copies lies in the same folder",
+    )
 }
 
 // Names that are defined, perhaps none.
@@ -318,7 +352,7 @@ fn request_on<'a>(
     }
 }
 
-// The names of the files: the table's, and then those of the delta files.
+// The names of the files: that of the table or of what stands in its place, and then those of the delta files, or of the source.
 fn files_of<'a>(
     alloc: Global,
     table: &'a str,
@@ -329,6 +363,7 @@ fn files_of<'a>(
     let mut files = Vec::new(alloc);
     files.push(table)?;
     files.extend_from_slice(found.get_strs(DELTA).unwrap_or(&[]))?;
+    files.extend_from_slice(found.get_strs(SOURCE).unwrap_or(&[]))?;
     Ok(files)
 }
 
@@ -352,6 +387,7 @@ fn task_of(
     let batch = match (subcommand, texts) {
         (Subcommand::Check, _) => Batch::Check,
         (Subcommand::Print, _) => Batch::Print,
+        (Subcommand::Export, _) => Batch::Export,
         (Subcommand::Compile, _) => Batch::Compile,
         (Subcommand::Key, _) => Batch::Key(copied_texts(alloc, texts)?),
         (Subcommand::Compare, [first, second]) => Batch::Compare(
@@ -361,6 +397,9 @@ fn task_of(
         (Subcommand::Compare, _) => return Ok(None),
         (Subcommand::Session, _) => return Ok(Some(Task::Session)),
         (Subcommand::Import, _) => return Ok(Some(Task::Import(copied_texts(alloc, texts)?))),
+        (Subcommand::ImportDelta, _) => return Ok(Some(Task::ImportDelta(copied_texts(
+            alloc, texts,
+        )?))),
     };
     Ok(Some(Task::Batch(batch)))
 }
@@ -391,11 +430,13 @@ impl Subcommand {
         match self {
             Subcommand::Check => "check",
             Subcommand::Print => "print",
+            Subcommand::Export => "export",
             Subcommand::Compile => "compile",
             Subcommand::Key => "key",
             Subcommand::Compare => "compare",
             Subcommand::Session => "session",
             Subcommand::Import => "import",
+            Subcommand::ImportDelta => "import-delta",
         }
     }
 
@@ -404,6 +445,9 @@ impl Subcommand {
         match self {
             Subcommand::Check => "Counts the entries, declarations, sections and levels of a table",
             Subcommand::Print => "Prints a table, in a form that can be read again",
+            Subcommand::Export => {
+                "Prints a table in the form that localedef takes, and tells on standard error each symbol behind a character"
+            }
             Subcommand::Compile => {
                 "Prints the rank of each entry of a table, and its weights as ranks"
             }
@@ -414,6 +458,9 @@ impl Subcommand {
             }
             Subcommand::Import => {
                 "Prints the table of a published locale source, and tells on standard error what was changed"
+            }
+            Subcommand::ImportDelta => {
+                "Prints a delta file of a published tailoring, and tells on standard error what was changed"
             }
         }
     }
@@ -426,11 +473,13 @@ impl Subcommand {
         match name {
             "check" => Some(Subcommand::Check),
             "print" => Some(Subcommand::Print),
+            "export" => Some(Subcommand::Export),
             "compile" => Some(Subcommand::Compile),
             "key" => Some(Subcommand::Key),
             "compare" => Some(Subcommand::Compare),
             "session" => Some(Subcommand::Session),
             "import" => Some(Subcommand::Import),
+            "import-delta" => Some(Subcommand::ImportDelta),
             _ => None,
         }
     }

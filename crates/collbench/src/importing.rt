@@ -1,14 +1,16 @@
-//! A published source is read from files, and its table is printed.
+//! A published source is read from files, and the table or the delta file that is made of it is printed.
 //!
 //! What a source copies lies in its folder. Nothing is written to standard output where there is a fault; what was changed, and the
 //! fault, are told on standard error.
 
 use crate::Output;
 use coll_bench::{Fault, exit_status};
+use coll_delta_texts::write_delta;
 use coll_import::{import_table, write_report, write_source_fault};
 use coll_lex::{Counted, Sink, TextBuf, WriteStop};
-use coll_sources::{Report, SourceFault, SourcePlace, SourceReader};
+use coll_sources::{Report, SourceFault, SourceKind, SourcePlace, SourceReader};
 use coll_table::{HashKeys, LoadCause, Table};
+use coll_tailorings::{Tailored, import_delta};
 use std::alloc::{AllocError, Global};
 use std::fs::File;
 use std::io::BufWriter;
@@ -17,28 +19,87 @@ use std::process::ExitCode;
 // The name, in a source, that is defined where accents go backward.
 const BACKWARD: &str = "DIACRIT_BACKWARD";
 
-/// Makes a table of a source, where these names are defined, and prints it. The answer is the exit status.
+/// What a source is made into.
+#[derive(Drop)]
+pub(crate) enum Wanted {
+    /// A table.
+    Table,
+    /// A delta file for this table.
+    Delta(Table),
+}
+
+// What was made of a source.
+#[derive(Drop)]
+enum Made {
+    Table(Table),
+    Delta(Tailored),
+}
+
+impl Wanted {
+    // What a source is read as.
+    fn kind(&self) -> SourceKind {
+        match self {
+            Wanted::Table => SourceKind::Table,
+            Wanted::Delta(_) => SourceKind::Tailoring,
+        }
+    }
+}
+
+impl Made {
+    // Writes it.
+    fn write<W: Sink>(&self, out: &mut W) -> Result<(), WriteStop> {
+        match self {
+            Made::Table(table) => table.print(out),
+            Made::Delta(tailored) => {
+                let (copies, statements) = (
+                    tailored.copies.as_slice(),
+                    tailored.statements.as_slice(),
+                );
+                write_delta(out, copies, statements)
+            }
+        }
+    }
+}
+
+/// Makes what is wanted of a source, where these names are defined, and prints it. The answer is the exit status.
 pub(crate) fn import(
     rt: &HostRuntime,
     keys: HashKeys,
+    wanted: Wanted,
     file: &str,
     defined: &[TextBuf],
 ) -> Result<ExitCode, AllocError> {
     let alloc = rt.alloc();
     let (folder, base) = folder_of(file);
     let names = lent(alloc, defined)?;
-    let mut reader = SourceReader::new(alloc, keys, base, names.as_slice())?;
+    let mut reader = SourceReader::new(alloc, keys, wanted.kind(), base, names.as_slice())?;
     let read = read_texts(rt, &mut reader, folder);
     let files = file_names(alloc, &reader, folder)?;
     if let Err(fault) = read {
         return Ok(tell(rt, &fault, files.as_slice()));
     }
-    let backward = reader.defines(BACKWARD);
-    let (lines, mut report) = reader.into_parts();
-    match import_table(alloc, keys, lines, backward, &mut report) {
-        Ok(table) => Ok(print(rt, &table, &report, files.as_slice())),
+    match made_of(alloc, keys, wanted, reader) {
+        Ok((made, report)) => Ok(print(rt, &made, &report, files.as_slice())),
         Err(fault) => Ok(tell(rt, &fault, files.as_slice())),
     }
+}
+
+// Makes what is wanted of a source that is read.
+fn made_of(
+    alloc: Global,
+    keys: HashKeys,
+    wanted: Wanted,
+    reader: SourceReader,
+) -> Result<(Made, Report), SourceFault> {
+    let backward = reader.defines(BACKWARD);
+    let (lines, mut report) = reader.into_parts();
+    let made = match wanted {
+        Wanted::Table => Made::Table(import_table(alloc, keys, lines, backward, &mut report)?),
+        Wanted::Delta(mut table) => {
+            Made::Delta(import_delta(alloc, keys, &mut table, lines, &mut report)?)
+        }
+    };
+    Ok((made, report))
 }
 
 // The folder of a file, with the last `/`, and its name there.
@@ -93,15 +154,15 @@ fn file_names(
     Ok(names)
 }
 
-// Prints a table, and tells what was changed for it. All memory is taken first.
-fn print(rt: &HostRuntime, table: &Table, report: &Report, files: &[String]) -> ExitCode {
+// Prints what was made, and tells what was changed for it. All memory is taken first.
+fn print(rt: &HostRuntime, made: &Made, report: &Report, files: &[String]) -> ExitCode {
     let (Ok(output), Ok(told)) = (
         BufWriter::new(rt.alloc(), rt.stdout()),
         BufWriter::new(rt.alloc(), rt.stderr()),
     ) else {
         return tell(rt, &nowhere(LoadCause::OutOfMemory), files);
     };
-    if !write_whole(table, Counted::new(output)) {
+    if !write_whole(made, Counted::new(output)) {
         return tell_unwritten(rt, files);
     }
     let mut told = Counted::new(told);
@@ -110,7 +171,7 @@ fn print(rt: &HostRuntime, table: &Table, report: &Report, files: &[String]) -> 
     ExitCode::SUCCESS
 }
 
-// Tells that the table could not be written, with the name of the source, and answers the exit status.
+// Tells that the output could not be written, with the name of the source, and answers the exit status.
 fn tell_unwritten(rt: &HostRuntime, files: &[String]) -> ExitCode {
     let fault = Fault::Write(WriteStop::WriteFault);
     if let Some(source) = files.first() {
@@ -119,10 +180,10 @@ fn tell_unwritten(rt: &HostRuntime, files: &[String]) -> ExitCode {
     ExitCode::from(exit_status(&fault))
 }
 
-// Writes a table, and answers whether all of it has left the buffer.
-fn write_whole(table: &Table, output: Output) -> bool {
+// Writes what was made, and answers whether all of it has left the buffer.
+fn write_whole(made: &Made, output: Output) -> bool {
     let mut output = output;
-    let wrote = table.print(&mut output);
+    let wrote = made.write(&mut output);
     let flushed = output.flush();
     wrote.is_ok() && flushed.is_ok()
 }

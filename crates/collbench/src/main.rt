@@ -1,8 +1,8 @@
 //! The program: a thin `main` over `coll_bench`, which runs batches and serves sessions.
 //!
 //! `command_line` reads the words, `random_keys` draws the keys that names are looked up under, `files` opens what the words name, and
-//! `importing` makes tables of sources. Here the runs are started, and their faults are told: a line on standard error, and the exit status, which stands also
-//! where that line can't be written.
+//! `importing` makes tables and delta files of sources. Here the runs are started, and their faults are told: a line on standard error,
+//! and the exit status, which stands also where that line can't be written.
 #![tactic(auto)]
 
 ghost use Rattle.std.specs.Prelude.{◌<◌, length, vec_len, IfOk, IfErr, ◌≡◌};
@@ -12,12 +12,15 @@ mod files;
 mod importing;
 mod random_keys;
 
-use coll_bench::{Batch, Fault, RunFault, exit_status, run_batch_keyed, run_session, write_fault};
-use coll_lex::{Counted, LexFault, ReadStop, Sink, WriteStop};
+use coll_bench::{
+    Batch, Fault, RunFault, exit_status, run_batch_keyed, run_session, write_fault,
+    write_symbols_behind,
+};
+use coll_lex::{Counted, LexFault, ReadStop, Sink, TextBuf, WriteStop};
 use coll_table::{HashKeys, Table, load_keyed};
 use command_line::{Request, Task, Unasked, read_words};
 use files::{Input, at_no_line, open_all};
-use importing::import;
+use importing::{Wanted, import};
 use random_keys::random_keys;
 use std::alloc::{AllocError, Global};
 use std::env;
@@ -87,15 +90,32 @@ fn do_keyed(
     requires names { length names.now ≡ length files.now }
 {
     match task {
-        Task::Batch(batch) => status(rt, run_on_files(rt, keys, batch, files), names),
+        Task::Batch(batch) => run(rt, keys, batch, files, names),
         Task::Session => match String::from_str(rt.alloc(), STANDARD_INPUT) {
             Ok(name) => serve(rt, keys, files, names, &[name]),
             Err(_) => tell_no_memory(rt),
         },
-        Task::Import(defined) => match import(rt, keys, files[0], defined.get()) {
-            Ok(status) => status,
-            Err(_) => tell_no_memory(rt),
+        Task::Import(defined) => import_from(rt, keys, Wanted::Table, files, defined.get()),
+        Task::ImportDelta(defined) => match read_table(rt, keys, &files[..1]) {
+            Ok(table) => import_from(rt, keys, Wanted::Delta(table), files, defined.get()),
+            Err(fault) => tell_fault(rt, &fault, names),
         },
+    }
+}
+
+// Makes what is wanted of the source in the last of these files, where these names are defined, and answers the exit status.
+fn import_from(
+    rt: &HostRuntime,
+    keys: HashKeys,
+    wanted: Wanted,
+    files: &[&str],
+    defined: &[TextBuf],
+) -> ExitCode
+    requires { 0 < length files.now }
+{
+    match import(rt, keys, wanted, files[files.len() - 1], defined) {
+        Ok(status) => status,
+        Err(_) => tell_no_memory(rt),
     }
 }
 
@@ -110,13 +130,45 @@ fn copied_names(alloc: Global, files: &[&str]) -> Result<Vec<String>, AllocError
     Ok(names)
 }
 
+// Runs a batch on these files, and answers the exit status. What is to be told of an exported table is told where all of it was
+// written.
+fn run(rt: &HostRuntime, keys: HashKeys, batch: Batch, files: &[&str], names: &[String]) -> ExitCode
+    requires some { 0 < length files.now }
+    requires names { length names.now ≡ length files.now }
+{
+    let exports = matches!(&batch, Batch::Export);
+    match run_on_files(rt, keys, batch, files) {
+        Ok(table) => {
+            if exports {
+                tell_exported(rt, &table, files[0]);
+            }
+            ExitCode::SUCCESS
+        }
+        Err(fault) => tell_fault(rt, &fault, names),
+    }
+}
+
+// Tells which symbols of an exported table stand behind a character. Where they can't be told, the status stays.
+fn tell_exported(rt: &HostRuntime, table: &Table, file: &str) {
+    match BufWriter::new(rt.alloc(), rt.stderr()) {
+        Ok(buffered) => {
+            let mut told = Counted::new(buffered);
+            let _ = write_symbols_behind(table, file, &mut told);
+            let _ = told.flush();
+        }
+        Err(_) => {
+            let _ = write_symbols_behind(table, file, &mut Counted::new(rt.stderr()));
+        }
+    }
+}
+
 // Runs a batch on the table and the delta files with these names, to standard output.
 fn run_on_files(
     rt: &HostRuntime,
     keys: HashKeys,
     batch: Batch,
     files: &[&str],
-) -> Result<(), RunFault>
+) -> Result<Table, RunFault>
     requires { 0 < length files.now }
     ensures { IfErr result (λ fault. fault.input < length files.now) }
 {
@@ -132,7 +184,7 @@ fn run_on_inputs(
     keys: HashKeys,
     batch: Batch,
     inputs: &mut [Input],
-) -> Result<(), RunFault>
+) -> Result<Table, RunFault>
     requires { 0 < length inputs.old }
     ensures { IfErr result (λ fault. fault.input < length inputs.old) }
 {
@@ -150,7 +202,7 @@ fn write_batch(
     batch: Batch,
     inputs: &mut [Input],
     output: &mut Output,
-) -> Result<(), RunFault>
+) -> Result<Table, RunFault>
     requires { 0 < length inputs.old }
     ensures { IfErr result (λ fault. fault.input < length inputs.old) }
 {

@@ -12,6 +12,7 @@ ghost use Rattle.coll_nodes.specs.TableLayout.{collation};
 ghost use Rattle.coll_bench.specs.BatchOutcome.{batch_output, texts_of, is_any_too_long, key_line};
 ghost use Rattle.coll_bench.specs.BatchWriting.{Outputs, CountsOutput, as_written, starved_key};
 ghost use Rattle.coll_texts.specs.CanonicalText.{text};
+ghost use Rattle.coll_texts.specs.ExportedText.{exported_text};
 ghost use Rattle.coll_bench.specs.Replies.{checked_line, order_word};
 
 use super::Batch;
@@ -39,6 +40,7 @@ pub(crate) fn write_output<W: Sink>(
     match batch {
         Batch::Check => write_counts(table, out),
         Batch::Print => write_text(table, out),
+        Batch::Export => write_export(table, out),
         Batch::Compile => write_listing(alloc, table, out),
         Batch::Key(texts) => write_keys(alloc, texts.get(), table, out),
         Batch::Compare(first, second) => write_comparison(alloc, first, second, table, out),
@@ -59,6 +61,14 @@ fn write_text<W: Sink>(table: &Table, out: &mut W) -> Result<(), Fault>
     ensures errors { CountsOutput (W.failed out.old) (W.failed out.new) result }
 {
     written(table.print(out))
+}
+
+// Writes the text of a table in the form that `localedef` takes.
+fn write_export<W: Sink>(table: &Table, out: &mut W) -> Result<(), Fault>
+    ensures sent { Outputs (W.taken out.old) (W.taken out.new) (exported_text (collation table.now)) result }
+    ensures errors { CountsOutput (W.failed out.old) (W.failed out.new) result }
+{
+    written(table.export(out))
 }
 
 // Writes the compiled listing of a table.

@@ -40,7 +40,11 @@ pub(crate) fn answer_key<W: Sink>(
 }
 
 /// Writes a key, which has the form of one, and the line's end. Where a write fails, the device has taken a prefix of it.
-pub fn write_key_ended<W: Sink>(out: &mut W, rules: &[Rule], key: &[u64]) -> Result<(), WriteStop>
+pub(crate) fn write_key_ended<W: Sink>(
+    out: &mut W,
+    rules: &[Rule],
+    key: &[u64],
+) -> Result<(), WriteStop>
     requires { has_key_form rules.now key.now ≡ true }
     ensures sent { Sends (W.taken out.old) (W.taken out.new) (written_key rules.now key.now ++ 10 ∷ []) result }
     ensures errors { CountsErr (W.failed out.old) (W.failed out.new) result }
@@ -69,7 +73,7 @@ pub(crate) fn answer_compare<W: Sink>(
 }
 
 /// Writes the word of an order, and the line's end. Where a write fails, the device has taken a prefix of it.
-pub fn write_order<W: Sink>(out: &mut W, order: Ordering) -> Result<(), WriteStop>
+pub(crate) fn write_order<W: Sink>(out: &mut W, order: Ordering) -> Result<(), WriteStop>
     ensures sent { Sends (W.taken out.old) (W.taken out.new) (order_word order ++ 10 ∷ []) result }
     ensures errors { CountsErr (W.failed out.old) (W.failed out.new) result }
 {

@@ -25,8 +25,9 @@ ghost use Rattle.coll_table.specs.declared.refusals.Refusal.TheVariants.{Full, O
 
 use crate::{Refusal, Table};
 use coll_lex::TextBuf;
+use coll_lookups::IdSet;
 use coll_nodes::{MOST_DECLARATIONS, MOST_ENTRIES};
-use coll_statements::{IdSet, given_len};
+use coll_statements::given_len;
 use coll_syntax::{Id, OrderLine, Statement, Weight};
 use std::alloc::AllocError;
 
@@ -34,8 +35,8 @@ impl Table {
     /// Judges a statement as `apply` would, and changes nothing.
     ///
     /// The answer is the first refusal of the statement, if it has one. It takes memory for a block whose target is placed, for the
-    /// identifiers of its lines, and for a statement that uses a second name, for a copy by own names, and for no other; where that
-    /// is wanting `OutOfMemory` may stand in place of any other answer.
+    /// identifiers of its lines, and for a statement that uses a second name, for a copy by own names, and for no other. Where memory
+    /// is refused, the answer is `OutOfMemory`, in place of any other.
     #[tactic(auto, unfolding(crate::specs::Delta::delta))]
     pub fn check(&self, statement: &Statement) -> Result<(), Refusal>
         requires proper { IsProper statement.now }

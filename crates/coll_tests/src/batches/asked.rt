@@ -60,10 +60,12 @@ pub fn named(alloc: Global, texts: &[&str]) -> Result<Vec<String>, AllocError> {
 
 // Asserts by which line a fault is told.
 fn assert_line(rt: &impl Abort, alloc: Global, fault: &RunFault, names: &[String], line: &str) {
-    let mut out = Counted::new(Vec::new(alloc));
+    let mut output = Vec::new(alloc);
+    let mut taken = Counted::new(&mut output);
     assert!(rt; fault.input < names.len(), "an input without a name");
-    assert_same(rt, line, write_fault(fault, names, &mut out), Ok(()));
-    assert_text(rt, alloc, out.device().as_slice(), line.as_bytes());
+    assert_same(rt, line, write_fault(fault, names, &mut taken), Ok(()));
+    drop(taken);
+    assert_text(rt, alloc, output.as_slice(), line.as_bytes());
 }
 
 /// Asserts by which line the fault of a batch is told, or that there is none where the line is empty.

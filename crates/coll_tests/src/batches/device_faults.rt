@@ -63,11 +63,13 @@ fn assert_read(
         input: row.input,
         script,
     };
-    let mut output = Counted::new(Vec::new(alloc));
+    let mut output = Vec::new(alloc);
+    let mut taken = Counted::new(&mut output);
     let batch = row.asked.batch(rt, alloc);
-    let answer = run(rt, alloc, batch, table, row.deltas, read, &mut output);
+    let answer = run(rt, alloc, batch, table, row.deltas, read, &mut taken);
+    drop(taken);
     assert_same(rt, line, status(&answer), status_wanted);
-    assert_text(rt, alloc, output.device().as_slice(), output_wanted);
+    assert_text(rt, alloc, output.as_slice(), output_wanted);
     assert_told(rt, alloc, answer, line);
 }
 

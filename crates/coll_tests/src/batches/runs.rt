@@ -120,11 +120,13 @@ fn assert_done(
     deltas: &[&str],
     wanted: &[u8],
 ) {
-    let mut output = Counted::new(Vec::new(alloc));
+    let mut output = Vec::new(alloc);
+    let mut taken = Counted::new(&mut output);
     let batch = asked.batch(rt, alloc);
-    let answer = run(rt, alloc, batch, table, deltas, NONE_FAILS, &mut output);
+    let answer = run(rt, alloc, batch, table, deltas, NONE_FAILS, &mut taken);
+    drop(taken);
     assert_same(rt, "the status", status(&answer), 0);
-    assert_text(rt, alloc, output.device().as_slice(), wanted);
+    assert_text(rt, alloc, output.as_slice(), wanted);
 }
 
 #[test]
@@ -145,11 +147,13 @@ fn assert_refused(
     deltas: &[&str],
     line: &str,
 ) {
-    let mut output = Counted::new(Vec::new(alloc));
+    let mut output = Vec::new(alloc);
+    let mut taken = Counted::new(&mut output);
     let batch = asked.batch(rt, alloc);
-    let answer = run(rt, alloc, batch, table, deltas, NONE_FAILS, &mut output);
+    let answer = run(rt, alloc, batch, table, deltas, NONE_FAILS, &mut taken);
+    drop(taken);
     assert_same(rt, line, status(&answer), 1);
-    assert_same(rt, line, output.device().len(), 0);
+    assert_same(rt, line, output.len(), 0);
     assert_told(rt, alloc, answer, line);
 }
 

@@ -83,7 +83,7 @@ fn assert_line(
     rt: &impl Abort,
     alloc: Global,
     reader: &mut LineReader,
-    input: &mut Counted<ShortReader>,
+    input: &mut Counted<&mut ShortReader>,
     line: &Physical,
 ) {
     let (part, times) = line;
@@ -96,7 +96,7 @@ fn assert_lines(
     rt: &impl Abort,
     alloc: Global,
     reader: &mut LineReader,
-    input: &mut Counted<ShortReader>,
+    input: &mut Counted<&mut ShortReader>,
     lines: &[Physical],
 ) {
     for line in lines {
@@ -105,31 +105,44 @@ fn assert_lines(
     assert_same(rt, "the errors before", input.errors(), 0);
 }
 
-// Asserts that a reader stands at the end, or has stopped, and stays there and reads no more. The stop is the only error.
+// Asserts that a reader comes to the end, or stops. The stop is the only error.
 fn assert_ends(
     rt: &impl Abort,
     reader: &mut LineReader,
-    input: &mut Counted<ShortReader>,
+    input: &mut Counted<&mut ShortReader>,
     stop: Option<ReadStop>,
 ) {
     assert_same(rt, "the stop", reader.next(input).err(), stop);
-    let reads = input.device().reads;
-    assert_same(rt, "the stop once more", reader.advance(input).err(), stop);
-    assert_same(rt, "the reads", input.device().reads, reads);
-    assert_same(rt, "the line", reader.line(), b"".as_slice());
     let failed = stop == Some(ReadStop::ReadFault);
     assert_same(rt, "the errors", input.errors(), u64::from(failed));
 }
 
+// Asserts that it stays there, has no line, and reads no more.
+fn assert_stays(
+    rt: &impl Abort,
+    reader: &mut LineReader,
+    device: &mut ShortReader,
+    stop: Option<ReadStop>,
+) {
+    let reads = device.reads;
+    let answer = reader.advance(&mut Counted::new(&mut *device)).err();
+    assert_same(rt, "the stop once more", answer, stop);
+    assert_same(rt, "the reads", device.reads, reads);
+    assert_same(rt, "the line", reader.line(), b"".as_slice());
+}
+
 fn assert_row(rt: &impl Abort, alloc: Global, row: &Row) {
-    let ((part, times, rest), device, lines, rounds, stop) = row;
+    let ((part, times, rest), script, lines, rounds, stop) = row;
     let text = repeated(rt, alloc, b"", part, *times, rest);
-    let mut input = Counted::new(ShortReader::scripted(&text, *device));
+    let mut device = ShortReader::scripted(&text, *script);
+    let mut input = Counted::new(&mut device);
     let mut reader = LineReader::new(alloc).expect(rt, "a reader");
     for _ in 0..*rounds {
         assert_lines(rt, alloc, &mut reader, &mut input, lines);
     }
     assert_ends(rt, &mut reader, &mut input, *stop);
+    drop(input);
+    assert_stays(rt, &mut reader, &mut device, *stop);
     drop(reader);
     drop(text);
 }

@@ -129,7 +129,7 @@ const ROWS: &[(Script, &[What], &str, usize)] = &[
     (Script::ButFor(2, Step::Error), &[Flush, Flush], "", 2),
 ];
 
-fn write(out: &mut Counted<ShortWriter>, what: &What) -> Option<WriteStop> {
+fn write(out: &mut Counted<&mut ShortWriter>, what: &What) -> Option<WriteStop> {
     match what {
         Name(name) => write_symbol(out, name).err(),
         Char(c) => write_char(out, *c).err(),
@@ -145,7 +145,7 @@ fn stop_of(flushed: Option<()>) -> Option<WriteStop> {
     }
 }
 
-fn write_all(out: &mut Counted<ShortWriter>, all: &[What]) -> Option<WriteStop> {
+fn write_all(out: &mut Counted<&mut ShortWriter>, all: &[What]) -> Option<WriteStop> {
     let mut last = None;
     for what in all {
         last = write(out, what);
@@ -162,13 +162,14 @@ fn assert_written(
     taken: &str,
     calls: usize,
 ) {
-    let mut out = Counted::new(ShortWriter::scripted(Vec::new(alloc), script));
+    let mut device = ShortWriter::scripted(Vec::new(alloc), script);
+    let mut out = Counted::new(&mut device);
     let stop = write_all(&mut out, all);
-    assert_same(rt, taken, out.device().taken.as_slice(), taken.as_bytes());
-    assert_that(rt, taken, out.device().calls <= calls);
     assert_same(rt, taken, out.errors(), u64::from(stop.is_some()));
-    assert_same(rt, taken, stop, fails(script));
     drop(out);
+    assert_same(rt, taken, device.taken.as_slice(), taken.as_bytes());
+    assert_that(rt, taken, device.calls <= calls);
+    assert_same(rt, taken, stop, fails(script));
 }
 
 // The stop of what is written last.

@@ -29,14 +29,18 @@ fn assert_read(
     let read = at.saturating_sub(1).saturating_mul(3);
     let course = session.course(rt, alloc, read);
     let script = Script::ButFor(at, fails);
-    let mut input = Counted::new(ShortReader::scripted(&course.text, script));
-    let mut output = Counted::new(Vec::new(alloc));
-    let given = run(rt, alloc, BASE_TABLE, &mut input, &mut output);
+    let mut reader = ShortReader::scripted(&course.text, script);
+    let mut input = Counted::new(&mut reader);
+    let mut output = Vec::new(alloc);
+    let mut taken = Counted::new(&mut output);
+    let given = run(rt, alloc, BASE_TABLE, &mut input, &mut taken);
+    drop(taken);
     assert_same(rt, at, given, answer);
     assert_same(rt, "the errors", input.errors(), u64::from(answer.is_err()));
+    drop(input);
     let reads = at.saturating_sub(usize::from(answer.is_ok()));
-    assert_same(rt, "the reads", input.device().reads, reads);
-    assert_text(rt, alloc, output.device().as_slice(), &course.replies);
+    assert_same(rt, "the reads", reader.reads, reads);
+    assert_text(rt, alloc, output.as_slice(), &course.replies);
 }
 
 // Asserts that each of so many reads, of which the last finds the end, ends the session where it fails.
@@ -86,10 +90,12 @@ const NARROW: &[(usize, bool, &[u8])] = &[(6, true, b"ok 1\nu"), (100, false, b"
 fn assert_narrow(rt: &impl Abort, alloc: Global, room: usize, flushes: bool, taken: &[u8]) {
     let course = Session::Moved.course(rt, alloc, 0);
     let mut input = Counted::new(course.text.as_slice());
-    let mut output = Counted::new(NarrowWriter::new(alloc, room, flushes));
+    let mut device = NarrowWriter::new(alloc, room, flushes);
+    let mut output = Counted::new(&mut device);
     let answer = run(rt, alloc, BASE_TABLE, &mut input, &mut output);
+    drop(output);
     assert_same(rt, "the answer", answer, Err(WRITE_FAULT));
-    assert_text(rt, alloc, output.device().taken.as_slice(), taken);
+    assert_text(rt, alloc, device.taken.as_slice(), taken);
     drop(course);
 }
 

@@ -49,20 +49,24 @@ fn push_replies(text: &mut Vec<u8>, replies: &[Reply]) -> Result<(), AllocError>
 // Asserts what a session writes over devices that give and take all at once.
 fn assert_whole(rt: &impl Abort, alloc: Global, table: Lines, text: &[u8], replies: &[u8]) {
     let table = loaded_lines(alloc, table).expect(rt, "a table");
-    let mut output = Counted::new(Vec::new(alloc));
-    let answer = run_session(alloc, table, &mut Counted::new(text), &mut output);
+    let mut output = Vec::new(alloc);
+    let mut taken = Counted::new(&mut output);
+    let answer = run_session(alloc, table, &mut Counted::new(text), &mut taken);
+    drop(taken);
     assert_same(rt, "the answer", answer, Ok(()));
-    assert_text(rt, alloc, output.device().as_slice(), replies);
+    assert_text(rt, alloc, output.as_slice(), replies);
 }
 
 // Asserts what it writes over devices that give and take a few bytes at a time.
 fn assert_in_parts(rt: &impl Abort, alloc: Global, table: Lines, text: &[u8], replies: &[u8]) {
     let table = loaded_lines(alloc, table).expect(rt, "a table");
-    let mut output = Counted::new(ShortWriter::scripted(Vec::new(alloc), SMALL));
+    let mut output = ShortWriter::scripted(Vec::new(alloc), SMALL);
+    let mut taken = Counted::new(&mut output);
     let mut input = Counted::new(ShortReader::scripted(text, SMALL));
-    let answer = run_session(alloc, table, &mut input, &mut output);
+    let answer = run_session(alloc, table, &mut input, &mut taken);
+    drop(taken);
     assert_same(rt, "the answer", answer, Ok(()));
-    assert_text(rt, alloc, output.device().taken.as_slice(), replies);
+    assert_text(rt, alloc, output.taken.as_slice(), replies);
 }
 
 // Asserts what sessions over a table write.

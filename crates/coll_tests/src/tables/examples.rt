@@ -219,9 +219,11 @@ pub fn assert_printed(rt: &impl Abort, alloc: Global, table: &Table, wanted: &[u
 
 /// A table's canonical text.
 pub fn printed(rt: &impl Abort, alloc: Global, table: &Table) -> Vec<u8> {
-    let mut out = Counted::new(Vec::new(alloc));
-    table.print(&mut out).expect(rt, "a printed table");
-    out.device().clone().expect(rt, "a copy")
+    let mut text = Vec::new(alloc);
+    table
+        .print(&mut Counted::new(&mut text))
+        .expect(rt, "a printed table");
+    text
 }
 
 /// A change of a list of lines: those from a first to a last, counted from 1, and what stands in their place. Where the last

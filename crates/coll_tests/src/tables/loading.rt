@@ -23,11 +23,13 @@ fn assert_read(
     at: usize,
     fault: Option<LoadFault>,
 ) {
-    let mut input = Counted::new(ShortReader::scripted(text, Script::ButFor(at, fails)));
+    let mut device = ShortReader::scripted(text, Script::ButFor(at, fails));
+    let mut input = Counted::new(&mut device);
     assert_same(rt, at, load(alloc, &mut input).err(), fault);
     assert_same(rt, "the errors", input.errors(), u64::from(fault.is_some()));
+    drop(input);
     let reads = at.saturating_sub(usize::from(fault.is_none()));
-    assert_same(rt, "the reads", input.device().reads, reads);
+    assert_same(rt, "the reads", device.reads, reads);
 }
 
 // Asserts that each of so many reads, which give a text to its last line feed, is the fault where it fails, and that no

@@ -3,7 +3,7 @@ use Rattle.std.proofs.Common.{◌≡◌, ◌∙◌, ◌+◌, ◌*◌, ◌++◌, 
 use Rattle.coll_ranks.specs.LevelWeights.{level_ranks, row_numbers}
 use Rattle.coll_ranks.specs.Ranks.{added_to}
 use Rattle.coll_key.specs.LevelList.{position_of}
-use Rattle.coll_key.proofs.PushingSteps.{begins_alone, gap_more, part_ends, one_fewer, shorter_left, fewer_left, level_goes_on, level_ends}
+use Rattle.coll_key.proofs.PushingSteps.{begins_alone, gap_more, element_ends, one_fewer, shorter_left, fewer_left, level_goes_on, level_ends}
 use Rattle.coll_key.proofs.levels.with_rows.Goals as goal
 
 pub rows-preserved-in-Ignored : goal.rows-preserved-in-Ignored
@@ -33,12 +33,12 @@ rows-preserved-in-Single c =
       room = omega (arith, c.rows.invariant.room, put.len, put.capacity, one_fewer b c.rows.left.now c.in-Some.later.now c.in-Some.row c.in-Some.ensures);
       few = fewer_left b c.rows.left.now c.in-Some.later.now c.in-Some.row c.in-Some.ensures c.rows.gaps 0 65_536 (omega arith) c.rows.invariant.few;
       same = level_goes_on b c.rows.left.now c.in-Some.later.now c.in-Some.row c.in-Some.ensures c.rows.gaps 0 c.args.position f (map g (c.in-Single.rank ∷ [])) _ c.rows.with.items
-          c.with_number-with.result.items numbers (part_ends c.args.position b c.rows.gaps g (c.in-Single.rank ∷ []) [] c.rows.with.items c.with_number-with.result.items c.in-Single.rank
+          c.with_number-with.result.items numbers (element_ends c.args.position b c.rows.gaps g (c.in-Single.rank ∷ []) [] c.rows.with.items c.with_number-with.result.items c.in-Single.rank
           (begins_alone b c.in-Single.rank) pushed refl) c.rows.invariant.same;
     }
 
-pub with_long_part-requires-clause-few_later : goal.with_long_part-requires-clause-few_later
-with_long_part-requires-clause-few_later c = omega (arith, c.rows.invariant.few, one_fewer c.args.backward c.rows.left.now c.in-Some.later.now c.in-Some.row c.in-Some.ensures)
+pub with_long_element-requires-clause-few_later : goal.with_long_element-requires-clause-few_later
+with_long_element-requires-clause-few_later c = omega (arith, c.rows.invariant.few, one_fewer c.args.backward c.rows.left.now c.in-Some.later.now c.in-Some.row c.in-Some.ensures)
 
 pub rows-smaller : goal.rows-smaller
 rows-smaller c = shorter_left c.args.backward c.rows.left.now c.in-Some.later.now c.in-Some.row c.in-Some.ensures

@@ -3,4 +3,4 @@ use Rattle.coll_requests.proofs.DeltaLinesRead.{lines_read, lines_taken}
 use Rattle.coll_requests.proofs.delta_files.delta_lines_are_read.Goals as goal
 
 pub returns : goal.returns
-returns c = record { whole = lines_read; so_far = lines_taken }
+returns c = record { whole = lines_read; taken = lines_taken }

@@ -1,46 +1,30 @@
 -- Each stop leaves a prefix of the text, and at the end all of it is written.
-use Rattle.std.proofs.Common.{ℕ, List, ◌++◌, codes, refl}
+use Rattle.std.proofs.Common.{List, ◌++◌, ℕ, codes, refl}
 use Rattle.std.specs.List.{flat_map}
 use Rattle.coll_devices.proofs.WritingLemmas.{Sends-after}
 use Rattle.coll_nodes.specs.Walks.{Visited}
-use Rattle.coll_nodes.specs.declared.declarations.Declaration.{Declaration}
 use Rattle.coll_syntax.specs.declared.rules.Rule.{Rule}
 use Rattle.coll_texts.specs.CanonicalText.{line_bytes, rules_line}
-use Rattle.coll_texts.specs.PrintedParts.{declaration_bytes, visited_bytes}
+use Rattle.coll_texts.specs.PrintedParts.{opening_bytes, visited_bytes}
 use Rattle.coll_texts.proofs.PrintedParts.{stops_first}
 use Rattle.coll_texts.proofs.canonical_texts.write_table.Goals as goal
-
-abbrev head : List ℕ
-head = codes "comment_char %\nescape_char /\nLC_COLLATE\n"
 
 abbrev end : List ℕ
 end = codes "order_end\nEND LC_COLLATE\n"
 
--- what is behind the rules, behind the declarations, and behind the head
+-- what is behind the rules, and behind the declarations
 abbrev sections : List Visited → List ℕ
 sections items = flat_map visited_bytes items ++ end
 
 abbrev order : List Rule → List Visited → List ℕ
 order rules items = line_bytes (rules_line rules) ++ sections items
 
-abbrev category : List Rule → List Declaration → List Visited → List ℕ
-category rules declared items = flat_map declaration_bytes declared ++ order rules items
-
-pub returns-in_err-write_bytes-clause-sent : goal.returns-in_err-write_bytes-clause-sent
-returns-in_err-write_bytes-clause-sent g c =
+pub returns-in_err-write_opening-clause-sent : goal.returns-in_err-write_opening-clause-sent
+returns-in_err-write_opening-clause-sent g c =
     let taken = g.W.Sink.taken in
     let a = c.args in
-    stops_first (taken a.out.now) (taken c.write_bytes.new.out) _ head (category a.rules.now a.declared a.walk) c.from_residual.result refl c.from_residual.ensures.0 c.in_err-write_bytes.ensures.sent
-
-pub returns-in_err-write_declarations-clause-sent : goal.returns-in_err-write_declarations-clause-sent
-returns-in_err-write_declarations-clause-sent g c =
-    let taken = g.W.Sink.taken in
-    let a = c.args in
-    let t = taken c.write_declarations.new.out in
-    let r = c.from_residual-in_err-write_declarations.result in
-    Sends-after (taken a.out.now) (taken c.write_bytes.new.out) t head (category a.rules.now a.declared a.walk) r c.in_ok-write_bytes.ensures.sent
-    (stops_first (taken c.write_bytes.new.out) t _ (flat_map declaration_bytes a.declared) (order a.rules.now a.walk) r refl c.from_residual-in_err-write_declarations.ensures.0
-    c.in_err-write_declarations.ensures.sent)
+    stops_first (taken a.out.now) (taken c.write_opening.new.out) _ (opening_bytes a.declared) (order a.rules.now a.walk) c.from_residual.result refl c.from_residual.ensures.0
+    c.in_err-write_opening.ensures.sent
 
 pub returns-in_err-write_rules_line-clause-sent : goal.returns-in_err-write_rules_line-clause-sent
 returns-in_err-write_rules_line-clause-sent g c =
@@ -48,10 +32,9 @@ returns-in_err-write_rules_line-clause-sent g c =
     let a = c.args in
     let t = taken c.write_rules_line.new.out in
     let r = c.from_residual-in_err-write_rules_line.result in
-    Sends-after (taken a.out.now) (taken c.write_bytes.new.out) t head (category a.rules.now a.declared a.walk) r c.in_ok-write_bytes.ensures.sent
-    (Sends-after (taken c.write_bytes.new.out) (taken c.write_declarations.new.out) t (flat_map declaration_bytes a.declared) (order a.rules.now a.walk) r c.in_ok-write_declarations.ensures.sent
-    (stops_first (taken c.write_declarations.new.out) t _ (line_bytes (rules_line a.rules.now)) (sections a.walk) r refl c.from_residual-in_err-write_rules_line.ensures.0
-    c.in_err-write_rules_line.ensures.sent))
+    Sends-after (taken a.out.now) (taken c.write_opening.new.out) t (opening_bytes a.declared) (order a.rules.now a.walk) r c.in_ok-write_opening.ensures.sent
+    (stops_first (taken c.write_opening.new.out) t _ (line_bytes (rules_line a.rules.now)) (sections a.walk) r refl c.from_residual-in_err-write_rules_line.ensures.0
+    c.in_err-write_rules_line.ensures.sent)
 
 pub returns-in_err-write_walk-clause-sent : goal.returns-in_err-write_walk-clause-sent
 returns-in_err-write_walk-clause-sent g c =
@@ -59,18 +42,16 @@ returns-in_err-write_walk-clause-sent g c =
     let a = c.args in
     let t = taken c.write_walk.new.out in
     let r = c.from_residual-in_err-write_walk.result in
-    Sends-after (taken a.out.now) (taken c.write_bytes.new.out) t head (category a.rules.now a.declared a.walk) r c.in_ok-write_bytes.ensures.sent
-    (Sends-after (taken c.write_bytes.new.out) (taken c.write_declarations.new.out) t (flat_map declaration_bytes a.declared) (order a.rules.now a.walk) r c.in_ok-write_declarations.ensures.sent
-    (Sends-after (taken c.write_declarations.new.out) (taken c.write_rules_line.new.out) t (line_bytes (rules_line a.rules.now)) (sections a.walk) r c.in_ok-write_rules_line.ensures.sent
-    (stops_first (taken c.write_rules_line.new.out) t _ (flat_map visited_bytes a.walk) end r refl c.from_residual-in_err-write_walk.ensures.0 c.in_err-write_walk.ensures.sent)))
+    Sends-after (taken a.out.now) (taken c.write_opening.new.out) t (opening_bytes a.declared) (order a.rules.now a.walk) r c.in_ok-write_opening.ensures.sent
+    (Sends-after (taken c.write_opening.new.out) (taken c.write_rules_line.new.out) t (line_bytes (rules_line a.rules.now)) (sections a.walk) r c.in_ok-write_rules_line.ensures.sent
+    (stops_first (taken c.write_rules_line.new.out) t _ (flat_map visited_bytes a.walk) end r refl c.from_residual-in_err-write_walk.ensures.0 c.in_err-write_walk.ensures.sent))
 
 pub returns-clause-sent : goal.returns-clause-sent
 returns-clause-sent g c =
     let taken = g.W.Sink.taken in
     let a = c.args in
-    let t = taken c.write_bytes-2.new.out in
-    let r = c.write_bytes-2.result in
-    Sends-after (taken a.out.now) (taken c.write_bytes.new.out) t head (category a.rules.now a.declared a.walk) r c.in_ok-write_bytes.ensures.sent
-    (Sends-after (taken c.write_bytes.new.out) (taken c.write_declarations.new.out) t (flat_map declaration_bytes a.declared) (order a.rules.now a.walk) r c.in_ok-write_declarations.ensures.sent
-    (Sends-after (taken c.write_declarations.new.out) (taken c.write_rules_line.new.out) t (line_bytes (rules_line a.rules.now)) (sections a.walk) r c.in_ok-write_rules_line.ensures.sent
-    (Sends-after (taken c.write_rules_line.new.out) (taken c.write_walk.new.out) t (flat_map visited_bytes a.walk) end r c.in_ok-write_walk.ensures.sent c.write_bytes-2.ensures.sent)))
+    let t = taken c.write_bytes.new.out in
+    let r = c.write_bytes.result in
+    Sends-after (taken a.out.now) (taken c.write_opening.new.out) t (opening_bytes a.declared) (order a.rules.now a.walk) r c.in_ok-write_opening.ensures.sent
+    (Sends-after (taken c.write_opening.new.out) (taken c.write_rules_line.new.out) t (line_bytes (rules_line a.rules.now)) (sections a.walk) r c.in_ok-write_rules_line.ensures.sent
+    (Sends-after (taken c.write_rules_line.new.out) (taken c.write_walk.new.out) t (flat_map visited_bytes a.walk) end r c.in_ok-write_walk.ensures.sent c.write_bytes.ensures.sent))

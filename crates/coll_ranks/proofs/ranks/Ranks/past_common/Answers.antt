@@ -1,4 +1,4 @@
--- Each step goes one part further in both texts.
+-- Each step goes one element further in both texts.
 use Rattle.std.proofs.Common.{rules}
 use Rattle.coll_ranks.proofs.AlikePrefixes.{alike_further}
 use Rattle.coll_ranks.proofs.ranks.Ranks.past_common.Goals as goal

@@ -1,7 +1,7 @@
--- The first characters are the same part of both texts.
+-- The first characters are the same element of both texts.
 use Rattle.std.proofs.Common.{◌≡◌, ◌∙◌, length, chars, sym, ap, arith}
 use Rattle.std.proofs.lemmas.Str.{chars_past_char}
-use Rattle.coll_ranks.proofs.PartNumbers.{same_first}
+use Rattle.coll_ranks.proofs.ElementNumbers.{same_first}
 use Rattle.coll_ranks.proofs.ranks.Ranks.past_same.Goals as goal
 
 pub returns-clause-same : goal.returns-clause-same

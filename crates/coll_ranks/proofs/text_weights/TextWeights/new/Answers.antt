@@ -1,4 +1,4 @@
--- The parts of the elements, and the rows of their weights, have the numbers of the elements.
+-- The elements by their rows, and the rows of their weights, have the numbers of the elements.
 use Rattle.std.proofs.Common.{List, length, chars, sym, ap, subst, arith, ◌∙◌}
 use Rattle.coll_syntax.specs.declared.identifiers.Id.TheVariants.{Undefined}
 use Rattle.coll_nodes.specs.Table.{Collation}
@@ -9,7 +9,7 @@ use Rattle.coll_elements.specs.declared.element_entries.ElementEntry.{ElementEnt
 use Rattle.coll_elements.specs.Rank.{known_rank}
 use Rattle.coll_ranks.specs.Ranks.{compiled_row_by}
 use Rattle.coll_ranks.specs.WeightNumbers.{undefined_weights}
-use Rattle.coll_ranks.proofs.TextRows.{few_elements, few_parts_of, text_numbers}
+use Rattle.coll_ranks.proofs.TextRows.{few_elements, few_text_elements, text_numbers}
 use Rattle.coll_ranks.proofs.text_weights.TextWeights.new.Goals as goal
 
 pub compiled_undefined-requires : goal.compiled_undefined-requires
@@ -17,8 +17,8 @@ compiled_undefined-requires c =
     let few = few_elements (collation c.args.table.now) (chars c.args.text.now) c.in_ok-elements.elements.items c.in_ok-elements.ensures in
     record { few = omega (arith, few, c.len.ensures, c.in_ok-elements.elements.ok.0, c.requires.few) }
 
-pub compiled_parts-requires : goal.compiled_parts-requires
-compiled_parts-requires c =
+pub compiled_elements-requires : goal.compiled_elements-requires
+compiled_elements-requires c =
     let few = few_elements (collation c.args.table.now) (chars c.args.text.now) c.in_ok-elements.elements.items c.in_ok-elements.ensures in
     omega (arith, few, c.deref.ensures.len, c.in_ok-elements.elements.ok.0, c.requires.few)
 
@@ -28,11 +28,11 @@ returns-clause-numbers c =
     let are = subst (λ (elements : List ElementEntry). AreElementsOf table (elements_of table (chars c.args.text.now)) elements) (sym c.deref.ensures.value) c.in_ok-elements.ensures in
     let undefined = c.in_ok-weights.ensures in
     let lists = undefined.lists ∙ ap (λ (t : Collation). compiled_row_by (known_rank t) (length table.rules) Undefined (undefined_weights table)) (sym c.new-recent.ensures) in
-    text_numbers table c.new-recent.result c.in_ok-weights.weights c.compiled_parts.new.weights (chars c.args.text.now) c.deref.result.now c.in_ok-parts.parts.items are
-    (c.new-recent.ensures ∙ c.new-ranks.ensures) undefined.levels lists undefined.own c.in_ok-parts.ensures.rows c.in_ok-parts.ensures.parts
+    text_numbers table c.new-recent.result c.in_ok-weights.weights c.compiled_elements.new.weights (chars c.args.text.now) c.deref.result.now c.in_ok-text_elements.text_elements.items are
+    (c.new-recent.ensures ∙ c.new-ranks.ensures) undefined.levels lists undefined.own c.in_ok-text_elements.ensures.rows c.in_ok-text_elements.ensures.text_elements
 
 pub returns-clause-count : goal.returns-clause-count
 returns-clause-count c =
     let table = collation c.args.table.now in
     let are = subst (λ (elements : List ElementEntry). AreElementsOf table (elements_of table (chars c.args.text.now)) elements) (sym c.deref.ensures.value) c.in_ok-elements.ensures in
-    few_parts_of table (chars c.args.text.now) c.deref.result.now c.in_ok-parts.parts.items are c.in_ok-parts.ensures.parts
+    few_text_elements table (chars c.args.text.now) c.deref.result.now c.in_ok-text_elements.text_elements.items are c.in_ok-text_elements.ensures.text_elements

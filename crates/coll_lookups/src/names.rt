@@ -1,0 +1,62 @@
+//! Sets of names, with a look-up by hash.
+//!
+//! A `Names` is the list of its names in the order in which they came, each once. How a name is found may change.
+//! `IdSet` keeps its names in it; names that lead to a node are kept by `node_names`.
+
+ghost use Rattle.std.specs.Prelude.{◌≡◌, [], OnOk, OnErr, chars};
+ghost use Rattle.coll_syntax.specs.Identifier.{has_name};
+
+use crate::HashKeys;
+use coll_lex::TextBuf;
+use indexmap::IndexSet;
+use std::alloc::{AllocError, Global};
+use std::marker::Model;
+
+/// Names, each once.
+#[derive(Drop)]
+pub struct Names {
+    names: IndexSet<String, HashKeys>,
+    alloc: Global,
+}
+
+impl Model for Names {
+    ghost use Rattle.std.specs.Prelude.{List, ℕ};
+    ghost use Rattle.coll_lookups.specs.IdSets.{all_characters_of, AreTexts};
+
+    ghost Value = { List (List ℕ) };
+
+    ghost view = { λ n. all_characters_of n.names.keys };
+
+    ghost invariant = { λ n. AreTexts n.names.keys };
+}
+
+impl Names {
+    ghost use Rattle.coll_lookups.specs.IdSets.{with_name};
+
+    /// No names. It takes no memory.
+    pub fn new(alloc: Global, keys: HashKeys) -> Names
+        ensures { result ≡ [] }
+    {
+        Names {
+            names: IndexSet::with_hasher(alloc, keys),
+            alloc,
+        }
+    }
+
+    /// Whether a name is there.
+    pub fn contains(&self, name: &TextBuf) -> bool
+        ensures { result ≡ has_name self.now name.now }
+    {
+        self.names.contains(name.get())
+    }
+
+    /// Puts a name at the end. One that is there stays where it is.
+    pub fn insert(&mut self, name: &str) -> Result<(), AllocError>
+        ensures ok { OnOk result (self.new ≡ with_name self.old (chars name.now)) }
+        ensures err { OnErr result (self.new ≡ self.old) }
+    {
+        let text = String::from_str(self.alloc, name)?;
+        self.names.insert(text)?;
+        Ok(())
+    }
+}
