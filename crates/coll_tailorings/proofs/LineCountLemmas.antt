@@ -32,7 +32,7 @@ three_and_one : (first second third : List (List ℕ)) (last : List ℕ)
 three_and_one first second third last =
     length-append first (second ++ (third ++ last ∷ []))
     ∙ ap (λ n. length first + n)
-        (length-append second (third ++ last ∷ []) ∙ ap (λ n. length second + n) (length-append third (last ∷ [])))
+    (length-append second (third ++ last ∷ []) ∙ ap (λ n. length second + n) (length-append third (last ∷ [])))
 
 sums : (all mapped copies lines : ℕ) → all ≡ 3 + (mapped + (lines + 1)) → mapped ≡ copies → all ≡ (copies + 4) + lines
 sums all mapped copies lines parts same = omega (arith, parts, same)
@@ -43,5 +43,5 @@ pub delta_length : (copies : List (List ℕ)) (statements : List Statement)
 unfolding delta_lines
 delta_length copies statements =
     sums (length (delta_lines copies statements)) (length (map copy_line copies)) (length copies) (line_count statements)
-      (three_and_one opening_lines (map copy_line copies) (flat_map statement_lines statements) (codes "END LC_COLLATE"))
-      (length-map copies copy_line)
+    (three_and_one opening_lines (map copy_line copies) (flat_map statement_lines statements) (codes "END LC_COLLATE"))
+    (length-map copies copy_line)

@@ -9,9 +9,9 @@ returns-then-not-is_writable-clause-rewritten c = leads_on_still c.args.kept.now
 pub returns-then-not-branch-clause-rewritten : goal.returns-then-not-branch-clause-rewritten
 returns-then-not-branch-clause-rewritten c =
     leads_on_refused c.in_ok-is_accepted.field-0 c.args.kept.now.items (collation c.args.table.now) c.args.made.statement (collation c.is_accepted.new.table)
-      c.in_ok-is_accepted.ensures c.if-not-branch.true
+    c.in_ok-is_accepted.ensures c.if-not-branch.true
 
 pub returns-clause-rewritten : goal.returns-clause-rewritten
 returns-clause-rewritten c =
     leads_on_accepted c.in_ok-is_accepted.field-0 c.args.kept.now.items c.push.new.self.items (collation c.args.table.now) c.args.made.statement
-      (collation c.is_accepted.new.table) c.in_ok-is_accepted.ensures c.if-not-branch.false c.in_ok-push.ensures.items
+    (collation c.is_accepted.new.table) c.in_ok-is_accepted.ensures c.if-not-branch.false c.in_ok-push.ensures.items
