@@ -1,26 +1,47 @@
 -- The number of lines of statements, and of a delta file.
-use Rattle.std.proofs.Common.{◌≡◌, ◌+◌, ℕ, List, [], ◌∷◌, ◌++◌, map, length, refl, ap, sym, ◌∙◌}
+use Rattle.std.proofs.Common.{◌≡◌, ◌+◌, ℕ, List, [], ◌∷◌, ◌++◌, map, length, codes, All, ap, sym, subst, ◌∙◌, arith}
 use Rattle.std.specs.List.{flat_map}
-use Rattle.std.proofs.lemmas.List.{length-append}
-use Rattle.std.proofs.lemmas.List.Concat.{flat_map-cons}
-use Rattle.std.proofs.lemmas.Grind.{flat_map-append}
+use Rattle.std.proofs.lemmas.List.{append-nil, length-append, length-map}
+use Rattle.std.proofs.lemmas.List.Elements.{All-nil}
 use Rattle.coll_syntax.specs.declared.statements.Statement.{Statement}
-use Rattle.coll_syntax.specs.declared.statements.Statement.TheVariants as statement
 use Rattle.coll_texts.specs.StatementText.{statement_lines}
+use Rattle.coll_delta_texts.specs.Writable.{IsWritable}
 use Rattle.coll_delta_texts.specs.DeltaText.{copy_line, delta_lines}
+use Rattle.coll_texts.specs.CanonicalText.{opening_lines}
 use Rattle.coll_tailorings.specs.LineCounts.{line_count}
 
-one : (s : Statement) → length (flat_map statement_lines (s ∷ [])) ≡ length (statement_lines s)
-one s = grind arith
+-- where nothing is kept, it can all be written
+pub none_is_written : (none : List Statement) → none ≡ [] → All IsWritable none
+none_is_written none same = subst (All IsWritable) (sym same) (All-nil IsWritable)
 
-pub count_with_one : (kept : List Statement) (s : Statement) → line_count (kept ++ s ∷ []) ≡ line_count kept + length (statement_lines s)
-count_with_one kept s =
-    ap length (flat_map-append statement_lines kept (s ∷ []))
-    ∙ length-append (flat_map statement_lines kept) (flat_map statement_lines (s ∷ []))
-    ∙ ap (λ n. line_count kept + n) (one s)
+-- where nothing is kept, there are only the other lines
+pub counted_none : (others : ℕ) (none : List Statement) → none ≡ [] → others ≡ others + line_count none
+counted_none others none same = let no_lines : line_count none ≡ 0 = ap line_count same in omega (arith, no_lines)
+
+sum_on : (after kept lines more others : ℕ) → after + kept ≡ lines + more → lines ≡ others + kept → after ≡ others + more
+sum_on after kept lines more others step counted = omega (arith, step, counted)
+
+-- the lines of what is kept, and the others, are counted on
+pub counted_on : (after : ℕ) (kept : List Statement) (lines : ℕ) (more : List Statement) (others : ℕ)
+    → after + line_count kept ≡ lines + line_count more → lines ≡ others + line_count kept → after ≡ others + line_count more
+counted_on after kept lines more others step counted = sum_on after (line_count kept) lines (line_count more) others step counted
+
+-- the length of three lists with a member more
+three_and_one : (first second third : List (List ℕ)) (last : List ℕ)
+    → length (first ++ (second ++ (third ++ last ∷ []))) ≡ length first + (length second + (length third + 1))
+three_and_one first second third last =
+    length-append first (second ++ (third ++ last ∷ []))
+    ∙ ap (λ n. length first + n)
+    (length-append second (third ++ last ∷ []) ∙ ap (λ n. length second + n) (length-append third (last ∷ [])))
+
+sums : (all mapped copies lines : ℕ) → all ≡ 3 + (mapped + (lines + 1)) → mapped ≡ copies → all ≡ (copies + 4) + lines
+sums all mapped copies lines parts same = omega (arith, parts, same)
 
 -- a delta file has a line for each copy, those of its statements, and four others
 pub delta_length : (copies : List (List ℕ)) (statements : List Statement)
     → length (delta_lines copies statements) ≡ (length copies + 4) + line_count statements
 unfolding delta_lines
-delta_length copies statements = grind arith
+delta_length copies statements =
+    sums (length (delta_lines copies statements)) (length (map copy_line copies)) (length copies) (line_count statements)
+    (three_and_one opening_lines (map copy_line copies) (flat_map statement_lines statements) (codes "END LC_COLLATE"))
+    (length-map copies copy_line)

@@ -1,10 +1,11 @@
 -- A table that statements rewrite, with a statement more behind them.
-use Rattle.std.proofs.Common.{◌≡◌, List, [], ◌∷◌, ◌++◌, Result, Ok, Err, refl, ap, sym, ◌∙◌}
+use Rattle.std.proofs.Common.{◌≡◌, Bool, true, false, List, [], ◌∷◌, ◌++◌, Result, Ok, Err, refl, ap, sym, subst, ◌∙◌}
+use Rattle.std.proofs.lemmas.Bool.{false≢true}
 use Rattle.coll_syntax.specs.declared.statements.Statement.{Statement}
 use Rattle.coll_nodes.specs.Table.{Collation}
 use Rattle.coll_table.specs.Delta.{delta}
 use Rattle.coll_table.specs.declared.refusals.Refusal.{Refusal}
-use Rattle.coll_tailorings.specs.Rewriting.{and_then, rewritten, LeadsOn}
+use Rattle.coll_tailorings.specs.Rewriting.{Answers, LeadsOn, and_then, rewritten}
 
 appended_by : (r : Result Collation Refusal) (given later : List Statement)
     → ((t : Collation) → rewritten t (given ++ later) ≡ and_then (rewritten t given) (λ u. rewritten u later))
@@ -23,15 +24,39 @@ unfolding rewritten
 one_more (Ok t) after h = h
 one_more (Err f) after h = h
 
--- where nothing is added, nothing changes
-pub leads_on_still : (given : List Statement) (table after : Collation) → after ≡ table → LeadsOn given table given after
-unfolding LeadsOn
-leads_on_still given table after same start leads = leads ∙ sym (ap Ok same)
+-- no statement rewrites a table to itself
+pub rewritten_by_none : (table : Collation) (none : List Statement) → none ≡ [] → rewritten table none ≡ Ok table
+unfolding rewritten
+rewritten_by_none table none same = subst (λ ss. rewritten table ss ≡ Ok table) (sym same) refl
 
-pub leads_on_by_one : (given : List Statement) (table : Collation) (s : Statement) (after : Collation)
-    → delta table s ≡ Ok after → LeadsOn given table (given ++ s ∷ []) after
+-- statements that lead on do so from each table
+pub led_on : (start : Collation) (given : List Statement) (table : Collation) (more : List Statement) (after : Collation)
+    → LeadsOn given table more after → rewritten start given ≡ Ok table → rewritten start more ≡ Ok after
 unfolding LeadsOn
-leads_on_by_one given table s after accepted start leads =
+led_on start given table more after leads stands = leads start stands
+
+-- where nothing changes, what was given leads to the same table
+pub leads_on_still : (given : List Statement) (table : Collation) → LeadsOn given table given table
+unfolding LeadsOn
+leads_on_still given table start leads = leads
+
+-- a statement that is refused changes nothing
+pub leads_on_refused : (accepted : Bool) (given : List Statement) (table : Collation) (s : Statement) (after : Collation)
+    → Answers accepted table s after → accepted ≡ false → LeadsOn given table given after
+leads_on_refused true given table s after answer refused = absurd (false≢true (sym refused))
+leads_on_refused false given table s after answer refused = subst (LeadsOn given table given) (sym answer.1) (leads_on_still given table)
+
+with_one : (given : List Statement) (table : Collation) (s : Statement) (after : Collation)
+    → delta table s ≡ Ok after → LeadsOn given table (given ++ s ∷ []) after
+unfolding LeadsOn rewritten
+with_one given table s after accepts start leads =
     rewritten-append start given (s ∷ [])
     ∙ ap (λ r. and_then r (λ u. rewritten u (s ∷ []))) leads
-    ∙ one_more (delta table s) after accepted
+    ∙ one_more (delta table s) after accepts
+
+-- a statement that is accepted leads on from what was given
+pub leads_on_accepted : (accepted : Bool) (given more : List Statement) (table : Collation) (s : Statement) (after : Collation)
+    → Answers accepted table s after → accepted ≡ true → more ≡ given ++ s ∷ [] → LeadsOn given table more after
+leads_on_accepted true given more table s after answer accepts same =
+    subst (λ ss. LeadsOn given table ss after) (sym same) (with_one given table s after answer)
+leads_on_accepted false given more table s after answer accepts same = absurd (false≢true accepts)

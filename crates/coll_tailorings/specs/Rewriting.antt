@@ -1,5 +1,5 @@
 -- What statements make of a table, one after another (the project's own).
-use Rattle.std.specs.Prelude.{◌≡◌, ◌×◌, Bool, true, false, List, [], ◌∷◌, Result, Ok, Err}
+use Rattle.std.specs.Prelude.{◌≡◌, Bool, true, false, List, [], ◌∷◌, Result, Ok, Err}
 use Rattle.std.specs.Result.{IsErr}
 use Rattle.coll_syntax.specs.declared.statements.Statement.{Statement}
 use Rattle.coll_nodes.specs.Table.{Collation}

@@ -22,24 +22,27 @@ use coll_table::{Refusal, Table};
 use coll_texts::LoadCause;
 use std::alloc::Global;
 
+// The lines of a delta file beside those of copies and statements: its directives, and those that begin and end its category.
+const FRAME_LINES: usize = 4;
+
 /// Puts statements to a table, and answers those that it accepted, in their order. Another one is left out, which is told.
 ///
-/// A delta file has so many lines beside those of the statements; one of more lines than a text may have is refused.
+/// They are those of a delta file with so many copies; one of more lines than a text may have is refused.
 pub(crate) fn put_all(
     alloc: Global,
     table: &mut Table,
     made: Vec<SourceStatement>,
-    others: usize,
+    copies: usize,
     report: &mut Report,
 ) -> Result<Vec<Statement>, SourceFault>
     ensures rewritten { IfOk result (λ kept. rewritten (collation table.old) kept.items ≡ Ok (collation table.new)) }
     ensures writable { IfOk result (λ kept. All IsWritable kept.items) }
-    ensures few { IfOk result (λ kept. others + lines_of_all kept.items ≤ most_lines) }
+    ensures few { IfOk result (λ kept. copies + 4 + lines_of_all kept.items ≤ most_lines) }
 {
-    if others > MOST_LINES as usize {
+    if copies > MOST_LINES as usize - FRAME_LINES {
         return Err(too_many(SourcePlace { text: 0, line: 0 }));
     }
-    let mut lines = others;
+    let mut lines = copies + FRAME_LINES;
     let mut kept = Vec::new(alloc);
     for statement in made {
         lines = put(table, &mut kept, lines, statement, report)?;

@@ -48,9 +48,7 @@ pub fn import_delta(
 {
     let (copies, made) = make(alloc, keys, table, lines, report)?;
     let copies = writable_copies(alloc, copies, report)?;
-    // Beside these a delta file has its two directives, and the lines that begin and end its category.
-    let others = copies.len().saturating_add(4);
-    let statements = put_all(alloc, table, made, others, report)?;
+    let statements = put_all(alloc, table, made, copies.len(), report)?;
     Ok(Tailored { copies, statements })
 }
 

@@ -12,6 +12,6 @@ abbrev pub invariant-loop-statement : goal.invariant-loop-statement
 invariant-loop-statement l = record {
   kept : rewritten (collation l.initial.table) l.kept.items ≡ Ok (collation l.table);
   written : All IsWritable l.kept.items;
-  counted : l.lines ≡ l.others + line_count l.kept.items;
+  counted : l.lines ≡ l.copies + 4 + line_count l.kept.items;
   few : l.lines ≤ most_lines;
 }
