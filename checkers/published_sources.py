@@ -260,7 +260,7 @@ def compare(program, name, locale, table, pools, room):
     unlike, torn = differing(pairs, found, own, room)
     with_marks = [pair for pair in unlike if any(map(has_marks_in_a_row, pair))]
     if with_marks or torn:
-        print(f"{name}: of {len(pairs)} pairs {len(with_marks)} have marks in a row, and of {torn} strcoll and strxfrm contradict each other")
+        print(f"{name}: of {len(pairs)} pairs {len(with_marks)} have marks in a row, and on {torn} strcoll and strxfrm differ", flush=True)
     refuse_unlike([pair for pair in unlike if pair not in with_marks], len(pairs), "words of its source")
     refuse_unlike(differing(pairs, found, again, room)[0], len(pairs), "words of its exported table")
     for path in WORDS.get(name, []):
