@@ -10,11 +10,12 @@ Each source of SOURCES is imported, which has to tell nothing that is lost, and 
 declarations as stated. Each tailoring goes through `import-delta` over the table of what it copies: it may lose what LOST states and
 nothing else, the names that it places in another spelling than it declares have to be told, and `check` has to accept the delta
 file. A source that copies a tailoring alone has to give the same statements. Then the order of words is compared with `strcoll` under
-the locale that `localedef` compiles of the same source, and under that which it compiles with the exported table in place of its own:
+the locale that `localedef` compiles of the same source, and under that which it compiles of the exported table:
 
 - 3,000 random words of many scripts' characters and, for a tailoring, of those that it names, put into the order of their keys: each
-  two neighbours and 20,000 other pairs. Those stand otherwise, and it is told how many, in which marks stand in a row that combine
-  with a letter: glibc compares these from the right, since their section alone has `backward` at the second level;
+  two neighbours and 20,000 other pairs. Under the first locale those may stand otherwise in which marks stand in a row that combine
+  with a letter: glibc compares these from the right, since their section alone has `backward` at the second level. And a pair may
+  stand as `strxfrm` says where that and `strcoll` contradict each other, which glibc's do. How many these are is told;
 - all words of a list of Debian's (WORDS), put into the system's order: each two neighbours. A list that isn't there is told.
 
 The last line is 'N passed, M failed', and the status is 1 where one failed.
@@ -63,6 +64,8 @@ TABLES = {
 SLIPS = {"sv_SE": (94, 1), "se_NO": (141, 1), "ik_CA": (99, 1), "dsb_DE": (116, 4), "dz_BT": (1687, 1)}
 # What a tailoring loses: how many things of each kind.
 LOST = {"dsb_DE": {"SymbolWeights": 4}, "dz_BT": {"SymbolWeights": 1}}
+# The categories of a locale beside its order.
+OTHERS = "IDENTIFICATION CTYPE MONETARY NUMERIC TIME MESSAGES PAPER NAME ADDRESS TELEPHONE MEASUREMENT".split()
 # Lists of words, by the source that orders them.
 WORDS = {
     "iso14651_t1": ["dict/ngerman", "dict/french", "dict/italian", "dict/portuguese", "dict/catalan", "dict/irish"],
@@ -87,13 +90,14 @@ WORDS = {
 }
 # So many comparisons are made in one session, whose text has at most 4,194,304 lines.
 LINES = 1_000_000
-# What is run under the locale: it reads pairs of words, and writes -1, 0 or 1 for each.
-STRCOLL = """
+# What is run under the locale: it reads pairs of words, and writes for each -1, 0 or 1 by `strcoll`, and another by `strxfrm`.
+ORDERS = """
 import locale, sys
 locale.setlocale(locale.LC_COLLATE, sys.argv[1])
 for line in sys.stdin.buffer.read().decode().splitlines():
-    order = locale.strcoll(*line.split("\\t"))
-    print((order > 0) - (order < 0))
+    pair = line.split("\\t")
+    order, (first, second) = locale.strcoll(*pair), map(locale.strxfrm, pair)
+    print((order > 0) - (order < 0), (first > second) - (first < second))
 """
 # What is run under the locale: it reads words, a line each, and writes them in their order.
 SORTED = """
@@ -163,8 +167,9 @@ def under(locale, room, script, text):
 
 
 def orders(pairs, locale, room):
-    """Returns for each pair of words -1, 0 or 1, as `strcoll` says under a locale."""
-    return [int(line) for line in under(locale, room, STRCOLL, "".join(f"{a}\t{b}\n" for a, b in pairs)).split()]
+    """Returns for each pair of words -1, 0 or 1, as `strcoll` and as `strxfrm` say under a locale."""
+    lines = under(locale, room, ORDERS, "".join(f"{a}\t{b}\n" for a, b in pairs)).splitlines()
+    return [tuple(map(int, line.split())) for line in lines]
 
 
 def some_words(pools):
@@ -227,46 +232,50 @@ def has_marks_in_a_row(word):
 
 
 def differing(pairs, found, locale, room):
-    """Returns the pairs of words whose order isn't that of a locale."""
-    return [pair for pair, ours, system in zip(pairs, found, orders(pairs, locale, room)) if ours != system]
+    """Returns the pairs of words whose order isn't that of a locale, and on how many of them `strxfrm` says so against `strcoll`."""
+    unlike, torn = [], 0
+    for pair, ours, (by_strcoll, by_strxfrm) in zip(pairs, found, orders(pairs, locale, room)):
+        if ours not in (by_strcoll, by_strxfrm):
+            unlike.append(pair)
+        torn += ours == by_strxfrm != by_strcoll
+    return unlike, torn
 
 
-def exported(program, name, table, room):
-    """Compiles the locale of a source with the exported table in place of its own order, and returns its name."""
-    with open(f"{FOLDER}/{name}", encoding="utf-8", errors="surrogateescape") as file:
-        source = file.read()
-    category = ran(program, "export", table)[0].decode()
-    category = category[category.index("LC_COLLATE\n") :]
-    before, behind = re.split(r"^LC_COLLATE\n.*?^END LC_COLLATE\n", source, maxsplit=1, flags=re.S | re.M)
-    path = f"{room}/exported-{name}"
-    with open(path, "w", encoding="utf-8", errors="surrogateescape") as file:
-        file.write(f"{before}{category}{behind}")
-    return compiled(path, "exported", room)
+def exported(program, table, room):
+    """Compiles a locale of an exported table, of which `localedef` may say nothing, and returns its name."""
+    source = f"{room}/exported"
+    with open(source, "w", encoding="utf-8") as file:
+        file.write(ran(program, "export", table)[0].decode())
+        file.writelines(f'LC_{name}\ncopy "en_US"\nEND LC_{name}\n' for name in OTHERS)
+    ended = subprocess.run(["localedef", "-i", source, "-f", "UTF-8", f"{source}.UTF-8"], capture_output=True, check=False)
+    if ended.returncode or ended.stderr:
+        raise Unwanted(f"localedef says of the exported table: {ended.stderr.decode()[:300]!r}, status {ended.returncode}")
+    return "exported.UTF-8"
 
 
 def compare(program, name, locale, table, pools, room):
     """Compares the order of words in a table with that of its locale, compiled of its source and of the exported table."""
-    own = compiled(locale, "own", room)
-    both = {"its source": own, "the exported table": exported(program, locale, table, room)}
+    own, again = compiled(locale, "own", room), exported(program, table, room)
     pairs, found = ordered_pairs(program, table, pools)
-    for of, compiled_as in both.items():
-        unlike = differing(pairs, found, compiled_as, room)
-        other = [pair for pair in unlike if not any(map(has_marks_in_a_row, pair))]
-        if other:
-            raise Unwanted(f"{len(other)} of {len(pairs)} pairs of words stand otherwise under {of}, as {other[0]}")
-        if unlike:
-            print(f"{name}: {len(unlike)} of {len(pairs)} pairs of words with marks in a row stand otherwise under {of}", flush=True)
+    unlike, torn = differing(pairs, found, own, room)
+    with_marks = [pair for pair in unlike if any(map(has_marks_in_a_row, pair))]
+    if with_marks or torn:
+        print(f"{name}: of {len(pairs)} pairs {len(with_marks)} have marks in a row, and on {torn} strcoll and strxfrm differ", flush=True)
+    refuse_unlike([pair for pair in unlike if pair not in with_marks], len(pairs), "words of its source")
+    refuse_unlike(differing(pairs, found, again, room)[0], len(pairs), "words of its exported table")
     for path in WORDS.get(name, []):
         words = listed(f"/usr/share/{path}")
-        if not words:
-            print(f"{name}: there is no list of words {path}", flush=True)
-            continue
-        pairs, found = neighbours(program, table, words, own, room)
-        for of, compiled_as in both.items():
-            unlike = differing(pairs, found, compiled_as, room)
-            if unlike:
-                raise Unwanted(f"{path}: {len(unlike)} of {len(pairs)} neighbours stand otherwise under {of}, as {unlike[0]}")
-        print(f"{name}: {len(words)} words of {path} stand as strcoll says", flush=True)
+        if words:
+            pairs, found = neighbours(program, table, words, own, room)
+            refuse_unlike(differing(pairs, found, own, room)[0], len(pairs), path)
+            refuse_unlike(differing(pairs, found, again, room)[0], len(pairs), f"{path}, by the exported table")
+        print(f"{name}: {len(words) or 'there are no'} words of {path}", flush=True)
+
+
+def refuse_unlike(unlike, count, of):
+    """Refuses pairs of words that stand otherwise, if there are any."""
+    if unlike:
+        raise Unwanted(f"{len(unlike)} of {count} pairs stand otherwise, of {of}, as {unlike[0]}")
 
 
 def category(name):
