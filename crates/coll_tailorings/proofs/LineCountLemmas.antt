@@ -1,9 +1,8 @@
 -- The number of lines of statements, and of a delta file.
-use Rattle.std.proofs.Common.{◌≡◌, ◌≤◌, ◌+◌, ℕ, List, [], ◌∷◌, ◌++◌, map, length, codes, All, ap, sym, subst, ◌∙◌, arith}
+use Rattle.std.proofs.Common.{◌≡◌, ◌+◌, ℕ, List, [], ◌∷◌, ◌++◌, map, length, codes, All, ap, sym, subst, ◌∙◌, arith}
 use Rattle.std.specs.List.{flat_map}
 use Rattle.std.proofs.lemmas.List.{append-nil, length-append, length-map}
 use Rattle.std.proofs.lemmas.List.Elements.{All-nil}
-use Rattle.coll_lex.specs.Limits.{most_lines}
 use Rattle.coll_syntax.specs.declared.statements.Statement.{Statement}
 use Rattle.coll_texts.specs.StatementText.{statement_lines}
 use Rattle.coll_delta_texts.specs.Writable.{IsWritable}
@@ -46,12 +45,3 @@ delta_length copies statements =
     sums (length (delta_lines copies statements)) (length (map copy_line copies)) (length copies) (line_count statements)
     (three_and_one opening_lines (map copy_line copies) (flat_map statement_lines statements) (codes "END LC_COLLATE"))
     (length-map copies copy_line)
-
-few_by : (all copies lines count : ℕ) → all ≡ (copies + 4) + lines → count ≡ copies → count + 4 + lines ≤ most_lines → all ≤ most_lines
-few_by all copies lines count total counted few = omega (arith, total, counted, few)
-
--- a delta file has no more lines than a text may have, where they are counted
-pub few_lines : (copies : List (List ℕ)) (statements : List Statement) (count : ℕ) → count ≡ length copies
-    → count + 4 + line_count statements ≤ most_lines → length (delta_lines copies statements) ≤ most_lines
-few_lines copies statements count counted few =
-    few_by (length (delta_lines copies statements)) (length copies) (line_count statements) count (delta_length copies statements) counted few
