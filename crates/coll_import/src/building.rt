@@ -3,9 +3,10 @@
 //! All that a source declares is known before the first order line is looked at, and all that it places before the first weight. Then
 //! the table is built, line by line, by the builder that reads tables.
 
-ghost use Rattle.std.specs.Prelude.{IfOk};
+ghost use Rattle.std.specs.Prelude.{IfOk, OnOk};
 ghost use Rattle.coll_nodes.specs.TableLayout.{collation};
 ghost use Rattle.coll_nodes.specs.WellFormed.{IsWellFormed};
+ghost use Rattle.coll_texts.specs.BuilderStates.{table_of};
 ghost use Rattle.coll_import.specs.Building.{IsEnded};
 ghost use Rattle.coll_syntax.specs.Proper.{IsProperTableLine};
 
@@ -52,10 +53,25 @@ fn all_meanings(
     report: &mut Report,
 ) -> Result<Meanings, SourceFault> {
     let mut meanings = Meanings::new(alloc, keys);
+    match take_all(&mut meanings, lines, report) {
+        Ok(()) => Ok(meanings),
+        Err(fault) => {
+            drop(meanings);
+            Err(fault)
+        }
+    }
+}
+
+// Takes what all lines declare.
+fn take_all(
+    meanings: &mut Meanings,
+    lines: &[SourceLine],
+    report: &mut Report,
+) -> Result<(), SourceFault> {
     for line in lines {
         meanings.take(line, report)?;
     }
-    Ok(meanings)
+    Ok(())
 }
 
 // What is placed, in its order, and what names mean then.
@@ -67,10 +83,25 @@ fn placed(
     report: &mut Report,
 ) -> Result<(Meanings, Order), SourceFault> {
     let mut placing = Placing::new(alloc, keys, meanings);
+    match put_in_order(&mut placing, lines, report) {
+        Ok(()) => placing.end(report),
+        Err(fault) => {
+            drop(placing);
+            Err(fault)
+        }
+    }
+}
+
+// Places what all lines place.
+fn put_in_order(
+    placing: &mut Placing,
+    lines: Vec<SourceLine>,
+    report: &mut Report,
+) -> Result<(), SourceFault> {
     for line in lines {
         placing.take(line, report)?;
     }
-    placing.end(report)
+    Ok(())
 }
 
 // Builds the table that declares this and has this order.
@@ -78,23 +109,88 @@ fn build(
     alloc: Global,
     keys: HashKeys,
     rules: Rules,
-    mut meanings: Meanings,
+    meanings: Meanings,
     order: Order,
     report: &mut Report,
 ) -> Result<Table, SourceFault> {
-    let mut builder = TableBuilder::new(alloc, keys)?;
-    declare_all(&mut builder, meanings.take_declared(), report)?;
+    match TableBuilder::new(alloc, keys) {
+        Ok(mut builder) => match fill(alloc, &mut builder, rules, meanings, order, report) {
+            Ok(()) => Ok(Table::built(builder)),
+            Err(fault) => {
+                drop(builder);
+                Err(fault)
+            }
+        },
+        Err(error) => {
+            drop(meanings);
+            drop(order);
+            Err(SourceFault::from(error))
+        }
+    }
+}
+
+// Puts all lines of a table to a new builder.
+fn fill(
+    alloc: Global,
+    builder: &mut TableBuilder,
+    rules: Rules,
+    meanings: Meanings,
+    order: Order,
+    report: &mut Report,
+) -> Result<(), SourceFault>
+    ensures { OnOk result (IsWellFormed (table_of builder.new)) }
+{
+    let mut meanings = meanings;
     let levels = rules.get().len();
-    start(&mut builder, rules)?;
+    match begin_order(builder, rules, meanings.take_declared(), report) {
+        Ok(()) => {
+            let filled = fill_order(alloc, builder, levels, &meanings, order, report);
+            drop(meanings);
+            filled
+        }
+        Err(fault) => {
+            drop(meanings);
+            drop(order);
+            Err(fault)
+        }
+    }
+}
+
+// Declares all of this, and opens the order.
+fn begin_order(
+    builder: &mut TableBuilder,
+    rules: Rules,
+    declared: Vec<SourceStatement>,
+    report: &mut Report,
+) -> Result<(), SourceFault> {
+    declare_all(builder, declared, report)?;
+    start(builder, rules)
+}
+
+// Puts the lines of an order to a builder, and ends its category.
+fn fill_order(
+    alloc: Global,
+    builder: &mut TableBuilder,
+    levels: usize,
+    meanings: &Meanings,
+    order: Order,
+    report: &mut Report,
+) -> Result<(), SourceFault>
+    ensures { OnOk result (IsWellFormed (table_of builder.new)) }
+{
     let (lines, placed) = order.into_parts();
     let look_up = WeightLookUp {
-        meanings: &meanings,
+        meanings,
         placed: &placed,
         levels,
         alloc,
     };
-    place_all(&mut builder, &look_up, lines, report)?;
-    built(builder)
+    let put = place_all(builder, &look_up, lines, report);
+    drop(placed);
+    match put {
+        Ok(()) => end(builder),
+        Err(fault) => Err(fault),
+    }
 }
 
 // Declares all of this.
@@ -147,14 +243,16 @@ fn begin(builder: &mut TableBuilder, place: SourcePlace, name: TextBuf) -> Resul
     Ok(())
 }
 
-// The table of a builder, behind its last line.
-fn built(builder: TableBuilder) -> Result<Table, SourceFault> {
-    let mut builder = builder;
-    take(&mut builder, nowhere(), TableLine::OrderEnd)?;
-    if !take(&mut builder, nowhere(), TableLine::EndCategory)? {
-        return Err(nowhere().load_fault(LoadCause::NoEnd));
+// Ends the order and the category.
+fn end(builder: &mut TableBuilder) -> Result<(), SourceFault>
+    ensures { OnOk result (IsWellFormed (table_of builder.new)) }
+{
+    take(builder, nowhere(), TableLine::OrderEnd)?;
+    match take(builder, nowhere(), TableLine::EndCategory) {
+        Ok(true) => Ok(()),
+        Ok(false) => Err(nowhere().load_fault(LoadCause::NoEnd)),
+        Err(fault) => Err(fault),
     }
-    Ok(Table::built(builder))
 }
 
 // Puts what a statement says to a table, or tells that it is left out, since it is beyond the limits.

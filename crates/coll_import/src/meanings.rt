@@ -202,18 +202,43 @@ impl Meanings {
             report.count(Adjustment::ElementOfOne, place)?;
             return Ok(self.mean(name.get(), Meaning::Other(Id::Char(c)), false)?);
         }
-        if let Some(other) = self.strings.get(text.get()) {
-            let other = other.try_copy()?;
-            report.count(Adjustment::ElementStringTwice, place)?;
-            return Ok(self.mean(name.get(), Meaning::Other(Id::Named(other)), false)?);
+        match self.with_string(text)? {
+            Some(other) => {
+                report.count(Adjustment::ElementStringTwice, place)?;
+                Ok(self.mean(name.get(), Meaning::Other(other), false)?)
+            }
+            None => self.declare_element(place, name, text),
         }
-        let string = String::from_str(self.alloc, text.get())?;
-        self.strings.insert(string, name.try_copy()?)?;
+    }
+
+    // The element that has a string, if one does.
+    fn with_string(&self, text: &TextBuf) -> Result<Option<Id>, AllocError> {
+        match self.strings.get(text.get()) {
+            Some(name) => Ok(Some(Id::Named(name.try_copy()?))),
+            None => Ok(None),
+        }
+    }
+
+    // Declares an element whose string no other one has.
+    fn declare_element(
+        &mut self,
+        place: SourcePlace,
+        name: &TextBuf,
+        text: &TextBuf,
+    ) -> Result<(), SourceFault> {
+        self.know_string(name, text)?;
         let statement = Statement::Element {
             name: name.try_copy()?,
             text: text.try_copy()?,
         };
         self.declare(place, name, Meaning::Element, statement)
+    }
+
+    // Keeps the string of an element.
+    fn know_string(&mut self, name: &TextBuf, text: &TextBuf) -> Result<(), AllocError> {
+        let string = String::from_str(self.alloc, text.get())?;
+        self.strings.insert(string, name.try_copy()?)?;
+        Ok(())
     }
 
     // Declares a second name of a symbol.
@@ -301,11 +326,17 @@ impl Meanings {
         statement: Statement,
     ) -> Result<(), SourceFault> {
         if self.declared.len() >= MOST_DECLARATIONS {
+            drop(meaning);
+            drop(statement);
             return Err(place.load_fault(LoadCause::Full));
         }
-        self.mean(name.get(), meaning, false)?;
-        self.declared.push(SourceStatement { place, statement })?;
-        Ok(())
+        match self.mean(name.get(), meaning, false) {
+            Ok(()) => Ok(self.declared.push(SourceStatement { place, statement })?),
+            Err(error) => {
+                drop(statement);
+                Err(SourceFault::from(error))
+            }
+        }
     }
 
     // Gives a name its meaning.

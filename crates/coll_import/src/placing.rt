@@ -37,17 +37,35 @@ impl Placing {
 
     /// What names mean, and the order; a source without any order line and without `order_start` has none.
     pub(crate) fn end(mut self, report: &mut Report) -> Result<(Meanings, Order), SourceFault> {
-        self.ellipses.leave(report)?;
+        match self.finish(report) {
+            Ok(()) => Ok(self.into_parts()),
+            Err(fault) => {
+                drop(self);
+                Err(fault)
+            }
+        }
+    }
+
+    // What names mean, and the order.
+    fn into_parts(self) -> (Meanings, Order) {
         let Placing {
             meanings,
             order,
-            started,
-            ..
+            started: _,
+            open: _,
+            ellipses,
         } = self;
-        if order.is_empty() && !started {
+        drop(ellipses);
+        (meanings, order)
+    }
+
+    // Leaves the last line. A source without any order line and without `order_start` has no rules.
+    fn finish(&mut self, report: &mut Report) -> Result<(), SourceFault> {
+        self.ellipses.leave(report)?;
+        if self.order.is_empty() && !self.started {
             return Err(SourcePlace { text: 0, line: 0 }.load_fault(LoadCause::NoRules));
         }
-        Ok((meanings, order))
+        Ok(())
     }
 
     /// Takes a line. What it declares is known already.
