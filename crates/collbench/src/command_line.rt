@@ -48,7 +48,7 @@ const EXAMPLES: &str = "Examples:
   collbench import-delta common.txt sv_SE      the delta file of a published tailoring, for that table";
 
 // The subcommands that work on a table or make one, in the order in which help tells them.
-const SUBCOMMANDS: [Subcommand; 8] = [
+const SUBCOMMANDS: [Subcommand; 9] = [
     Subcommand::Check,
     Subcommand::Print,
     Subcommand::Export,
