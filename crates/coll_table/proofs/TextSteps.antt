@@ -165,8 +165,7 @@ module _ (text : List ℕ) (old new : ReaderState) (left left_after : Option (Li
   pub cut_behind : (Holds : List (List ℕ) → Type 0) → Holds given.whole → old.stop ≡ None
       → StopsNow old new left left_after failed failed_after stop.ReadFault ⊎ StopsAgain old new left left_after failed failed_after stop.ReadFault → IsCutBehind Holds text left_after
   cut_behind Holds holds none stops =
-      let cut = stops_short old new left left_after failed failed_after given.rest given.unread none stops in
-      (
+      let cut = stops_short old new left left_after failed failed_after given.rest given.unread none stops in (
         given.whole,
         cut.part,
         cut.rest,
