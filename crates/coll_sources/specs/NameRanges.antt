@@ -10,7 +10,7 @@ abbrev pub base_of : Digits → ℕ
 base_of Decimal = 10
 base_of Hexadecimal = 16
 
--- the last digits of a number in a base, as many as are asked for
+-- the last digits of a number in a base, in upper case, as many as are asked for
 unfoldable pub digits_in : (base : ℕ) → (count : ℕ) → ℕ → List ℕ
 digits_in base zero n = []
 digits_in base (suc count) n = digits_in base count (n / base) ++ hex_digit (n % base) ∷ []

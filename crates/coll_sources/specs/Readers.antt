@@ -8,7 +8,8 @@ use Rattle.coll_sources.specs.declared.source_lines.SourceLine.{SourceLine}
 use Rattle.coll_sources.specs.declared.readers.Next.{Next}
 use Rattle.coll_sources.specs.declared.readers.Next.TheVariants.{Ended, Nothing, Whole}
 
--- the names of the texts, in the order in which they were wanted; how many of them are there; what is defined; and what is said and told
+-- the names of the texts, in the order in which they were wanted; how many of them are there; what is defined; the lines given so far;
+-- and what is told of them
 pub record ReaderValue : Type 0 where
   pub names : List (List ℕ)
   pub held : ℕ

@@ -1,6 +1,6 @@
 //! What is told of what an import changed: how often each kind of change was made, and what was lost.
 //!
-//! A new kind is a variant of `Adjustment` with its name and its number, and a place in `ADJUSTMENTS`.
+//! A new kind is a variant of `Adjustment` with its name, and a place in `ADJUSTMENTS`.
 
 use crate::{SourceFault, SourcePlace};
 use coll_lex::TextBuf;
@@ -122,7 +122,7 @@ impl Adjustment {
     }
 }
 
-/// Most things that an import may lose: a source that loses more is refused.
+// Most things that an import may lose: a source that loses more is refused.
 const MOST_LOSSES: usize = 262_144;
 
 /// How often a kind of change was made, and where first.

@@ -2,7 +2,8 @@
 //!
 //! The physical lines of its category tell it, whatever conditions they stand under: one begins an order, and none changes one.
 
-use coll_lex::{Lexer, past_blanks, without_return};
+use coll_devices::without_return;
+use coll_lex::{Lexer, past_blanks};
 use std::alloc::{AllocError, Global};
 
 // The word of a line that begins an order.

@@ -5,7 +5,7 @@
 use crate::{SourceCause, SourceFault, SourcePlace};
 use std::alloc::{AllocError, Global};
 
-/// A condition that is open.
+// A condition that is open.
 #[derive(Clone, Copy)]
 struct Condition {
     // Where it begins.
@@ -15,7 +15,7 @@ struct Condition {
     // Whether the lines here count, where those around do.
     holds: bool,
     // Whether its `else` has stood already.
-    turned: bool,
+    has_else: bool,
 }
 
 /// The conditions that are open in a text, the innermost last.
@@ -47,16 +47,16 @@ impl Conditions {
             place,
             around,
             holds,
-            turned: false,
+            has_else: false,
         })?;
         Ok(())
     }
 
-    /// Turns the innermost condition round.
-    pub(crate) fn turn(&mut self, place: SourcePlace) -> Result<(), SourceFault> {
+    /// Takes the `else` of the innermost condition.
+    pub(crate) fn take_else(&mut self, place: SourcePlace) -> Result<(), SourceFault> {
         match self.open.last_mut() {
-            Some(condition) if !condition.turned => {
-                condition.turned = true;
+            Some(condition) if !condition.has_else => {
+                condition.has_else = true;
                 condition.holds = !condition.holds;
                 Ok(())
             }

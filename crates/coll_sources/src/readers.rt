@@ -200,8 +200,8 @@ impl SourceReader {
         }
         match lines.advance(input) {
             Ok(false) => self.end_text(),
-            Ok(true) => Err(self.wanted_at(MOST_LINES).lex_fault(LexFault::TooManyLines)),
-            Err(stop) => Err(self.stopped(MOST_LINES, stop)),
+            Ok(true) => Err(self.wanted_at(MOST_LINES + 1).lex_fault(LexFault::TooManyLines)),
+            Err(stop) => Err(self.stopped(MOST_LINES + 1, stop)),
         }
     }
 
@@ -398,7 +398,7 @@ impl SourceReader {
         }
     }
 
-    // Takes a line that begins, turns or ends a condition, and answers whether it is one. `define` is one as well.
+    // Takes a line of a condition, and answers whether it is one. `define` is one as well.
     fn take_condition(
         &mut self,
         conditions: &mut Conditions,
@@ -418,8 +418,8 @@ impl SourceReader {
                 let name = only_name(place, rest)?;
                 conditions.begin(place, !self.defined.contains(name.get()))?;
             }
-            "else" => return turned(place, rest, conditions.turn(place)),
-            "endif" => return turned(place, rest, conditions.end(place)),
+            "else" => return taken_alone(place, rest, conditions.take_else(place)),
+            "endif" => return taken_alone(place, rest, conditions.end(place)),
             _ => return Ok(false),
         }
         self.report.count(Adjustment::Conditional, place)?;
@@ -525,16 +525,16 @@ fn only_name(place: SourcePlace, operands: &[Token]) -> Result<&TextBuf, SourceF
     }
 }
 
-// That a condition was turned or ended by a line without operands.
-fn turned(
+// That an `else` or `endif` was taken, whose line has no operands.
+fn taken_alone(
     place: SourcePlace,
     operands: &[Token],
-    turned: Result<(), SourceFault>,
+    taken: Result<(), SourceFault>,
 ) -> Result<bool, SourceFault> {
     if !operands.is_empty() {
         return Err(misread(place, SyntaxFault::ExtraOperand));
     }
-    match turned {
+    match taken {
         Ok(()) => Ok(true),
         Err(fault) => Err(fault),
     }
@@ -561,17 +561,24 @@ fn copied(tokens: &[Token]) -> Option<&[Piece]> {
     }
 }
 
-// What a line that is left out is about: the name that it declares, or else what it begins with.
+// What a line that is left out is about: the identifier that it begins with, or else the name behind its word, or that word. Where it
+// begins with a string, it is about the quotation mark.
 fn subject_of(alloc: Global, tokens: &[Token]) -> Result<Option<Lost>, AllocError> {
-    match tokens {
-        [Token::Word(_), Token::Symbol(name), ..] => {
-            Ok(Some(Lost::Id(Id::Named(copied_name(alloc, name)?))))
-        }
-        [Token::Word(word), ..] => Ok(Some(Lost::Word(copied_name(alloc, word)?))),
-        [first, ..] => match id_of(alloc, first)? {
-            Some(id) => Ok(Some(Lost::Id(id))),
-            None => Ok(None),
-        },
-        [] => Ok(None),
+    let Some((first, operands)) = tokens.split_first() else {
+        return Ok(None);
+    };
+    if let Some(id) = id_of(alloc, first)? {
+        return Ok(Some(Lost::Id(id)));
     }
+    if let (Token::Word(_), [Token::Symbol(name), ..]) = (first, operands) {
+        return Ok(Some(Lost::Id(Id::Named(copied_name(alloc, name)?))));
+    }
+    let word = match first {
+        Token::Word(word) => copied_name(alloc, word)?,
+        Token::Text(_) => TextBuf::copied(alloc, "\"")?,
+        Token::Semicolon => TextBuf::copied(alloc, ";")?,
+        Token::Comma => TextBuf::copied(alloc, ",")?,
+        Token::Symbol(_) | Token::Char(_) => return Ok(None),
+    };
+    Ok(Some(Lost::Word(word)))
 }

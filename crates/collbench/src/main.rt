@@ -10,6 +10,7 @@ ghost use Rattle.std.specs.Prelude.{◌<◌, length, vec_len, IfOk, IfErr, ◌�
 mod command_line;
 mod files;
 mod importing;
+mod laws;
 mod random_keys;
 
 use coll_bench::{
