@@ -17,12 +17,12 @@ abbrev pub named : (names : List (List ℕ)) → (input : ℕ) → List ℕ
 named names input = name_written (slice_get names input)
 
 -- the line of a fault and what follows it, behind the name of its input
-abbrev pub placed : RunFault → List ℕ
-placed ended = codes ":" ++ (decimal ended.line ++ told_line (codes ": ") ended.fault)
+abbrev pub behind_name : RunFault → List ℕ
+behind_name ended = codes ":" ++ (decimal ended.line ++ told_line (codes ": ") ended.fault)
 
 -- the line of a fault: the name of its input, a colon, its line, a colon, and its number and name
 unfoldable pub fault_line : (names : List (List ℕ)) → RunFault → List ℕ
-fault_line names ended = named names ended.input ++ placed ended
+fault_line names ended = named names ended.input ++ behind_name ended
 
 -- a write failed
 abbrev pub write_refused : Fault

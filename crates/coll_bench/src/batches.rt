@@ -85,8 +85,8 @@ pub fn run_batch_keyed<R: Source, W: Sink>(
 ) -> Result<Table, RunFault>
     ensures run { BatchRuns batch (R.left table.old) (R.left table.new) (map R.left deltas.old) (map R.left deltas.new) (W.taken output.old)
         (W.taken output.new) (without_table result) }
-    ensures table { IfOk result (λ changed. ReadsInputs (R.left table.old) (R.left table.new) (map R.left deltas.old) (map R.left deltas.new)
-        (Ok changed)) }
+    ensures table { IfOk result (λ changed. ReadsInputs (R.left table.old) (R.left table.new)
+        (map R.left deltas.old) (map R.left deltas.new) (Ok changed)) }
     ensures input { IfErr result (λ ended. ended.input ≤ length deltas.old) }
     ensures reads { CountsInputs (R.failed table.old ∷ map R.failed deltas.old) (R.failed table.new ∷ map R.failed deltas.new) result }
     ensures writes { CountsWrites (W.failed output.old) (W.failed output.new) (without_table result) }

@@ -111,8 +111,8 @@ fn write_if_symbol<W: Sink>(
     id: &Id,
     out: &mut W,
 ) -> Result<(), WriteStop>
-    ensures sent { Sends (W.taken out.old) (W.taken out.new) (flat_map (behind_line file.now) (if_symbol (collation table.now).declared id.now))
-        result }
+    ensures sent { Sends (W.taken out.old) (W.taken out.new)
+        (flat_map (behind_line file.now) (if_symbol (collation table.now).declared id.now)) result }
     ensures errors { CountsErr (W.failed out.old) (W.failed out.new) result }
 {
     if table.is_symbol(id) {

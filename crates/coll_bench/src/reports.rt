@@ -4,7 +4,7 @@
 
 ghost use Rattle.std.specs.Prelude.{◌≡◌, ◌<◌, ◌++◌, length, map, string_bytes, IfErr};
 ghost use Rattle.coll_devices.specs.Devices.{CountsErr, Sends};
-ghost use Rattle.coll_bench.specs.Reports.{fault_line, placed, exit_status as stated_status, write_refused};
+ghost use Rattle.coll_bench.specs.Reports.{fault_line, behind_name, exit_status as stated_status, write_refused};
 
 use crate::faults::{Fault, RunFault};
 use coll_devices::{Sink, WriteStop};
@@ -28,7 +28,7 @@ pub fn write_fault<W: Sink>(fault: &RunFault, names: &[String], out: &mut W) -> 
 
 // Writes the line of a fault, with the name of its input.
 fn write_named<W: Sink>(fault: &RunFault, name: &str, out: &mut W) -> Result<(), WriteStop>
-    ensures sent { Sends (W.taken out.old) (W.taken out.new) (name.now ++ placed fault.now) result }
+    ensures sent { Sends (W.taken out.old) (W.taken out.new) (name.now ++ behind_name fault.now) result }
     ensures errors { CountsErr (W.failed out.old) (W.failed out.new) result }
 {
     write_pieces(

@@ -13,4 +13,4 @@ mod delta_texts;
 mod writable;
 
 pub use delta_texts::{write_delta, written_deltas_are_read_back};
-pub use writable::{MOST_COPY_CHARS, is_copy_name, is_writable};
+pub use writable::{is_copy_name, is_writable};

@@ -11,8 +11,8 @@ ghost use Rattle.coll_delta_texts.specs.Writable.{gives_weights, is_own_alone, i
 use coll_lex::TextBuf;
 use coll_syntax::{MOST_LEVELS, OrderLine, Statement, Weight};
 
-/// Most characters of the name of a copy that can be written.
-pub const MOST_COPY_CHARS: usize = 4_096;
+// Most characters of the name of a copy that can be written.
+const MOST_COPY_CHARS: usize = 4_096;
 
 const _: () = prove!(MOST_COPY_CHARS == 4_096);
 

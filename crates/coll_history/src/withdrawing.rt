@@ -1,7 +1,7 @@
 //! A statement is withdrawn from the middle of a history.
 //!
 //! The statements down to it are taken back, and those after it are put to the table anew, one after another. Their new records
-//! stand on a list of their own until all are accepted: where one is refused, or memory is wanted, they are given back, the
+//! stand on a list of their own until all are accepted: where one is refused, or memory is, they are given back, the
 //! newest first, each of its nodes forgotten at once, and all statements are put up again, so that the very layout is there as
 //! before. No table is copied, and nothing on the way back takes memory. A change of the way keeps to the definition,
 //! `specs/Withdrawal.antt`, and to the order in which undone records are given up: the one that was taken back last comes first.

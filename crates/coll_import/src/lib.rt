@@ -31,7 +31,7 @@ mod weights;
 
 pub use building::import_table;
 pub use ellipses::{Ellipses, Run};
-pub use meanings::{Meaning, Meanings};
+pub use meanings::Meanings;
 pub use reports::{write_report, write_source_fault};
 pub use source_statements::{SourceStatement, lose_statement, proper_line};
 pub use weights::{WeightLookUp, without_symbol_weights};

@@ -20,7 +20,7 @@ use std::alloc::{AllocError, Global};
 
 /// What a name means.
 #[derive(Drop)]
-pub enum Meaning {
+pub(crate) enum Meaning {
     /// A collating symbol.
     Symbol,
     /// A collating element.
@@ -84,7 +84,7 @@ impl Meanings {
         }
     }
 
-    /// What a name means, if it is declared.
+    // What a name means, if it is declared.
     fn of(&self, name: &TextBuf) -> Option<&Meaning> {
         match self.names.get(name.get()) {
             Some(known) => Some(&known.meaning),
@@ -109,7 +109,7 @@ impl Meanings {
     }
 
     /// What an identifier stands for, where that is something else.
-    pub fn other(&self, id: &Id) -> Option<&Id> {
+    pub(crate) fn other(&self, id: &Id) -> Option<&Id> {
         match id {
             Id::Named(name) => match self.of(name) {
                 Some(Meaning::Other(other)) => Some(other),

@@ -42,7 +42,8 @@ impl<'a> Model for ForwardNumbers<'a> {
     ghost view = { λ n. items_left (compiled_numbers n.ranks.now.compiled n.level) (map (added_to n.weight.added) n.weight.ranks.now)
         (elements_by_ranks n.ranks.now (chars n.text.now)) };
 
-    ghost invariant = { λ n. (n.level < n.ranks.now.compiled.levels) × (length (elements_by_ranks n.ranks.now (chars n.text.now)) ≤ 65_536) };
+    ghost invariant = { λ n. (n.level < n.ranks.now.compiled.levels)
+        × (length (elements_by_ranks n.ranks.now (chars n.text.now)) ≤ 65_536) };
 }
 
 impl<'a> ForwardNumbers<'a> {

@@ -56,7 +56,8 @@ fn key_of_word(
 ) -> Result<Vec<u64>, AllocError>
     requires { length text.now ≤ MOST_WORD_BYTES }
     ensures { IfOk result (λ key. key.items
-        ≡ flat_map ended (level_lists_from rules.now 0 (compiled_numbers ranks.now.compiled) (elements_by_ranks ranks.now (chars text.now)))) }
+        ≡ flat_map ended (level_lists_from rules.now 0 (compiled_numbers ranks.now.compiled)
+        (elements_by_ranks ranks.now (chars text.now)))) }
 {
     let mut rows = [ElementRow { first: 0, code: 0 }; MOST_WORD_BYTES];
     let count = put_rows(&mut rows[..], ranks, text);

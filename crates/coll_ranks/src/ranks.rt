@@ -71,8 +71,8 @@ impl Ranks {
     /// The element that a text begins with.
     #[inline(always)]
     pub fn first_element<'a>(&self, text: &'a str) -> Option<FirstElement<'a>>
-        ensures elements { MatchOption result (elements_by_ranks self.now (chars text.now) ≡ []) (λ first. elements_by_ranks self.now (chars text.now)
-            ≡ first.element ∷ elements_by_ranks self.now (chars first.rest.now)) }
+        ensures elements { MatchOption result (elements_by_ranks self.now (chars text.now) ≡ [])
+            (λ first. elements_by_ranks self.now (chars text.now) ≡ first.element ∷ elements_by_ranks self.now (chars first.rest.now)) }
         ensures characters { MatchOption result (length (chars text.now) ≡ 0)
             (λ first. length (chars text.now) ≡ first.characters + length (chars first.rest.now)) }
         ensures some { IfSome result (λ first. 0 < first.characters) }
@@ -125,7 +125,8 @@ impl Ranks {
     // Two texts behind the first character of both, if it is the same and no element may begin with it.
     #[inline(always)]
     fn past_same<'a, 'b>(&self, text: &'a str, other: &'b str) -> Option<(&'a str, &'b str)>
-        ensures same { IfSome result (λ later. BeginAlike (elements_by_ranks self.now (chars text.now)) (elements_by_ranks self.now (chars other.now))
+        ensures same { IfSome result (λ later. BeginAlike
+            (elements_by_ranks self.now (chars text.now)) (elements_by_ranks self.now (chars other.now))
             (elements_by_ranks self.now (chars later.0.now)) (elements_by_ranks self.now (chars later.1.now))) }
         ensures shorter { IfSome result (λ later. length (chars later.0.now) < length (chars text.now)) }
     {

@@ -94,7 +94,7 @@ const KEY_FAULTS: &[(KeyFault, &str)] = &[
     (KeyFault::OutOfMemory, "70 OutOfMemory"),
 ];
 
-const UNIT_FAULTS: &[(RequestFault, &str)] = &[
+const REQUEST_FAULTS: &[(RequestFault, &str)] = &[
     (RequestFault::Lex(LexFault::BadName), "4 BadName"),
     (
         RequestFault::Syntax(SyntaxFault::EmptyString),
@@ -177,7 +177,7 @@ fn a_fault_is_shown_by_its_number_and_name(rt: HostRuntime) {
     assert_shown(&rt, alloc, LOAD_CAUSES);
     assert_shown(&rt, alloc, REFUSALS);
     assert_shown(&rt, alloc, KEY_FAULTS);
-    assert_shown(&rt, alloc, UNIT_FAULTS);
+    assert_shown(&rt, alloc, REQUEST_FAULTS);
     assert_shown(&rt, alloc, DELTA_CAUSES);
     assert_shown(&rt, alloc, BENCH_FAULTS);
     assert_shown(&rt, alloc, FAULTS);

@@ -3,7 +3,7 @@ use Rattle.std.proofs.Common.{◌++◌, List, ℕ, Option, ap, sym, ◌∙◌, s
 use Rattle.std.specs.Prelude.{string_bytes}
 use Rattle.coll_devices.specs.Devices.{AppendsPrefix}
 use Rattle.std.specs.Io.KnownBytes.{Appends}
-use Rattle.coll_bench.specs.Reports.{fault_line, name_written, placed}
+use Rattle.coll_bench.specs.Reports.{fault_line, name_written, behind_name}
 use Rattle.coll_bench.proofs.Members.{got, got-map}
 use Rattle.coll_bench.proofs.reports.write_fault.Goals as goal
 
@@ -13,7 +13,7 @@ returns-in-Ok-clause-sent g c =
     let taken = g.W.Sink.taken in
     let at = got-map string_bytes c.args.names.now c.args.fault.now.input c.index-names-fault.result
     (got c.args.names.now c.args.fault.now.input c.index-names-fault.result c.requires.named c.index-names-fault.is) in
-    let line = ap (λ (o : Option (List ℕ)). name_written o ++ placed c.args.fault.now) at ∙ ap (λ (l : List ℕ). l ++ placed c.args.fault.now) (sym c.as_str.ensures.value) in
+    let line = ap (λ (o : Option (List ℕ)). name_written o ++ behind_name c.args.fault.now) at ∙ ap (λ (l : List ℕ). l ++ behind_name c.args.fault.now) (sym c.as_str.ensures.value) in
     subst (Appends (taken c.args.out.now) (taken c.write_named.new.out)) (sym line) c.in-Ok.ensures.sent
 
 pub returns-in-Err-clause-sent : goal.returns-in-Err-clause-sent
@@ -22,5 +22,5 @@ returns-in-Err-clause-sent g c =
     let taken = g.W.Sink.taken in
     let at = got-map string_bytes c.args.names.now c.args.fault.now.input c.index-names-fault.result
     (got c.args.names.now c.args.fault.now.input c.index-names-fault.result c.requires.named c.index-names-fault.is) in
-    let line = ap (λ (o : Option (List ℕ)). name_written o ++ placed c.args.fault.now) at ∙ ap (λ (l : List ℕ). l ++ placed c.args.fault.now) (sym c.as_str.ensures.value) in
+    let line = ap (λ (o : Option (List ℕ)). name_written o ++ behind_name c.args.fault.now) at ∙ ap (λ (l : List ℕ). l ++ behind_name c.args.fault.now) (sym c.as_str.ensures.value) in
     subst (AppendsPrefix (taken c.args.out.now) (taken c.write_named.new.out)) (sym line) c.in-Err.ensures.sent
