@@ -1,9 +1,9 @@
 -- A delta file without a fault, by the statements that it says: a batch rewrites a table by them.
-use Rattle.std.proofs.Common.{◌≡◌, ℕ, true, List, [], ◌∷◌, Result, Ok, Err, Option, Some, None, sym, subst, length, map}
+use Rattle.std.proofs.Common.{◌≡◌, ℕ, true, List, [], ◌∷◌, Result, Ok, Err, None, sym, subst, length, map}
 use Rattle.coll_devices.specs.PhysicalLines.{lines_of}
 use Rattle.coll_syntax.specs.declared.statements.Statement.{Statement}
 use Rattle.coll_nodes.specs.Table.{Collation}
-use Rattle.coll_requests.specs.DeltaFiles.{DeltaEnd, Ended, AtFault, Undecided, DeltaOutcome, delta_outcome, delta_requests, fault_at_end}
+use Rattle.coll_requests.specs.DeltaFiles.{DeltaEnd, Ended, AtFault, Undecided, delta_outcome, delta_requests, fault_at_end}
 use Rattle.coll_requests.specs.declared.delta_files.StatementAt.{StatementAt}
 use Rattle.coll_table.specs.Delta.{delta}
 use Rattle.coll_table.specs.declared.refusals.Refusal.{Refusal}

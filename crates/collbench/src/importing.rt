@@ -4,6 +4,7 @@
 //! fault, are told on standard error.
 
 use crate::Output;
+use crate::laws::written_deltas_are_accepted;
 use coll_bench::{Fault, exit_status};
 use coll_delta_texts::write_delta;
 use coll_import::{import_table, write_report, write_source_fault};
@@ -51,6 +52,8 @@ impl Made {
         match self {
             Made::Table(table) => table.print(out),
             Made::Delta(tailored) => {
+                // The table that was tailored accepts what is written here.
+                written_deltas_are_accepted();
                 let (copies, statements) = (
                     tailored.copies.as_slice(),
                     tailored.statements.as_slice(),
