@@ -166,13 +166,15 @@ module _ (input : ℕ) (first : Collation) where
           of_line : number ≡ number_of s.lexer → IsLineWithin number (length at.read.lines.whole + 1) ⊎ IsLineOfStatement (at.read.lines.whole ++ new.line ∷ []) number
           of_line same = let within = next_within s.lexer way.opens in inl (omega (arith, same, within.0), omega (arith, same, within.1, at.read.count going))
 
-          by_given : (given : List StatementAt) (after : DeltaState) → delta_line s new.line ≡ Ok (given, after) → IsNumberOf given number → IsLineOfStatement (at.read.lines.whole ++ new.line ∷ []) number
+          by_given : (given : List StatementAt) (after : DeltaState) → delta_line s new.line ≡ Ok (given, after) → IsNumberOf given number → IsLineOfStatement
+              (at.read.lines.whole ++ new.line ∷ []) number
           by_given [] after step here = absurd here
           by_given (it ∷ more) after step here =
               let stated = line_states input way.block s new.line (it ∷ more) after way.stands step in
               (at.given, it, more ++ stated.0.statements, ap (λ (said : DeltaOutcome). said.statements) (at.says false (new.line ∷ []) ∙ ap (after_statements at.given) stated.1), here)
 
-          of_statement : (given : List StatementAt) × (after : DeltaState) × (delta_line s new.line ≡ Ok (given, after)) × IsNumberOf given number → IsLineWithin number (length at.read.lines.whole + 1)
+          of_statement : (given : List StatementAt) × (after : DeltaState) × (delta_line s new.line ≡ Ok (given, after)) × IsNumberOf given number → IsLineWithin number
+              (length at.read.lines.whole + 1)
               ⊎ IsLineOfStatement (at.read.lines.whole ++ new.line ∷ []) number
           of_statement h = inr (by_given h.0 h.1 h.2 h.3)
 

@@ -7,7 +7,8 @@ use Rattle.coll_nodes.specs.Walks.{Visited, visited}
 use Rattle.coll_bench.specs.Exports.{visits_character, behind_character, symbol_visited, symbols_behind, behind_line, export_told, visited_told}
 
 -- the lines of what is visited are those of its symbols
-told_each : (file : List ℕ) (table : Collation) (items : List Visited) → flat_map (behind_line file) (flat_map (symbol_visited table.declared) items) ≡ flat_map (visited_told file table.declared) items
+told_each : (file : List ℕ) (table : Collation) (items : List Visited) → flat_map (behind_line file) (flat_map (symbol_visited table.declared) items) ≡ flat_map
+    (visited_told file table.declared) items
 told_each file table [] = refl
 told_each file table (item ∷ items) =
     flat_map-append (behind_line file) (symbol_visited table.declared item) (flat_map (symbol_visited table.declared) items)

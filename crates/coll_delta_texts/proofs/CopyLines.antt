@@ -97,7 +97,8 @@ spells_literally cs h = record {
       keeps_both (λ rest. 34 ∷ rest) (λ rest. spelled_all spelled_in_string cs (34 ∷ rest)) 1 (4 * length cs + 1) keeps_mark
       (keeps_both (spelled_all spelled_in_string cs) (λ rest. 34 ∷ rest) (4 * length cs) 1 (keeps_chars cs h) keeps_mark);
   reads = λ rest e.
-      ap (reading 37 zero) (atoms-mark (spelled_all spelled_in_string cs (34 ∷ rest)) ∙ ap (λ xs. Bare (Plain 34) ∷ xs) (atoms-chars cs (34 ∷ rest) ∙ ap (λ xs. map char_atom cs ++ xs) (atoms-mark rest)))
+      ap (reading 37 zero) (atoms-mark (spelled_all spelled_in_string cs (34 ∷ rest)) ∙ ap (λ xs. Bare (Plain 34) ∷ xs)
+      (atoms-chars cs (34 ∷ rest) ∙ ap (λ xs. map char_atom cs ++ xs) (atoms-mark rest)))
       ∙ reading-chars cs (atoms zero (marks 47 false rest));
 }
 

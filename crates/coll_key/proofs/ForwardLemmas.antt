@@ -27,7 +27,8 @@ pub gap_count_small : (xs : List ℕ) → gap_count xs ≤ 1
 gap_count_small [] = omega arith
 gap_count_small (x ∷ xs) = omega arith
 
-module _ {P : Type 0} (f : P → List ℕ) (g₀ g : ℕ → ℕ) (old ranks : List ℕ) (held elements : List P) (element : P) (none : old ≡ []) (next : held ≡ element ∷ elements) (weighs : map g ranks ≡ f element) where
+module _ {P : Type 0} (f : P → List ℕ) (g₀ g : ℕ → ℕ) (old ranks : List ℕ) (held elements : List P) (element : P) (none : old ≡ []) (next : held ≡ element ∷ elements)
+    (weighs : map g ranks ≡ f element) where
   -- what is left begins with this element
   begins : items_left f (map g₀ old) held ≡ items_of (map g ranks) ++ items f elements
   begins = ap (λ os. items_left f (map g₀ os) held) none ∙ ap (items f) next ∙ ap (λ ns. items_of ns ++ items f elements) (sym weighs)

@@ -112,7 +112,8 @@ key_is_whole f ps level rules key whole past so_far =
 
 -- the key of a text is that of its elements, by the weights and the rules of a table
 pub key_is_made : (ranks : RanksValue) (table : Collation) → AreRanksOf ranks table → IsWellFormed table
-    → (text : List ℕ) (weights : WeightsValue) (rules : List Rule) (elements : List TextElement) (key : List ℕ) → weights ≡ ranks.compiled → rules ≡ table.rules → elements ≡ elements_by_ranks ranks text
+    → (text : List ℕ) (weights : WeightsValue) (rules : List Rule) (elements : List TextElement) (key : List ℕ) → weights ≡ ranks.compiled → rules ≡ table.rules → elements ≡
+    elements_by_ranks ranks text
     → key ≡ flat_map ended (level_lists_from rules 0 (compiled_numbers weights) elements) → key ≡ key_of table text
 key_is_made ranks table are well text weights rules elements key by_weights by_rules by_elements made =
     made

@@ -54,7 +54,8 @@ no_elements ranks = refl
 pub element_first : (ranks : RanksValue) (text : List ℕ) (found : FoundElement) → Finds (longest ranked_text ranks.elements text) text (Some found)
     → elements_by_ranks ranks text ≡ Placed found.rank ∷ elements_by_ranks ranks (chars found.rest.now)
 element_first ranks text found h = by (longest ranked_text ranks.elements text) refl h where
-  by : (l : Option RankedElement) → longest ranked_text ranks.elements text ≡ l → Finds l text (Some found) → elements_by_ranks ranks text ≡ Placed found.rank ∷ elements_by_ranks ranks (chars found.rest.now)
+  by : (l : Option RankedElement) → longest ranked_text ranks.elements text ≡ l → Finds l text (Some found) → elements_by_ranks ranks text ≡ Placed found.rank ∷ elements_by_ranks ranks
+      (chars found.rest.now)
   by None e h = absurd (let no : Some found ≡ None = h in cc)
   by (Some ranked) e h = first_is_placed ranks ranked text (chars found.rest.now) e h.goes_on h.some ∙ ap (λ r. Placed r ∷ elements_by_ranks ranks (chars found.rest.now)) (sym h.rank)
 
@@ -85,7 +86,8 @@ character_first ranks text rest behind first element is h same left = by (longes
 
 -- texts begin alike with a character that begins no element
 pub same_first : (ranks : RanksValue) (text other rest later : List ℕ) (first second : ℕ) → text ≡ first ∷ rest → other ≡ second ∷ later → second ≡ first
-    → ((behind : List ℕ) → longest ranked_text ranks.elements (first ∷ behind) ≡ None) → BeginAlike (elements_by_ranks ranks text) (elements_by_ranks ranks other) (elements_by_ranks ranks rest) (elements_by_ranks ranks later)
+    → ((behind : List ℕ) → longest ranked_text ranks.elements (first ∷ behind) ≡ None) → BeginAlike (elements_by_ranks ranks text) (elements_by_ranks ranks other)
+    (elements_by_ranks ranks rest) (elements_by_ranks ranks later)
 same_first ranks text other rest later first second is also same none = (
   element_with ranks.ids None first ∷ [],
   ap (elements_by_ranks ranks) is ∙ first_is_character ranks first rest (none rest),
@@ -185,7 +187,8 @@ module _ (ranks : RanksValue) (table : Collation) (are : AreRanksOf ranks table)
     by (Some place) e = ap (λ p. compiled_numbers ranks.compiled level (Placed (unwrap_or (option_or p None) 0))) e ∙ placed_numbers (Named element.name) place e
 
   -- an element
-  numbers_of_element : (found : Option Element) (c : ℕ) → compiled_numbers ranks.compiled level (element_with ranks.ids (option_map (ranked_in table) found) c) ≡ numbers_at table level (element_id found c)
+  numbers_of_element : (found : Option Element) (c : ℕ) → compiled_numbers ranks.compiled level (element_with ranks.ids (option_map (ranked_in table) found) c) ≡ numbers_at table level
+      (element_id found c)
   numbers_of_element None c = character_numbers c
   numbers_of_element (Some element) c = element_numbers element
 
@@ -211,7 +214,8 @@ module _ (ranks : RanksValue) (table : Collation) (are : AreRanksOf ranks table)
   beyond_ranked (Some element) = refl
 
   -- the numbers of all elements
-  numbers_of_split : (skipped : ℕ) (text : List ℕ) → map (compiled_numbers ranks.compiled level) (split ranked_text (map (ranked_in table) (elements_placed table)) (element_with ranks.ids) skipped text)
+  numbers_of_split : (skipped : ℕ) (text : List ℕ) → map (compiled_numbers ranks.compiled level)
+      (split ranked_text (map (ranked_in table) (elements_placed table)) (element_with ranks.ids) skipped text)
       ≡ map (numbers_at table level) (split element_text (elements_placed table) element_id skipped text)
   numbers_of_split skipped [] = refl
   numbers_of_split (suc skipped) (c ∷ text) = numbers_of_split skipped text

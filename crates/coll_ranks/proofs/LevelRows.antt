@@ -21,7 +21,8 @@ row_of_element weights level (Absent c) =
     ap (λ place. map (added_to (added_at weights level c)) (slice_index_or weights.lists place [])) same
 
 -- and those of elements are those of their rows
-pub rows_of_elements : (weights : WeightsValue) (level : ℕ) (elements : List TextElement) → map (row_numbers weights level) (map (row_of weights) elements) ≡ map (compiled_numbers weights level) elements
+pub rows_of_elements : (weights : WeightsValue) (level : ℕ) (elements : List TextElement) → map (row_numbers weights level) (map (row_of weights) elements) ≡ map
+    (compiled_numbers weights level) elements
 rows_of_elements weights level [] = refl
 rows_of_elements weights level (element ∷ elements) =
     ap (λ ns. ns ∷ map (row_numbers weights level) (map (row_of weights) elements)) (row_of_element weights level element)

@@ -42,8 +42,10 @@ rows_go_on rows_of xs x at old new whole within is put so_far =
     ∙ (sym (at_drop_more (λ ys. old ++ flat_map rows_of ys) xs at x within) ∙ so_far)))
 
 -- no element is left
-pub text_elements_done : (elements : List ElementEntry) (at row : ℕ) (text_elements whole : List TextElement) → length elements ≤ at → text_elements ++ elements_by_rows row (drop at elements) ≡ whole → text_elements ≡ whole
-text_elements_done elements at row text_elements whole past all = sym (append-nil text_elements) ∙ (sym (at_drop_all (λ (es : List ElementEntry). text_elements ++ elements_by_rows row es) elements at past) ∙ all)
+pub text_elements_done : (elements : List ElementEntry) (at row : ℕ) (text_elements whole : List TextElement) → length elements ≤ at → text_elements ++ elements_by_rows row
+    (drop at elements) ≡ whole → text_elements ≡ whole
+text_elements_done elements at row text_elements whole past all = sym (append-nil text_elements) ∙
+    (sym (at_drop_all (λ (es : List ElementEntry). text_elements ++ elements_by_rows row es) elements at past) ∙ all)
 
 pub rows_done : {X Y : Type 0} (rows_of : X → List Y) (xs : List X) (at : ℕ) (rows whole : List Y) → length xs ≤ at → rows ++ flat_map rows_of (drop at xs) ≡ whole → rows ≡ whole
 rows_done rows_of xs at rows whole past all = sym (append-nil rows) ∙ (sym (at_drop_all (λ ys. rows ++ flat_map rows_of ys) xs at past) ∙ all)

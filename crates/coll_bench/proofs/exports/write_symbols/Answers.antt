@@ -9,7 +9,8 @@ use Rattle.coll_bench.proofs.exports.write_symbols.Goals as goal
 pub returns-in-Err-clause-sent : goal.returns-in-Err-clause-sent
 returns-in-Err-clause-sent g c =
     let taken = g.W.Sink.taken in
-    written_prefix (visited_told c.args.file.now (collation c.args.table.now).declared) c.args.walk c.symbols.left c.next.new.self (visited_by c.in-Some.item) (taken c.args.out.now) (taken c.symbols.out)
+    written_prefix (visited_told c.args.file.now (collation c.args.table.now).declared) c.args.walk c.symbols.left c.next.new.self (visited_by c.in-Some.item) (taken c.args.out.now)
+    (taken c.symbols.out)
     (taken c.write_if_visited.new.out) c.in-Some.ensures.steps c.symbols.invariant.sent c.in-Err.ensures.sent
 
 pub symbols-preserved : goal.symbols-preserved

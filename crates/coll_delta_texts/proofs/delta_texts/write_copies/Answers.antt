@@ -8,7 +8,8 @@ pub returns-in-Err-clause-sent : goal.returns-in-Err-clause-sent
 returns-in-Err-clause-sent g c =
     let taken = g.W.Sink.taken in
     let part = rw c.get.ensures.characters at c.in-Err.ensures.sent in
-    written_prefix copy_bytes c.args.copies.now (drop c.loop-name.name-index c.args.copies.now) (drop (c.loop-name.name-index + 1) c.args.copies.now) c.name-item.result (taken c.args.out.now) (taken c.loop-name.out)
+    written_prefix copy_bytes c.args.copies.now (drop c.loop-name.name-index c.args.copies.now) (drop (c.loop-name.name-index + 1) c.args.copies.now) c.name-item.result
+    (taken c.args.out.now) (taken c.loop-name.out)
     (taken c.write_copy.new.out)
     (left_begins c.args.copies.now c.loop-name.name-index c.name-item.result c.loop-name-test.true c.name-item.is) c.loop-name.invariant.sent part
 
@@ -17,7 +18,8 @@ loop-name-preserved g c =
     let taken = g.W.Sink.taken in
     let part = rw c.get.ensures.characters at c.in_default.ensures.sent in
     record {
-      sent = written_more copy_bytes c.args.copies.now (drop c.loop-name.name-index c.args.copies.now) (drop (c.loop-name.name-index + 1) c.args.copies.now) c.name-item.result (taken c.args.out.now) (taken c.loop-name.out)
+      sent = written_more copy_bytes c.args.copies.now (drop c.loop-name.name-index c.args.copies.now) (drop (c.loop-name.name-index + 1) c.args.copies.now) c.name-item.result
+          (taken c.args.out.now) (taken c.loop-name.out)
           (taken c.write_copy.new.out)
           (left_begins c.args.copies.now c.loop-name.name-index c.name-item.result c.loop-name-test.true c.name-item.is) c.loop-name.invariant.sent part;
       count = c.in_default.ensures.errors ∙ c.loop-name.invariant.count;

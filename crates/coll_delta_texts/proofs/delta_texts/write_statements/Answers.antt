@@ -7,7 +7,8 @@ use Rattle.coll_delta_texts.proofs.delta_texts.write_statements.Goals as goal
 pub returns-in-Err-clause-sent : goal.returns-in-Err-clause-sent
 returns-in-Err-clause-sent g c =
     let taken = g.W.Sink.taken in
-    written_prefix statement_bytes c.args.statements.now (drop c.loop-statement.statement-index c.args.statements.now) (drop (c.loop-statement.statement-index + 1) c.args.statements.now) c.statement-item.result (taken c.args.out.now) (taken c.loop-statement.out)
+    written_prefix statement_bytes c.args.statements.now (drop c.loop-statement.statement-index c.args.statements.now)
+    (drop (c.loop-statement.statement-index + 1) c.args.statements.now) c.statement-item.result (taken c.args.out.now) (taken c.loop-statement.out)
     (taken c.write_statement.new.out)
     (left_begins c.args.statements.now c.loop-statement.statement-index c.statement-item.result c.loop-statement-test.true c.statement-item.is) c.loop-statement.invariant.sent c.in-Err.ensures.sent
 
@@ -15,8 +16,10 @@ pub loop-statement-preserved : goal.loop-statement-preserved
 loop-statement-preserved g c =
     let taken = g.W.Sink.taken in
     record {
-      sent = written_more statement_bytes c.args.statements.now (drop c.loop-statement.statement-index c.args.statements.now) (drop (c.loop-statement.statement-index + 1) c.args.statements.now) c.statement-item.result (taken c.args.out.now) (taken c.loop-statement.out)
+      sent = written_more statement_bytes c.args.statements.now (drop c.loop-statement.statement-index c.args.statements.now)
+          (drop (c.loop-statement.statement-index + 1) c.args.statements.now) c.statement-item.result (taken c.args.out.now) (taken c.loop-statement.out)
           (taken c.write_statement.new.out)
-          (left_begins c.args.statements.now c.loop-statement.statement-index c.statement-item.result c.loop-statement-test.true c.statement-item.is) c.loop-statement.invariant.sent c.in_default.ensures.sent;
+          (left_begins c.args.statements.now c.loop-statement.statement-index c.statement-item.result c.loop-statement-test.true c.statement-item.is) c.loop-statement.invariant.sent
+          c.in_default.ensures.sent;
       count = c.in_default.ensures.errors ∙ c.loop-statement.invariant.count;
     }

@@ -19,7 +19,8 @@ level_order-requires-clause-few_others c =
 pub loop-level-preserved : goal.loop-level-preserved
 loop-level-preserved c =
     let ranks = c.args.ranks.now in
-    order_goes_on (compiled_numbers ranks.compiled) (elements_by_ranks ranks (chars c.args.text.now)) (elements_by_ranks ranks (chars c.args.other.now)) c.loop-level.level c.rules-rule-items.result.now _ _
+    order_goes_on (compiled_numbers ranks.compiled) (elements_by_ranks ranks (chars c.args.text.now)) (elements_by_ranks ranks (chars c.args.other.now)) c.loop-level.level
+    c.rules-rule-items.result.now _ _
     c.in_ok-order.order _ c.rules-rule-items.ensures c.loop-level-test.true c.if-is_ne.ensures c.in_ok-order.ensures.ok c.loop-level.invariant
 
 pub returns-then-is_ne-clause-ok : goal.returns-then-is_ne-clause-ok

@@ -11,4 +11,5 @@ invariant-loop-level l =
     let elements = elements_by_ranks l.ranks (chars l.text) in
     let others = elements_by_ranks l.ranks (chars l.other) in
     first_difference (level_lists_from rules 0 (compiled_numbers l.ranks.compiled) elements) (level_lists_from rules 0 (compiled_numbers l.ranks.compiled) others)
-    ≡ first_difference (level_lists_from (drop l.level rules) l.level (compiled_numbers l.ranks.compiled) elements) (level_lists_from (drop l.level rules) l.level (compiled_numbers l.ranks.compiled) others)
+    ≡ first_difference (level_lists_from (drop l.level rules) l.level (compiled_numbers l.ranks.compiled) elements)
+    (level_lists_from (drop l.level rules) l.level (compiled_numbers l.ranks.compiled) others)

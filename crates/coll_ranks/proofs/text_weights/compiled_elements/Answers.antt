@@ -14,7 +14,8 @@ loop-element-preserved c =
     let added = c.in_ok-row.ensures.rows in
     record {
       few = omega (arith, c.loop-element.invariant.few, c.in_ok-row.ensures.few);
-      text_elements = text_elements_go_on c.args.elements.now c.element-item.result c.loop-element.element-index c.loop-element.row c.in_ok-row.row c.loop-element.text_elements.items c.push_element.new.text_elements.items _
+      text_elements = text_elements_go_on c.args.elements.now c.element-item.result c.loop-element.element-index c.loop-element.row c.in_ok-row.row c.loop-element.text_elements.items
+          c.push_element.new.text_elements.items _
           c.loop-element-test.true c.element-item.is c.in_ok-row.ensures.text_elements c.loop-element.invariant.text_elements;
       levels = added.levels_are ∙ c.loop-element.invariant.levels;
       own = added.own_are ∙ c.loop-element.invariant.own;

@@ -9,7 +9,8 @@ invariant-gaps l =
     let now = l.self-inside in
     let first = l.initial.self-inside in
     let items_now = items_left (compiled_numbers now.ranks.now.compiled now.level) (map (added_to now.weight.added) now.weight.ranks.now) (elements_by_ranks now.ranks.now (chars now.text.now)) in
-    let items_first = items_left (compiled_numbers first.ranks.now.compiled first.level) (map (added_to first.weight.added) first.weight.ranks.now) (elements_by_ranks first.ranks.now (chars first.text.now)) in
+    let items_first = items_left (compiled_numbers first.ranks.now.compiled first.level) (map (added_to first.weight.added) first.weight.ranks.now)
+    (elements_by_ranks first.ranks.now (chars first.text.now)) in
     record {
       level : now.level < now.ranks.now.compiled.levels;
       few : l.gaps + length (elements_by_ranks now.ranks.now (chars now.text.now)) ≤ 65_536;
