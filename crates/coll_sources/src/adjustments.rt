@@ -122,7 +122,7 @@ impl Adjustment {
     }
 }
 
-/// Most things that an import may lose: a source that loses more is refused.
+// Most things that an import may lose: a source that loses more is refused.
 const MOST_LOSSES: usize = 262_144;
 
 /// How often a kind of change was made, and where first.

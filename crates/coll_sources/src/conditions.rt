@@ -5,7 +5,7 @@
 use crate::{SourceCause, SourceFault, SourcePlace};
 use std::alloc::{AllocError, Global};
 
-/// A condition that is open.
+// A condition that is open.
 #[derive(Clone, Copy)]
 struct Condition {
     // Where it begins.

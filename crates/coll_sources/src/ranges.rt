@@ -7,7 +7,7 @@ ghost use Rattle.coll_sources.specs.NameRanges.{base_of, digits_in, range_name};
 use coll_lex::TextBuf;
 use std::alloc::{AllocError, Global};
 
-/// Most digits of the number in a name of a range.
+// Most digits of the number in a name of a range.
 const MOST_DIGITS: usize = 8;
 
 /// How the numbers of a range are spelled.
