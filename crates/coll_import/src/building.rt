@@ -39,7 +39,7 @@ pub fn import_table(
 {
     let rules = common_rules(alloc, lines.as_slice(), backward, report)?;
     let meanings = all_meanings(alloc, keys, lines.as_slice(), report)?;
-    let (meanings, order) = placed(alloc, keys, meanings, lines, report)?;
+    let (meanings, order) = Placing::new(alloc, keys, meanings).placed(lines, report)?;
     let table = build(alloc, keys, rules, meanings, order, report)?;
     table.lemma_well_formed();
     Ok(table)
@@ -53,55 +53,13 @@ fn all_meanings(
     report: &mut Report,
 ) -> Result<Meanings, SourceFault> {
     let mut meanings = Meanings::new(alloc, keys);
-    match take_all(&mut meanings, lines, report) {
+    match meanings.take_all(lines, report) {
         Ok(()) => Ok(meanings),
         Err(fault) => {
             drop(meanings);
             Err(fault)
         }
     }
-}
-
-// Takes what all lines declare.
-fn take_all(
-    meanings: &mut Meanings,
-    lines: &[SourceLine],
-    report: &mut Report,
-) -> Result<(), SourceFault> {
-    for line in lines {
-        meanings.take(line, report)?;
-    }
-    Ok(())
-}
-
-// What is placed, in its order, and what names mean then.
-fn placed(
-    alloc: Global,
-    keys: HashKeys,
-    meanings: Meanings,
-    lines: Vec<SourceLine>,
-    report: &mut Report,
-) -> Result<(Meanings, Order), SourceFault> {
-    let mut placing = Placing::new(alloc, keys, meanings);
-    match put_in_order(&mut placing, lines, report) {
-        Ok(()) => placing.end(report),
-        Err(fault) => {
-            drop(placing);
-            Err(fault)
-        }
-    }
-}
-
-// Places what all lines place.
-fn put_in_order(
-    placing: &mut Placing,
-    lines: Vec<SourceLine>,
-    report: &mut Report,
-) -> Result<(), SourceFault> {
-    for line in lines {
-        placing.take(line, report)?;
-    }
-    Ok(())
 }
 
 // Builds the table that declares this and has this order.

@@ -77,16 +77,39 @@ impl Ellipses {
         weights: Option<ListBuf<Weight>>,
         report: &mut Report,
     ) -> Result<(Option<Run>, Run), SourceFault> {
+        match self.before_range(place, first, report) {
+            Ok(before) => {
+                self.last = Some(last);
+                let range = Run {
+                    place,
+                    first: u32::from(first),
+                    last: u32::from(last),
+                    weights,
+                };
+                Ok((before, range))
+            }
+            Err(fault) => {
+                drop(weights);
+                Err(fault)
+            }
+        }
+    }
+
+    // What an ellipsis before a range stands for, if there is one. The range is counted.
+    fn before_range(
+        &mut self,
+        place: SourcePlace,
+        first: char,
+        report: &mut Report,
+    ) -> Result<Option<Run>, SourceFault> {
         let before = self.run_to(Some(first), report)?;
-        report.count(Adjustment::EllipsisExpanded, place)?;
-        self.last = Some(last);
-        let range = Run {
-            place,
-            first: u32::from(first),
-            last: u32::from(last),
-            weights,
-        };
-        Ok((before, range))
+        match report.count(Adjustment::EllipsisExpanded, place) {
+            Ok(()) => Ok(before),
+            Err(error) => {
+                drop(before);
+                Err(SourceFault::from(error))
+            }
+        }
     }
 
     /// An ellipsis follows, which the next order line decides.
@@ -97,20 +120,30 @@ impl Ellipses {
         report: &mut Report,
     ) -> Result<(), SourceFault> {
         let last = self.last;
-        self.leave(report)?;
-        self.last = last;
-        self.dots = Some(Dots { place, weights });
-        Ok(())
+        match self.leave(report) {
+            Ok(()) => {
+                self.last = last;
+                self.dots = Some(Dots { place, weights });
+                Ok(())
+            }
+            Err(fault) => {
+                drop(weights);
+                Err(fault)
+            }
+        }
     }
 
     /// Something else follows: the line before is left, and so is an ellipsis behind it, which is left out.
     pub fn leave(&mut self, report: &mut Report) -> Result<(), SourceFault> {
         self.last = None;
-        if let Some(Dots { place, .. }) = self.dots.take() {
-            let what = Lost::Word(TextBuf::copied(self.alloc, "..")?);
-            report.lose(Adjustment::Dropped, place, what)?;
+        match self.dots.take() {
+            Some(Dots { place, weights }) => {
+                drop(weights);
+                let what = Lost::Word(TextBuf::copied(self.alloc, "..")?);
+                report.lose(Adjustment::Dropped, place, what)
+            }
+            None => Ok(()),
         }
-        Ok(())
     }
 
     // What an ellipsis stands for that has this character behind it, if there is one.
@@ -123,20 +156,44 @@ impl Ellipses {
             self.leave(report)?;
             return Ok(None);
         };
-        let Some(Dots { place, weights }) = self.dots.take() else {
-            return Ok(None);
-        };
-        if here <= last {
-            return Err(place.fault(SourceCause::BadRange));
+        match self.dots.take() {
+            Some(dots) => dots.run(last, here, report),
+            None => Ok(None),
         }
-        report.count(Adjustment::EllipsisExpanded, place)?;
-        Ok(Some(Run {
-            place,
-            first: u32::from(last).saturating_add(1),
-            last: u32::from(here).saturating_sub(1),
-            weights,
-        }))
     }
+}
+
+impl Dots {
+    // What it stands for between these characters.
+    fn run(self, last: char, here: char, report: &mut Report) -> Result<Option<Run>, SourceFault> {
+        let Dots { place, weights } = self;
+        match count_run(place, last, here, report) {
+            Ok(()) => Ok(Some(Run {
+                place,
+                first: u32::from(last).saturating_add(1),
+                last: u32::from(here).saturating_sub(1),
+                weights,
+            })),
+            Err(fault) => {
+                drop(weights);
+                Err(fault)
+            }
+        }
+    }
+}
+
+// Counts an ellipsis between these characters, which has to go forward.
+fn count_run(
+    place: SourcePlace,
+    last: char,
+    here: char,
+    report: &mut Report,
+) -> Result<(), SourceFault> {
+    if here <= last {
+        return Err(place.fault(SourceCause::BadRange));
+    }
+    report.count(Adjustment::EllipsisExpanded, place)?;
+    Ok(())
 }
 
 // The character of an identifier, if it is one.

@@ -7,7 +7,7 @@
 //!
 //! - `source_statements`: what is made of the lines of a source, with its place;
 //! - `meanings`: what each name of a source means, and what is declared;
-//! - `ellipses`: the characters between two order lines;
+//! - `ellipses`, with `order_lines`: the characters between two order lines;
 //! - `rules`: the rules that the table has;
 //! - `orders`: the sections and entries, none placed twice;
 //! - `placing`: order line after order line, into these;
@@ -21,6 +21,7 @@
 mod building;
 mod ellipses;
 mod meanings;
+mod order_lines;
 mod orders;
 mod placing;
 mod proper_lines;
@@ -32,6 +33,7 @@ mod weights;
 pub use building::import_table;
 pub use ellipses::{Ellipses, Run};
 pub use meanings::Meanings;
+pub use order_lines::{OrderLines, put_line, put_range};
 pub use reports::{write_report, write_source_fault};
 pub use source_statements::{SourceStatement, lose_statement, proper_line};
 pub use weights::{WeightLookUp, without_symbol_weights};

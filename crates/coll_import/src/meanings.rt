@@ -12,7 +12,7 @@ use coll_nodes::{DeclaredItem, MOST_DECLARATIONS};
 use coll_sources::{
     Adjustment, Lost, NameRange, Report, Said, SourceFault, SourceLine, SourcePlace, name_at,
 };
-use coll_syntax::{Id, MOST_ELEMENT_CHARS, Statement};
+use coll_syntax::{Id, MOST_ELEMENT_CHARS, OrderLine, Statement};
 use coll_table::Table;
 use coll_texts::LoadCause;
 use indexmap::IndexMap;
@@ -72,9 +72,7 @@ impl Meanings {
         match item {
             DeclaredItem::Symbol(name) => self.mean(name, Meaning::Symbol, true),
             DeclaredItem::Element(name, text) => {
-                let text = String::from_str(self.alloc, text)?;
-                let owner = TextBuf::copied(self.alloc, name)?;
-                self.strings.insert(text, owner)?;
+                self.know_string(name, text)?;
                 self.mean(name, Meaning::Element, true)
             }
             DeclaredItem::Equivalence(name, symbol) => {
@@ -103,8 +101,23 @@ impl Meanings {
     /// What an identifier stands for: itself, or what its name means.
     pub fn resolved(&self, id: Id) -> Result<Id, AllocError> {
         match self.other(&id) {
-            Some(other) => other.clone(),
+            Some(other) => {
+                drop(id);
+                other.clone()
+            }
             None => Ok(id),
+        }
+    }
+
+    /// An order line, whose identifier is what it stands for.
+    pub fn meant(&self, line: OrderLine) -> Result<OrderLine, AllocError> {
+        let OrderLine { id, weights } = line;
+        match self.resolved(id) {
+            Ok(id) => Ok(OrderLine { id, weights }),
+            Err(error) => {
+                drop(weights);
+                Err(error)
+            }
         }
     }
 
@@ -124,8 +137,20 @@ impl Meanings {
         std::mem::replace(&mut self.declared, Vec::new(self.alloc))
     }
 
-    /// Takes what a line declares.
-    pub fn take(&mut self, line: &SourceLine, report: &mut Report) -> Result<(), SourceFault> {
+    /// Takes what these lines declare.
+    pub fn take_all(
+        &mut self,
+        lines: &[SourceLine],
+        report: &mut Report,
+    ) -> Result<(), SourceFault> {
+        for line in lines {
+            self.take(line, report)?;
+        }
+        Ok(())
+    }
+
+    // Takes what a line declares.
+    fn take(&mut self, line: &SourceLine, report: &mut Report) -> Result<(), SourceFault> {
         let place = line.place;
         match &line.said {
             Said::Symbol(name) => self.symbol(place, name, report),
@@ -226,7 +251,7 @@ impl Meanings {
         name: &TextBuf,
         text: &TextBuf,
     ) -> Result<(), SourceFault> {
-        self.know_string(name, text)?;
+        self.know_string(name.get(), text.get())?;
         let statement = Statement::Element {
             name: name.try_copy()?,
             text: text.try_copy()?,
@@ -235,9 +260,10 @@ impl Meanings {
     }
 
     // Keeps the string of an element.
-    fn know_string(&mut self, name: &TextBuf, text: &TextBuf) -> Result<(), AllocError> {
-        let string = String::from_str(self.alloc, text.get())?;
-        self.strings.insert(string, name.try_copy()?)?;
+    fn know_string(&mut self, name: &str, text: &str) -> Result<(), AllocError> {
+        let text = String::from_str(self.alloc, text)?;
+        let owner = TextBuf::copied(self.alloc, name)?;
+        drop(self.strings.insert(text, owner)?);
         Ok(())
     }
 
@@ -253,14 +279,35 @@ impl Meanings {
             return lose(report, Adjustment::Dropped, place, name);
         };
         let alike = self.is_second_of(name, &own);
-        if self.is_taken(place, name, alike, report)? {
-            return Ok(());
+        match self.is_taken(place, name, alike, report) {
+            Ok(false) => self.declare_second(place, name, own),
+            Ok(true) => {
+                drop(own);
+                Ok(())
+            }
+            Err(fault) => {
+                drop(own);
+                Err(fault)
+            }
         }
-        let statement = Statement::Equivalence {
-            name: name.try_copy()?,
-            symbol: own.try_copy()?,
-        };
-        self.declare(place, name, Meaning::Other(Id::Named(own)), statement)
+    }
+
+    // Declares a second name of the symbol of this own name.
+    fn declare_second(
+        &mut self,
+        place: SourcePlace,
+        name: &TextBuf,
+        own: TextBuf,
+    ) -> Result<(), SourceFault> {
+        match second_name(name, &own) {
+            Ok(statement) => {
+                self.declare(place, name, Meaning::Other(Id::Named(own)), statement)
+            }
+            Err(error) => {
+                drop(own);
+                Err(SourceFault::from(error))
+            }
+        }
     }
 
     // The own name of a symbol, if it is one.
@@ -341,10 +388,25 @@ impl Meanings {
 
     // Gives a name its meaning.
     fn mean(&mut self, name: &str, meaning: Meaning, by_table: bool) -> Result<(), AllocError> {
-        let name = String::from_str(self.alloc, name)?;
-        self.names.insert(name, Known { meaning, by_table })?;
-        Ok(())
+        match String::from_str(self.alloc, name) {
+            Ok(name) => {
+                drop(self.names.insert(name, Known { meaning, by_table })?);
+                Ok(())
+            }
+            Err(error) => {
+                drop(meaning);
+                Err(error)
+            }
+        }
     }
+}
+
+// The statement that declares a second name of a symbol.
+fn second_name(name: &TextBuf, symbol: &TextBuf) -> Result<Statement, AllocError> {
+    Ok(Statement::Equivalence {
+        name: name.try_copy()?,
+        symbol: symbol.try_copy()?,
+    })
 }
 
 // Tells that a declaration is left out.

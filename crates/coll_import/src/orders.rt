@@ -4,7 +4,7 @@ use coll_lex::TextBuf;
 use coll_lookups::{HashKeys, IdSet};
 use coll_nodes::{MOST_ENTRIES, MOST_SECTIONS};
 use coll_sources::{Adjustment, Lost, Report, SourceFault, SourcePlace};
-use coll_syntax::OrderLine;
+use coll_syntax::{Id, OrderLine};
 use coll_texts::LoadCause;
 use indexmap::IndexSet;
 use std::alloc::{AllocError, Global};
@@ -55,7 +55,14 @@ impl Order {
 
     /// What stands in it, and which identifiers are placed.
     pub(crate) fn into_parts(self) -> (Vec<OrderedLine>, IdSet) {
-        let Order { lines, placed, .. } = self;
+        let Order {
+            lines,
+            placed,
+            sections,
+            entries: _,
+            alloc: _,
+        } = self;
+        drop(sections);
         (lines, placed)
     }
 
@@ -67,26 +74,59 @@ impl Order {
         report: &mut Report,
     ) -> Result<(), SourceFault> {
         if self.sections.len().saturating_add(1) >= MOST_SECTIONS {
+            drop(name);
             return Err(place.load_fault(LoadCause::Full));
         }
         match name {
-            Some(name) if !self.sections.contains(name.get()) => Ok(self.put_section(place, name)?),
-            _ => {
-                report.count(Adjustment::SectionNamed, place)?;
-                let name = self.free_name()?;
-                Ok(self.put_section(place, name)?)
+            Some(name) => self.begin_named(place, name, report),
+            None => self.begin_unnamed(place, report),
+        }
+    }
+
+    // Begins a section of this name, or of one of its own where another section has this.
+    fn begin_named(
+        &mut self,
+        place: SourcePlace,
+        name: TextBuf,
+        report: &mut Report,
+    ) -> Result<(), SourceFault> {
+        if self.sections.contains(name.get()) {
+            drop(name);
+            return self.begin_unnamed(place, report);
+        }
+        self.put_section(place, name)
+    }
+
+    // Begins a section of a name of its own.
+    fn begin_unnamed(
+        &mut self,
+        place: SourcePlace,
+        report: &mut Report,
+    ) -> Result<(), SourceFault> {
+        report.count(Adjustment::SectionNamed, place)?;
+        let name = self.free_name()?;
+        self.put_section(place, name)
+    }
+
+    // Puts a section behind all that stands there.
+    fn put_section(&mut self, place: SourcePlace, name: TextBuf) -> Result<(), SourceFault> {
+        match self.know_section(name.get()) {
+            Ok(()) => Ok(
+                self.lines.push(OrderedLine {
+                    place,
+                    ordered: Ordered::Section(name),
+                })?,
+            ),
+            Err(error) => {
+                drop(name);
+                Err(SourceFault::from(error))
             }
         }
     }
 
-    // Puts a section behind all that stands there.
-    fn put_section(&mut self, place: SourcePlace, name: TextBuf) -> Result<(), AllocError> {
-        self.sections
-            .insert(String::from_str(self.alloc, name.get())?)?;
-        self.lines.push(OrderedLine {
-            place,
-            ordered: Ordered::Section(name),
-        })?;
+    // Notes the name of a section.
+    fn know_section(&mut self, name: &str) -> Result<(), AllocError> {
+        self.sections.insert(String::from_str(self.alloc, name)?)?;
         Ok(())
     }
 
@@ -110,17 +150,30 @@ impl Order {
         report: &mut Report,
     ) -> Result<(), SourceFault> {
         if self.placed.contains(&line.id) {
-            let OrderLine { id, .. } = line;
+            let OrderLine { id, weights } = line;
+            drop(weights);
             return report.lose(Adjustment::PlacedTwice, place, Lost::Id(id));
         }
+        match self.know_entry(place, &line.id) {
+            Ok(()) => Ok(
+                self.lines.push(OrderedLine {
+                    place,
+                    ordered: Ordered::Entry(line),
+                })?,
+            ),
+            Err(fault) => {
+                drop(line);
+                Err(fault)
+            }
+        }
+    }
+
+    // Counts an entry, and notes its identifier.
+    fn know_entry(&mut self, place: SourcePlace, id: &Id) -> Result<(), SourceFault> {
         if self.entries >= MOST_ENTRIES {
             return Err(place.load_fault(LoadCause::Full));
         }
-        self.placed.insert(&line.id)?;
-        self.lines.push(OrderedLine {
-            place,
-            ordered: Ordered::Entry(line),
-        })?;
+        self.placed.insert(id)?;
         self.entries += 1;
         Ok(())
     }

@@ -1,13 +1,14 @@
 //! Order line after order line, into the order of a table.
 
-use crate::ellipses::{Ellipses, Run};
+use crate::ellipses::Ellipses;
 use crate::meanings::Meanings;
+use crate::order_lines::{OrderLines, put_line, put_range};
 use crate::orders::Order;
 use crate::weights::without_symbol_weights;
 use coll_lex::TextBuf;
 use coll_lookups::HashKeys;
 use coll_sources::{Adjustment, Report, Said, SourceFault, SourceLine, SourcePlace};
-use coll_syntax::{OrderLine, SyntaxFault};
+use coll_syntax::{Id, OrderLine, SyntaxFault};
 use coll_texts::LoadCause;
 use std::alloc::Global;
 
@@ -35,9 +36,14 @@ impl Placing {
         }
     }
 
-    /// What names mean, and the order; a source without any order line and without `order_start` has none.
-    pub(crate) fn end(mut self, report: &mut Report) -> Result<(Meanings, Order), SourceFault> {
-        match self.finish(report) {
+    /// What names mean, and the order that these lines have; those of a source without any order line and without `order_start` have
+    /// none. What they declare is known already.
+    pub(crate) fn placed(
+        mut self,
+        lines: Vec<SourceLine>,
+        report: &mut Report,
+    ) -> Result<(Meanings, Order), SourceFault> {
+        match self.take_all(lines, report) {
             Ok(()) => Ok(self.into_parts()),
             Err(fault) => {
                 drop(self);
@@ -59,6 +65,14 @@ impl Placing {
         (meanings, order)
     }
 
+    // Takes all lines.
+    fn take_all(&mut self, lines: Vec<SourceLine>, report: &mut Report) -> Result<(), SourceFault> {
+        for line in lines {
+            self.take(line, report)?;
+        }
+        self.finish(report)
+    }
+
     // Leaves the last line. A source without any order line and without `order_start` has no rules.
     fn finish(&mut self, report: &mut Report) -> Result<(), SourceFault> {
         self.ellipses.leave(report)?;
@@ -68,12 +82,8 @@ impl Placing {
         Ok(())
     }
 
-    /// Takes a line. What it declares is known already.
-    pub(crate) fn take(
-        &mut self,
-        line: SourceLine,
-        report: &mut Report,
-    ) -> Result<(), SourceFault> {
+    // Takes a line.
+    fn take(&mut self, line: SourceLine, report: &mut Report) -> Result<(), SourceFault> {
         let SourceLine { place, said } = line;
         match said {
             Said::OrderStart { section, .. } => self.start(place, section, report),
@@ -84,10 +94,7 @@ impl Placing {
                 first,
                 last,
                 weights,
-            } => {
-                let (before, range) = self.ellipses.range(place, first, last, weights, report)?;
-                self.orders(before, range, report)
-            }
+            } => put_range(self, place, first, last, weights, report),
             Said::Ellipsis(weights) => self.ellipses.dots(place, weights, report),
             Said::Unread => self.ellipses.leave(report),
             Said::ReorderAfter(_)
@@ -148,50 +155,53 @@ impl Placing {
         line: OrderLine,
         report: &mut Report,
     ) -> Result<(), SourceFault> {
-        let OrderLine { id, weights } = line;
-        let id = self.meanings.resolved(id)?;
-        if let Some(run) = self.ellipses.before(&id, report)? {
-            self.put_run(&run, report)?;
-        }
-        self.put(place, OrderLine { id, weights }, report)
+        let line = self.meanings.meant(line)?;
+        put_line(self, place, line, report)
     }
 
-    // An order line for each character of a range. An ellipsis before it is written out first.
-    fn orders(
-        &mut self,
-        before: Option<Run>,
-        range: Run,
-        report: &mut Report,
-    ) -> Result<(), SourceFault> {
-        if let Some(before) = before {
-            self.put_run(&before, report)?;
-        }
-        self.put_run(&range, report)
-    }
-
-    // Places each character of a run.
-    fn put_run(&mut self, run: &Run, report: &mut Report) -> Result<(), SourceFault> {
-        for number in run.first..=run.last {
-            if let Some(line) = run.line(number)? {
-                self.put(run.place, line, report)?;
-            }
-        }
-        Ok(())
-    }
-
-    // Places what an order line has, which names what it means. A symbol has no weights.
-    fn put(
+    // Opens an order if none is open, and declares what is placed there, if it isn't declared.
+    fn open_for(
         &mut self,
         place: SourcePlace,
-        line: OrderLine,
+        id: &Id,
         report: &mut Report,
     ) -> Result<(), SourceFault> {
         if !self.open {
             report.count(Adjustment::OrderStartPut, place)?;
             self.open = true;
         }
-        self.meanings.declare_placed(place, &line.id, report)?;
+        self.meanings.declare_placed(place, id, report)
+    }
+
+    // Places what an order line has. A symbol has no weights.
+    fn place(
+        &mut self,
+        place: SourcePlace,
+        line: OrderLine,
+        report: &mut Report,
+    ) -> Result<(), SourceFault> {
         let line = without_symbol_weights(&self.meanings, place, line, report)?;
         self.order.put(place, line, report)
+    }
+}
+
+impl OrderLines for Placing {
+    fn ellipses(&mut self) -> &mut Ellipses {
+        &mut self.ellipses
+    }
+
+    fn put(
+        &mut self,
+        place: SourcePlace,
+        line: OrderLine,
+        report: &mut Report,
+    ) -> Result<(), SourceFault> {
+        match self.open_for(place, &line.id, report) {
+            Ok(()) => self.place(place, line, report),
+            Err(fault) => {
+                drop(line);
+                Err(fault)
+            }
+        }
     }
 }

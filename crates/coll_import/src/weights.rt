@@ -29,10 +29,41 @@ impl WeightLookUp<'_> {
         report: &mut Report,
     ) -> Result<OrderLine, SourceFault> {
         let OrderLine { id, weights } = line;
-        let Some(weights) = weights else {
-            return Ok(OrderLine { id, weights: None });
-        };
-        let mut weights = weights.into_items();
+        match weights {
+            Some(weights) => self.with_weights(place, id, weights.into_items(), report),
+            None => Ok(OrderLine { id, weights: None }),
+        }
+    }
+
+    // An order line with these weights, which name what is placed then, and are no more than there are levels.
+    fn with_weights(
+        &self,
+        place: SourcePlace,
+        id: Id,
+        mut weights: Vec<Weight>,
+        report: &mut Report,
+    ) -> Result<OrderLine, SourceFault> {
+        match self.mend_all(place, &id, &mut weights, report) {
+            Ok(()) => Ok(OrderLine {
+                id,
+                weights: Some(ListBuf::new(weights)),
+            }),
+            Err(fault) => {
+                drop(id);
+                drop(weights);
+                Err(fault)
+            }
+        }
+    }
+
+    // Puts in place of the weights of an entry what they mean, and leaves out those beyond the levels.
+    fn mend_all(
+        &self,
+        place: SourcePlace,
+        id: &Id,
+        weights: &mut Vec<Weight>,
+        report: &mut Report,
+    ) -> Result<(), SourceFault> {
         if weights.len() > self.levels {
             report.lose(Adjustment::WeightsBeyondRules, place, Lost::Id(id.clone()?))?;
             weights.truncate(self.levels);
@@ -40,10 +71,7 @@ impl WeightLookUp<'_> {
         for weight in weights.iter_mut() {
             self.mend(place, weight, report)?;
         }
-        Ok(OrderLine {
-            id,
-            weights: Some(ListBuf::new(weights)),
-        })
+        Ok(())
     }
 
     /// Whether all that weights name is placed, and stands for nothing else.
@@ -115,7 +143,18 @@ pub fn without_symbol_weights(
     if line.weights.is_none() || !meanings.is_symbol(&line.id) {
         return Ok(line);
     }
-    let OrderLine { id, .. } = line;
-    report.lose(Adjustment::SymbolWeights, place, Lost::Id(id.clone()?))?;
-    Ok(OrderLine { id, weights: None })
+    let OrderLine { id, weights } = line;
+    drop(weights);
+    match lose_weights(place, &id, report) {
+        Ok(()) => Ok(OrderLine { id, weights: None }),
+        Err(fault) => {
+            drop(id);
+            Err(fault)
+        }
+    }
+}
+
+// Tells that the weights of a symbol are left out.
+fn lose_weights(place: SourcePlace, id: &Id, report: &mut Report) -> Result<(), SourceFault> {
+    report.lose(Adjustment::SymbolWeights, place, Lost::Id(id.clone()?))
 }

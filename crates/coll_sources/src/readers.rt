@@ -75,6 +75,16 @@ enum Next {
     Whole(Line),
 }
 
+// What a line means for its text.
+enum Heeded {
+    // The category ends.
+    Ends,
+    // It is a condition, or one around it doesn't hold.
+    Passed,
+    // It counts.
+    Counts,
+}
+
 // What is done behind a line.
 enum Step {
     // The next line is read, of whichever text.
@@ -327,13 +337,39 @@ impl SourceReader {
 
     // Reads a line of the innermost text.
     fn step(&mut self) -> Result<Step, SourceFault> {
-        let Some(mut frame) = self.frames.pop() else {
-            return Ok(Step::Ended);
-        };
-        match self.next_in(&mut frame)? {
-            Next::Ended => Err(early_end(&frame)),
+        match self.frames.pop() {
+            Some(frame) => self.step_in(frame),
+            None => Ok(Step::Ended),
+        }
+    }
+
+    // Reads a line of a text.
+    fn step_in(&mut self, mut frame: Frame) -> Result<Step, SourceFault> {
+        match self.next_in(&mut frame) {
+            Ok(next) => self.take_next(frame, next),
+            Err(fault) => {
+                drop(frame);
+                Err(fault)
+            }
+        }
+    }
+
+    // Takes what the next physical line of a text comes to.
+    fn take_next(&mut self, frame: Frame, next: Next) -> Result<Step, SourceFault>
+        requires { HasTokens next }
+    {
+        match next {
+            Next::Ended => {
+                let fault = early_end(&frame);
+                drop(frame);
+                Err(fault)
+            }
             Next::Nothing => self.back(frame),
-            Next::Whole(line) => self.take(frame, &line),
+            Next::Whole(line) => {
+                let step = self.take(frame, &line);
+                drop(line);
+                step
+            }
         }
     }
 
@@ -381,22 +417,54 @@ impl SourceReader {
             text: frame.text,
             line: line.number,
         };
-        if ends_category(line.tokens.get()) {
+        match self.heed(&mut frame, place, line.tokens.get()) {
+            Ok(Heeded::Counts) => {
+                self.frames.push(frame)?;
+                self.take_counting(place, line)
+            }
+            Ok(Heeded::Passed) => self.back(frame),
+            Ok(Heeded::Ends) => {
+                drop(frame);
+                Ok(Step::Line)
+            }
+            Err(fault) => {
+                drop(frame);
+                Err(fault)
+            }
+        }
+    }
+
+    // What a line means for its text.
+    fn heed(
+        &mut self,
+        frame: &mut Frame,
+        place: SourcePlace,
+        tokens: &[Token],
+    ) -> Result<Heeded, SourceFault> {
+        if ends_category(tokens) {
             frame.conditions.ended()?;
             self.mark(frame.text, false);
-            return Ok(Step::Line);
+            return Ok(Heeded::Ends);
         }
-        if self.take_condition(&mut frame.conditions, place, line.tokens.get())? {
-            return self.back(frame);
+        if self.take_condition(&mut frame.conditions, place, tokens)? {
+            return Ok(Heeded::Passed);
         }
-        if !frame.conditions.count() {
-            return self.back(frame);
+        if frame.conditions.count() {
+            Ok(Heeded::Counts)
+        } else {
+            Ok(Heeded::Passed)
         }
+    }
+
+    // Takes a line that counts.
+    fn take_counting(&mut self, place: SourcePlace, line: &Line) -> Result<Step, SourceFault>
+        requires { AreTokens line.now.tokens }
+    {
         match copied(line.tokens.get()) {
-            Some(pieces) => self.copy(frame, place, pieces),
+            Some(pieces) => self.copy(place, pieces),
             None => {
                 self.keep(place, line)?;
-                self.back(frame)
+                Ok(Step::Line)
             }
         }
     }
@@ -439,23 +507,8 @@ impl SourceReader {
     }
 
     // Copies a text: it is followed, or wanted.
-    fn copy(
-        &mut self,
-        frame: Frame,
-        place: SourcePlace,
-        pieces: &[Piece],
-    ) -> Result<Step, SourceFault> {
-        let name = match characters(self.alloc, pieces) {
-            Ok(name) => name,
-            Err(fault) => return Err(place.load_fault(LoadCause::from(fault))),
-        };
-        if name.get().contains('/') {
-            return Err(place.fault(SourceCause::CopyElsewhere));
-        }
-        let (text, _) = self
-            .names
-            .insert_full(String::from_str(self.alloc, name.get())?)?;
-        self.frames.push(frame)?;
+    fn copy(&mut self, place: SourcePlace, pieces: &[Piece]) -> Result<Step, SourceFault> {
+        let text = self.text_of_copy(place, pieces)?;
         if self.texts.get(text).is_some_and(|held| held.is_open) {
             return Err(place.fault(SourceCause::CopyOfItself));
         }
@@ -465,6 +518,27 @@ impl SourceReader {
         }
         self.follow(text, place)?;
         Ok(Step::Line)
+    }
+
+    // The number of a text that is copied.
+    fn text_of_copy(&mut self, place: SourcePlace, pieces: &[Piece]) -> Result<usize, SourceFault> {
+        match characters(self.alloc, pieces) {
+            Ok(name) => {
+                let text = self.text_named(place, name.get());
+                drop(name);
+                text
+            }
+            Err(fault) => Err(place.load_fault(LoadCause::from(fault))),
+        }
+    }
+
+    // The number of the text of a name, which is wanted if it isn't there. It lies in the folder of the source.
+    fn text_named(&mut self, place: SourcePlace, name: &str) -> Result<usize, SourceFault> {
+        if name.contains('/') {
+            return Err(place.fault(SourceCause::CopyElsewhere));
+        }
+        let (text, _) = self.names.insert_full(String::from_str(self.alloc, name)?)?;
+        Ok(text)
     }
 
     // Keeps what a line says, or tells that it says nothing.

@@ -36,15 +36,25 @@ unfolding LeadsOn
 led_on start given table more after leads stands = leads start stands
 
 -- where nothing changes, what was given leads to the same table
-pub leads_on_still : (given : List Statement) (table : Collation) → LeadsOn given table given table
+leads_on_still : (given : List Statement) (table : Collation) → LeadsOn given table given table
 unfolding LeadsOn
 leads_on_still given table start leads = leads
 
 -- a statement that is refused changes nothing
-pub leads_on_refused : (accepted : Bool) (given : List Statement) (table : Collation) (s : Statement) (after : Collation)
-    → Answers accepted table s after → accepted ≡ false → LeadsOn given table given after
-leads_on_refused true given table s after answer refused = absurd (false≢true (sym refused))
-leads_on_refused false given table s after answer refused = subst (LeadsOn given table given) (sym answer.1) (leads_on_still given table)
+pub refused_stays : (accepted : Bool) (table : Collation) (s : Statement) (after : Collation)
+    → Answers accepted table s after → accepted ≡ false → after ≡ table
+refused_stays true table s after answer refused = absurd (false≢true (sym refused))
+refused_stays false table s after answer refused = answer.1
+
+-- a statement that is accepted rewrites the table
+pub accepted_rewrites : (accepted : Bool) (table : Collation) (s : Statement) (after : Collation)
+    → Answers accepted table s after → accepted ≡ true → delta table s ≡ Ok after
+accepted_rewrites true table s after answer accepts = answer
+accepted_rewrites false table s after answer accepts = absurd (false≢true accepts)
+
+-- a statement that is left out leads to the same table
+pub leads_on_without : (given : List Statement) (table after : Collation) → after ≡ table → LeadsOn given table given after
+leads_on_without given table after same = subst (LeadsOn given table given) (sym same) (leads_on_still given table)
 
 with_one : (given : List Statement) (table : Collation) (s : Statement) (after : Collation)
     → delta table s ≡ Ok after → LeadsOn given table (given ++ s ∷ []) after
@@ -55,8 +65,7 @@ with_one given table s after accepts start leads =
     ∙ one_more (delta table s) after accepts
 
 -- a statement that is accepted leads on from what was given
-pub leads_on_accepted : (accepted : Bool) (given more : List Statement) (table : Collation) (s : Statement) (after : Collation)
-    → Answers accepted table s after → accepted ≡ true → more ≡ given ++ s ∷ [] → LeadsOn given table more after
-leads_on_accepted true given more table s after answer accepts same =
-    subst (λ ss. LeadsOn given table ss after) (sym same) (with_one given table s after answer)
-leads_on_accepted false given more table s after answer accepts same = absurd (false≢true accepts)
+pub leads_on_with : (given more : List Statement) (table : Collation) (s : Statement) (after : Collation)
+    → delta table s ≡ Ok after → more ≡ given ++ s ∷ [] → LeadsOn given table more after
+leads_on_with given more table s after accepts same =
+    subst (λ ss. LeadsOn given table ss after) (sym same) (with_one given table s after accepts)

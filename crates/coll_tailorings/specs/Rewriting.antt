@@ -1,5 +1,5 @@
 -- What statements make of a table, one after another (the project's own).
-use Rattle.std.specs.Prelude.{◌≡◌, Bool, true, false, List, [], ◌∷◌, Result, Ok, Err}
+use Rattle.std.specs.Prelude.{◌≡◌, Bool, true, false, List, [], ◌∷◌, Result, Ok, Err, Option, Some, None, ℕ}
 use Rattle.std.specs.Result.{IsErr}
 use Rattle.coll_syntax.specs.declared.statements.Statement.{Statement}
 use Rattle.coll_nodes.specs.Table.{Collation}
@@ -24,3 +24,8 @@ LeadsOn statements table more after = (start : Collation) → rewritten start st
 abbrev pub Answers : (accepted : Bool) → Collation → Statement → (after : Collation) → Type 0
 Answers true table statement after = delta table statement ≡ Ok after
 Answers false table statement after = IsErr (delta table statement) × (after ≡ table)
+
+-- what comes of a statement that is put to a table: there are so many lines with it, and the table is rewritten, or it is left out
+abbrev pub IsPut : (with : Option ℕ) → Collation → Statement → (after : Collation) → Type 0
+IsPut (Some lines) table statement after = delta table statement ≡ Ok after
+IsPut None table statement after = after ≡ table

@@ -4,14 +4,14 @@
 //! as a delta file, and have no more lines there than a text may have. All that this crate promises of a table is shown here; how
 //! statements are made may change without a clause here.
 
-ghost use Rattle.std.specs.Prelude.{◌≡◌, ◌≢◌, ◌≤◌, ◌+◌, All, Ok, IfOk, OnOk, IfNone, length};
+ghost use Rattle.std.specs.Prelude.{◌≡◌, ◌≢◌, ◌≤◌, ◌+◌, All, Ok, IfOk, OnOk, IfNone, IfSome, IsSome, length};
 ghost use Rattle.coll_lex.specs.Limits.{most_lines};
 ghost use Rattle.coll_nodes.specs.TableLayout.{collation};
 ghost use Rattle.coll_delta_texts.specs.Writable.{IsWritable};
 ghost use Rattle.coll_table.specs.declared.refusals.Refusal.TheVariants.{OutOfMemory};
 ghost use Rattle.coll_texts.specs.StatementText.{statement_lines};
 ghost use Rattle.coll_tailorings.specs.LineCounts.{line_count as lines_of_all};
-ghost use Rattle.coll_tailorings.specs.Rewriting.{Answers, LeadsOn, rewritten};
+ghost use Rattle.coll_tailorings.specs.Rewriting.{Answers, IsPut, LeadsOn, rewritten};
 
 use coll_delta_texts::is_writable;
 use coll_import::{SourceStatement, lose_statement};
@@ -66,23 +66,50 @@ fn put(
     ensures few { IfOk result (λ after. after ≤ most_lines) }
 {
     let SourceStatement { place, statement } = made;
-    if !is_writable(&statement) {
-        lose_statement(place, &statement, report)?;
-        drop(statement);
-        return Ok(lines);
+    match lines_with(table, lines, place, &statement, report) {
+        Ok(Some(after)) => {
+            kept.push(statement)?;
+            Ok(after)
+        }
+        Ok(None) => {
+            drop(statement);
+            Ok(lines)
+        }
+        Err(fault) => {
+            drop(statement);
+            Err(fault)
+        }
     }
-    let after = lines + line_count(&statement);
+}
+
+// The number of lines with those of a statement, where the table accepts it, by which it is rewritten then. One that can't be written,
+// or is refused, is told.
+fn lines_with(
+    table: &mut Table,
+    lines: usize,
+    place: SourcePlace,
+    statement: &Statement,
+    report: &mut Report,
+) -> Result<Option<usize>, SourceFault>
+    requires few { lines ≤ most_lines }
+    ensures put { IfOk result (λ with. IsPut with (collation table.old) statement.now (collation table.new)) }
+    ensures writable { IfOk result (λ with. IsSome with → IsWritable statement.now) }
+    ensures counted { IfOk result (λ with. IfSome with (λ after. after ≡ lines + length (statement_lines statement.now))) }
+    ensures few { IfOk result (λ with. IfSome with (λ after. after ≤ most_lines)) }
+{
+    if !is_writable(statement) {
+        lose_statement(place, statement, report)?;
+        return Ok(None);
+    }
+    let after = lines + line_count(statement);
     if after > MOST_LINES as usize {
-        drop(statement);
         return Err(too_many(place));
     }
-    if !is_accepted(table, place, &statement)? {
-        lose_statement(place, &statement, report)?;
-        drop(statement);
-        return Ok(lines);
+    if !is_accepted(table, place, statement)? {
+        lose_statement(place, statement, report)?;
+        return Ok(None);
     }
-    kept.push(statement)?;
-    Ok(after)
+    Ok(Some(after))
 }
 
 // How many lines a statement has.
@@ -111,7 +138,10 @@ fn is_accepted(
     ensures { IfOk result (λ accepted. Answers accepted (collation table.old) statement.now (collation table.new)) }
 {
     match table.apply(statement) {
-        Ok(_) => Ok(true),
+        Ok(record) => {
+            drop(record);
+            Ok(true)
+        }
         Err(refusal) => match fault_of(refusal) {
             Some(cause) => Err(place.load_fault(cause)),
             None => Ok(false),

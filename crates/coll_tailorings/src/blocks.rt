@@ -78,29 +78,38 @@ impl Blocks {
         }
     }
 
-    /// Takes a step.
-    pub(crate) fn take(&mut self, step: StepAt, report: &mut Report) -> Result<(), SourceFault> {
-        let StepAt { place, step } = step;
-        match step {
-            Step::After(target) => {
-                self.close(report)?;
-                self.open(place, target, report)
-            }
-            Step::Order(line) => self.order(place, line, report),
-            Step::End => self.close(report),
-            Step::SectionAfter { moved, after } => {
-                Ok(self.make(place, Statement::SectionAfter { moved, after })?)
-            }
-        }
-    }
-
-    /// The statements that are made of all steps: a block that is open is ended, and the weights that wait are given.
-    pub(crate) fn end(mut self, report: &mut Report) -> Result<Vec<SourceStatement>, SourceFault> {
-        match self.finish(report) {
+    /// The statements that are made of these steps. In the end a block that is open is ended, and the weights that wait are given.
+    pub(crate) fn made_of(
+        mut self,
+        steps: Vec<StepAt>,
+        report: &mut Report,
+    ) -> Result<Vec<SourceStatement>, SourceFault> {
+        match self.take_all(steps, report) {
             Ok(()) => Ok(self.into_made()),
             Err(fault) => {
                 drop(self);
                 Err(fault)
+            }
+        }
+    }
+
+    // Takes all steps.
+    fn take_all(&mut self, steps: Vec<StepAt>, report: &mut Report) -> Result<(), SourceFault> {
+        for step in steps {
+            self.take(step, report)?;
+        }
+        self.finish(report)
+    }
+
+    // Takes a step.
+    fn take(&mut self, step: StepAt, report: &mut Report) -> Result<(), SourceFault> {
+        let StepAt { place, step } = step;
+        match step {
+            Step::After(target) => self.after(place, target, report),
+            Step::Order(line) => self.order(place, line, report),
+            Step::End => self.close(report),
+            Step::SectionAfter { moved, after } => {
+                self.make(place, Statement::SectionAfter { moved, after })
             }
         }
     }
@@ -127,8 +136,7 @@ impl Blocks {
     fn finish(&mut self, report: &mut Report) -> Result<(), SourceFault> {
         self.count_open(report)?;
         self.close(report)?;
-        let later = std::mem::replace(&mut self.later, LaterWeights::new(self.alloc, self.keys));
-        for line in later.into_lines() {
+        for line in self.later.take_lines() {
             if let Some(line) = line {
                 self.give(line, report)?;
             }
@@ -150,7 +158,7 @@ impl Blocks {
     fn give(&mut self, line: LineAt, report: &mut Report) -> Result<(), SourceFault> {
         let LineAt { place, line } = line;
         let line = self.look_up(&self.placed).line(place, line, report)?;
-        Ok(self.make(place, Statement::Reweight(line))?)
+        self.make(place, Statement::Reweight(line))
     }
 
     // Takes an order line. One of a block that is left out is passed over.
@@ -161,16 +169,18 @@ impl Blocks {
         report: &mut Report,
     ) -> Result<(), SourceFault> {
         match &self.block {
-            Some(block) if block.is_left_out => Ok(()),
+            Some(block) if block.is_left_out => {
+                drop(line);
+                Ok(())
+            }
             Some(_) => self.in_block(place, line, report),
             None => self.outside(place, line, report),
         }
     }
 
     // Puts a statement behind all others.
-    fn make(&mut self, place: SourcePlace, statement: Statement) -> Result<(), AllocError> {
-        self.made.push(SourceStatement { place, statement })?;
-        Ok(())
+    fn make(&mut self, place: SourcePlace, statement: Statement) -> Result<(), SourceFault> {
+        Ok(self.made.push(SourceStatement { place, statement })?)
     }
 
     // Weights are looked up in this.
@@ -183,17 +193,42 @@ impl Blocks {
         }
     }
 
-    // Opens a block, which is left out where its target is placed nowhere.
-    fn open(
+    // A block begins, and one that is open ends.
+    fn after(
         &mut self,
         place: SourcePlace,
         target: Id,
         report: &mut Report,
     ) -> Result<(), SourceFault> {
-        let is_left_out = !self.placed.contains(&target);
-        if is_left_out {
-            report.lose(Adjustment::TargetUnplaced, place, Lost::Id(target.clone()?))?;
+        match self.close_before(place, &target, report) {
+            Ok(is_left_out) => {
+                self.open(place, target, is_left_out);
+                Ok(())
+            }
+            Err(fault) => {
+                drop(target);
+                Err(fault)
+            }
         }
+    }
+
+    // Ends a block that is open, and answers whether the next one is left out, since its target is placed nowhere.
+    fn close_before(
+        &mut self,
+        place: SourcePlace,
+        target: &Id,
+        report: &mut Report,
+    ) -> Result<bool, SourceFault> {
+        self.close(report)?;
+        if self.placed.contains(target) {
+            return Ok(false);
+        }
+        report.lose(Adjustment::TargetUnplaced, place, Lost::Id(target.clone()?))?;
+        Ok(true)
+    }
+
+    // Opens a block.
+    fn open(&mut self, place: SourcePlace, target: Id, is_left_out: bool) {
         self.block = Some(Block {
             place,
             target,
@@ -201,7 +236,6 @@ impl Blocks {
             ids: IdSet::new(self.alloc, self.keys),
             is_left_out,
         });
-        Ok(())
     }
 
     // Ends the block that is open, if one is, and makes a statement of it, if it has a line.
@@ -224,7 +258,7 @@ impl Blocks {
             lines,
         } = block.into_parts();
         match self.given_lines(lines, report) {
-            Ok(lines) => Ok(self.make(place, Statement::Block { target, lines })?),
+            Ok(lines) => self.make(place, Statement::Block { target, lines }),
             Err(fault) => {
                 drop(target);
                 Err(fault)
@@ -275,12 +309,22 @@ impl Blocks {
         line: OrderLine,
         report: &mut Report,
     ) -> Result<OrderLine, SourceFault> {
-        if self.keep_later(place, &line, report)? {
-            // What is left out for now is told at the end, where it is left out then.
-            let mut untold = Report::new(self.alloc);
-            return self.look_up(&self.placed).line(place, line, &mut untold);
+        match self.keep_later(place, &line, report) {
+            Ok(true) => self.said_for_now(place, line),
+            Ok(false) => Ok(line),
+            Err(fault) => {
+                drop(line);
+                Err(fault)
+            }
         }
-        Ok(line)
+    }
+
+    // An order line without what isn't placed yet. That is told at the end, where it is left out then.
+    fn said_for_now(&self, place: SourcePlace, line: OrderLine) -> Result<OrderLine, SourceFault> {
+        let mut untold = Report::new(self.alloc);
+        let said = self.look_up(&self.placed).line(place, line, &mut untold);
+        drop(untold);
+        said
     }
 
     // Keeps the weights of a line for the end, where some name what isn't placed yet, and answers whether that is so. Others take back
@@ -299,9 +343,7 @@ impl Blocks {
             return Ok(false);
         }
         report.count(Adjustment::WeightsLater, place)?;
-        let id = line.id.clone()?;
-        let weights = Some(weights.clone()?);
-        self.later.keep(place, OrderLine { id, weights })?;
+        self.later.keep(place, copied(&line.id, weights)?)?;
         Ok(true)
     }
 
@@ -312,39 +354,78 @@ impl Blocks {
         line: OrderLine,
         report: &mut Report,
     ) -> Result<(), SourceFault> {
-        let Some(line) = self.mended(place, line, report)? else {
-            return Ok(());
-        };
-        if self
-            .block
-            .as_ref()
-            .is_some_and(|block| block.must_end_before(&line.id))
-        {
-            report.count(Adjustment::BlockCut, place)?;
-            self.cut(place, report)?;
+        match self.mended(place, line, report) {
+            Ok(Some(line)) => self.put_line(place, line, report),
+            Ok(None) => Ok(()),
+            Err(fault) => Err(fault),
         }
-        if self
-            .block
-            .as_ref()
-            .is_some_and(|block| block.target.is_same(&line.id))
-        {
-            return self.own_target(place, line, report);
+    }
+
+    // An order line of the block that is open, as a statement may have it.
+    fn put_line(
+        &mut self,
+        place: SourcePlace,
+        line: OrderLine,
+        report: &mut Report,
+    ) -> Result<(), SourceFault> {
+        match self.cut_before(place, &line.id, report) {
+            Ok(()) => self.put_behind(place, line, report),
+            Err(fault) => {
+                drop(line);
+                Err(fault)
+            }
         }
-        let line = self.with_own_weights(place, line, report)?;
-        if let Some(block) = &mut self.block {
-            block.ids.insert(&line.id)?;
-            block.lines.push(LineAt { place, line })?;
+    }
+
+    // Cuts the block that is open, if it can't go on with a line of this identifier.
+    fn cut_before(
+        &mut self,
+        place: SourcePlace,
+        id: &Id,
+        report: &mut Report,
+    ) -> Result<(), SourceFault> {
+        match &self.block {
+            Some(block) if block.must_end_before(id) => {
+                report.count(Adjustment::BlockCut, place)?;
+                self.cut(place, report)
+            }
+            _ => Ok(()),
         }
-        Ok(())
     }
 
     // Ends the block that is open, and goes on behind its last line.
     fn cut(&mut self, place: SourcePlace, report: &mut Report) -> Result<(), SourceFault> {
-        let Some(last) = self.last_id()? else {
-            return Ok(());
-        };
-        self.close(report)?;
-        self.open(place, last, report)
+        match self.last_id()? {
+            Some(last) => self.after(place, last, report),
+            None => Ok(()),
+        }
+    }
+
+    // Puts an order line behind the others of the block, unless it is the target.
+    fn put_behind(
+        &mut self,
+        place: SourcePlace,
+        line: OrderLine,
+        report: &mut Report,
+    ) -> Result<(), SourceFault> {
+        match &self.block {
+            Some(block) if block.target.is_same(&line.id) => self.own_target(place, line, report),
+            _ => {
+                let line = self.with_own_weights(place, line, report)?;
+                self.put_last(place, line)
+            }
+        }
+    }
+
+    // Puts an order line behind the others of the block.
+    fn put_last(&mut self, place: SourcePlace, line: OrderLine) -> Result<(), SourceFault> {
+        match &mut self.block {
+            Some(block) => Ok(block.put(place, line)?),
+            None => {
+                drop(line);
+                Ok(())
+            }
+        }
     }
 
     // The identifier of the last line of the block that is open.
@@ -365,11 +446,13 @@ impl Blocks {
         line: OrderLine,
         report: &mut Report,
     ) -> Result<(), SourceFault> {
-        report.count(Adjustment::OwnTarget, place)?;
-        if line.weights.is_none() {
-            return Ok(());
+        match report.count(Adjustment::OwnTarget, place) {
+            Ok(()) if line.weights.is_some() => self.reweight(place, line, report),
+            counted => {
+                drop(line);
+                Ok(counted?)
+            }
         }
-        self.reweight(place, line, report)
     }
 
     // An order line outside a block: what is placed gets its weights.
@@ -379,17 +462,23 @@ impl Blocks {
         line: OrderLine,
         report: &mut Report,
     ) -> Result<(), SourceFault> {
-        let is_reweight = line.weights.is_some()
-            && self.placed.contains(&line.id)
-            && !self.known.meanings.is_symbol(&line.id);
-        if !is_reweight {
-            let OrderLine { id, .. } = line;
+        if !self.is_reweight(&line) {
+            let OrderLine { id, weights } = line;
+            drop(weights);
             return report.lose(Adjustment::Dropped, place, Lost::Id(id));
         }
-        match self.mended(place, line, report)? {
-            Some(line) => self.reweight(place, line, report),
-            None => Ok(()),
+        match self.mended(place, line, report) {
+            Ok(Some(line)) => self.reweight(place, line, report),
+            Ok(None) => Ok(()),
+            Err(fault) => Err(fault),
         }
+    }
+
+    // Whether an order line gives weights to what is placed.
+    fn is_reweight(&self, line: &OrderLine) -> bool {
+        line.weights.is_some()
+            && self.placed.contains(&line.id)
+            && !self.known.meanings.is_symbol(&line.id)
     }
 
     // Gives what is placed its weights, where it stands.
@@ -400,7 +489,7 @@ impl Blocks {
         report: &mut Report,
     ) -> Result<(), SourceFault> {
         let line = self.for_now(place, line, report)?;
-        Ok(self.make(place, Statement::Reweight(line))?)
+        self.make(place, Statement::Reweight(line))
     }
 
     // An order line as a statement may have it, if it is within the limits: weights are what they mean, and name what is placed in the
@@ -445,21 +534,29 @@ impl Blocks {
         if keeps {
             return Ok(line);
         }
-        report.count(Adjustment::OwnWeights, place)?;
-        Ok(self.weighing_itself(line)?)
+        match report.count(Adjustment::OwnWeights, place) {
+            Ok(()) => Ok(self.weighing_itself(line)?),
+            Err(error) => {
+                drop(line);
+                Err(SourceFault::from(error))
+            }
+        }
     }
 
     // An order line that gives its identifier as the only weight.
     fn weighing_itself(&self, line: OrderLine) -> Result<OrderLine, AllocError> {
-        let OrderLine { id, .. } = line;
-        let mut ids = Vec::with_capacity(self.alloc, 1)?;
-        ids.push(id.clone()?)?;
-        let mut weights = Vec::with_capacity(self.alloc, 1)?;
-        weights.push(Weight::Names(ListBuf::new(ids)))?;
-        Ok(OrderLine {
-            id,
-            weights: Some(ListBuf::new(weights)),
-        })
+        let OrderLine { id, weights } = line;
+        drop(weights);
+        match only_weight(self.alloc, &id) {
+            Ok(weights) => Ok(OrderLine {
+                id,
+                weights: Some(weights),
+            }),
+            Err(error) => {
+                drop(id);
+                Err(error)
+            }
+        }
     }
 }
 
@@ -481,6 +578,17 @@ impl Block {
         }
     }
 
+    // Puts a line behind all others.
+    fn put(&mut self, place: SourcePlace, line: OrderLine) -> Result<(), AllocError> {
+        match self.ids.insert(&line.id) {
+            Ok(()) => Ok(self.lines.push(LineAt { place, line })?),
+            Err(error) => {
+                drop(line);
+                Err(error)
+            }
+        }
+    }
+
     // Whether it can't go on with a line of this identifier.
     fn must_end_before(&self, id: &Id) -> bool {
         if self.lines.is_empty() {
@@ -488,4 +596,26 @@ impl Block {
         }
         self.lines.len() >= MOST_BLOCK_LINES || self.target.is_same(id) || self.ids.contains(id)
     }
+}
+
+// An order line of this identifier and with these weights, in new memory.
+fn copied(id: &Id, weights: &ListBuf<Weight>) -> Result<OrderLine, AllocError> {
+    Ok(OrderLine {
+        id: id.clone()?,
+        weights: Some(weights.clone()?),
+    })
+}
+
+// Weights of which this identifier is the only one.
+fn only_weight(alloc: Global, id: &Id) -> Result<ListBuf<Weight>, AllocError> {
+    let mut weights = Vec::with_capacity(alloc, 1)?;
+    weights.push(Weight::Names(only_id(alloc, id)?))?;
+    Ok(ListBuf::new(weights))
+}
+
+// A list of this identifier alone.
+fn only_id(alloc: Global, id: &Id) -> Result<ListBuf<Id>, AllocError> {
+    let mut ids = Vec::with_capacity(alloc, 1)?;
+    ids.push(id.clone()?)?;
+    Ok(ListBuf::new(ids))
 }

@@ -35,11 +35,21 @@ impl LaterWeights {
 
     /// Keeps a line for the end, in place of one of the same identifier.
     pub(crate) fn keep(&mut self, place: SourcePlace, line: OrderLine) -> Result<(), AllocError> {
-        let key = key_of(self.alloc, &line.id)?;
+        match self.keep_place(&line.id) {
+            Ok(()) => Ok(self.lines.push(Some(LineAt { place, line }))?),
+            Err(error) => {
+                drop(line);
+                Err(error)
+            }
+        }
+    }
+
+    // Notes that the next line is that of an identifier, and drops the one before.
+    fn keep_place(&mut self, id: &Id) -> Result<(), AllocError> {
+        let key = key_of(self.alloc, id)?;
         if let Some(before) = self.places.insert(key, self.lines.len())? {
             self.drop_at(before);
         }
-        self.lines.push(Some(LineAt { place, line }))?;
         Ok(())
     }
 
@@ -62,10 +72,9 @@ impl LaterWeights {
         }
     }
 
-    /// The lines, in the order of the source.
-    pub(crate) fn into_lines(self) -> Vec<Option<LineAt>> {
-        let LaterWeights { lines, .. } = self;
-        lines
+    /// Takes the lines out, in the order of the source.
+    pub(crate) fn take_lines(&mut self) -> Vec<Option<LineAt>> {
+        std::mem::replace(&mut self.lines, Vec::new(self.alloc))
     }
 }
 

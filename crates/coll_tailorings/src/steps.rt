@@ -4,11 +4,11 @@
 //! Ellipses are written out, identifiers are what their names mean, and what a block places and nothing declares is declared. After
 //! the last line it is known what the table and all blocks place.
 
-use coll_import::{Ellipses, Meanings, Run};
-use coll_lex::{LexFault, ListBuf, MOST_LINES, TextBuf};
+use coll_import::{Ellipses, Meanings, OrderLines, put_line, put_range};
+use coll_lex::{LexFault, MOST_LINES, TextBuf};
 use coll_lookups::{HashKeys, IdSet};
 use coll_sources::{Adjustment, Lost, Report, Said, SourceFault, SourceLine, SourcePlace};
-use coll_syntax::{Id, OrderLine, SyntaxFault, Weight};
+use coll_syntax::{Id, OrderLine, SyntaxFault};
 use coll_texts::LoadCause;
 use indexmap::IndexSet;
 use std::alloc::{AllocError, Global};
@@ -97,15 +97,27 @@ impl Steps {
         }
     }
 
-    /// What all lines say.
-    pub(crate) fn end(mut self, report: &mut Report) -> Result<Stepped, SourceFault> {
-        match self.ellipses.leave(report) {
+    /// What these lines say. What they declare is known already.
+    pub(crate) fn said_by(
+        mut self,
+        lines: Vec<SourceLine>,
+        report: &mut Report,
+    ) -> Result<Stepped, SourceFault> {
+        match self.take_all(lines, report) {
             Ok(()) => Ok(self.into_said()),
             Err(fault) => {
                 drop(self);
                 Err(fault)
             }
         }
+    }
+
+    // Takes all lines.
+    fn take_all(&mut self, lines: Vec<SourceLine>, report: &mut Report) -> Result<(), SourceFault> {
+        for line in lines {
+            self.take(line, report)?;
+        }
+        self.ellipses.leave(report)
     }
 
     // What the lines taken so far say.
@@ -123,12 +135,8 @@ impl Steps {
         said
     }
 
-    /// Takes a line. What it declares is known already.
-    pub(crate) fn take(
-        &mut self,
-        line: SourceLine,
-        report: &mut Report,
-    ) -> Result<(), SourceFault> {
+    // Takes a line.
+    fn take(&mut self, line: SourceLine, report: &mut Report) -> Result<(), SourceFault> {
         let SourceLine { place, said } = line;
         match said {
             Said::Order(line) => self.order(place, line, report),
@@ -136,14 +144,14 @@ impl Steps {
                 first,
                 last,
                 weights,
-            } => self.orders(place, first, last, weights, report),
+            } => put_range(self, place, first, last, weights, report),
             Said::Ellipsis(weights) => self.ellipses.dots(place, weights, report),
             Said::ReorderAfter(target) => self.after(place, target, report),
             Said::ReorderEnd => self.end_block(place, report),
             Said::SectionAfter { moved, after } => self.section_after(place, moved, after, report),
             Said::SectionsAfter(after) => self.sections_after(place, after, report),
             Said::SectionsEnd => self.end_sections(place, report),
-            Said::Base(name) => Ok(self.base(place, name)?),
+            Said::Base(name) => self.base(place, name),
             Said::Unread => self.ellipses.leave(report),
             Said::OrderEnd => self.lose(place, "order_end", report),
             Said::Section(name) => self.lose_section(place, name, report),
@@ -165,10 +173,22 @@ impl Steps {
         target: Id,
         report: &mut Report,
     ) -> Result<(), SourceFault> {
-        self.ellipses.leave(report)?;
-        self.within = Within::Block;
-        let target = self.said.meanings.resolved(target)?;
-        self.push(place, Step::After(target))
+        match self.ellipses.leave(report) {
+            Ok(()) => {
+                self.stand_in(Within::Block);
+                let target = self.said.meanings.resolved(target)?;
+                self.push(place, Step::After(target))
+            }
+            Err(fault) => {
+                drop(target);
+                Err(fault)
+            }
+        }
+    }
+
+    // From now on lines stand in this.
+    fn stand_in(&mut self, within: Within) {
+        self.within = within;
     }
 
     // `reorder-end`.
@@ -177,7 +197,7 @@ impl Steps {
             return self.lose(place, "reorder-end", report);
         }
         self.ellipses.leave(report)?;
-        self.within = Within::Nothing;
+        self.stand_in(Within::Nothing);
         self.push(place, Step::End)
     }
 
@@ -189,8 +209,14 @@ impl Steps {
         after: TextBuf,
         report: &mut Report,
     ) -> Result<(), SourceFault> {
-        self.ellipses.leave(report)?;
-        self.push(place, Step::SectionAfter { moved, after })
+        match self.ellipses.leave(report) {
+            Ok(()) => self.push(place, Step::SectionAfter { moved, after }),
+            Err(fault) => {
+                drop(moved);
+                drop(after);
+                Err(fault)
+            }
+        }
     }
 
     // `reorder-sections-after`: a list of sections begins. A block that is open ends.
@@ -200,12 +226,29 @@ impl Steps {
         after: TextBuf,
         report: &mut Report,
     ) -> Result<(), SourceFault> {
+        match self.end_before_sections(place, report) {
+            Ok(()) => {
+                self.stand_in(Within::Sections(after));
+                Ok(())
+            }
+            Err(fault) => {
+                drop(after);
+                Err(fault)
+            }
+        }
+    }
+
+    // Ends a block that is open where a list of sections begins.
+    fn end_before_sections(
+        &mut self,
+        place: SourcePlace,
+        report: &mut Report,
+    ) -> Result<(), SourceFault> {
         self.ellipses.leave(report)?;
         report.count(Adjustment::SectionsMoved, place)?;
         if self.is_in_block() {
             self.push(place, Step::End)?;
         }
-        self.within = Within::Sections(after);
         Ok(())
     }
 
@@ -214,7 +257,7 @@ impl Steps {
         if !matches!(self.within, Within::Sections(_)) {
             return self.lose(place, "reorder-sections-end", report);
         }
-        self.within = Within::Nothing;
+        self.stand_in(Within::Nothing);
         Ok(())
     }
 
@@ -224,14 +267,20 @@ impl Steps {
     }
 
     // `copy` of a table that is tailored. It is kept once.
-    fn base(&mut self, place: SourcePlace, name: TextBuf) -> Result<(), AllocError> {
-        if self
-            .bases
-            .insert(String::from_str(self.alloc, name.get())?)?
-        {
-            self.said.copies.push(CopyAt { place, name })?;
+    fn base(&mut self, place: SourcePlace, name: TextBuf) -> Result<(), SourceFault> {
+        match self.know_base(name.get()) {
+            Ok(true) => Ok(self.said.copies.push(CopyAt { place, name })?),
+            known => {
+                drop(name);
+                known?;
+                Ok(())
+            }
         }
-        Ok(())
+    }
+
+    // Notes the name of a table that is tailored, and answers whether it is new.
+    fn know_base(&mut self, name: &str) -> Result<bool, AllocError> {
+        Ok(self.bases.insert(String::from_str(self.alloc, name)?)?)
     }
 
     // An order line, or the name of a section that is moved.
@@ -241,13 +290,20 @@ impl Steps {
         line: OrderLine,
         report: &mut Report,
     ) -> Result<(), SourceFault> {
-        match self.section_before()? {
-            Some(after) => {
+        match self.section_before() {
+            Ok(Some(after)) => {
                 let moved = self.section(place, &line, after, report);
                 drop(line);
                 moved
             }
-            None => self.order_line(place, line, report),
+            Ok(None) => {
+                let line = self.said.meanings.meant(line)?;
+                put_line(self, place, line, report)
+            }
+            Err(error) => {
+                drop(line);
+                Err(SourceFault::from(error))
+            }
         }
     }
 
@@ -259,47 +315,6 @@ impl Steps {
         }
     }
 
-    // An order line. An ellipsis before it is written out first.
-    fn order_line(
-        &mut self,
-        place: SourcePlace,
-        line: OrderLine,
-        report: &mut Report,
-    ) -> Result<(), SourceFault> {
-        let line = self.meant(line)?;
-        match self.put_before(&line.id, report) {
-            Ok(()) => self.put(place, line, report),
-            Err(fault) => {
-                drop(line);
-                Err(fault)
-            }
-        }
-    }
-
-    // An order line, whose identifier is what it means.
-    fn meant(&self, line: OrderLine) -> Result<OrderLine, AllocError> {
-        let OrderLine { id, weights } = line;
-        match self.said.meanings.resolved(id) {
-            Ok(id) => Ok(OrderLine { id, weights }),
-            Err(error) => {
-                drop(weights);
-                Err(error)
-            }
-        }
-    }
-
-    // What an ellipsis stands for, if there is one before this identifier.
-    fn put_before(&mut self, id: &Id, report: &mut Report) -> Result<(), SourceFault> {
-        match self.ellipses.before(id, report)? {
-            Some(before) => {
-                let put = self.put_run(&before, report);
-                drop(before);
-                put
-            }
-            None => Ok(()),
-        }
-    }
-
     // A section that is placed behind the one before.
     fn section(
         &mut self,
@@ -308,75 +323,51 @@ impl Steps {
         after: TextBuf,
         report: &mut Report,
     ) -> Result<(), SourceFault> {
+        match self.moved_by(line) {
+            Ok(Some(moved)) => self.section_after(place, moved, after, report),
+            Ok(None) => {
+                drop(after);
+                report.lose(Adjustment::Dropped, place, Lost::Id(line.id.clone()?))
+            }
+            Err(error) => {
+                drop(after);
+                Err(SourceFault::from(error))
+            }
+        }
+    }
+
+    // The section that a line names and no more, behind which the next one is placed.
+    fn moved_by(&mut self, line: &OrderLine) -> Result<Option<TextBuf>, AllocError> {
         match (&line.id, &line.weights) {
             (Id::Named(moved), None) => {
-                self.within = Within::Sections(moved.try_copy()?);
-                self.section_after(place, moved.try_copy()?, after, report)
+                self.stand_in(Within::Sections(moved.try_copy()?));
+                Ok(Some(moved.try_copy()?))
             }
-            _ => report.lose(Adjustment::Dropped, place, Lost::Id(line.id.clone()?)),
+            _ => Ok(None),
         }
     }
 
-    // An order line for each character of a range. An ellipsis before it is written out first.
-    fn orders(
+    // Notes what a block places, and declares it, if it isn't declared.
+    fn expect(
         &mut self,
         place: SourcePlace,
-        first: char,
-        last: char,
-        weights: Option<ListBuf<Weight>>,
-        report: &mut Report,
-    ) -> Result<(), SourceFault> {
-        let (before, range) = self.ellipses.range(place, first, last, weights, report)?;
-        let put = self.put_runs(&before, &range, report);
-        drop(before);
-        drop(range);
-        put
-    }
-
-    // An order line for each character of these runs.
-    fn put_runs(
-        &mut self,
-        before: &Option<Run>,
-        range: &Run,
-        report: &mut Report,
-    ) -> Result<(), SourceFault> {
-        if let Some(before) = before {
-            self.put_run(before, report)?;
-        }
-        self.put_run(range, report)
-    }
-
-    // An order line for each character of a run.
-    fn put_run(&mut self, run: &Run, report: &mut Report) -> Result<(), SourceFault> {
-        for number in run.first..=run.last {
-            if let Some(line) = run.line(number)? {
-                self.put(run.place, line, report)?;
-            }
-        }
-        Ok(())
-    }
-
-    // An order line, whose identifier is what it means.
-    fn put(
-        &mut self,
-        place: SourcePlace,
-        line: OrderLine,
+        id: &Id,
         report: &mut Report,
     ) -> Result<(), SourceFault> {
         if self.is_in_block() {
-            self.said.meanings.declare_placed(place, &line.id, report)?;
-            self.said.expected.insert(&line.id)?;
+            self.said.meanings.declare_placed(place, id, report)?;
+            self.said.expected.insert(id)?;
         }
-        self.push(place, Step::Order(line))
+        Ok(())
     }
 
     // Puts a step behind all others, of which there are no more than a text has lines.
     fn push(&mut self, place: SourcePlace, step: Step) -> Result<(), SourceFault> {
         if self.said.steps.len() >= MOST_LINES as usize {
+            drop(step);
             return Err(place.load_fault(LoadCause::from(LexFault::TooManyLines)));
         }
-        self.said.steps.push(StepAt { place, step })?;
-        Ok(())
+        Ok(self.said.steps.push(StepAt { place, step })?)
     }
 
     // Tells that a line is left out that begins with this word.
@@ -398,7 +389,33 @@ impl Steps {
         name: TextBuf,
         report: &mut Report,
     ) -> Result<(), SourceFault> {
-        self.ellipses.leave(report)?;
-        report.lose(Adjustment::Dropped, place, Lost::Id(Id::Named(name)))
+        match self.ellipses.leave(report) {
+            Ok(()) => report.lose(Adjustment::Dropped, place, Lost::Id(Id::Named(name))),
+            Err(fault) => {
+                drop(name);
+                Err(fault)
+            }
+        }
+    }
+}
+
+impl OrderLines for Steps {
+    fn ellipses(&mut self) -> &mut Ellipses {
+        &mut self.ellipses
+    }
+
+    fn put(
+        &mut self,
+        place: SourcePlace,
+        line: OrderLine,
+        report: &mut Report,
+    ) -> Result<(), SourceFault> {
+        match self.expect(place, &line.id, report) {
+            Ok(()) => self.push(place, Step::Order(line)),
+            Err(fault) => {
+                drop(line);
+                Err(fault)
+            }
+        }
     }
 }

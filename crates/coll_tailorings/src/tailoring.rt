@@ -80,11 +80,49 @@ fn make(
     lines: Vec<SourceLine>,
     report: &mut Report,
 ) -> Result<(Vec<CopyAt>, Vec<SourceStatement>), SourceFault> {
-    let meanings = all_meanings(alloc, keys, table, lines.as_slice(), report)?;
-    let placed = all_placed(alloc, keys, table)?;
-    let said = all_steps(Steps::new(alloc, keys, meanings, placed), lines, report)?;
-    let placed = all_placed(alloc, keys, table)?;
-    all_statements(alloc, keys, table.rules().len(), placed, said, report)
+    let said = all_said(alloc, keys, table, lines, report)?;
+    match all_placed(alloc, keys, table) {
+        Ok(placed) => all_made(alloc, keys, table.rules().len(), placed, said, report),
+        Err(error) => {
+            drop(said);
+            Err(SourceFault::from(error))
+        }
+    }
+}
+
+// What all lines say.
+fn all_said(
+    alloc: Global,
+    keys: HashKeys,
+    table: &Table,
+    lines: Vec<SourceLine>,
+    report: &mut Report,
+) -> Result<Stepped, SourceFault> {
+    match first_steps(alloc, keys, table, lines.as_slice(), report) {
+        Ok(steps) => steps.said_by(lines, report),
+        Err(fault) => {
+            drop(lines);
+            Err(fault)
+        }
+    }
+}
+
+// Steps before the first line, where it is known what all names mean, and what the table places.
+fn first_steps(
+    alloc: Global,
+    keys: HashKeys,
+    table: &Table,
+    lines: &[SourceLine],
+    report: &mut Report,
+) -> Result<Steps, SourceFault> {
+    let meanings = all_meanings(alloc, keys, table, lines, report)?;
+    match all_placed(alloc, keys, table) {
+        Ok(placed) => Ok(Steps::new(alloc, keys, meanings, placed)),
+        Err(error) => {
+            drop(meanings);
+            Err(SourceFault::from(error))
+        }
+    }
 }
 
 // What all names mean.
@@ -96,37 +134,39 @@ fn all_meanings(
     report: &mut Report,
 ) -> Result<Meanings, SourceFault> {
     let mut meanings = Meanings::of_table(alloc, keys, table)?;
-    for line in lines {
-        meanings.take(line, report)?;
+    match meanings.take_all(lines, report) {
+        Ok(()) => Ok(meanings),
+        Err(fault) => {
+            drop(meanings);
+            Err(fault)
+        }
     }
-    Ok(meanings)
 }
 
 // What a table places.
 fn all_placed(alloc: Global, keys: HashKeys, table: &Table) -> Result<IdSet, AllocError> {
     let mut placed = IdSet::new(alloc, keys);
+    match place_all(&mut placed, table) {
+        Ok(()) => Ok(placed),
+        Err(error) => {
+            drop(placed);
+            Err(error)
+        }
+    }
+}
+
+// Notes what a table places.
+fn place_all(placed: &mut IdSet, table: &Table) -> Result<(), AllocError> {
     for item in table.walk() {
         if let WalkItem::Entry(entry) = item {
             placed.insert(entry.id())?;
         }
     }
-    Ok(placed)
+    Ok(())
 }
 
-// What all lines say.
-fn all_steps(
-    mut steps: Steps,
-    lines: Vec<SourceLine>,
-    report: &mut Report,
-) -> Result<Stepped, SourceFault> {
-    for line in lines {
-        steps.take(line, report)?;
-    }
-    steps.end(report)
-}
-
-// The copies, and the statements that are made of all steps.
-fn all_statements(
+// The copies, and the statements that are made of all steps, for so many levels, where this is placed at first.
+fn all_made(
     alloc: Global,
     keys: HashKeys,
     levels: usize,
@@ -146,9 +186,11 @@ fn all_statements(
         expected,
         levels,
     };
-    let mut blocks = Blocks::new(alloc, keys, known, placed, made);
-    for step in steps {
-        blocks.take(step, report)?;
+    match Blocks::new(alloc, keys, known, placed, made).made_of(steps, report) {
+        Ok(made) => Ok((copies, made)),
+        Err(fault) => {
+            drop(copies);
+            Err(fault)
+        }
     }
-    Ok((copies, blocks.end(report)?))
 }
