@@ -1,2 +1,4 @@
 mod AnyLemmas
 mod DigitLemmas
+mod KindLemmas
+mod TallyLemmas

@@ -200,7 +200,10 @@ impl SourceReader {
         }
         match lines.advance(input) {
             Ok(false) => self.end_text(),
-            Ok(true) => Err(self.wanted_at(MOST_LINES + 1).lex_fault(LexFault::TooManyLines)),
+            Ok(true) => Err(
+                self.wanted_at(MOST_LINES + 1)
+                    .lex_fault(LexFault::TooManyLines),
+            ),
             Err(stop) => Err(self.stopped(MOST_LINES + 1, stop)),
         }
     }
