@@ -1,5 +1,5 @@
 -- The tallies of the kinds of change, once one more change is counted.
-use Rattle.std.proofs.Common.{◌≡◌, ◌≢◌, ◌<◌, ◌≤◌, ◌==◌, ℕ, Bool, true, false, cond, nat_lt, List, [], ◌∷◌, ◌++◌, length, get_or, set, slice_get, position, find, Option, Some, None, refl, sym, ap, ◌∙◌, ⊎_elim}
+use Rattle.std.proofs.Common.{◌≡◌, ◌<◌, ◌≤◌, ◌==◌, ℕ, Bool, true, false, cond, nat_lt, List, [], ◌∷◌, ◌++◌, length, get_or, set, slice_get, position, find, Option, Some, None, refl, sym, ap, ◌∙◌, ⊎_elim}
 use Rattle.std.specs.List.{position_or_len}
 use Rattle.std.specs.Option.{option_or}
 use Rattle.std.proofs.lemmas.Bool.{ne_eqb, ltb-false}
@@ -10,7 +10,7 @@ use Rattle.std.proofs.lemmas.Option.{cond_some, none-some, slice_get-get_or, sli
 use Rattle.coll_sources.specs.declared.places.SourcePlace.{SourcePlace}
 use Rattle.coll_sources.specs.declared.adjustments.Adjustment.{Adjustment}
 use Rattle.coll_sources.specs.declared.adjustments.Tally.{Tally}
-use Rattle.coll_sources.specs.Adjustments.{kind_place, same_kind}
+use Rattle.coll_sources.specs.Adjustments.{kind_place}
 use Rattle.coll_sources.specs.Reports.{is_of, tally_of, one_more, CountsOne}
 
 -- equal numbers are the same
