@@ -1,2 +1,5 @@
 mod AnyLemmas
+mod DefinedNames
 mod DigitLemmas
+mod KindLemmas
+mod TallyLemmas

@@ -1,4 +1,5 @@
 pub mod SourceFaults
 pub mod Readers
 pub mod NameRanges
+pub mod Adjustments
 pub mod Reports

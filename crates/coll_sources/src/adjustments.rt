@@ -1,6 +1,10 @@
 //! What is told of what an import changed: how often each kind of change was made, and what was lost.
 //!
-//! A new kind is a variant of `Adjustment` with its name, and a place in `ADJUSTMENTS`.
+//! A new kind is a variant of `Adjustment` with its name, and a place in `ADJUSTMENTS`, here and in `specs/Adjustments.antt`.
+
+ghost use Rattle.std.specs.Prelude.{◌≡◌, ◌<◌, length, position, OnOk, OnErr, IfSome};
+ghost use Rattle.coll_sources.specs.Adjustments.{all_kinds, HasEachKind};
+ghost use Rattle.coll_sources.specs.Reports.{is_of, earlier_place, one_more, CountsOne};
 
 use crate::{SourceFault, SourcePlace};
 use coll_lex::TextBuf;
@@ -62,8 +66,8 @@ pub enum Adjustment {
     Dropped,
 }
 
-/// All kinds, in the order in which they are told.
-pub const ADJUSTMENTS: [Adjustment; 24] = [
+// All kinds, in the order in which they are told.
+const ADJUSTMENTS: [Adjustment; 24] = [
     Adjustment::CopyInlined,
     Adjustment::CopyKept,
     Adjustment::Conditional,
@@ -90,9 +94,31 @@ pub const ADJUSTMENTS: [Adjustment; 24] = [
     Adjustment::Dropped,
 ];
 
+/// All kinds, in the order in which they are told. It takes no memory.
+pub fn all_adjustments() -> [Adjustment; 24]
+    ensures listed { result ≡ all_kinds }
+    ensures each { HasEachKind all_kinds }
+{
+    ADJUSTMENTS
+}
+
 impl Adjustment {
+    ghost use Rattle.std.specs.Prelude.{◌≡◌, ◌≢◌, true, false};
+    ghost use Rattle.coll_sources.specs.Adjustments.{adjustment_name, same_kind};
+
+    // Whether two kinds are the same.
+    fn is_same(self, other: Adjustment) -> bool
+        ensures value { result ≡ same_kind self other }
+        ensures same { result ≡ true → self ≡ other }
+        ensures other { result ≡ false → self ≢ other }
+    {
+        self == other
+    }
+
     /// The name that a message shows.
-    pub fn name(self) -> &'static str {
+    pub fn name(self) -> &'static str
+        ensures { result.now ≡ adjustment_name self }
+    {
         match self {
             Adjustment::CopyInlined => "CopyInlined",
             Adjustment::CopyKept => "CopyKept",
@@ -172,7 +198,10 @@ impl Model for Report {
 }
 
 impl Report {
-    ghost use Rattle.std.specs.Prelude.{◌≡◌, ◌≢◌, ◌++◌, ◌∷◌, [], All, Contains, OnOk, OnErr, IfNone, IfSome};
+    ghost use Rattle.std.specs.Prelude.{◌≡◌, ◌≢◌, ◌<◌, ◌≤◌, ◌++◌, ◌∷◌, [], length, All, Contains, OnOk, OnErr, IfErr, IfNone, IfSome};
+    ghost use Rattle.coll_sources.specs.Reports.{tally_of, CountsOne};
+    ghost use Rattle.coll_sources.specs.declared.source_faults.SourceCause.TheVariants.{Load};
+    ghost use Rattle.coll_texts.specs.declared.load_faults.LoadCause.TheVariants.{Full, OutOfMemory};
 
     /// Nothing is told yet. It takes no memory.
     pub fn new(alloc: Global) -> Report
@@ -186,21 +215,11 @@ impl Report {
 
     /// Counts a change.
     pub fn count(&mut self, adjustment: Adjustment, place: SourcePlace) -> Result<(), AllocError>
+        ensures counted { OnOk result (CountsOne self.old.tallies self.new.tallies adjustment place) }
+        ensures kept { OnErr result (self.new.tallies ≡ self.old.tallies) }
         ensures losses { self.new.losses ≡ self.old.losses }
     {
-        for tally in self.tallies.iter_mut() {
-            if tally.adjustment == adjustment {
-                tally.count = tally.count.saturating_add(1);
-                tally.first = earlier(tally.first, place);
-                return Ok(());
-            }
-        }
-        self.tallies.push(Tally {
-            adjustment,
-            first: place,
-            count: 1,
-        })?;
-        Ok(())
+        count_in(&mut self.tallies, adjustment, place)
     }
 
     /// Counts a change that loses something. It is refused with `Full` where too much is lost already.
@@ -212,7 +231,11 @@ impl Report {
     ) -> Result<(), SourceFault>
         ensures lost { OnOk result (self.new.losses
             ≡ self.old.losses ++ record { place = place; adjustment = adjustment; what = what } ∷ []) }
+        ensures counted { OnOk result (CountsOne self.old.tallies self.new.tallies adjustment place) }
         ensures kept { OnErr result (self.new.losses ≡ self.old.losses) }
+        ensures room { OnOk result (length self.old.losses < 262_144) }
+        ensures full { IfErr result (λ fault. fault.cause ≢ Load OutOfMemory → fault ≡ record { place = place; cause = Load Full }) }
+        ensures limit { IfErr result (λ fault. fault.cause ≢ Load OutOfMemory → 262_144 ≤ length self.old.losses) }
     {
         if self.losses.len() >= MOST_LOSSES {
             return Err(place.load_fault(LoadCause::Full));
@@ -228,13 +251,14 @@ impl Report {
 
     /// How often a kind of change was made, if it was.
     pub fn tally(&self, adjustment: Adjustment) -> Option<Tally>
+        ensures tally { result ≡ tally_of self.now.tallies adjustment }
         ensures kind { IfSome result (λ tally. tally.adjustment ≡ adjustment) }
         ensures among { IfSome result (λ tally. Contains self.now.tallies tally) }
         ensures none { IfNone result (All (λ tally. tally.adjustment ≢ adjustment) self.now.tallies) }
     {
         self.tallies
             .iter()
-            .find(|tally| tally.adjustment == adjustment)
+            .find(|tally| tally.adjustment.is_same(adjustment))
             .copied()
     }
 
@@ -246,8 +270,60 @@ impl Report {
     }
 }
 
+// Counts a change among the tallies.
+fn count_in(
+    tallies: &mut Vec<Tally>,
+    changed: Adjustment,
+    place: SourcePlace,
+) -> Result<(), AllocError>
+    ensures counted { OnOk result (CountsOne tallies.old.items tallies.new.items changed place) }
+    ensures kept { OnErr result (tallies.new.items ≡ tallies.old.items) }
+{
+    match place_of(tallies.as_slice(), changed) {
+        Some(at) => {
+            let tally = tallies[at];
+            tallies[at] = next_tally(changed, place, Some(tally));
+            Ok(())
+        }
+        None => {
+            tallies.push(next_tally(changed, place, None))?;
+            Ok(())
+        }
+    }
+}
+
+// Where the tally of a kind stands.
+fn place_of(tallies: &[Tally], kind: Adjustment) -> Option<usize>
+    ensures first { result ≡ position (is_of kind) tallies.now }
+    ensures within { IfSome result (λ at. at < length tallies.now) }
+{
+    tallies
+        .iter()
+        .position(|tally| tally.adjustment.is_same(kind))
+}
+
+// The tally of a kind behind one change more.
+fn next_tally(kind: Adjustment, place: SourcePlace, before: Option<Tally>) -> Tally
+    ensures { result ≡ one_more kind place before }
+{
+    match before {
+        Some(tally) => Tally {
+            adjustment: kind,
+            first: earlier(tally.first, place),
+            count: tally.count.saturating_add(1),
+        },
+        None => Tally {
+            adjustment: kind,
+            first: place,
+            count: 1,
+        },
+    }
+}
+
 // The place where a change is told: the one that it is told with, or another one of the same text that stands before.
-fn earlier(told: SourcePlace, place: SourcePlace) -> SourcePlace {
+fn earlier(told: SourcePlace, place: SourcePlace) -> SourcePlace
+    ensures { result ≡ earlier_place told place }
+{
     if place.text == told.text && place.line < told.line {
         place
     } else {

@@ -12,7 +12,7 @@
 //! - `bases`: whether a text that a tailoring copies is the table that is tailored;
 //! - `operands`, `weights`, `ranges` and `grammar`: the tokens of a line, read into what it says;
 //! - `readers`: text after text, to the end (`Readers`);
-//! - `adjustments`: what is told of what was changed.
+//! - `adjustments`: what is told of what was changed (`Adjustments`, `Reports`).
 #![tactic(auto)]
 
 mod adjustments;
@@ -28,7 +28,7 @@ mod source_lines;
 mod texts;
 mod weights;
 
-pub use adjustments::{ADJUSTMENTS, Adjustment, Loss, Lost, Report, Tally};
+pub use adjustments::{Adjustment, Loss, Lost, Report, Tally, all_adjustments};
 pub use places::SourcePlace;
 pub use ranges::{NameRange, name_at};
 pub use readers::{SourceKind, SourceReader};

@@ -10,7 +10,10 @@
 //!
 //! Only the category LC_COLLATE is looked at. A line under a condition that doesn't hold counts for nothing, but it has to be a line.
 
-ghost use Rattle.std.specs.Prelude.{IfOk};
+ghost use Rattle.std.specs.Prelude.{◌≡◌, ℕ, List, IfOk};
+ghost use Rattle.std.specs.List.{list_any};
+ghost use Rattle.std.specs.Str.{bytes_eq};
+ghost use Rattle.std.specs.HashSet.{contains_text};
 ghost use Rattle.coll_lex.specs.Names.{AreTokens};
 ghost use Rattle.coll_sources.specs.Readers.{HasTokens};
 
@@ -135,7 +138,9 @@ impl Model for SourceReader {
 }
 
 impl SourceReader {
-    ghost use Rattle.std.specs.Prelude.{◌≡◌, ◌∷◌, [], length, IfOk, option_map, slice_get};
+    ghost use Rattle.std.specs.Prelude.{◌≡◌, ◌∷◌, ℕ, List, [], length, IfOk, option_map, slice_get};
+    ghost use Rattle.std.specs.List.{list_any};
+    ghost use Rattle.std.specs.Str.{bytes_eq};
     ghost use Rattle.coll_sources.specs.Readers.{is_defined};
     ghost use Rattle.coll_sources.specs.declared.source_faults.SourceCause.TheVariants.{Load};
     ghost use Rattle.coll_texts.specs.declared.load_faults.LoadCause.TheVariants.{ReadFault};
@@ -150,13 +155,14 @@ impl SourceReader {
     ) -> Result<SourceReader, AllocError>
         ensures wants { IfOk result (λ reader. reader.names ≡ source.now ∷ []) }
         ensures first { IfOk result (λ reader. reader.held ≡ 0) }
+        ensures defined { IfOk result (λ reader. (name : List ℕ)
+            → is_defined reader name ≡ list_any (λ word. bytes_eq name word.now) defined.now) }
+        ensures nothing { IfOk result (λ reader. reader.lines ≡ []) }
+        ensures told { IfOk result (λ reader. reader.report ≡ record { tallies = []; losses = [] }) }
     {
         let mut names = IndexSet::with_hasher(alloc, keys);
         names.insert(String::from_str(alloc, source)?)?;
-        let mut all = IndexSet::with_hasher(alloc, keys);
-        for name in defined {
-            all.insert(String::from_str(alloc, name)?)?;
-        }
+        let all = all_names(alloc, keys, defined)?;
         Ok(SourceReader {
             kind,
             names,
@@ -564,6 +570,21 @@ impl SourceReader {
             }
         }
     }
+}
+
+// The names that are defined at the start.
+fn all_names(
+    alloc: Global,
+    keys: HashKeys,
+    names: &[&str],
+) -> Result<IndexSet<String, HashKeys>, AllocError>
+    ensures { IfOk result (λ all. (name : List ℕ) → contains_text all name ≡ list_any (λ word. bytes_eq name word.now) names.now) }
+{
+    let mut all = IndexSet::with_hasher(alloc, keys);
+    for name in names {
+        all.insert(String::from_str(alloc, name)?)?;
+    }
+    Ok(all)
 }
 
 // Where the next line of a text stands.
