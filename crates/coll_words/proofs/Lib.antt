@@ -1,0 +1,4 @@
+pub mod PackedOrder
+pub mod SortCases
+pub mod SortedLemmas
+pub mod TextWords

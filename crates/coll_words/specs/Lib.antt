@@ -1,0 +1,6 @@
+pub mod KeyedWords
+pub mod PackedKeys
+pub mod SortRuns
+pub mod SortedWords
+pub mod WordReading
+pub mod Words

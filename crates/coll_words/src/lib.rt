@@ -1,0 +1,20 @@
+//! Words, one a line, in the order of a collation table.
+//!
+//! A word is read with its whole sort key (`coll_key`), so that to sort words is to sort lists of numbers: no comparison looks at the
+//! table again, and none can fail. A way through the crate, each file with its definitions in `specs/`:
+//!
+//! - `packed_keys`: sort keys in half the memory, in the same order (`PackedKeys`);
+//! - `words`: a word with its key, and the sort (`KeyedWords`, `SortedWords`);
+//! - `reading`: the words of an input (`Words`, `WordReading`);
+//! - `sorting`: the words of an input are sorted, and written (`SortRuns`).
+#![tactic(auto)]
+
+mod packed_keys;
+mod reading;
+mod sorting;
+mod words;
+
+pub use packed_keys::packed_keys_are_ordered_alike;
+pub use reading::read_words;
+pub use sorting::sort_lines;
+pub use words::{Word, sort_by_keys, write_words};

@@ -1,0 +1,94 @@
+//! The words of an input are sorted, and written.
+//!
+//! `sort_lines` carries the theorem of a sort (`SortRuns`). All lines are read before the first byte is written, and nothing is
+//! written where one is at fault.
+
+ghost use Rattle.std.specs.Prelude.{◌≡◌, IfErr};
+ghost use Rattle.coll_devices.specs.Devices.{Sends};
+ghost use Rattle.coll_nodes.specs.TableLayout.{collation};
+ghost use Rattle.coll_bench.specs.BatchOutcome.{fault_in};
+ghost use Rattle.coll_bench.specs.BatchReading.{starved_in};
+ghost use Rattle.coll_bench.specs.Serving.{CountsWrites, ReadsNone, write_failed};
+ghost use Rattle.coll_words.specs.KeyedWords.{texts_of};
+ghost use Rattle.coll_words.specs.SortRuns.{SortRuns, WritesSorted};
+ghost use Rattle.coll_words.specs.WordReading.{CountsReading};
+ghost use Rattle.coll_words.specs.Words.{written_words};
+
+use crate::reading::read_words;
+use crate::words::{Word, sort_by_keys, write_words};
+use coll_bench::{Fault, RunFault};
+use coll_devices::{Sink, Source, WriteStop};
+use coll_lex::LexFault;
+use coll_table::Table;
+use std::alloc::Global;
+
+/// Reads the lines of an input, and writes them in the order of a table, each with a line feed. Lines that compare equal stay in the
+/// order in which they came.
+///
+/// A carriage return at the end is no part of a line. The first line that is too long, one too many, or not UTF-8 is the answer, with
+/// its number, and then nothing is written. A read or a write that fails, and lack of memory behind the lines, have line 0; a
+/// write that fails leaves a prefix of the output.
+pub fn sort_lines<R: Source, W: Sink>(
+    alloc: Global,
+    table: &Table,
+    input: &mut R,
+    output: &mut W,
+) -> Result<(), RunFault>
+    ensures run { SortRuns (collation table.now) (R.left input.old) (R.left input.new) (W.taken output.old) (W.taken output.new) result }
+    ensures input { IfErr result (λ ended. ended.input ≡ 0) }
+    ensures reads { CountsReading (R.failed input.old) (R.failed input.new) result }
+    ensures writes { CountsWrites (W.failed output.old) (W.failed output.new) result }
+{
+    table.lemma_well_formed();
+    match read_words(alloc, table, input) {
+        Ok(mut words) => {
+            let wrote = write_sorted(&mut words, output);
+            drop(words);
+            wrote
+        }
+        Err(ended) => Err(ended),
+    }
+}
+
+// Sorts words, and writes them.
+fn write_sorted<W: Sink>(words: &mut Vec<Word>, output: &mut W) -> Result<(), RunFault>
+    ensures run { WritesSorted words.old.items (W.taken output.old) (W.taken output.new) result }
+    ensures input { IfErr result (λ ended. ended.input ≡ 0) }
+    ensures reads { IfErr result (λ ended. ReadsNone ended) }
+    ensures writes { CountsWrites (W.failed output.old) (W.failed output.new) result }
+{
+    match sort_by_keys(words) {
+        Ok(()) => write_all(words, output),
+        Err(_) => Err(no_memory()),
+    }
+}
+
+// Writes words that are sorted.
+fn write_all<W: Sink>(words: &[Word], output: &mut W) -> Result<(), RunFault>
+    ensures sent { Sends (W.taken output.old) (W.taken output.new) (written_words (texts_of words.now)) result }
+    ensures fault { IfErr result (λ ended. ended ≡ write_failed) }
+    ensures writes { CountsWrites (W.failed output.old) (W.failed output.new) result }
+{
+    match write_words(words, output) {
+        Ok(()) => Ok(()),
+        Err(_) => Err(no_line(Fault::Write(WriteStop::WriteFault))),
+    }
+}
+
+// Lack of memory behind the lines.
+fn no_memory() -> RunFault
+    ensures { result ≡ starved_in 0 }
+{
+    no_line(Fault::Lex(LexFault::OutOfMemory))
+}
+
+// A fault that comes from no line.
+fn no_line(fault: Fault) -> RunFault
+    ensures { result ≡ fault_in 0 0 fault }
+{
+    RunFault {
+        input: 0,
+        line: 0,
+        fault,
+    }
+}

@@ -1,0 +1,110 @@
+//! Words with their sort keys, which are sorted by these.
+
+ghost use Rattle.std.specs.Prelude.{◌≡◌, OnOk, OnErr};
+ghost use Rattle.coll_devices.specs.Devices.{CountsErr, Sends};
+ghost use Rattle.coll_nodes.specs.Table.{Collation};
+ghost use Rattle.coll_words.specs.KeyedWords.{AreKeyed, texts_of};
+ghost use Rattle.coll_words.specs.SortRuns.{SortsWords};
+ghost use Rattle.coll_words.specs.Words.{written_word, written_words};
+
+use crate::packed_keys::packed_key;
+use coll_devices::{Sink, WriteStop};
+use coll_key::{KeyFault, Ranks, key};
+use coll_lex::TextBuf;
+use coll_table::Table;
+use coll_texts::{Piece, write_pieces};
+use std::alloc::{AllocError, Global};
+use std::cmp::Ordering;
+use std::marker::Model;
+
+/// A word with its sort key by a table.
+#[derive(Drop)]
+pub struct Word {
+    text: TextBuf,
+    // The key, packed.
+    key: Vec<u32>,
+}
+
+impl Model for Word {
+    ghost use Rattle.coll_words.specs.KeyedWords.{KeyedWord};
+
+    ghost Value = { KeyedWord };
+
+    ghost view = { λ w. record { text = w.text; key = w.key.items } };
+}
+
+impl Word {
+    ghost use Rattle.std.specs.Prelude.{◌≢◌, chars, encode_utf8_all, true, false, IfOk, IfErr};
+    ghost use Rattle.coll_nodes.specs.TableLayout.{collation};
+    ghost use Rattle.coll_ranks.specs.Ranks.{AreRanksOf};
+    ghost use Rattle.coll_key.specs.KeyLimits.{is_too_long};
+    ghost use Rattle.coll_key.specs.TextOrder.{list_order};
+    ghost use Rattle.coll_key.specs.declared.key_faults.KeyFault.TheVariants.{OutOfMemory};
+    ghost use Rattle.coll_words.specs.KeyedWords.{IsKeyed};
+
+    /// The word of a text, with its key by a table, in new memory.
+    ///
+    /// A text of more than `MOST_TEXT_CHARACTERS` characters has no key. The ranks must be those of the table as it stands.
+    pub fn new(alloc: Global, table: &Table, ranks: &Ranks, text: &str) -> Result<Word, KeyFault>
+        requires { AreRanksOf ranks.now (collation table.now) }
+        ensures text { IfOk result (λ word. word.text ≡ chars text.now) }
+        ensures key { IfOk result (λ word. IsKeyed (collation table.now) word) }
+        ensures short { IfOk result (λ _. is_too_long (chars text.now) ≡ false) }
+        ensures err { IfErr result (λ fault. fault ≢ OutOfMemory → is_too_long (chars text.now) ≡ true) }
+    {
+        let numbers = key(alloc, table, ranks, text)?;
+        let key = packed_key(alloc, &numbers)?;
+        let text = TextBuf::copied(alloc, text)?;
+        Ok(Word { text, key })
+    }
+
+    /// Lends the word, which is UTF-8.
+    pub fn text(&self) -> &str
+        ensures characters { chars result.now ≡ self.now.text }
+        ensures bytes { encode_utf8_all self.now.text ≡ result.now }
+    {
+        self.text.get()
+    }
+
+    /// The order of the keys of two words: that of the words, where both keys are by one table. It takes no memory.
+    pub fn order(&self, other: &Word) -> Ordering
+        ensures { result ≡ list_order self.now.key other.now.key }
+    {
+        self.key.cmp(&other.key)
+    }
+}
+
+/// Sorts words by their keys. Words with equal keys keep their order, and where memory is refused all do.
+pub fn sort_by_keys(words: &mut Vec<Word>) -> Result<(), AllocError>
+    ensures sorted { OnOk result (SortsWords words.old.items (texts_of words.new.items)) }
+    ensures keyed { (table : Collation) → AreKeyed table words.old.items → AreKeyed table words.new.items }
+    ensures err { OnErr result (words.new.items ≡ words.old.items) }
+{
+    words.sort_by(|word, other| word.order(other))?;
+    Ok(())
+}
+
+/// Writes words, one a line. Where a write fails, the device has taken a prefix of them.
+pub fn write_words<W: Sink>(words: &[Word], out: &mut W) -> Result<(), WriteStop>
+    ensures sent { Sends (W.taken out.old) (W.taken out.new) (written_words (texts_of words.now)) result }
+    ensures errors { CountsErr (W.failed out.old) (W.failed out.new) result }
+{
+    for word in words {
+        // Not `?`: behind its conversion this exit would need a lemma.
+        if let Err(stop) = write_word(word, out) {
+            return Err(stop);
+        }
+    }
+    Ok(())
+}
+
+// Writes a word, and a line feed.
+fn write_word<W: Sink>(word: &Word, out: &mut W) -> Result<(), WriteStop>
+    ensures sent { Sends (W.taken out.old) (W.taken out.new) (written_word word.now.text) result }
+    ensures errors { CountsErr (W.failed out.old) (W.failed out.new) result }
+{
+    write_pieces(
+        out,
+        &[Piece::Bytes(word.text().as_bytes()), Piece::Bytes(b"\n")],
+    )
+}
