@@ -49,8 +49,9 @@ pub fn proper_line(
 ) -> Result<Option<OrderLine>, SourceFault> {
     let statement = Statement::Reweight(line);
     if !statement.is_proper() {
-        lose_statement(place, &statement, report)?;
+        let lost = lose_statement(place, &statement, report);
         drop(statement);
+        lost?;
         return Ok(None);
     }
     Ok(line_of(statement))
