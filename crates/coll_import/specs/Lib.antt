@@ -1,2 +1,3 @@
+pub mod LeftOut
 pub mod Building
 pub mod ReportText

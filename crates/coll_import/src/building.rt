@@ -221,9 +221,9 @@ fn put(
     report: &mut Report,
 ) -> Result<(), SourceFault> {
     if !statement.is_proper() {
-        lose_statement(place, &statement, report)?;
+        let lost = lose_statement(place, &statement, report);
         drop(statement);
-        return Ok(());
+        return lost;
     }
     if let Some(line) = table_line(statement) {
         take(builder, place, line)?;

@@ -1,5 +1,9 @@
 //! Statements that are made of the lines of a source.
 
+ghost use Rattle.std.specs.Prelude.{◌≡◌, ◌++◌, ◌∷◌, [], IfOk, OnErr, OnOk};
+ghost use Rattle.coll_sources.specs.declared.adjustments.Adjustment.TheVariants.{Dropped};
+ghost use Rattle.coll_import.specs.LeftOut.{lost_with, name_lost, reweighted, within_limits};
+
 use coll_lex::TextBuf;
 use coll_sources::{Adjustment, Lost, Report, SourceFault, SourcePlace};
 use coll_syntax::{Id, OrderLine, Statement};
@@ -19,13 +23,19 @@ pub fn lose_statement(
     place: SourcePlace,
     statement: &Statement,
     report: &mut Report,
-) -> Result<(), SourceFault> {
+) -> Result<(), SourceFault>
+    ensures lost { OnOk result (report.new.losses
+        ≡ report.old.losses ++ record { place = place; adjustment = Dropped; what = lost_with statement.now } ∷ []) }
+    ensures kept { OnErr result (report.new.losses ≡ report.old.losses) }
+{
     let what = lost(statement)?;
     report.lose(Adjustment::Dropped, place, what)
 }
 
 // What is lost where a statement is left out.
-fn lost(statement: &Statement) -> Result<Lost, AllocError> {
+fn lost(statement: &Statement) -> Result<Lost, AllocError>
+    ensures { IfOk result (λ what. what ≡ lost_with statement.now) }
+{
     match statement {
         Statement::Symbol(name) => lost_name(name),
         Statement::Element { name, text: _ } => lost_name(name),
@@ -37,7 +47,9 @@ fn lost(statement: &Statement) -> Result<Lost, AllocError> {
 }
 
 // A name that is lost.
-fn lost_name(name: &TextBuf) -> Result<Lost, AllocError> {
+fn lost_name(name: &TextBuf) -> Result<Lost, AllocError>
+    ensures { IfOk result (λ what. what ≡ name_lost name.now) }
+{
     Ok(Lost::Id(Id::Named(name.try_copy()?)))
 }
 
@@ -46,18 +58,23 @@ pub fn proper_line(
     place: SourcePlace,
     line: OrderLine,
     report: &mut Report,
-) -> Result<Option<OrderLine>, SourceFault> {
+) -> Result<Option<OrderLine>, SourceFault>
+    ensures { IfOk result (λ kept. kept ≡ within_limits line) }
+{
     let statement = Statement::Reweight(line);
     if !statement.is_proper() {
-        lose_statement(place, &statement, report)?;
+        let lost = lose_statement(place, &statement, report);
         drop(statement);
+        lost?;
         return Ok(None);
     }
     Ok(line_of(statement))
 }
 
 // The order line that a statement has, if it is one.
-fn line_of(statement: Statement) -> Option<OrderLine> {
+fn line_of(statement: Statement) -> Option<OrderLine>
+    ensures { result ≡ reweighted statement }
+{
     if let Statement::Reweight(line) = statement {
         return Some(line);
     }

@@ -19,6 +19,13 @@ const ENDS: &[u8] = b"END";
 /// with `reorder-`. A text whose category doesn't begin has no such line.
 pub(crate) fn orders_everything(alloc: Global, text: &str) -> Result<bool, AllocError> {
     let mut lexer = Lexer::new(alloc)?;
+    let orders = begins_an_order(&mut lexer, text);
+    drop(lexer);
+    Ok(orders)
+}
+
+// Whether the category of a text has a line that begins an order, and none that changes one. The lexer has read nothing.
+fn begins_an_order(lexer: &mut Lexer, text: &str) -> bool {
     let mut begun = false;
     let mut orders = false;
     for line in text.as_bytes().split(|byte| *byte == b'\n') {
@@ -26,17 +33,17 @@ pub(crate) fn orders_everything(alloc: Global, text: &str) -> Result<bool, Alloc
         if !begun {
             match lexer.outside(line) {
                 Ok(begins) => begun = begins,
-                Err(_) => return Ok(false),
+                Err(_) => return false,
             }
         } else if words.starts_with(CHANGES) {
-            return Ok(false);
+            return false;
         } else if begins_with(words, ENDS) {
-            return Ok(orders);
+            return orders;
         } else if begins_with(words, BEGINS) {
             orders = true;
         }
     }
-    Ok(orders)
+    orders
 }
 
 // Whether the first word of a line is this one: no further letter of a word stands behind it.

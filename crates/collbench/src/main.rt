@@ -28,16 +28,16 @@ use std::env;
 use std::io::{BufWriter, ErrorKind, Stdout};
 use std::process::ExitCode;
 
-/// The exit status where the words of the command line are wrong.
+// The exit status where the words of the command line are wrong.
 const WRONG_WORDS: u8 = 2;
 
-/// The version of the program, and the line of the kit that it is proved with, as `rt version` prints it.
+// The version of the program, and the line of the kit that it is proved with, as `rt version` prints it.
 const VERSION: &str = "collbench 0.1.0\nproved with rattle-kit-13b logic dac8208d650f15bf";
 
-/// The name of standard input.
+// The name of standard input.
 const STANDARD_INPUT: &str = "-";
 
-/// What replies and the output of batches are written to.
+// What replies and the output of batches are written to.
 type Output = Counted<BufWriter<Stdout>>;
 
 fn main(rt: HostRuntime) -> ExitCode {
