@@ -16,7 +16,7 @@ and a list that is collected grows member by member where the room for all is re
 that each making of ranks needs, and the rows of a text that is looked up by itself. How many of these there are is stated.
 
 The program counts its growths from the start of `main`. Each file tests/growths/NAME.json is a session, or a list of other runs
-(`rows`); values, `words`, `output` and `errors` are those of run_program.py. At most one growth is refused, so either the program ends with
+(`rows`); values, `words`, `input`, `output` and `errors` are those of run_program.py. At most one growth is refused, so either the program ends with
 its fault 70, a line on standard error, before which it has written nothing, or of a batch a prefix of its output; or else one request of
 a session has the reply `refused 70 OutOfMemory`. Of that, a session says for each of its `requests`:
 
@@ -27,8 +27,8 @@ a session has the reply `refused 70 OutOfMemory`. Of that, a session says for ea
 Each request has to be refused in some run. `spared` is how many growths can be spared.
 
 A run that names a file as `source` is repeated with each of its reads and writes refused as well. With a read refused it ends with
-fault 67, and has written nothing. With a write refused it ends with fault 68, in line 0 of this file, and has written a prefix of its
-output; or, where standard error was refused, as any other run.
+fault 67, and has written nothing. With a write refused it ends with fault 68, in line 0 of this file, which is `-` where standard input
+is meant, and has written a prefix of its output; or, where standard error was refused, as any other run.
 
 The last line is 'N passed, M failed', and the one before it counts the growths, reads and writes.
 """
@@ -170,7 +170,7 @@ def refuse_to_batch(shim, batch):
             raise wrong(ran)
         return not is_whole
 
-    return shim.each([PROGRAM, *batch["words"]], "program", judge, batch["spared"])
+    return shim.each([PROGRAM, *batch["words"]], "program", judge, batch["spared"], bytes_of(batch.get("input", "")))
 
 
 def refuse_to_devices(shim, batch):
@@ -191,9 +191,9 @@ def refuse_to_devices(shim, batch):
             raise wrong(ran)
         return True
 
-    words = [PROGRAM, *batch["words"]]
-    reads = shim.each(words, "program", judge_read, 0, refuses="reads")
-    writes = shim.each(words, "program", judge_write, 0, refuses="writes")
+    words, given = [PROGRAM, *batch["words"]], bytes_of(batch.get("input", ""))
+    reads = shim.each(words, "program", judge_read, 0, given, refuses="reads")
+    writes = shim.each(words, "program", judge_write, 0, given, refuses="writes")
     if not (reads and writes):
         raise Failed(f"{reads} reads and {writes} writes were refused")
     return reads + writes

@@ -43,18 +43,20 @@ const EXAMPLES: &str = "Examples:
   collbench compile base.txt                   the rank of each entry, and its weights as ranks
   collbench key base.txt ab                    4 6 | 1 1 | 2 2 | |
   collbench compare base.txt a A               less
+  collbench sort base.txt < words.txt          the words, one a line, in the order of the table
   collbench session base.txt < lines.txt       a reply to each line
   collbench import iso14651_t1 > common.txt    the table of a published source
   collbench import-delta common.txt sv_SE      the delta file of a published tailoring, for that table";
 
 // The subcommands that work on a table or make one, in the order in which help tells them.
-const SUBCOMMANDS: [Subcommand; 9] = [
+const SUBCOMMANDS: [Subcommand; 10] = [
     Subcommand::Check,
     Subcommand::Print,
     Subcommand::Export,
     Subcommand::Compile,
     Subcommand::Key,
     Subcommand::Compare,
+    Subcommand::Sort,
     Subcommand::Session,
     Subcommand::Import,
     Subcommand::ImportDelta,
@@ -75,6 +77,8 @@ pub enum Subcommand {
     Key,
     /// Compares two texts.
     Compare,
+    /// Sorts lines.
+    Sort,
     /// Serves a session over a table.
     Session,
     /// Makes a table of a published source.
@@ -88,6 +92,8 @@ pub enum Subcommand {
 pub enum Task {
     /// It is read, rewritten by delta files, and answered from once.
     Batch(Batch),
+    /// It is read, rewritten by delta files, and the lines of standard input are sorted by it.
+    Sort,
     /// It is read, and a session over it is served.
     Session,
     /// A source is read, where these names are defined, and the table that is made of it is printed.
@@ -221,7 +227,11 @@ fn version<'a>(alloc: Global) -> Command<'a> {
 // A subcommand with the words that it takes.
 fn taking<'a>(alloc: Global, subcommand: Subcommand) -> Result<Command<'a>, AllocError> {
     match subcommand {
-        Subcommand::Check | Subcommand::Print | Subcommand::Export | Subcommand::Compile => {
+        Subcommand::Check
+        | Subcommand::Print
+        | Subcommand::Export
+        | Subcommand::Compile
+        | Subcommand::Sort => {
             over_table(alloc, subcommand)?
                 .before_help(COPIES)
                 .arg(deltas(alloc))
@@ -395,6 +405,7 @@ fn task_of(
             copied_text(alloc, second)?,
         ),
         (Subcommand::Compare, _) => return Ok(None),
+        (Subcommand::Sort, _) => return Ok(Some(Task::Sort)),
         (Subcommand::Session, _) => return Ok(Some(Task::Session)),
         (Subcommand::Import, _) => return Ok(Some(Task::Import(copied_texts(alloc, texts)?))),
         (Subcommand::ImportDelta, _) => return Ok(Some(Task::ImportDelta(copied_texts(
@@ -434,6 +445,7 @@ impl Subcommand {
             Subcommand::Compile => "compile",
             Subcommand::Key => "key",
             Subcommand::Compare => "compare",
+            Subcommand::Sort => "sort",
             Subcommand::Session => "session",
             Subcommand::Import => "import",
             Subcommand::ImportDelta => "import-delta",
@@ -453,6 +465,9 @@ impl Subcommand {
             }
             Subcommand::Key => "Prints the sort key of each text, one a line",
             Subcommand::Compare => "Compares two texts: less, equal or greater",
+            Subcommand::Sort => {
+                "Reads lines from standard input, and prints them in the order of a table"
+            }
             Subcommand::Session => {
                 "Reads the lines of a session from standard input, and replies to each"
             }
@@ -477,6 +492,7 @@ impl Subcommand {
             "compile" => Some(Subcommand::Compile),
             "key" => Some(Subcommand::Key),
             "compare" => Some(Subcommand::Compare),
+            "sort" => Some(Subcommand::Sort),
             "session" => Some(Subcommand::Session),
             "import" => Some(Subcommand::Import),
             "import-delta" => Some(Subcommand::ImportDelta),

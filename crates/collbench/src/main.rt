@@ -1,7 +1,7 @@
 //! The program: a thin `main` over `coll_bench`, which runs batches and serves sessions.
 //!
 //! `command_line` reads the words, `random_keys` draws the keys that names are looked up under, `files` opens what the words name, and
-//! `importing` makes tables and delta files of sources. Here the runs are started, and their faults are told: a line on standard error,
+//! `importing` makes tables and delta files of sources, and `words` sorts lines. Here the runs are started, and their faults are told: a line on standard error,
 //! and the exit status, which stands also where that line can't be written.
 #![tactic(auto)]
 
@@ -12,6 +12,7 @@ mod files;
 mod importing;
 mod laws;
 mod random_keys;
+mod words;
 
 use coll_bench::{
     Batch, Fault, RunFault, exit_status, run_batch_keyed, run_session, write_fault,
@@ -27,6 +28,7 @@ use std::alloc::{AllocError, Global};
 use std::env;
 use std::io::{BufWriter, ErrorKind, Stdout};
 use std::process::ExitCode;
+use words::sort;
 
 // The exit status where the words of the command line are wrong.
 const WRONG_WORDS: u8 = 2;
@@ -92,6 +94,10 @@ fn do_keyed(
 {
     match task {
         Task::Batch(batch) => run(rt, keys, batch, files, names),
+        Task::Sort => match String::from_str(rt.alloc(), STANDARD_INPUT) {
+            Ok(name) => sort(rt, keys, files, names, &[name]),
+            Err(_) => tell_no_memory(rt),
+        },
         Task::Session => match String::from_str(rt.alloc(), STANDARD_INPUT) {
             Ok(name) => serve(rt, keys, files, names, &[name]),
             Err(_) => tell_no_memory(rt),

@@ -14,8 +14,10 @@ use coll_table::{Table, load_keyed};
 use coll_texts::LoadFault;
 use std::alloc::Global;
 
-/// Reads the table and the delta files. The answer is the table after all of them, or the first fault met.
-pub(crate) fn read_inputs<R: Source>(
+/// Reads a table, and rewrites it by delta files in their order. The answer is the table after all of them, or the first fault met.
+///
+/// Input 0 is the table, input k the k-th delta file. What the texts name is looked up under these keys.
+pub fn read_inputs<R: Source>(
     alloc: Global,
     keys: HashKeys,
     table: &mut R,
