@@ -15,6 +15,7 @@ subcommand_name subcommand.Compile = codes "compile"
 subcommand_name subcommand.Key = codes "key"
 subcommand_name subcommand.Compare = codes "compare"
 subcommand_name subcommand.Session = codes "session"
+subcommand_name subcommand.Diff = codes "diff"
 subcommand_name subcommand.Import = codes "import"
 subcommand_name subcommand.ImportDelta = codes "import-delta"
 
@@ -32,5 +33,6 @@ task_for subcommand.Compile texts = Some (task.Batch batch.Compile)
 task_for subcommand.Key texts = Some (task.Batch (batch.Key texts))
 task_for subcommand.Compare texts = comparison texts
 task_for subcommand.Session texts = Some task.Session
+task_for subcommand.Diff texts = Some task.Differences
 task_for subcommand.Import texts = Some (task.Import texts)
 task_for subcommand.ImportDelta texts = Some (task.ImportDelta texts)

@@ -25,6 +25,9 @@ const FIRST: &str = "A";
 
 const SECOND: &str = "B";
 
+// The second of two tables, which usage shows as TABLE too.
+const OTHER: &str = "OTHER";
+
 const SOURCE: &str = "SOURCE";
 
 const NAME: &str = "NAME";
@@ -44,11 +47,12 @@ const EXAMPLES: &str = "Examples:
   collbench key base.txt ab                    4 6 | 1 1 | 2 2 | |
   collbench compare base.txt a A               less
   collbench session base.txt < lines.txt       a reply to each line
+  collbench diff base.txt other.txt            same, or a line for each difference
   collbench import iso14651_t1 > common.txt    the table of a published source
   collbench import-delta common.txt sv_SE      the delta file of a published tailoring, for that table";
 
 // The subcommands that work on a table or make one, in the order in which help tells them.
-const SUBCOMMANDS: [Subcommand; 9] = [
+const SUBCOMMANDS: [Subcommand; 10] = [
     Subcommand::Check,
     Subcommand::Print,
     Subcommand::Export,
@@ -56,6 +60,7 @@ const SUBCOMMANDS: [Subcommand; 9] = [
     Subcommand::Key,
     Subcommand::Compare,
     Subcommand::Session,
+    Subcommand::Diff,
     Subcommand::Import,
     Subcommand::ImportDelta,
 ];
@@ -77,6 +82,8 @@ pub enum Subcommand {
     Compare,
     /// Serves a session over a table.
     Session,
+    /// Tells what differs between two tables.
+    Diff,
     /// Makes a table of a published source.
     Import,
     /// Makes a delta file for a table of a published tailoring.
@@ -90,6 +97,8 @@ pub enum Task {
     Batch(Batch),
     /// It is read, and a session over it is served.
     Session,
+    /// It is read, then another, and what differs between them is told.
+    Differences,
     /// A source is read, where these names are defined, and the table that is made of it is printed.
     Import(ListBuf<TextBuf>),
     /// It is read, then a tailoring, where these names are defined, and the delta file that is made of that is printed.
@@ -101,7 +110,8 @@ pub enum Task {
 pub struct Request<'a> {
     /// What is done with the table, or with the source.
     pub task: Task,
-    /// The names of the files: that of the table, if one is read, and then those of the delta files, in their order, or of the source.
+    /// The names of the files: that of the table, if one is read, and then those of the delta files, in their order, of the source, or of
+    /// the other table.
     pub files: Vec<&'a str>,
 }
 
@@ -229,6 +239,7 @@ fn taking<'a>(alloc: Global, subcommand: Subcommand) -> Result<Command<'a>, Allo
         Subcommand::Key => over_table(alloc, subcommand)?.arg(texts(alloc)),
         Subcommand::Compare => over_two_texts(alloc, subcommand),
         Subcommand::Session => over_table(alloc, subcommand),
+        Subcommand::Diff => over_two_tables(alloc, subcommand),
         Subcommand::Import => over_source(alloc, subcommand),
         Subcommand::ImportDelta => over_table_and_source(alloc, subcommand),
     }
@@ -246,6 +257,11 @@ fn over_two_texts<'a>(alloc: Global, subcommand: Subcommand) -> Result<Command<'
     over_table(alloc, subcommand)?
         .arg(text(alloc, FIRST))?
         .arg(text(alloc, SECOND))
+}
+
+// A subcommand that takes two tables.
+fn over_two_tables<'a>(alloc: Global, subcommand: Subcommand) -> Result<Command<'a>, AllocError> {
+    over_table(alloc, subcommand)?.arg(other_table(alloc))
 }
 
 // A subcommand that takes a source.
@@ -295,6 +311,14 @@ fn table<'a>(alloc: Global) -> Arg<'a> {
     Arg::new(alloc, TABLE)
         .required(true)
         .help("The file of the table")
+}
+
+// A second table.
+fn other_table<'a>(alloc: Global) -> Arg<'a> {
+    Arg::new(alloc, OTHER)
+        .value_name(TABLE)
+        .required(true)
+        .help("The file of the table that it is compared with")
 }
 
 // Delta files, perhaps none.
@@ -352,7 +376,8 @@ fn request_on<'a>(
     }
 }
 
-// The names of the files: that of the table or of what stands in its place, and then those of the delta files, or of the source.
+// The names of the files: that of the table or of what stands in its place, and then those of the delta files, of the source, or of the
+// other table.
 fn files_of<'a>(
     alloc: Global,
     table: &'a str,
@@ -364,6 +389,7 @@ fn files_of<'a>(
     files.push(table)?;
     files.extend_from_slice(found.get_strs(DELTA).unwrap_or(&[]))?;
     files.extend_from_slice(found.get_strs(SOURCE).unwrap_or(&[]))?;
+    files.extend_from_slice(found.get_strs(OTHER).unwrap_or(&[]))?;
     Ok(files)
 }
 
@@ -396,6 +422,7 @@ fn task_of(
         ),
         (Subcommand::Compare, _) => return Ok(None),
         (Subcommand::Session, _) => return Ok(Some(Task::Session)),
+        (Subcommand::Diff, _) => return Ok(Some(Task::Differences)),
         (Subcommand::Import, _) => return Ok(Some(Task::Import(copied_texts(alloc, texts)?))),
         (Subcommand::ImportDelta, _) => return Ok(Some(Task::ImportDelta(copied_texts(
             alloc, texts,
@@ -435,6 +462,7 @@ impl Subcommand {
             Subcommand::Key => "key",
             Subcommand::Compare => "compare",
             Subcommand::Session => "session",
+            Subcommand::Diff => "diff",
             Subcommand::Import => "import",
             Subcommand::ImportDelta => "import-delta",
         }
@@ -455,6 +483,9 @@ impl Subcommand {
             Subcommand::Compare => "Compares two texts: less, equal or greater",
             Subcommand::Session => {
                 "Reads the lines of a session from standard input, and replies to each"
+            }
+            Subcommand::Diff => {
+                "Tells what differs between two tables, a line each; the exit status is 1 where anything does"
             }
             Subcommand::Import => {
                 "Prints the table of a published locale source, and tells on standard error what was changed"
@@ -478,6 +509,7 @@ impl Subcommand {
             "key" => Some(Subcommand::Key),
             "compare" => Some(Subcommand::Compare),
             "session" => Some(Subcommand::Session),
+            "diff" => Some(Subcommand::Diff),
             "import" => Some(Subcommand::Import),
             "import-delta" => Some(Subcommand::ImportDelta),
             _ => None,

@@ -1,0 +1,4 @@
+pub mod ChangeLemmas
+pub mod OrderLemmas
+pub mod SamenessLemmas
+pub mod VisitedSections
