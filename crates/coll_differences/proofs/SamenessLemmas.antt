@@ -1,8 +1,12 @@
 -- The tests of sameness tell when two things are equal.
 use Rattle.std.proofs.Common.{◌≡◌, ℕ, Bool, true, false, ◌&&◌, List, [], ◌∷◌, Decides, sym, ap, ap₂, ◌∙◌, refl}
+use Rattle.std.specs.Bool.{beq}
+use Rattle.std.specs.Cmp.{booleans_Decides}
 use Rattle.std.proofs.lemmas.Bool.{false≢true}
+use Rattle.std.proofs.lemmas.Bool.Decides.{Decides-and, Decides-like}
 use Rattle.coll_syntax.specs.Identifier.{same_name, same_id}
 use Rattle.coll_syntax.specs.declared.identifiers.Id.{Id}
+use Rattle.coll_syntax.specs.declared.rules.Rule.{Rule}
 use Rattle.coll_syntax.specs.declared.weights.Weight.{Weight}
 use Rattle.coll_syntax.specs.declared.weights.Weight.TheVariants.{Ignore, Own, Names}
 use Rattle.coll_lookups.proofs.Sameness.{same_name_decides, same_id_decides}
@@ -10,7 +14,7 @@ use Rattle.coll_nodes.specs.Walks.{Visited, VisitedSection, VisitedEntry}
 use Rattle.coll_nodes.specs.declared.declarations.Declaration.{Declaration}
 use Rattle.coll_nodes.specs.declared.declarations.Declaration.TheVariants.{Symbol, Element, Equivalence}
 use Rattle.coll_nodes.specs.declared.entries.Entry.{Entry}
-use Rattle.coll_differences.specs.Sameness.{same_list, same_weight, same_weights, same_entry, same_visited, same_declaration}
+use Rattle.coll_differences.specs.Sameness.{same_list, same_rule, same_weight, same_weights, same_entry, same_visited, same_declaration}
 
 -- two tests that are true together
 pub both : (a b : Bool) → (a && b) ≡ true → (a ≡ true) × (b ≡ true)
@@ -29,11 +33,19 @@ same_list_decides same decides (x ∷ xs) [] = (λ e. absurd (false≢true e), �
 same_list_decides same decides (x ∷ xs) (y ∷ ys) =
     let later = same_list_decides same decides xs ys in
     let heads : x ∷ xs ≡ y ∷ ys → x ≡ y = λ e. cc in
-    let tails : x ∷ xs ≡ y ∷ ys → xs ≡ ys = λ e. cc in
-    (
+    let tails : x ∷ xs ≡ y ∷ ys → xs ≡ ys = λ e. cc in (
       λ e. ap₂ (λ u us. u ∷ us) ((decides x y).0 (both (same x y) (same_list same xs ys) e).0) (later.0 (both (same x y) (same_list same xs ys) e).1),
       λ e. and (same x y) (same_list same xs ys) ((decides x y).1 (heads e)) (later.1 (tails e)),
     )
+
+-- two rules are the same where both parts are
+rule_of_parts : (a b : Rule) → (a.backward ≡ b.backward) × (a.position ≡ b.position) → a ≡ b
+rule_of_parts a b h = λ i. record { backward = h.0 i; position = h.1 i }
+
+pub same_rule_decides : (a b : Rule) → Decides (same_rule a b) (a ≡ b)
+same_rule_decides a b =
+    Decides-like (beq a.backward b.backward && beq a.position b.position) (rule_of_parts a b) (λ h. (ap (λ (r : Rule). r.backward) h, ap (λ (r : Rule). r.position) h))
+    (Decides-and (beq a.backward b.backward) (beq a.position b.position) (booleans_Decides a.backward b.backward) (booleans_Decides a.position b.position))
 
 pub same_weight_decides : (a b : Weight) → Decides (same_weight a b) (a ≡ b)
 same_weight_decides Ignore Ignore = (λ _. refl, λ _. refl)
@@ -53,10 +65,9 @@ pub same_entry_decides : (a b : Entry) → Decides (same_entry a b) (a ≡ b)
 same_entry_decides a b =
     let weights = same_list_decides same_weight same_weight_decides a.weights b.weights in
     let parts : (e : same_entry a b ≡ true) → a ≡ b = λ e.
-        let facts = both (same_id a.id b.id) (same_weights a.weights b.weights) e in
-        let made : Id → List Weight → Entry = λ id ws. record { id = id; weights = ws } in
-        ap₂ made ((same_id_decides a.id b.id).0 facts.0) (weights.0 facts.1) in
-    (
+    let facts = both (same_id a.id b.id) (same_weights a.weights b.weights) e in
+    let made : Id → List Weight → Entry = λ id ws. record { id = id; weights = ws } in
+    ap₂ made ((same_id_decides a.id b.id).0 facts.0) (weights.0 facts.1) in (
       parts,
       λ e. and (same_id a.id b.id) (same_weights a.weights b.weights) ((same_id_decides a.id b.id).1 (ap (λ (x : Entry). x.id) e)) (weights.1 (ap (λ (x : Entry). x.weights) e)),
     )

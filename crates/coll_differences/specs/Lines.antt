@@ -1,5 +1,5 @@
 -- The lines that tell what differs between two tables (the project's own).
-use Rattle.std.specs.Prelude.{ℕ, Bool, true, false, if◌then◌else◌, List, [], ◌∷◌, ◌++◌, Option, Some, None, length, codes, decimal, count_by, is_some, encode_utf8_all}
+use Rattle.std.specs.Prelude.{ℕ, Bool, true, false, if◌then◌else◌, List, [], ◌∷◌, ◌++◌, Option, Some, None, codes, decimal, count_by, is_some, vec_len, encode_utf8_all}
 use Rattle.std.specs.List.{flat_map}
 use Rattle.std.specs.Borrow.{Bor}
 use Rattle.coll_devices.specs.PhysicalLines.{line_feed}
@@ -133,10 +133,10 @@ is_move (Moved point behind) = true
 -- the counts of all lines before it
 abbrev pub counts_told : Differences → List ℕ
 counts_told told =
-    codes "differences rules " ++ (decimal (one_if (is_some told.rules)) ++ (codes " undeclared " ++ (decimal (length told.undeclared.items)
-    ++ (codes " declared " ++ (decimal (length told.declared.items) ++ (codes " otherwise " ++ (decimal (one_if told.redeclared)
+    codes "differences rules " ++ (decimal (one_if (is_some told.rules)) ++ (codes " undeclared " ++ (decimal (vec_len told.undeclared)
+    ++ (codes " declared " ++ (decimal (vec_len told.declared) ++ (codes " otherwise " ++ (decimal (one_if told.redeclared)
     ++ (codes " removed " ++ (decimal (count_by is_removal told.changes.items) ++ (codes " added " ++ (decimal (count_by is_addition told.changes.items)
-    ++ (codes " moved " ++ (decimal (count_by is_move told.changes.items) ++ (codes " weights " ++ (decimal (length told.weights.items) ++ line_end)))))))))))))))
+    ++ (codes " moved " ++ (decimal (count_by is_move told.changes.items) ++ (codes " weights " ++ (decimal (vec_len told.weights) ++ line_end)))))))))))))))
 
 -- All lines.
 

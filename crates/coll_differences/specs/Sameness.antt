@@ -1,6 +1,8 @@
 -- When two weights, two entries and what two walks visit are the same, as tests.
 use Rattle.std.specs.Prelude.{ℕ, Bool, true, false, ◌&&◌, List, [], ◌∷◌}
+use Rattle.std.specs.Bool.{beq}
 use Rattle.coll_syntax.specs.Identifier.{same_name, same_id}
+use Rattle.coll_syntax.specs.declared.rules.Rule.{Rule}
 use Rattle.coll_syntax.specs.declared.weights.Weight.{Weight}
 use Rattle.coll_syntax.specs.declared.weights.Weight.TheVariants.{Ignore, Own, Names}
 use Rattle.coll_nodes.specs.Walks.{Visited, VisitedSection, VisitedEntry}
@@ -14,6 +16,10 @@ same_list same [] [] = true
 same_list same [] (y ∷ ys) = false
 same_list same (x ∷ xs) [] = false
 same_list same (x ∷ xs) (y ∷ ys) = same x y && same_list same xs ys
+
+-- two rules are the same
+abbrev pub same_rule : Rule → Rule → Bool
+same_rule rule other = beq rule.backward other.backward && beq rule.position other.position
 
 -- two weights are the same
 abbrev pub same_weight : Weight → Weight → Bool

@@ -47,12 +47,12 @@ pub fn difference<'a>(
     if are_same(first, second) {
         return Ok(None);
     }
-    let told = differences(alloc, first, second)?;
+    let told = all_differences(alloc, first, second)?;
     Ok(Some(told))
 }
 
 // What differs between two tables.
-fn differences<'a>(
+fn all_differences<'a>(
     alloc: Global,
     first: &'a Table,
     second: &'a Table,

@@ -269,11 +269,7 @@ fn write_placed<'a, W: Sink>(
 }
 
 // Writes the line of a point that goes first of all.
-fn write_first<'a, W: Sink>(
-    out: &mut W,
-    word: &'a [u8],
-    point: Point<'a>,
-) -> Result<(), WriteStop>
+fn write_first<'a, W: Sink>(out: &mut W, word: &'a [u8], point: Point<'a>) -> Result<(), WriteStop>
     ensures sent { Sends (W.taken out.old) (W.taken out.new)
         (word.now ++ (section_word (mark_of point.entry) ++ (mark_name (mark_of point.entry) ++ codes " first\n"))) result }
     ensures errors { CountsErr (W.failed out.old) (W.failed out.new) result }
@@ -463,7 +459,7 @@ fn write_counts<W: Sink>(out: &mut W, told: &Differences<'_>) -> Result<(), Writ
     ensures sent { Sends (W.taken out.old) (W.taken out.new) (counts_told told.now) result }
     ensures errors { CountsErr (W.failed out.old) (W.failed out.new) result }
 {
-    let rules = u64::from(told.rules.is_some());
+    let rules = count_one(told.rules.is_some());
     let changes = told.changes.as_slice();
     write_pieces(
         out,
@@ -475,7 +471,7 @@ fn write_counts<W: Sink>(out: &mut W, told: &Differences<'_>) -> Result<(), Writ
             Piece::Bytes(b" declared "),
             Piece::Number(told.declared.len() as u64),
             Piece::Bytes(b" otherwise "),
-            Piece::Number(u64::from(told.redeclared)),
+            Piece::Number(count_one(told.redeclared)),
             Piece::Bytes(b" removed "),
             Piece::Number(removals(changes)),
             Piece::Bytes(b" added "),
@@ -487,6 +483,13 @@ fn write_counts<W: Sink>(out: &mut W, told: &Differences<'_>) -> Result<(), Writ
             Piece::Bytes(b"\n"),
         ],
     )
+}
+
+// One, if it is so.
+fn count_one(is_so: bool) -> u64
+    ensures { result ≡ one_if is_so }
+{
+    if is_so { 1 } else { 0 }
 }
 
 // How many points are removed.

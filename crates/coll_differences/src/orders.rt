@@ -23,10 +23,7 @@ pub enum Point<'a> {
 }
 
 /// The order of a table, point by point.
-pub(crate) fn points_of<'a>(
-    alloc: Global,
-    table: &'a Table,
-) -> Result<Vec<Point<'a>>, AllocError>
+pub(crate) fn points_of<'a>(alloc: Global, table: &'a Table) -> Result<Vec<Point<'a>>, AllocError>
     ensures { IfOk result (λ points. marks_of points.items ≡ marks_in (collation table.now)) }
 {
     let mut points = Vec::new(alloc);

@@ -6,16 +6,18 @@
 ghost use Rattle.std.specs.Prelude.{◌≡◌, ◌↔◌, IsTrue};
 ghost use Rattle.coll_nodes.specs.TableLayout.{collation};
 ghost use Rattle.coll_syntax.specs.Identifier.{same_id};
-ghost use Rattle.coll_differences.specs.Sameness.{same_entry, same_list, same_weight, same_weights};
+ghost use Rattle.coll_differences.specs.Sameness.{same_entry, same_list, same_rule, same_weight, same_weights};
 
 use crate::walked_sameness::{is_same_declared, is_same_walk};
-use coll_syntax::{Id, Weight};
+use coll_syntax::{Id, Rule, Weight};
 use coll_table::{Entry, Table};
 
 /// Whether two tables are the same: their rules, their declarations in order, and their sections with the entries and weights of each.
 pub fn are_same(first: &Table, second: &Table) -> bool
     ensures { IsTrue result ↔ (collation first.now ≡ collation second.now) }
 {
+    first.lemma_well_formed();
+    second.lemma_well_formed();
     if !has_same_rules(first, second) {
         return false;
     }
@@ -29,7 +31,34 @@ pub fn are_same(first: &Table, second: &Table) -> bool
 pub(crate) fn has_same_rules(first: &Table, second: &Table) -> bool
     ensures { IsTrue result ↔ ((collation first.now).rules ≡ (collation second.now).rules) }
 {
-    first.rules() == second.rules()
+    are_same_rules(first.rules(), second.rules())
+}
+
+// Whether two lists of rules are the same.
+fn are_same_rules(rules: &[Rule], others: &[Rule]) -> bool
+    ensures { result ≡ same_list same_rule rules.now others.now }
+{
+    let mut left = others;
+    for rule in rules {
+        let Some((other, later)) = left.split_first() else {
+            return false;
+        };
+        if !is_same_rule(*rule, *other) {
+            return false;
+        }
+        left = later;
+    }
+    left.is_empty()
+}
+
+// Whether two rules are the same.
+fn is_same_rule(rule: Rule, other: Rule) -> bool
+    ensures { result ≡ same_rule rule other }
+{
+    if rule.backward != other.backward {
+        return false;
+    }
+    rule.position == other.position
 }
 
 /// Whether two entries have the same identifier and the same weights.

@@ -103,10 +103,7 @@ fn tell(rt: &HostRuntime, told: &Option<Differences<'_>>) -> Result<ExitCode, Ru
 }
 
 // Writes what differs, and answers the exit status once all of it has left the buffer.
-fn write_told(
-    told: &Option<Differences<'_>>,
-    output: &mut Output,
-) -> Result<ExitCode, RunFault>
+fn write_told(told: &Option<Differences<'_>>, output: &mut Output) -> Result<ExitCode, RunFault>
     ensures { IfErr result (λ fault. fault.input ≡ 0) }
 {
     let wrote = write_difference(output, told);
