@@ -56,7 +56,8 @@ fn tell_from(
     requires { 0 < length inputs.old }
     ensures { IfErr result (λ fault. fault.input < length inputs.old) }
 {
-    match read_at(rt, keys, inputs, inputs.len() - 1) {
+    let last = inputs.len() - 1;
+    match read_at(rt, keys, inputs, last) {
         Ok(second) => tell_of(rt, first, &second),
         Err(fault) => Err(fault),
     }
