@@ -16,6 +16,7 @@ subcommand_name subcommand.Key = codes "key"
 subcommand_name subcommand.Compare = codes "compare"
 subcommand_name subcommand.Sort = codes "sort"
 subcommand_name subcommand.Session = codes "session"
+subcommand_name subcommand.Diff = codes "diff"
 subcommand_name subcommand.Import = codes "import"
 subcommand_name subcommand.ImportDelta = codes "import-delta"
 
@@ -34,5 +35,6 @@ task_for subcommand.Key texts = Some (task.Batch (batch.Key texts))
 task_for subcommand.Compare texts = comparison texts
 task_for subcommand.Sort texts = Some task.Sort
 task_for subcommand.Session texts = Some task.Session
+task_for subcommand.Diff texts = Some task.Differences
 task_for subcommand.Import texts = Some (task.Import texts)
 task_for subcommand.ImportDelta texts = Some (task.ImportDelta texts)

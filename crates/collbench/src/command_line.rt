@@ -25,6 +25,9 @@ const FIRST: &str = "A";
 
 const SECOND: &str = "B";
 
+// The second of two tables, which usage shows as TABLE too.
+const OTHER: &str = "OTHER";
+
 const SOURCE: &str = "SOURCE";
 
 const NAME: &str = "NAME";
@@ -45,6 +48,7 @@ const EXAMPLES: &str = "Examples:
   collbench compare base.txt a A               less
   collbench sort base.txt < words.txt          the words, one a line, in the order of the table
   collbench session base.txt < lines.txt       a reply to each line
+  collbench diff base.txt other.txt            same, or a line for each difference
   collbench import iso14651_t1 > common.txt    the table of a published source
   collbench import-delta common.txt sv_SE      the delta file of a published tailoring, for that table";
 
@@ -58,6 +62,7 @@ const SUBCOMMANDS: [Subcommand; 10] = [
     Subcommand::Compare,
     Subcommand::Sort,
     Subcommand::Session,
+    Subcommand::Diff,
     Subcommand::Import,
     Subcommand::ImportDelta,
 ];
@@ -81,6 +86,8 @@ pub enum Subcommand {
     Sort,
     /// Serves a session over a table.
     Session,
+    /// Tells what differs between two tables.
+    Diff,
     /// Makes a table of a published source.
     Import,
     /// Makes a delta file for a table of a published tailoring.
@@ -96,6 +103,8 @@ pub enum Task {
     Sort,
     /// It is read, and a session over it is served.
     Session,
+    /// It is read, then another, and what differs between them is told.
+    Differences,
     /// A source is read, where these names are defined, and the table that is made of it is printed.
     Import(ListBuf<TextBuf>),
     /// It is read, then a tailoring, where these names are defined, and the delta file that is made of that is printed.
@@ -107,7 +116,8 @@ pub enum Task {
 pub struct Request<'a> {
     /// What is done with the table, or with the source.
     pub task: Task,
-    /// The names of the files: that of the table, if one is read, and then those of the delta files, in their order, or of the source.
+    /// The names of the files: that of the table, if one is read, and then those of the delta files, in their order, of the source, or of
+    /// the other table.
     pub files: Vec<&'a str>,
 }
 
@@ -239,6 +249,7 @@ fn taking<'a>(alloc: Global, subcommand: Subcommand) -> Result<Command<'a>, Allo
         Subcommand::Key => over_table(alloc, subcommand)?.arg(texts(alloc)),
         Subcommand::Compare => over_two_texts(alloc, subcommand),
         Subcommand::Session => over_table(alloc, subcommand),
+        Subcommand::Diff => over_two_tables(alloc, subcommand),
         Subcommand::Import => over_source(alloc, subcommand),
         Subcommand::ImportDelta => over_table_and_source(alloc, subcommand),
     }
@@ -256,6 +267,11 @@ fn over_two_texts<'a>(alloc: Global, subcommand: Subcommand) -> Result<Command<'
     over_table(alloc, subcommand)?
         .arg(text(alloc, FIRST))?
         .arg(text(alloc, SECOND))
+}
+
+// A subcommand that takes two tables.
+fn over_two_tables<'a>(alloc: Global, subcommand: Subcommand) -> Result<Command<'a>, AllocError> {
+    over_table(alloc, subcommand)?.arg(other_table(alloc))
 }
 
 // A subcommand that takes a source.
@@ -305,6 +321,14 @@ fn table<'a>(alloc: Global) -> Arg<'a> {
     Arg::new(alloc, TABLE)
         .required(true)
         .help("The file of the table")
+}
+
+// A second table.
+fn other_table<'a>(alloc: Global) -> Arg<'a> {
+    Arg::new(alloc, OTHER)
+        .value_name(TABLE)
+        .required(true)
+        .help("The file of the table that it is compared with")
 }
 
 // Delta files, perhaps none.
@@ -362,7 +386,8 @@ fn request_on<'a>(
     }
 }
 
-// The names of the files: that of the table or of what stands in its place, and then those of the delta files, or of the source.
+// The names of the files: that of the table or of what stands in its place, and then those of the delta files, of the source, or of the
+// other table.
 fn files_of<'a>(
     alloc: Global,
     table: &'a str,
@@ -374,6 +399,7 @@ fn files_of<'a>(
     files.push(table)?;
     files.extend_from_slice(found.get_strs(DELTA).unwrap_or(&[]))?;
     files.extend_from_slice(found.get_strs(SOURCE).unwrap_or(&[]))?;
+    files.extend_from_slice(found.get_strs(OTHER).unwrap_or(&[]))?;
     Ok(files)
 }
 
@@ -407,6 +433,7 @@ fn task_of(
         (Subcommand::Compare, _) => return Ok(None),
         (Subcommand::Sort, _) => return Ok(Some(Task::Sort)),
         (Subcommand::Session, _) => return Ok(Some(Task::Session)),
+        (Subcommand::Diff, _) => return Ok(Some(Task::Differences)),
         (Subcommand::Import, _) => return Ok(Some(Task::Import(copied_texts(alloc, texts)?))),
         (Subcommand::ImportDelta, _) => return Ok(Some(Task::ImportDelta(copied_texts(
             alloc, texts,
@@ -447,6 +474,7 @@ impl Subcommand {
             Subcommand::Compare => "compare",
             Subcommand::Sort => "sort",
             Subcommand::Session => "session",
+            Subcommand::Diff => "diff",
             Subcommand::Import => "import",
             Subcommand::ImportDelta => "import-delta",
         }
@@ -471,6 +499,9 @@ impl Subcommand {
             Subcommand::Session => {
                 "Reads the lines of a session from standard input, and replies to each"
             }
+            Subcommand::Diff => {
+                "Tells what differs between two tables, a line each; the exit status is 1 where anything does"
+            }
             Subcommand::Import => {
                 "Prints the table of a published locale source, and tells on standard error what was changed"
             }
@@ -494,6 +525,7 @@ impl Subcommand {
             "compare" => Some(Subcommand::Compare),
             "sort" => Some(Subcommand::Sort),
             "session" => Some(Subcommand::Session),
+            "diff" => Some(Subcommand::Diff),
             "import" => Some(Subcommand::Import),
             "import-delta" => Some(Subcommand::ImportDelta),
             _ => None,

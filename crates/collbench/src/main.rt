@@ -1,13 +1,15 @@
 //! The program: a thin `main` over `coll_bench`, which runs batches and serves sessions.
 //!
-//! `command_line` reads the words, `random_keys` draws the keys that names are looked up under, `files` opens what the words name, and
-//! `importing` makes tables and delta files of sources, and `words` sorts lines. Here the runs are started, and their faults are told: a line on standard error,
-//! and the exit status, which stands also where that line can't be written.
+//! `command_line` reads the words, `random_keys` draws the keys that names are looked up under, `files` opens what the words name,
+//! `importing` makes tables and delta files of sources, `words` sorts lines, and `differences` compares two tables. Here the runs are
+//! started, and their faults are told: a line on standard error, and the exit status, which stands also where that line can't be
+//! written.
 #![tactic(auto)]
 
 ghost use Rattle.std.specs.Prelude.{◌<◌, length, vec_len, IfOk, IfErr, ◌≡◌};
 
 mod command_line;
+mod differences;
 mod files;
 mod importing;
 mod laws;
@@ -21,6 +23,7 @@ use coll_bench::{
 use coll_lex::{Counted, LexFault, ReadStop, Sink, TextBuf, WriteStop};
 use coll_table::{HashKeys, Table, load_keyed};
 use command_line::{Request, Task, Unasked, read_words};
+use differences::tell_differences;
 use files::{Input, at_no_line, open_all};
 use importing::{Wanted, import};
 use random_keys::random_keys;
@@ -101,6 +104,10 @@ fn do_keyed(
         Task::Session => match String::from_str(rt.alloc(), STANDARD_INPUT) {
             Ok(name) => serve(rt, keys, files, names, &[name]),
             Err(_) => tell_no_memory(rt),
+        },
+        Task::Differences => match tell_differences(rt, keys, files) {
+            Ok(status) => status,
+            Err(fault) => tell_fault(rt, &fault, names),
         },
         Task::Import(defined) => import_from(rt, keys, Wanted::Table, files, defined.get()),
         Task::ImportDelta(defined) => match read_table(rt, keys, &files[..1]) {

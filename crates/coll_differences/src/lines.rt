@@ -1,0 +1,523 @@
+//! The lines that tell what differs between two tables.
+//!
+//! Each line is a list of pieces, or parts one behind another where it has a list; which line tells what is `specs/Lines.antt`. None of
+//! this takes memory.
+
+ghost use Rattle.std.specs.Prelude.{◌≡◌, ◌++◌, chars, codes, count_by, length, map, encode_utf8_all};
+ghost use Rattle.std.specs.List.{flat_map};
+ghost use Rattle.coll_devices.specs.Devices.{CountsErr, Sends};
+ghost use Rattle.coll_nodes.specs.WalkItems.{declared_by};
+ghost use Rattle.coll_texts.specs.Pieces.{piece_bytes};
+ghost use Rattle.coll_texts.specs.PrintedParts.{element_bytes, id_bytes, names_bytes, symbol_bytes};
+ghost use Rattle.coll_differences.specs.Lines.{change_told, counts_told, declaration_told, declarations_told, difference_told};
+ghost use Rattle.coll_differences.specs.Lines.{differences_told, is_addition, is_move, is_removal, item_told, line_end, mark_name, one_if};
+ghost use Rattle.coll_differences.specs.Lines.{placed_told, redeclared_told, rule_word, rules_told, section_word};
+ghost use Rattle.coll_differences.specs.Lines.{all_weights, lent_weights_told, names_told, weight_told, weights_told};
+ghost use Rattle.coll_differences.specs.Orders.{mark_of};
+
+use crate::changes::Change;
+use crate::differences::Differences;
+use crate::orders::Point;
+use coll_devices::{Sink, WriteStop, write_bytes};
+use coll_syntax::{Id, Rule, Weight};
+use coll_table::{DeclaredItem, Entry};
+use coll_texts::{Piece, write_pieces};
+
+/// Writes what differs between two tables: a line for each difference, and last a line of counts; or `same`.
+///
+/// Where it stops, the device has taken a prefix of the lines.
+pub fn write_difference<W: Sink>(
+    out: &mut W,
+    told: &Option<Differences<'_>>,
+) -> Result<(), WriteStop>
+    ensures sent { Sends (W.taken out.old) (W.taken out.new) (difference_told told.now) result }
+    ensures errors { CountsErr (W.failed out.old) (W.failed out.new) result }
+{
+    match told {
+        None => write_bytes(out, b"same\n"),
+        Some(told) => write_differences(out, told),
+    }
+}
+
+// Writes a line for each difference, and a line of counts.
+fn write_differences<W: Sink>(out: &mut W, told: &Differences<'_>) -> Result<(), WriteStop>
+    ensures sent { Sends (W.taken out.old) (W.taken out.new) (differences_told told.now) result }
+    ensures errors { CountsErr (W.failed out.old) (W.failed out.new) result }
+{
+    write_rules(out, told.rules)?;
+    write_declarations(out, told)?;
+    write_changes(out, told.changes.as_slice())?;
+    write_all_weights(out, told.weights.as_slice())?;
+    write_counts(out, told)
+}
+
+// Writes the line of rules, where they are others.
+fn write_rules<W: Sink>(out: &mut W, told: Option<&[Rule]>) -> Result<(), WriteStop>
+    ensures sent { Sends (W.taken out.old) (W.taken out.new) (rules_told told.entry) result }
+    ensures errors { CountsErr (W.failed out.old) (W.failed out.new) result }
+{
+    let Some(rules) = told else {
+        return Ok(());
+    };
+    write_bytes(out, b"rules")?;
+    write_rule_words(out, rules)?;
+    write_bytes(out, b"\n")
+}
+
+// Writes rules, with a space before each.
+fn write_rule_words<W: Sink>(out: &mut W, rules: &[Rule]) -> Result<(), WriteStop>
+    ensures sent { Sends (W.taken out.old) (W.taken out.new) (flat_map rule_word rules.now) result }
+    ensures errors { CountsErr (W.failed out.old) (W.failed out.new) result }
+{
+    for rule in rules {
+        // Not `?`: behind its conversion this exit would need a lemma.
+        if let Err(stop) = write_rule_word(out, *rule) {
+            return Err(stop);
+        }
+    }
+    Ok(())
+}
+
+// Writes a rule, with a space before it.
+fn write_rule_word<W: Sink>(out: &mut W, rule: Rule) -> Result<(), WriteStop>
+    ensures sent { Sends (W.taken out.old) (W.taken out.new) (rule_word rule) result }
+    ensures errors { CountsErr (W.failed out.old) (W.failed out.new) result }
+{
+    write_pieces(out, &[Piece::Bytes(b" "), Piece::Rule(rule)])
+}
+
+// Writes the lines of declarations.
+fn write_declarations<W: Sink>(out: &mut W, told: &Differences<'_>) -> Result<(), WriteStop>
+    ensures sent { Sends (W.taken out.old) (W.taken out.new) (declarations_told told.now) result }
+    ensures errors { CountsErr (W.failed out.old) (W.failed out.new) result }
+{
+    write_items(out, b"undeclared", told.undeclared.as_slice())?;
+    write_items(out, b"declared", told.declared.as_slice())?;
+    write_redeclared(out, told.redeclared)
+}
+
+// Writes a line for each declaration, behind a word.
+fn write_items<W: Sink>(
+    out: &mut W,
+    word: &[u8],
+    items: &[DeclaredItem<'_>],
+) -> Result<(), WriteStop>
+    ensures sent { Sends (W.taken out.old) (W.taken out.new) (flat_map (item_told word.now) items.now) result }
+    ensures errors { CountsErr (W.failed out.old) (W.failed out.new) result }
+{
+    for item in items {
+        if let Err(stop) = write_item(out, word, *item) {
+            return Err(stop);
+        }
+    }
+    Ok(())
+}
+
+// Writes the line of a declaration, behind a word.
+fn write_item<'a, W: Sink>(
+    out: &mut W,
+    word: &'a [u8],
+    item: DeclaredItem<'a>,
+) -> Result<(), WriteStop>
+    ensures sent { Sends (W.taken out.old) (W.taken out.new) (item_told word.now item.entry) result }
+    ensures errors { CountsErr (W.failed out.old) (W.failed out.new) result }
+{
+    match item {
+        DeclaredItem::Symbol(name) => write_symbol_item(out, word, name),
+        DeclaredItem::Element(name, text) => write_element_item(out, word, name, text),
+        DeclaredItem::Equivalence(name, symbol) => write_second_item(out, word, name, symbol),
+    }
+}
+
+// Writes the line of a collating symbol, behind a word.
+fn write_symbol_item<'a, W: Sink>(
+    out: &mut W,
+    word: &'a [u8],
+    name: &'a str,
+) -> Result<(), WriteStop>
+    ensures sent { Sends (W.taken out.old) (W.taken out.new) (word.now ++ (codes " collating-symbol " ++ (symbol_bytes (chars name.now) ++ line_end)))
+        result }
+    ensures errors { CountsErr (W.failed out.old) (W.failed out.new) result }
+{
+    write_pieces(
+        out,
+        &[
+            Piece::Bytes(word),
+            Piece::Bytes(b" collating-symbol "),
+            Piece::Symbol(name),
+            Piece::Bytes(b"\n"),
+        ],
+    )
+}
+
+// Writes the line of a collating element, behind a word.
+fn write_element_item<'a, W: Sink>(
+    out: &mut W,
+    word: &'a [u8],
+    name: &'a str,
+    text: &'a str,
+) -> Result<(), WriteStop>
+    ensures sent { Sends (W.taken out.old) (W.taken out.new)
+        (word.now ++ (codes " collating-element " ++ element_bytes (chars name.now) (chars text.now))) result }
+    ensures errors { CountsErr (W.failed out.old) (W.failed out.new) result }
+{
+    write_pieces(
+        out,
+        &[
+            Piece::Bytes(word),
+            Piece::Bytes(b" collating-element "),
+            Piece::Symbol(name),
+            Piece::Bytes(b" from \""),
+            Piece::Text(text),
+            Piece::Bytes(b"\"\n"),
+        ],
+    )
+}
+
+// Writes the line of a second name, behind a word.
+fn write_second_item<'a, W: Sink>(
+    out: &mut W,
+    word: &'a [u8],
+    name: &'a str,
+    symbol: &'a str,
+) -> Result<(), WriteStop>
+    ensures sent { Sends (W.taken out.old) (W.taken out.new)
+        (word.now ++ (codes " symbol-equivalence " ++ names_bytes (chars name.now) (chars symbol.now))) result }
+    ensures errors { CountsErr (W.failed out.old) (W.failed out.new) result }
+{
+    write_pieces(
+        out,
+        &[
+            Piece::Bytes(word),
+            Piece::Bytes(b" symbol-equivalence "),
+            Piece::Symbol(name),
+            Piece::Bytes(b" "),
+            Piece::Symbol(symbol),
+            Piece::Bytes(b"\n"),
+        ],
+    )
+}
+
+// Writes the line that names are declared otherwise, if they are.
+fn write_redeclared<W: Sink>(out: &mut W, redeclared: bool) -> Result<(), WriteStop>
+    ensures sent { Sends (W.taken out.old) (W.taken out.new) (redeclared_told redeclared) result }
+    ensures errors { CountsErr (W.failed out.old) (W.failed out.new) result }
+{
+    if redeclared {
+        write_bytes(out, b"declared otherwise\n")
+    } else {
+        Ok(())
+    }
+}
+
+// Writes a line for each change of the order.
+fn write_changes<W: Sink>(out: &mut W, changes: &[Change<'_>]) -> Result<(), WriteStop>
+    ensures sent { Sends (W.taken out.old) (W.taken out.new) (flat_map change_told changes.now) result }
+    ensures errors { CountsErr (W.failed out.old) (W.failed out.new) result }
+{
+    for change in changes {
+        if let Err(stop) = write_change(out, *change) {
+            return Err(stop);
+        }
+    }
+    Ok(())
+}
+
+// Writes the line of a change.
+fn write_change<W: Sink>(out: &mut W, change: Change<'_>) -> Result<(), WriteStop>
+    ensures sent { Sends (W.taken out.old) (W.taken out.new) (change_told change.entry) result }
+    ensures errors { CountsErr (W.failed out.old) (W.failed out.new) result }
+{
+    match change {
+        Change::Removed(point) => write_removed(out, point),
+        Change::Added { point, behind } => write_placed(out, b"added ", point, behind),
+        Change::Moved { point, behind } => write_placed(out, b"moved ", point, behind),
+    }
+}
+
+// Writes the line of a point that is removed.
+fn write_removed<W: Sink>(out: &mut W, point: Point<'_>) -> Result<(), WriteStop>
+    ensures sent { Sends (W.taken out.old) (W.taken out.new)
+        (codes "removed " ++ (section_word (mark_of point.entry) ++ (mark_name (mark_of point.entry) ++ line_end))) result }
+    ensures errors { CountsErr (W.failed out.old) (W.failed out.new) result }
+{
+    write_pieces(
+        out,
+        &[
+            Piece::Bytes(b"removed "),
+            section_piece(point),
+            name_piece(point),
+            Piece::Bytes(b"\n"),
+        ],
+    )
+}
+
+// Writes the line of a point that goes behind another, or first of all.
+fn write_placed<'a, W: Sink>(
+    out: &mut W,
+    word: &'a [u8],
+    point: Point<'a>,
+    behind: Option<Point<'a>>,
+) -> Result<(), WriteStop>
+    ensures sent { Sends (W.taken out.old) (W.taken out.new) (placed_told word.now (mark_of point.entry) behind.entry) result }
+    ensures errors { CountsErr (W.failed out.old) (W.failed out.new) result }
+{
+    match behind {
+        None => write_first(out, word, point),
+        Some(behind) => write_behind(out, word, point, behind),
+    }
+}
+
+// Writes the line of a point that goes first of all.
+fn write_first<'a, W: Sink>(out: &mut W, word: &'a [u8], point: Point<'a>) -> Result<(), WriteStop>
+    ensures sent { Sends (W.taken out.old) (W.taken out.new)
+        (word.now ++ (section_word (mark_of point.entry) ++ (mark_name (mark_of point.entry) ++ codes " first\n"))) result }
+    ensures errors { CountsErr (W.failed out.old) (W.failed out.new) result }
+{
+    write_pieces(
+        out,
+        &[
+            Piece::Bytes(word),
+            section_piece(point),
+            name_piece(point),
+            Piece::Bytes(b" first\n"),
+        ],
+    )
+}
+
+// Writes the line of a point that goes behind another.
+fn write_behind<'a, W: Sink>(
+    out: &mut W,
+    word: &'a [u8],
+    point: Point<'a>,
+    behind: Point<'a>,
+) -> Result<(), WriteStop>
+    ensures sent { Sends (W.taken out.old) (W.taken out.new)
+        (word.now ++ (section_word (mark_of point.entry) ++ (mark_name (mark_of point.entry) ++ (codes " behind "
+        ++ (section_word (mark_of behind.entry) ++ (mark_name (mark_of behind.entry) ++ line_end)))))) result }
+    ensures errors { CountsErr (W.failed out.old) (W.failed out.new) result }
+{
+    write_pieces(
+        out,
+        &[
+            Piece::Bytes(word),
+            section_piece(point),
+            name_piece(point),
+            Piece::Bytes(b" behind "),
+            section_piece(behind),
+            name_piece(behind),
+            Piece::Bytes(b"\n"),
+        ],
+    )
+}
+
+// The word before the name of a section.
+fn section_piece<'a>(point: Point<'a>) -> Piece<'a>
+    ensures { piece_bytes result ≡ section_word (mark_of point.entry) }
+{
+    match point {
+        Point::Section(_) => Piece::Bytes(b"section "),
+        Point::Entry(_) => Piece::Bytes(b""),
+    }
+}
+
+// The name of a section, or an identifier.
+fn name_piece<'a>(point: Point<'a>) -> Piece<'a>
+    ensures { piece_bytes result ≡ mark_name (mark_of point.entry) }
+{
+    match point {
+        Point::Section(name) => Piece::Symbol(name),
+        Point::Entry(id) => Piece::Id(id),
+    }
+}
+
+// Writes a line for each entry with other weights.
+fn write_all_weights<W: Sink>(out: &mut W, entries: &[&Entry]) -> Result<(), WriteStop>
+    ensures sent { Sends (W.taken out.old) (W.taken out.new) (flat_map lent_weights_told entries.now) result }
+    ensures errors { CountsErr (W.failed out.old) (W.failed out.new) result }
+{
+    for entry in entries {
+        if let Err(stop) = write_reweighted(out, entry) {
+            return Err(stop);
+        }
+    }
+    Ok(())
+}
+
+// Writes the line of an entry with other weights.
+fn write_reweighted<W: Sink>(out: &mut W, entry: &Entry) -> Result<(), WriteStop>
+    ensures sent { Sends (W.taken out.old) (W.taken out.new) (weights_told entry.now) result }
+    ensures errors { CountsErr (W.failed out.old) (W.failed out.new) result }
+{
+    let id = entry.id();
+    write_bytes(out, b"weights ")?;
+    write_id(out, id)?;
+    write_weights(out, id, entry.weights())?;
+    write_bytes(out, b"\n")
+}
+
+// Writes weights as in a table, with a space before the first.
+fn write_weights<W: Sink>(out: &mut W, owner: &Id, weights: &[Weight]) -> Result<(), WriteStop>
+    ensures sent { Sends (W.taken out.old) (W.taken out.new) (all_weights owner.now weights.now) result }
+    ensures errors { CountsErr (W.failed out.old) (W.failed out.new) result }
+{
+    let Some((first, later)) = weights.split_first() else {
+        return Ok(());
+    };
+    write_weight(out, b" ", owner, first)?;
+    write_later_weights(out, owner, later)
+}
+
+// Writes weights with a semicolon before each.
+fn write_later_weights<W: Sink>(
+    out: &mut W,
+    owner: &Id,
+    weights: &[Weight],
+) -> Result<(), WriteStop>
+    ensures sent { Sends (W.taken out.old) (W.taken out.new) (flat_map (weight_told (codes ";") owner.now) weights.now) result }
+    ensures errors { CountsErr (W.failed out.old) (W.failed out.new) result }
+{
+    for weight in weights {
+        if let Err(stop) = write_weight(out, b";", owner, weight) {
+            return Err(stop);
+        }
+    }
+    Ok(())
+}
+
+// Writes a weight of the entry of this identifier behind a mark.
+fn write_weight<'a, W: Sink>(
+    out: &mut W,
+    mark: &'a [u8],
+    owner: &'a Id,
+    weight: &'a Weight,
+) -> Result<(), WriteStop>
+    ensures sent { Sends (W.taken out.old) (W.taken out.new) (weight_told mark.now owner.now weight.now) result }
+    ensures errors { CountsErr (W.failed out.old) (W.failed out.new) result }
+{
+    match weight {
+        Weight::Ignore => write_pieces(out, &[Piece::Bytes(mark), Piece::Bytes(b"IGNORE")]),
+        Weight::Own => write_marked(out, mark, owner),
+        Weight::Names(ids) => write_names(out, mark, ids.get()),
+    }
+}
+
+// Writes a list of identifiers behind a mark.
+fn write_names<'a, W: Sink>(out: &mut W, mark: &'a [u8], ids: &'a [Id]) -> Result<(), WriteStop>
+    ensures sent { Sends (W.taken out.old) (W.taken out.new) (names_told mark.now ids.now) result }
+    ensures errors { CountsErr (W.failed out.old) (W.failed out.new) result }
+{
+    match ids {
+        [] => write_pieces(out, &[Piece::Bytes(mark), Piece::Bytes(b"\"\"")]),
+        [only] => write_marked(out, mark, only),
+        _ => write_string(out, mark, ids),
+    }
+}
+
+// Writes an identifier behind a mark.
+fn write_marked<'a, W: Sink>(out: &mut W, mark: &'a [u8], id: &'a Id) -> Result<(), WriteStop>
+    ensures sent { Sends (W.taken out.old) (W.taken out.new) (mark.now ++ id_bytes id.now) result }
+    ensures errors { CountsErr (W.failed out.old) (W.failed out.new) result }
+{
+    write_pieces(out, &[Piece::Bytes(mark), Piece::Id(id)])
+}
+
+// Writes identifiers between quotation marks, behind a mark.
+fn write_string<W: Sink>(out: &mut W, mark: &[u8], ids: &[Id]) -> Result<(), WriteStop>
+    ensures sent { Sends (W.taken out.old) (W.taken out.new) (mark.now ++ (codes "\"" ++ (flat_map id_bytes ids.now ++ codes "\""))) result }
+    ensures errors { CountsErr (W.failed out.old) (W.failed out.new) result }
+{
+    write_bytes(out, mark)?;
+    write_bytes(out, b"\"")?;
+    write_ids(out, ids)?;
+    write_bytes(out, b"\"")
+}
+
+// Writes identifiers one behind another.
+fn write_ids<W: Sink>(out: &mut W, ids: &[Id]) -> Result<(), WriteStop>
+    ensures sent { Sends (W.taken out.old) (W.taken out.new) (flat_map id_bytes ids.now) result }
+    ensures errors { CountsErr (W.failed out.old) (W.failed out.new) result }
+{
+    for id in ids {
+        if let Err(stop) = write_id(out, id) {
+            return Err(stop);
+        }
+    }
+    Ok(())
+}
+
+// Writes an identifier.
+fn write_id<W: Sink>(out: &mut W, id: &Id) -> Result<(), WriteStop>
+    ensures sent { Sends (W.taken out.old) (W.taken out.new) (id_bytes id.now) result }
+    ensures errors { CountsErr (W.failed out.old) (W.failed out.new) result }
+{
+    write_pieces(out, &[Piece::Id(id)])
+}
+
+// Writes the line of counts.
+fn write_counts<W: Sink>(out: &mut W, told: &Differences<'_>) -> Result<(), WriteStop>
+    ensures sent { Sends (W.taken out.old) (W.taken out.new) (counts_told told.now) result }
+    ensures errors { CountsErr (W.failed out.old) (W.failed out.new) result }
+{
+    let rules = count_one(told.rules.is_some());
+    let changes = told.changes.as_slice();
+    write_pieces(
+        out,
+        &[
+            Piece::Bytes(b"differences rules "),
+            Piece::Number(rules),
+            Piece::Bytes(b" undeclared "),
+            Piece::Number(told.undeclared.len() as u64),
+            Piece::Bytes(b" declared "),
+            Piece::Number(told.declared.len() as u64),
+            Piece::Bytes(b" otherwise "),
+            Piece::Number(count_one(told.redeclared)),
+            Piece::Bytes(b" removed "),
+            Piece::Number(removals(changes)),
+            Piece::Bytes(b" added "),
+            Piece::Number(additions(changes)),
+            Piece::Bytes(b" moved "),
+            Piece::Number(moves(changes)),
+            Piece::Bytes(b" weights "),
+            Piece::Number(told.weights.len() as u64),
+            Piece::Bytes(b"\n"),
+        ],
+    )
+}
+
+// One, if it is so.
+fn count_one(is_so: bool) -> u64
+    ensures { result ≡ one_if is_so }
+{
+    if is_so { 1 } else { 0 }
+}
+
+// How many points are removed.
+fn removals(changes: &[Change<'_>]) -> u64
+    ensures { result ≡ count_by is_removal changes.now }
+{
+    changes
+        .iter()
+        .filter(|change| matches!(change, Change::Removed(_)))
+        .count() as u64
+}
+
+// How many points are added.
+fn additions(changes: &[Change<'_>]) -> u64
+    ensures { result ≡ count_by is_addition changes.now }
+{
+    changes
+        .iter()
+        .filter(|change| matches!(change, Change::Added { .. }))
+        .count() as u64
+}
+
+// How many points are moved.
+fn moves(changes: &[Change<'_>]) -> u64
+    ensures { result ≡ count_by is_move changes.now }
+{
+    changes
+        .iter()
+        .filter(|change| matches!(change, Change::Moved { .. }))
+        .count() as u64
+}

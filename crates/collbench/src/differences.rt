@@ -1,0 +1,119 @@
+//! What differs between the tables in two files is told on standard output.
+//!
+//! Both are read before anything is written, and the differences are found before that too, so nothing is written where a table has a
+//! fault or memory is lacking.
+
+ghost use Rattle.std.specs.Prelude.{◌≡◌, ◌<◌, length, IfErr};
+
+use crate::files::{Input, at_no_line, open_all};
+use crate::{Output, standard_output};
+use coll_bench::{Fault, RunFault};
+use coll_differences::{Differences, difference, write_difference};
+use coll_lex::{LexFault, Sink, WriteStop};
+use coll_table::{HashKeys, Table, load_keyed};
+use std::process::ExitCode;
+
+/// The exit status where two tables differ.
+const DIFFERENT: u8 = 1;
+
+/// Tells what differs between the table in the first of these files and that in the last, and answers the exit status.
+pub(crate) fn tell_differences(
+    rt: &HostRuntime,
+    keys: HashKeys,
+    files: &[&str],
+) -> Result<ExitCode, RunFault>
+    requires { 0 < length files.now }
+    ensures { IfErr result (λ fault. fault.input < length files.now) }
+{
+    match open_all(rt, files) {
+        Ok(mut inputs) => tell_between(rt, keys, inputs.as_mut_slice()),
+        Err(fault) => Err(fault),
+    }
+}
+
+// Tells what differs between the table in the first of these inputs and that in the last.
+fn tell_between(
+    rt: &HostRuntime,
+    keys: HashKeys,
+    inputs: &mut [Input],
+) -> Result<ExitCode, RunFault>
+    requires { 0 < length inputs.old }
+    ensures { IfErr result (λ fault. fault.input < length inputs.old) }
+{
+    match read_at(rt, keys, inputs, 0) {
+        Ok(first) => tell_from(rt, keys, inputs, &first),
+        Err(fault) => Err(fault),
+    }
+}
+
+// Tells what differs between a table and that in the last of these inputs.
+fn tell_from(
+    rt: &HostRuntime,
+    keys: HashKeys,
+    inputs: &mut [Input],
+    first: &Table,
+) -> Result<ExitCode, RunFault>
+    requires { 0 < length inputs.old }
+    ensures { IfErr result (λ fault. fault.input < length inputs.old) }
+{
+    let last = inputs.len() - 1;
+    match read_at(rt, keys, inputs, last) {
+        Ok(second) => tell_of(rt, first, &second),
+        Err(fault) => Err(fault),
+    }
+}
+
+// The table in one of these inputs.
+fn read_at(
+    rt: &HostRuntime,
+    keys: HashKeys,
+    inputs: &mut [Input],
+    place: usize,
+) -> Result<Table, RunFault>
+    requires { place < length inputs.old }
+    ensures { IfErr result (λ fault. fault.input ≡ place) }
+{
+    match load_keyed(rt.alloc(), keys, &mut inputs[place]) {
+        Ok(table) => Ok(table),
+        Err(fault) => Err(RunFault {
+            input: place,
+            line: fault.line,
+            fault: Fault::Load(fault),
+        }),
+    }
+}
+
+// Tells what differs between two tables.
+fn tell_of(rt: &HostRuntime, first: &Table, second: &Table) -> Result<ExitCode, RunFault>
+    ensures { IfErr result (λ fault. fault.input ≡ 0) }
+{
+    match difference(rt.alloc(), first, second) {
+        Ok(told) => tell(rt, &told),
+        Err(_) => Err(at_no_line(0, Fault::Lex(LexFault::OutOfMemory))),
+    }
+}
+
+// Writes what differs to standard output.
+fn tell(rt: &HostRuntime, told: &Option<Differences<'_>>) -> Result<ExitCode, RunFault>
+    ensures { IfErr result (λ fault. fault.input ≡ 0) }
+{
+    match standard_output(rt) {
+        Ok(mut output) => write_told(told, &mut output),
+        Err(fault) => Err(fault),
+    }
+}
+
+// Writes what differs, and answers the exit status once all of it has left the buffer.
+fn write_told(told: &Option<Differences<'_>>, output: &mut Output) -> Result<ExitCode, RunFault>
+    ensures { IfErr result (λ fault. fault.input ≡ 0) }
+{
+    let wrote = write_difference(output, told);
+    let flushed = output.flush();
+    if wrote.is_err() || flushed.is_err() {
+        return Err(at_no_line(0, Fault::Write(WriteStop::WriteFault)));
+    }
+    Ok(match told {
+        None => ExitCode::SUCCESS,
+        Some(_) => ExitCode::from(DIFFERENT),
+    })
+}
