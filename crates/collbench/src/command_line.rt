@@ -53,7 +53,7 @@ const EXAMPLES: &str = "Examples:
   collbench import-delta common.txt sv_SE      the delta file of a published tailoring, for that table";
 
 // The subcommands that work on a table or make one, in the order in which help tells them.
-const SUBCOMMANDS: [Subcommand; 10] = [
+const SUBCOMMANDS: [Subcommand; 11] = [
     Subcommand::Check,
     Subcommand::Print,
     Subcommand::Export,
