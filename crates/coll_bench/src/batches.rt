@@ -16,14 +16,13 @@ mod delta_files;
 mod inputs;
 mod output;
 
-pub use inputs::read_inputs;
-
 use crate::faults::{Fault, RunFault};
 use coll_devices::{Sink, Source};
 use coll_key::{KeyFault, MOST_TEXT_CHARACTERS};
 use coll_lex::{ListBuf, TextBuf};
 use coll_lookups::HashKeys;
 use coll_table::Table;
+pub use inputs::read_inputs;
 use output::write_output;
 use std::alloc::Global;
 
