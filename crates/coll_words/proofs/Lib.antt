@@ -1,3 +1,4 @@
+pub mod LeadLemmas
 pub mod PackedOrder
 pub mod SortCases
 pub mod SortedLemmas

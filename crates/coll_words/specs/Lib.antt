@@ -1,4 +1,5 @@
 pub mod KeyedWords
+pub mod LedWords
 pub mod PackedKeys
 pub mod SortRuns
 pub mod SortedWords

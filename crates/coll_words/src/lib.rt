@@ -4,7 +4,7 @@
 //! table again, and none can fail. A way through the crate, each file with its definitions in `specs/`:
 //!
 //! - `packed_keys`: sort keys in half the memory, in the same order (`PackedKeys`);
-//! - `words`: a word with its key, and the sort (`KeyedWords`, `SortedWords`);
+//! - `words`: a word with its key, and the sort (`KeyedWords`, `LedWords`, `SortedWords`);
 //! - `reading`: the words of an input (`Words`, `WordReading`);
 //! - `sorting`: the words of an input are sorted, and written (`SortRuns`).
 #![tactic(auto)]

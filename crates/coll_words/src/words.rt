@@ -1,9 +1,10 @@
 //! Words with their sort keys, which are sorted by these.
 
-ghost use Rattle.std.specs.Prelude.{◌≡◌, OnOk, OnErr};
+ghost use Rattle.std.specs.Prelude.{◌≡◌, slice_index_or, OnOk, OnErr};
 ghost use Rattle.coll_devices.specs.Devices.{CountsErr, Sends};
 ghost use Rattle.coll_nodes.specs.Table.{Collation};
 ghost use Rattle.coll_words.specs.KeyedWords.{AreKeyed, texts_of};
+ghost use Rattle.coll_words.specs.LedWords.{lead_of};
 ghost use Rattle.coll_words.specs.SortRuns.{SortsWords};
 ghost use Rattle.coll_words.specs.Words.{written_word, written_words};
 
@@ -17,10 +18,15 @@ use std::alloc::{AllocError, Global};
 use std::cmp::Ordering;
 use std::marker::Model;
 
+// How many numbers of a key stand beside the text.
+const LEAD_NUMBERS: usize = 4;
+
 /// A word with its sort key by a table.
 #[derive(Drop)]
 pub struct Word {
     text: TextBuf,
+    // The first numbers of the key, which decide nearly always, so that it mostly needn't be looked up in memory.
+    lead: [u32; LEAD_NUMBERS],
     // The key, packed.
     key: Vec<u32>,
 }
@@ -31,6 +37,10 @@ impl Model for Word {
     ghost Value = { KeyedWord };
 
     ghost view = { λ w. record { text = w.text; key = w.key.items } };
+
+    ghost use Rattle.coll_words.specs.LedWords.{IsLed};
+
+    ghost invariant = { IsLed };
 }
 
 impl Word {
@@ -55,7 +65,8 @@ impl Word {
         let numbers = key(alloc, table, ranks, text)?;
         let key = packed_key(alloc, &numbers)?;
         let text = TextBuf::copied(alloc, text)?;
-        Ok(Word { text, key })
+        let lead = lead_of(&key);
+        Ok(Word { text, lead, key })
     }
 
     /// Lends the word, which is UTF-8.
@@ -70,7 +81,33 @@ impl Word {
     pub fn order(&self, other: &Word) -> Ordering
         ensures { result ≡ list_order self.now.key other.now.key }
     {
-        self.key.cmp(&other.key)
+        match self.lead[..].cmp(&other.lead[..]) {
+            Ordering::Less => Ordering::Less,
+            Ordering::Equal => self.key.cmp(&other.key),
+            Ordering::Greater => Ordering::Greater,
+        }
+    }
+}
+
+// The first numbers of a key, with 0 in place of those that it hasn't.
+fn lead_of(key: &[u32]) -> [u32; LEAD_NUMBERS]
+    ensures { result ≡ lead_of key.now }
+{
+    [
+        number_at(key, 0),
+        number_at(key, 1),
+        number_at(key, 2),
+        number_at(key, 3),
+    ]
+}
+
+// The number at a place, or 0 where there is none.
+fn number_at(key: &[u32], place: usize) -> u32
+    ensures { result ≡ slice_index_or key.now place 0 }
+{
+    match key.get(place) {
+        Some(number) => *number,
+        None => 0,
     }
 }
 
