@@ -1,3 +1,2 @@
-pub mod LeftOut
 pub mod Building
 pub mod ReportText

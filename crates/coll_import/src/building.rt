@@ -10,15 +10,13 @@ ghost use Rattle.coll_texts.specs.BuilderStates.{table_of};
 ghost use Rattle.coll_import.specs.Building.{IsEnded};
 ghost use Rattle.coll_syntax.specs.Proper.{IsProperTableLine};
 
-use crate::meanings::Meanings;
 use crate::orders::{Order, Ordered, OrderedLine};
 use crate::placing::Placing;
 use crate::proper_lines::{section_line, table_line};
 use crate::rules::common_rules;
-use crate::weights::WeightLookUp;
-use crate::{SourceStatement, lose_statement};
 use coll_lex::TextBuf;
 use coll_lookups::HashKeys;
+use coll_meanings::{Meanings, SourceStatement, WeightLookUp, lose_statement};
 use coll_sources::{Report, SourceFault, SourceLine, SourcePlace};
 use coll_syntax::{Rules, Statement, TableLine};
 use coll_table::Table;

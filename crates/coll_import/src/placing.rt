@@ -1,12 +1,9 @@
 //! Order line after order line, into the order of a table.
 
-use crate::ellipses::Ellipses;
-use crate::meanings::Meanings;
-use crate::order_lines::{OrderLines, put_line, put_range};
 use crate::orders::Order;
-use crate::weights::without_symbol_weights;
 use coll_lex::TextBuf;
 use coll_lookups::HashKeys;
+use coll_meanings::{Ellipses, Meanings, OrderLines, put_line, put_range, without_symbol_weights};
 use coll_sources::{Adjustment, Report, Said, SourceFault, SourceLine, SourcePlace};
 use coll_syntax::{Id, OrderLine, SyntaxFault};
 use coll_texts::LoadCause;

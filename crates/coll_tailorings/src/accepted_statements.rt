@@ -14,8 +14,8 @@ ghost use Rattle.coll_tailorings.specs.LineCounts.{line_count as lines_of_all};
 ghost use Rattle.coll_tailorings.specs.Rewriting.{Answers, IsPut, LeadsOn, rewritten};
 
 use coll_delta_texts::is_writable;
-use coll_import::{SourceStatement, lose_statement};
 use coll_lex::{LexFault, MOST_LINES};
+use coll_meanings::{SourceStatement, lose_statement};
 use coll_sources::{Report, SourceFault, SourcePlace};
 use coll_syntax::Statement;
 use coll_table::{Refusal, Table};

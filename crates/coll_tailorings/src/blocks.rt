@@ -6,9 +6,9 @@
 
 use crate::later_weights::{LaterWeights, LineAt};
 use crate::steps::{Step, StepAt};
-use coll_import::{Meanings, SourceStatement, WeightLookUp, proper_line, without_symbol_weights};
 use coll_lex::ListBuf;
 use coll_lookups::{HashKeys, IdSet};
+use coll_meanings::{Meanings, SourceStatement, WeightLookUp, proper_line, without_symbol_weights};
 use coll_sources::{Adjustment, Lost, Report, SourceFault, SourcePlace};
 use coll_syntax::{Id, MOST_BLOCK_LINES, OrderLine, Statement, Weight};
 use std::alloc::{AllocError, Global};

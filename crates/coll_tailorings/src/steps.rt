@@ -4,9 +4,9 @@
 //! Ellipses are written out, identifiers are what their names mean, and what a block places and nothing declares is declared. After
 //! the last line it is known what the table and all blocks place.
 
-use coll_import::{Ellipses, Meanings, OrderLines, put_line, put_range};
 use coll_lex::{LexFault, MOST_LINES, TextBuf};
 use coll_lookups::{HashKeys, IdSet};
+use coll_meanings::{Ellipses, Meanings, OrderLines, put_line, put_range};
 use coll_sources::{Adjustment, Lost, Report, Said, SourceFault, SourceLine, SourcePlace};
 use coll_syntax::{Id, OrderLine, SyntaxFault};
 use coll_texts::LoadCause;

@@ -2,7 +2,7 @@
 
 ghost use Rattle.std.specs.Prelude.{◌≡◌, ◌++◌, ◌∷◌, [], IfOk, OnErr, OnOk};
 ghost use Rattle.coll_sources.specs.declared.adjustments.Adjustment.TheVariants.{Dropped};
-ghost use Rattle.coll_import.specs.LeftOut.{lost_with, name_lost, reweighted, within_limits};
+ghost use Rattle.coll_meanings.specs.LeftOut.{lost_with, name_lost, reweighted, within_limits};
 
 use coll_lex::TextBuf;
 use coll_sources::{Adjustment, Lost, Report, SourceFault, SourcePlace};

@@ -1,0 +1,24 @@
+//! What the lines of a published source mean, for tables and for tailorings.
+//!
+//! What a `SourceReader` has read of a source names symbols, elements and characters, has ellipses between its order lines, and weights
+//! that name what stands nowhere. What is made of it, a table or statements over one, takes each of these alike, so this stands here
+//! once: what names mean, which order lines there are, and with which weights. What of the source each line became is told, and shown
+//! by tests alone. A way through the crate:
+//!
+//! - `source_statements`: what is made of the lines of a source, with its place (`LeftOut`);
+//! - `meanings`: what each name of a source means, and what is declared;
+//! - `ellipses`, with `order_lines`: the characters between two order lines;
+//! - `weights`: weights by what is placed.
+#![tactic(auto)]
+
+mod ellipses;
+mod meanings;
+mod order_lines;
+mod source_statements;
+mod weights;
+
+pub use ellipses::{Ellipses, Run};
+pub use meanings::Meanings;
+pub use order_lines::{OrderLines, put_line, put_range};
+pub use source_statements::{SourceStatement, lose_statement, proper_line};
+pub use weights::{WeightLookUp, without_symbol_weights};
