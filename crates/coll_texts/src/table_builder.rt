@@ -37,7 +37,6 @@ use std::alloc::{AllocError, Global};
 use std::marker::Model;
 
 /// A table that is being read.
-#[derive(Drop)]
 pub struct TableBuilder {
     // Whether an order is open.
     order_open: bool,
@@ -49,6 +48,22 @@ pub struct TableBuilder {
     numbers: Vec<u32>,
     // Where the weights of an entry grow.
     alloc: Global,
+}
+
+// Written out, so that each place that drops a builder is one call, and has no step for each part of a body.
+impl Drop for TableBuilder {
+    fn drop(self) {
+        let TableBuilder {
+            order_open: _,
+            rules,
+            builder,
+            numbers,
+            alloc: _,
+        } = self;
+        drop(rules);
+        drop(builder);
+        drop(numbers);
+    }
 }
 
 impl Model for TableBuilder {
@@ -129,7 +144,14 @@ impl TableBuilder {
         requires { IsWellFormed (table_of self) }
         ensures { collation (value_of result.0 result.1) ≡ table_of self }
     {
-        let TableBuilder { rules, builder, .. } = self;
+        let TableBuilder {
+            order_open: _,
+            rules,
+            builder,
+            numbers,
+            alloc: _,
+        } = self;
+        drop(numbers);
         let Some(rules) = rules else {
             unreachable!();
         };
