@@ -139,7 +139,7 @@ impl Order {
                 return Ok(TextBuf::new(name));
             }
         }
-        Ok(TextBuf::new(format!(in self.alloc; "section")?))
+        TextBuf::copied(self.alloc, "section")
     }
 
     /// Puts an entry behind all that stands there, unless its identifier is placed already.

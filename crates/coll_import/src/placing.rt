@@ -83,7 +83,10 @@ impl Placing {
     fn take(&mut self, line: SourceLine, report: &mut Report) -> Result<(), SourceFault> {
         let SourceLine { place, said } = line;
         match said {
-            Said::OrderStart { section, .. } => self.start(place, section, report),
+            Said::OrderStart { section, rules } => {
+                drop(rules);
+                self.start(place, section, report)
+            }
             Said::OrderEnd => self.stop(report),
             Said::Section(name) => self.section(place, name, report),
             Said::Order(line) => self.order(place, line, report),
@@ -94,19 +97,15 @@ impl Placing {
             } => put_range(self, place, first, last, weights, report),
             Said::Ellipsis(weights) => self.ellipses.dots(place, weights, report),
             Said::Unread => self.ellipses.leave(report),
-            Said::ReorderAfter(_)
-            | Said::ReorderEnd
-            | Said::SectionAfter { .. }
-            | Said::SectionsAfter(_)
-            | Said::SectionsEnd
-            | Said::Base(_) => {
+            Said::Tailors(tailoring) => {
+                drop(tailoring);
                 Err(place.load_fault(LoadCause::Syntax(SyntaxFault::UnknownStatement)))
             }
-            Said::Symbol(_)
-            | Said::Symbols(_)
-            | Said::Element { .. }
-            | Said::Equivalence { .. }
-            | Said::Script => Ok(()),
+            Said::Declares(declaration) => {
+                drop(declaration);
+                Ok(())
+            }
+            Said::Script => Ok(()),
         }
     }
 

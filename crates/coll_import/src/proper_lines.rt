@@ -1,10 +1,9 @@
 //! Lines of a table, made of statements that are within the limits of the language.
 
 ghost use Rattle.std.specs.Prelude.{IfSome};
-ghost use Rattle.coll_lex.specs.Names.{IsName};
 ghost use Rattle.coll_syntax.specs.Proper.{IsProper, IsProperTableLine};
 
-use coll_lex::TextBuf;
+use coll_lex::{TextBuf, is_name};
 use coll_syntax::{Statement, TableLine};
 
 /// The line of a table that says what a statement does; none for a statement that tables don't have.
@@ -34,24 +33,9 @@ pub(crate) fn table_line(statement: Statement) -> Option<TableLine>
 pub(crate) fn section_line(name: TextBuf) -> Option<TableLine>
     ensures { IfSome result IsProperTableLine }
 {
-    let statement = Statement::Symbol(name);
-    if !statement.is_proper() {
-        drop(statement);
+    if !is_name(name.get()) {
+        drop(name);
         return None;
     }
-    match table_line(statement) {
-        Some(line) => section_of(line),
-        None => None,
-    }
-}
-
-// The line that begins a section with the name of a symbol.
-fn section_of(line: TableLine) -> Option<TableLine>
-    requires { IsProperTableLine line }
-    ensures { IfSome result IsProperTableLine }
-{
-    if let TableLine::Symbol(name) = line {
-        return Some(TableLine::Section(name));
-    }
-    None
+    Some(TableLine::Section(name))
 }

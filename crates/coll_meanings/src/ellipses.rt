@@ -123,7 +123,7 @@ impl Ellipses {
         match self.leave(report) {
             Ok(()) => {
                 self.last = last;
-                self.dots = Some(Dots { place, weights });
+                drop(self.dots.replace(Dots { place, weights }));
                 Ok(())
             }
             Err(fault) => {

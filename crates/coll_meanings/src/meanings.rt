@@ -10,7 +10,8 @@ use coll_lex::{TextBuf, is_name};
 use coll_lookups::HashKeys;
 use coll_nodes::{DeclaredItem, MOST_DECLARATIONS};
 use coll_sources::{
-    Adjustment, Lost, NameRange, Report, Said, SourceFault, SourceLine, SourcePlace, name_at,
+    Adjustment, Declaration, Lost, NameRange, Report, Said, SourceFault, SourceLine, SourcePlace,
+    name_at,
 };
 use coll_syntax::{Id, MOST_ELEMENT_CHARS, OrderLine, Statement};
 use coll_table::Table;
@@ -152,12 +153,14 @@ impl Meanings {
     // Takes what a line declares.
     fn take(&mut self, line: &SourceLine, report: &mut Report) -> Result<(), SourceFault> {
         let place = line.place;
-        match &line.said {
-            Said::Symbol(name) => self.symbol(place, name, report),
-            Said::Symbols(range) => self.symbols(place, range, report),
-            Said::Element { name, text } => self.element(place, name, text, report),
-            Said::Equivalence { name, symbol } => self.second(place, name, symbol, report),
-            _ => Ok(()),
+        let Said::Declares(declaration) = &line.said else {
+            return Ok(());
+        };
+        match declaration {
+            Declaration::Symbol(name) => self.symbol(place, name, report),
+            Declaration::Symbols(range) => self.symbols(place, range, report),
+            Declaration::Element { name, text } => self.element(place, name, text, report),
+            Declaration::Equivalence { name, symbol } => self.second(place, name, symbol, report),
         }
     }
 
@@ -223,16 +226,43 @@ impl Meanings {
         if text.get().chars().count() > MOST_ELEMENT_CHARS {
             return lose(report, Adjustment::Dropped, place, name);
         }
-        if let Some(c) = only_char(text.get()) {
-            report.count(Adjustment::ElementOfOne, place)?;
-            return Ok(self.mean(name.get(), Meaning::Other(Id::Char(c)), false)?);
+        match only_char(text.get()) {
+            Some(c) => self.stand_for(place, name, Id::Char(c), Adjustment::ElementOfOne, report),
+            None => self.longer_element(place, name, text, report),
         }
+    }
+
+    // Declares an element of more than one character, or makes its name stand for the element that has its string.
+    fn longer_element(
+        &mut self,
+        place: SourcePlace,
+        name: &TextBuf,
+        text: &TextBuf,
+        report: &mut Report,
+    ) -> Result<(), SourceFault> {
         match self.with_string(text)? {
             Some(other) => {
-                report.count(Adjustment::ElementStringTwice, place)?;
-                Ok(self.mean(name.get(), Meaning::Other(other), false)?)
+                self.stand_for(place, name, other, Adjustment::ElementStringTwice, report)
             }
             None => self.declare_element(place, name, text),
+        }
+    }
+
+    // Makes a name stand for something that is there.
+    fn stand_for(
+        &mut self,
+        place: SourcePlace,
+        name: &TextBuf,
+        other: Id,
+        adjustment: Adjustment,
+        report: &mut Report,
+    ) -> Result<(), SourceFault> {
+        match report.count(adjustment, place) {
+            Ok(()) => Ok(self.mean(name.get(), Meaning::Other(other), false)?),
+            Err(error) => {
+                drop(other);
+                Err(SourceFault::from(error))
+            }
         }
     }
 
@@ -356,10 +386,12 @@ impl Meanings {
         };
         let by_table = known.by_table;
         known.by_table = false;
-        match (by_table, alike) {
-            (true, true) => report.count(Adjustment::DeclaredAlready, place)?,
-            (true, false) => lose(report, Adjustment::DeclaredAlready, place, name)?,
-            (false, _) => lose(report, Adjustment::Dropped, place, name)?,
+        if by_table && alike {
+            report.count(Adjustment::DeclaredAlready, place)?;
+        } else if by_table {
+            lose(report, Adjustment::DeclaredAlready, place, name)?;
+        } else {
+            lose(report, Adjustment::Dropped, place, name)?;
         }
         Ok(true)
     }

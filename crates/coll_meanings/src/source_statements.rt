@@ -75,8 +75,31 @@ pub fn proper_line(
 fn line_of(statement: Statement) -> Option<OrderLine>
     ensures { result ≡ reweighted statement }
 {
-    if let Statement::Reweight(line) = statement {
-        return Some(line);
+    match statement {
+        Statement::Reweight(line) => Some(line),
+        Statement::Symbol(name) => {
+            drop(name);
+            None
+        }
+        Statement::Element { name, text } => {
+            drop(name);
+            drop(text);
+            None
+        }
+        Statement::Equivalence { name, symbol } => {
+            drop(name);
+            drop(symbol);
+            None
+        }
+        Statement::Block { target, lines } => {
+            drop(target);
+            drop(lines);
+            None
+        }
+        Statement::SectionAfter { moved, after } => {
+            drop(moved);
+            drop(after);
+            None
+        }
     }
-    None
 }

@@ -101,7 +101,7 @@ impl WeightLookUp<'_> {
             return Ok(());
         };
         let mended = self.mended(place, ids.get(), report)?;
-        *weight = mended;
+        drop(std::mem::replace(weight, mended));
         Ok(())
     }
 

@@ -14,7 +14,7 @@ use std::alloc::{AllocError, Global};
 use std::marker::Model;
 
 /// A kind of change between a source and what is made of it.
-#[derive(Clone, Copy, Debug, PartialEq, Eq)]
+#[derive(Clone, Copy, PartialEq, Eq)]
 pub enum Adjustment {
     /// The lines of a text that is copied stand in place of the `copy`.
     CopyInlined,
@@ -152,7 +152,7 @@ impl Adjustment {
 const MOST_LOSSES: usize = 262_144;
 
 /// How often a kind of change was made, and where first.
-#[derive(Clone, Copy, Debug, PartialEq, Eq)]
+#[derive(Clone, Copy)]
 pub struct Tally {
     /// The kind.
     pub adjustment: Adjustment,
@@ -163,7 +163,7 @@ pub struct Tally {
 }
 
 /// What was lost.
-#[derive(Debug, Drop)]
+#[derive(Drop)]
 pub enum Lost {
     /// An identifier.
     Id(Id),
@@ -172,7 +172,7 @@ pub enum Lost {
 }
 
 /// Something that a source says, and that what is made of it doesn't.
-#[derive(Debug, Drop)]
+#[derive(Drop)]
 pub struct Loss {
     /// Where it stands.
     pub place: SourcePlace,
@@ -183,10 +183,18 @@ pub struct Loss {
 }
 
 /// All that is told of an import.
-#[derive(Drop)]
 pub struct Report {
     tallies: Vec<Tally>,
     losses: Vec<Loss>,
+}
+
+// Written out, so that each place that drops a report is one call.
+impl Drop for Report {
+    fn drop(self) {
+        let Report { tallies, losses } = self;
+        drop(tallies);
+        drop(losses);
+    }
 }
 
 impl Model for Report {

@@ -1,9 +1,25 @@
 //! Lines that count only where a name is defined.
 //!
 //! `ifdef NAME` and `ifndef NAME` begin such lines, `else` turns them round, and `endif` ends them. They may stand in one another.
+//! `define NAME` defines one.
 
 use crate::{SourceCause, SourceFault, SourcePlace};
 use std::alloc::{AllocError, Global};
+
+/// The word that begins a line on what counts.
+pub(crate) enum ConditionWord {
+    /// `define`: a name is defined.
+    Define,
+    /// `ifdef` and `ifndef`: lines count from here where a name is defined, or where it isn't.
+    If {
+        /// Whether it has to be defined.
+        defined: bool,
+    },
+    /// `else`: turns the lines round.
+    Else,
+    /// `endif`: ends them.
+    End,
+}
 
 // A condition that is open.
 #[derive(Clone, Copy)]
@@ -78,5 +94,17 @@ impl Conditions {
             Some(condition) => Err(condition.place.fault(SourceCause::ConditionNotEnded)),
             None => Ok(()),
         }
+    }
+}
+
+/// The word of a line on what counts, if it is one.
+pub(crate) fn condition_word(word: &str) -> Option<ConditionWord> {
+    match word {
+        "define" => Some(ConditionWord::Define),
+        "ifdef" => Some(ConditionWord::If { defined: true }),
+        "ifndef" => Some(ConditionWord::If { defined: false }),
+        "else" => Some(ConditionWord::Else),
+        "endif" => Some(ConditionWord::End),
+        _ => None,
     }
 }

@@ -5,14 +5,14 @@
 
 ghost use Rattle.coll_lex.specs.Names.{AreTokens};
 
-use crate::Said;
 use crate::operands::{Unread, is_ellipsis};
 use crate::ranges::{Digits, name_range};
 use crate::weights::weights;
-use coll_lex::{Line, ListBuf, TextBuf, Token};
+use crate::{Declaration, Said, Tailoring};
+use coll_lex::{Line, Piece, TextBuf, Token};
 use coll_syntax::{
-    DeltaLine, Id, OrderLine, TableLine, Weight, characters, copied_name, id_of, is_word,
-    parse_delta_line, parse_table_line,
+    DeltaLine, OrderLine, TableLine, characters, copied_name, id_of, is_word, parse_delta_line,
+    parse_table_line,
 };
 use std::alloc::Global;
 
@@ -45,7 +45,7 @@ pub(crate) fn said(alloc: Global, line: &Line) -> Result<Said, Unread>
         return sections_after(alloc, rest);
     }
     if is_word(first, "reorder-sections-end") {
-        return Ok(Said::SectionsEnd);
+        return Ok(Said::Tailors(Tailoring::SectionsEnd));
     }
     if is_word(first, "collating-symbol") {
         return symbol(alloc, rest);
@@ -68,8 +68,17 @@ fn of_table(alloc: Global, line: &Line) -> Result<Said, Unread>
         TableLine::OrderEnd => Ok(Said::OrderEnd),
         TableLine::Section(name) => Ok(Said::Section(name)),
         TableLine::Script => Ok(Said::Script),
-        TableLine::Equivalence { name, symbol } => Ok(Said::Equivalence { name, symbol }),
-        _ => Err(Unread::NoLine),
+        TableLine::Equivalence { name, symbol } => Ok(Said::Declares(Declaration::Equivalence {
+            name,
+            symbol,
+        })),
+        TableLine::Symbol(name) => no_line(name),
+        TableLine::Element { name, text } => {
+            drop(name);
+            no_line(text)
+        }
+        TableLine::Order(line) => no_line(line),
+        TableLine::EndCategory => Err(Unread::NoLine),
     }
 }
 
@@ -78,67 +87,89 @@ fn of_delta(alloc: Global, line: &Line) -> Result<Said, Unread>
     requires { AreTokens line.now.tokens }
 {
     match parse_delta_line(alloc, line)? {
-        DeltaLine::ReorderAfter(target) => Ok(Said::ReorderAfter(target)),
-        DeltaLine::ReorderEnd => Ok(Said::ReorderEnd),
-        DeltaLine::SectionAfter { moved, after } => Ok(Said::SectionAfter { moved, after }),
-        _ => Err(Unread::NoLine),
+        DeltaLine::ReorderAfter(target) => Ok(Said::Tailors(Tailoring::ReorderAfter(target))),
+        DeltaLine::ReorderEnd => Ok(Said::Tailors(Tailoring::ReorderEnd)),
+        DeltaLine::SectionAfter { moved, after } => Ok(Said::Tailors(Tailoring::SectionAfter {
+            moved,
+            after,
+        })),
+        DeltaLine::Symbol(name) => no_line(name),
+        DeltaLine::Element { name, text } => {
+            drop(name);
+            no_line(text)
+        }
+        DeltaLine::Equivalence { name, symbol } => {
+            drop(name);
+            no_line(symbol)
+        }
+        DeltaLine::Order(line) => no_line(line),
+        DeltaLine::Script | DeltaLine::Category | DeltaLine::EndCategory | DeltaLine::Copy => {
+            Err(Unread::NoLine)
+        }
     }
+}
+
+// That what was read makes no line here.
+fn no_line<T: Drop>(_read: T) -> Result<Said, Unread> {
+    Err(Unread::NoLine)
 }
 
 // The operand of `reorder-sections-after`: the name of a section.
 fn sections_after(alloc: Global, operands: &[Token]) -> Result<Said, Unread> {
     match operands {
-        [Token::Symbol(name)] => Ok(Said::SectionsAfter(copied_name(alloc, name)?)),
+        [Token::Symbol(name)] => Ok(Said::Tailors(Tailoring::SectionsAfter(copied_name(
+            alloc, name,
+        )?))),
         _ => Err(Unread::NoLine),
     }
 }
 
 // The operands of `collating-symbol`: a name, or a range of names.
 fn symbol(alloc: Global, operands: &[Token]) -> Result<Said, Unread> {
-    let Some((Token::Symbol(first), rest)) = operands.split_first() else {
-        return Err(Unread::NoLine);
-    };
-    let Some((dots, rest)) = rest.split_first() else {
-        return Ok(Said::Symbol(copied_name(alloc, first)?));
-    };
-    if !is_ellipsis(dots) {
-        return Err(Unread::NoLine);
+    match operands {
+        [Token::Symbol(name)] => Ok(Said::Declares(Declaration::Symbol(copied_name(alloc, name)?))),
+        [Token::Symbol(first), dots, Token::Symbol(last)] if is_ellipsis(dots) => {
+            match name_range(alloc, first.get(), last.get(), digits_of(dots))? {
+                Some(range) => Ok(Said::Declares(Declaration::Symbols(range))),
+                None => Err(Unread::BadRange),
+            }
+        }
+        _ => Err(Unread::NoLine),
     }
-    let Some((Token::Symbol(last), [])) = rest.split_first() else {
-        return Err(Unread::NoLine);
-    };
-    let digits = if is_word(dots, "..") {
+}
+
+// How the numbers of a range are spelled that has these dots.
+fn digits_of(dots: &Token) -> Digits {
+    if is_word(dots, "..") {
         Digits::Hexadecimal
     } else {
         Digits::Decimal
-    };
-    match name_range(alloc, first.get(), last.get(), digits)? {
-        Some(range) => Ok(Said::Symbols(range)),
-        None => Err(Unread::BadRange),
     }
 }
 
 // The operands of `collating-element`: a name, the word `from`, and a string of characters.
 fn element(alloc: Global, operands: &[Token]) -> Result<Said, Unread> {
-    let Some((Token::Symbol(name), rest)) = operands.split_first() else {
-        return Err(Unread::NoLine);
-    };
-    let Some((from, rest)) = rest.split_first() else {
-        return Err(Unread::NoLine);
-    };
-    if !is_word(from, "from") {
+    match operands {
+        [Token::Symbol(name), from, Token::Text(pieces)] if is_word(from, "from") => {
+            element_of(alloc, name, pieces.get())
+        }
+        _ => Err(Unread::NoLine),
+    }
+}
+
+// The element of this name and string.
+fn element_of(alloc: Global, name: &TextBuf, pieces: &[Piece]) -> Result<Said, Unread> {
+    if pieces.is_empty() {
         return Err(Unread::NoLine);
     }
-    let Some((Token::Text(pieces), [])) = rest.split_first() else {
-        return Err(Unread::NoLine);
-    };
-    if pieces.get().is_empty() {
-        return Err(Unread::NoLine);
+    let name = copied_name(alloc, name)?;
+    match characters(alloc, pieces) {
+        Ok(text) => Ok(Said::Declares(Declaration::Element { name, text })),
+        Err(fault) => {
+            drop(name);
+            Err(Unread::from(fault))
+        }
     }
-    Ok(Said::Element {
-        name: copied_name(alloc, name)?,
-        text: characters(alloc, pieces.get())?,
-    })
 }
 
 // An order line: an identifier or a range of characters, and perhaps weights.

@@ -11,6 +11,7 @@
 //! - `conditions`: lines that count only where a name is defined;
 //! - `bases`: whether a text that a tailoring copies is the table that is tailored;
 //! - `operands`, `weights`, `ranges` and `grammar`: the tokens of a line, read into what it says;
+//! - `names`: names that are looked up;
 //! - `readers`: text after text, to the end (`Readers`);
 //! - `adjustments`: what is told of what was changed (`Adjustments`, `Reports`).
 #![tactic(auto)]
@@ -19,6 +20,7 @@ mod adjustments;
 mod bases;
 mod conditions;
 mod grammar;
+mod names;
 mod operands;
 mod places;
 mod ranges;
@@ -33,4 +35,4 @@ pub use places::SourcePlace;
 pub use ranges::{NameRange, name_at};
 pub use readers::{SourceKind, SourceReader};
 pub use source_faults::{SourceCause, SourceFault};
-pub use source_lines::{Said, SourceLine};
+pub use source_lines::{Declaration, Said, SourceLine, Tailoring};

@@ -5,7 +5,7 @@ use coll_syntax::{SyntaxFault, is_word};
 use std::alloc::{AllocError, AllocFailed};
 
 /// Why a line isn't read.
-#[derive(Clone, Copy, Debug, PartialEq, Eq)]
+#[derive(Clone, Copy)]
 pub(crate) enum Unread {
     /// It is no line of the grammar.
     NoLine,

@@ -11,7 +11,7 @@ use std::alloc::{AllocError, Global};
 const MOST_DIGITS: usize = 8;
 
 /// How the numbers of a range are spelled.
-#[derive(Clone, Copy, Debug, PartialEq, Eq)]
+#[derive(Clone, Copy)]
 pub(crate) enum Digits {
     /// `...` and `....`.
     Decimal,
@@ -32,7 +32,7 @@ impl Digits {
 }
 
 /// A range of names.
-#[derive(Debug, Drop)]
+#[derive(Drop)]
 pub struct NameRange {
     // What all names begin with.
     letters: TextBuf,
@@ -53,42 +53,39 @@ pub(crate) fn name_range(
     last: &str,
     digits: Digits,
 ) -> Result<Option<NameRange>, AllocError> {
-    let letters = common_letters(alloc, first, last)?;
-    let (Some(from), Some(to)) = (
-        first.as_bytes().get(letters.len()..),
-        last.as_bytes().get(letters.len()..),
+    let common = common_length(first, last);
+    let (Some(letters), Some(from), Some(to)) = (
+        first.get(..common),
+        first.as_bytes().get(common..),
+        last.as_bytes().get(common..),
     ) else {
         return Ok(None);
     };
     if from.len() != to.len() || from.len() > MOST_DIGITS {
         return Ok(None);
     }
-    let width = from.len();
-    let (Some(from), Some(to)) = (number_of(from, digits), number_of(to, digits)) else {
-        return Ok(None);
-    };
-    if to < from {
-        return Ok(None);
+    match (number_of(from, digits), number_of(to, digits)) {
+        (Some(first), Some(last)) if first <= last => Ok(Some(NameRange {
+            letters: TextBuf::copied(alloc, letters)?,
+            width: from.len(),
+            digits,
+            first,
+            last,
+        })),
+        _ => Ok(None),
     }
-    Ok(Some(NameRange {
-        letters: TextBuf::new(letters),
-        width,
-        digits,
-        first: from,
-        last: to,
-    }))
 }
 
-// What two names begin with.
-fn common_letters(alloc: Global, first: &str, last: &str) -> Result<String, AllocError> {
-    let mut letters = String::new(alloc);
+// How many bytes the characters have that two names begin with.
+fn common_length(first: &str, last: &str) -> usize {
+    let mut length = 0usize;
     for (c, d) in first.chars().zip(last.chars()) {
         if c != d {
-            return Ok(letters);
+            return length;
         }
-        letters.push(c)?;
+        length = length.saturating_add(c.len_utf8());
     }
-    Ok(letters)
+    length
 }
 
 // The number that digits spell; none where one is no digit.

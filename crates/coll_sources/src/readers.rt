@@ -6,23 +6,23 @@
 //! many as a text may have, and have at most `MOST_BYTES` bytes. So texts that copy each other many times over end with that fault.
 //!
 //! Where a tailoring is read, a text that is copied and orders everything is the table that is tailored: it has to be there, and is not
-//! read in. Its `copy` is kept as a line (`Said::Base`).
+//! read in. Its `copy` is kept as a line (`Tailoring::Base`).
 //!
 //! Only the category LC_COLLATE is looked at. A line under a condition that doesn't hold counts for nothing, but it has to be a line.
 
-ghost use Rattle.std.specs.Prelude.{◌≡◌, ℕ, List, IfOk};
-ghost use Rattle.std.specs.List.{list_any};
-ghost use Rattle.std.specs.Str.{bytes_eq};
-ghost use Rattle.std.specs.HashSet.{contains_text};
+ghost use Rattle.std.specs.Prelude.{◌≡◌, IfOk};
 ghost use Rattle.coll_lex.specs.Names.{AreTokens};
 ghost use Rattle.coll_sources.specs.Readers.{HasTokens};
 
 use crate::bases::orders_everything;
-use crate::conditions::Conditions;
+use crate::conditions::{ConditionWord, Conditions, condition_word};
 use crate::grammar::said;
+use crate::names::{all_names, only_one, put_name};
 use crate::operands::Unread;
 use crate::texts::{line_at, text_of};
-use crate::{Adjustment, Lost, Report, Said, SourceCause, SourceFault, SourceLine, SourcePlace};
+use crate::{
+    Adjustment, Lost, Report, Said, SourceCause, SourceFault, SourceLine, SourcePlace, Tailoring,
+};
 use coll_devices::{LineReader, ReadStop, Source};
 use coll_lex::{LexFault, Lexer, Line, MOST_LINES, Piece, TextBuf, Token};
 use coll_lookups::HashKeys;
@@ -99,7 +99,6 @@ enum Step {
 }
 
 /// Reads a source, and what it copies.
-#[derive(Drop)]
 pub struct SourceReader {
     kind: SourceKind,
     // The names of the texts, in the order in which they were wanted.
@@ -120,6 +119,33 @@ pub struct SourceReader {
     lines: Vec<SourceLine>,
     report: Report,
     alloc: Global,
+}
+
+// Written out, so that each place that drops a reader is one call.
+impl Drop for SourceReader {
+    fn drop(self) {
+        let SourceReader {
+            kind: _,
+            names,
+            texts,
+            coming,
+            copied_at: _,
+            frames,
+            defined,
+            taken: _,
+            bytes: _,
+            lines,
+            report,
+            alloc: _,
+        } = self;
+        drop(names);
+        drop(texts);
+        drop(coming);
+        drop(frames);
+        drop(defined);
+        drop(lines);
+        drop(report);
+    }
 }
 
 impl Model for SourceReader {
@@ -160,23 +186,27 @@ impl SourceReader {
         ensures nothing { IfOk result (λ reader. reader.lines ≡ []) }
         ensures told { IfOk result (λ reader. reader.report ≡ record { tallies = []; losses = [] }) }
     {
-        let mut names = IndexSet::with_hasher(alloc, keys);
-        names.insert(String::from_str(alloc, source)?)?;
-        let all = all_names(alloc, keys, defined)?;
-        Ok(SourceReader {
-            kind,
-            names,
-            texts: Vec::new(alloc),
-            coming: Vec::new(alloc),
-            copied_at: None,
-            frames: Vec::new(alloc),
-            defined: all,
-            taken: 0,
-            bytes: 0,
-            lines: Vec::new(alloc),
-            report: Report::new(alloc),
-            alloc,
-        })
+        let names = only_one(alloc, keys, source)?;
+        match all_names(alloc, keys, defined) {
+            Ok(defined) => Ok(SourceReader {
+                kind,
+                names,
+                texts: Vec::new(alloc),
+                coming: Vec::new(alloc),
+                copied_at: None,
+                frames: Vec::new(alloc),
+                defined,
+                taken: 0,
+                bytes: 0,
+                lines: Vec::new(alloc),
+                report: Report::new(alloc),
+                alloc,
+            }),
+            Err(error) => {
+                drop(names);
+                Err(error)
+            }
+        }
     }
 
     /// The names of the texts, in the order in which they were wanted: a place tells its text by its number here.
@@ -207,21 +237,28 @@ impl SourceReader {
     /// wanted.
     pub fn take_text<R: Source>(&mut self, input: &mut R) -> Result<(), SourceFault> {
         let mut lines = LineReader::new(self.alloc)?;
-        for number in 1..=MOST_LINES {
+        let read = self.read_whole(&mut lines, input);
+        drop(lines);
+        match read {
+            Ok(()) => self.end_text(),
+            Err(fault) => Err(fault),
+        }
+    }
+
+    // Reads the text that is wanted, to its end.
+    fn read_whole<R: Source>(
+        &mut self,
+        lines: &mut LineReader,
+        input: &mut R,
+    ) -> Result<(), SourceFault> {
+        for number in 1..=MOST_LINES + 1 {
             match lines.advance(input) {
                 Ok(true) => self.line(number, lines.line())?,
-                Ok(false) => return self.end_text(),
+                Ok(false) => return Ok(()),
                 Err(stop) => return Err(self.stopped(number, stop)),
             }
         }
-        match lines.advance(input) {
-            Ok(false) => self.end_text(),
-            Ok(true) => Err(
-                self.wanted_at(MOST_LINES + 1)
-                    .lex_fault(LexFault::TooManyLines),
-            ),
-            Err(stop) => Err(self.stopped(MOST_LINES + 1, stop)),
-        }
+        Ok(())
     }
 
     // A line of the text that is wanted.
@@ -251,7 +288,7 @@ impl SourceReader {
 
     // Takes the next physical line of the text that is wanted, without its line feed.
     fn line(&mut self, number: u32, line: &[u8]) -> Result<(), SourceFault> {
-        if self.coming.len() >= MOST_BYTES {
+        if number > MOST_LINES || self.coming.len() >= MOST_BYTES {
             return Err(self.wanted_at(number).lex_fault(LexFault::TooManyLines));
         }
         self.coming.extend_from_slice(line)?;
@@ -261,20 +298,32 @@ impl SourceReader {
 
     // The text that is wanted has ended: reads on.
     fn end_text(&mut self) -> Result<(), SourceFault> {
-        let coming = std::mem::replace(&mut self.coming, Vec::new(self.alloc));
-        let text = text_of(self.alloc, coming)?;
-        let is_base = self.is_base(text.as_str())?;
         let number = self.texts.len();
-        self.texts.push(Held {
-            text,
-            is_open: false,
-            is_base,
-        })?;
+        self.hold()?;
         match self.copied_at.take() {
             Some(place) => self.follow(number, place)?,
             None => self.enter(number)?,
         }
         self.read_on()
+    }
+
+    // Puts the text that was wanted behind the others.
+    fn hold(&mut self) -> Result<(), SourceFault> {
+        let coming = std::mem::replace(&mut self.coming, Vec::new(self.alloc));
+        let text = text_of(self.alloc, coming)?;
+        match self.is_base(text.as_str()) {
+            Ok(is_base) => Ok(
+                self.texts.push(Held {
+                    text,
+                    is_open: false,
+                    is_base,
+                })?,
+            ),
+            Err(error) => {
+                drop(text);
+                Err(SourceFault::from(error))
+            }
+        }
     }
 
     // Whether the text that was wanted is the table that is tailored. The source itself never is.
@@ -287,17 +336,28 @@ impl SourceReader {
 
     // Follows the copy of a text that is there: the text is read next, or it is the table that is tailored, and the copy is kept.
     fn follow(&mut self, text: usize, place: SourcePlace) -> Result<(), SourceFault> {
-        if !self.texts.get(text).is_some_and(|held| held.is_base) {
-            self.report.count(Adjustment::CopyInlined, place)?;
-            self.enter(text)?;
-            return Ok(());
+        if self.texts.get(text).is_some_and(|held| held.is_base) {
+            self.report.count(Adjustment::CopyKept, place)?;
+            return self.keep_base(text, place);
         }
-        self.report.count(Adjustment::CopyKept, place)?;
-        if let Some(name) = self.text_name(text) {
-            let said = Said::Base(TextBuf::copied(self.alloc, name)?);
-            self.lines.push(SourceLine { place, said })?;
+        self.report.count(Adjustment::CopyInlined, place)?;
+        Ok(self.enter(text)?)
+    }
+
+    // Keeps the copy of the table that is tailored.
+    fn keep_base(&mut self, text: usize, place: SourcePlace) -> Result<(), SourceFault> {
+        match self.text_name(text) {
+            Some(name) => {
+                let name = TextBuf::copied(self.alloc, name)?;
+                self.put(place, Said::Tailors(Tailoring::Base(name)))
+            }
+            None => Ok(()),
         }
-        Ok(())
+    }
+
+    // Puts what a line says behind what all lines before say.
+    fn put(&mut self, place: SourcePlace, said: Said) -> Result<(), SourceFault> {
+        Ok(self.lines.push(SourceLine { place, said })?)
     }
 
     /// What the source says, and what is told of it, once no text is wanted any more.
@@ -305,7 +365,10 @@ impl SourceReader {
         ensures lines { result.0.items ≡ self.lines }
         ensures report { result.1 ≡ self.report }
     {
-        let SourceReader { lines, report, .. } = self;
+        let mut reader = self;
+        let lines = std::mem::replace(&mut reader.lines, Vec::new(reader.alloc));
+        let report = std::mem::replace(&mut reader.report, Report::new(reader.alloc));
+        drop(reader);
         (lines, report)
     }
 
@@ -485,31 +548,44 @@ impl SourceReader {
         let Some((Token::Word(word), rest)) = tokens.split_first() else {
             return Ok(false);
         };
-        match word.get() {
-            "define" => self.define(conditions, only_name(place, rest)?)?,
-            "ifdef" => {
-                let name = only_name(place, rest)?;
-                conditions.begin(place, self.defined.contains(name.get()))?;
+        match condition_word(word.get()) {
+            Some(ConditionWord::Else) => taken_alone(place, rest, conditions.take_else(place)),
+            Some(ConditionWord::End) => taken_alone(place, rest, conditions.end(place)),
+            Some(ConditionWord::Define) => self.define(conditions, place, only_name(place, rest)),
+            Some(ConditionWord::If { defined }) => {
+                self.begin_if(conditions, place, only_name(place, rest), defined)
             }
-            "ifndef" => {
-                let name = only_name(place, rest)?;
-                conditions.begin(place, !self.defined.contains(name.get()))?;
-            }
-            "else" => return taken_alone(place, rest, conditions.take_else(place)),
-            "endif" => return taken_alone(place, rest, conditions.end(place)),
-            _ => return Ok(false),
+            None => Ok(false),
         }
+    }
+
+    // Begins a condition, which holds where a name is defined, or where it isn't, and counts it.
+    fn begin_if(
+        &mut self,
+        conditions: &mut Conditions,
+        place: SourcePlace,
+        name: Result<&TextBuf, SourceFault>,
+        defined: bool,
+    ) -> Result<bool, SourceFault> {
+        let holds = self.defines(name?.get()) == defined;
+        conditions.begin(place, holds)?;
         self.report.count(Adjustment::Conditional, place)?;
         Ok(true)
     }
 
-    // Defines a name, where lines count.
-    fn define(&mut self, conditions: &Conditions, name: &TextBuf) -> Result<(), AllocError> {
+    // Defines a name, where lines count, and counts that.
+    fn define(
+        &mut self,
+        conditions: &Conditions,
+        place: SourcePlace,
+        name: Result<&TextBuf, SourceFault>,
+    ) -> Result<bool, SourceFault> {
+        let name = name?;
         if conditions.count() {
-            self.defined
-                .insert(String::from_str(self.alloc, name.get())?)?;
+            put_name(self.alloc, &mut self.defined, name.get())?;
         }
-        Ok(())
+        self.report.count(Adjustment::Conditional, place)?;
+        Ok(true)
     }
 
     // Copies a text: it is followed, or wanted.
@@ -552,39 +628,20 @@ impl SourceReader {
         requires { AreTokens line.now.tokens }
     {
         match said(self.alloc, line) {
-            Ok(said) => {
-                self.lines.push(SourceLine { place, said })?;
-                Ok(())
-            }
+            Ok(said) => self.put(place, said),
             Err(Unread::BadRange) => Err(place.fault(SourceCause::BadRange)),
             Err(Unread::OutOfMemory) => Err(place.load_fault(LoadCause::OutOfMemory)),
-            Err(Unread::NoLine) => {
-                if let Some(what) = subject_of(self.alloc, line.tokens.get())? {
-                    self.report.lose(Adjustment::Dropped, place, what)?;
-                }
-                self.lines.push(SourceLine {
-                    place,
-                    said: Said::Unread,
-                })?;
-                Ok(())
-            }
+            Err(Unread::NoLine) => self.leave_out(place, line.tokens.get()),
         }
     }
-}
 
-// The names that are defined at the start.
-fn all_names(
-    alloc: Global,
-    keys: HashKeys,
-    names: &[&str],
-) -> Result<IndexSet<String, HashKeys>, AllocError>
-    ensures { IfOk result (λ all. (name : List ℕ) → contains_text all name ≡ list_any (λ word. bytes_eq name word.now) names.now) }
-{
-    let mut all = IndexSet::with_hasher(alloc, keys);
-    for name in names {
-        all.insert(String::from_str(alloc, name)?)?;
+    // Tells that a line says nothing.
+    fn leave_out(&mut self, place: SourcePlace, tokens: &[Token]) -> Result<(), SourceFault> {
+        if let Some(what) = subject_of(self.alloc, tokens)? {
+            self.report.lose(Adjustment::Dropped, place, what)?;
+        }
+        self.put(place, Said::Unread)
     }
-    Ok(all)
 }
 
 // Where the next line of a text stands.
@@ -665,18 +722,37 @@ fn subject_of(alloc: Global, tokens: &[Token]) -> Result<Option<Lost>, AllocErro
     let Some((first, operands)) = tokens.split_first() else {
         return Ok(None);
     };
-    if let Some(id) = id_of(alloc, first)? {
-        return Ok(Some(Lost::Id(id)));
+    match id_of(alloc, first) {
+        Ok(Some(id)) => Ok(Some(Lost::Id(id))),
+        Ok(None) => subject_behind(alloc, first, operands),
+        Err(error) => Err(error),
     }
-    if let (Token::Word(_), [Token::Symbol(name), ..]) = (first, operands) {
-        return Ok(Some(Lost::Id(Id::Named(copied_name(alloc, name)?))));
+}
+
+// What a line is about that begins with no identifier.
+fn subject_behind(
+    alloc: Global,
+    first: &Token,
+    operands: &[Token],
+) -> Result<Option<Lost>, AllocError> {
+    match (first, operands) {
+        (Token::Word(_), [Token::Symbol(name), ..]) => {
+            Ok(Some(Lost::Id(Id::Named(copied_name(alloc, name)?))))
+        }
+        _ => {
+            let word = TextBuf::copied(alloc, shown(first))?;
+            Ok(Some(Lost::Word(word)))
+        }
     }
-    let word = match first {
-        Token::Word(word) => copied_name(alloc, word)?,
-        Token::Text(_) => TextBuf::copied(alloc, "\"")?,
-        Token::Semicolon => TextBuf::copied(alloc, ";")?,
-        Token::Comma => TextBuf::copied(alloc, ",")?,
-        Token::Symbol(_) | Token::Char(_) => return Ok(None),
-    };
-    Ok(Some(Lost::Word(word)))
+}
+
+// The word of a token, or the mark that it begins with.
+fn shown(token: &Token) -> &str {
+    match token {
+        Token::Word(word) => word.get(),
+        Token::Symbol(_) | Token::Char(_) => "<",
+        Token::Text(_) => "\"",
+        Token::Semicolon => ";",
+        Token::Comma => ",",
+    }
 }

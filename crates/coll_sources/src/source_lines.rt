@@ -7,7 +7,7 @@ use coll_lex::{ListBuf, TextBuf};
 use coll_syntax::{Id, OrderLine, Rules, Weight};
 
 /// A line of a source, and where it stands.
-#[derive(Debug, Drop)]
+#[derive(Drop)]
 pub struct SourceLine {
     /// Where it stands.
     pub place: SourcePlace,
@@ -16,26 +16,10 @@ pub struct SourceLine {
 }
 
 /// What a line of a source says (POSIX.1-2017, 7.3.2, and the sources of published locales).
-#[derive(Debug, Drop)]
+#[derive(Drop)]
 pub enum Said {
-    /// `collating-symbol <X>`: declares the name.
-    Symbol(TextBuf),
-    /// `collating-symbol <X>..<Y>`: declares each name of a range.
-    Symbols(NameRange),
-    /// `collating-element <X> from "text"`: declares the name, for the text.
-    Element {
-        /// The name.
-        name: TextBuf,
-        /// The characters that it stands for, one or more.
-        text: TextBuf,
-    },
-    /// `symbol-equivalence <X> <Y>`: declares the first name as a second name of a symbol.
-    Equivalence {
-        /// The second name.
-        name: TextBuf,
-        /// The name of the symbol that it stands for.
-        symbol: TextBuf,
-    },
+    /// It declares something.
+    Declares(Declaration),
     /// `order_start`, perhaps with the name of a section, perhaps with rules.
     OrderStart {
         /// The name of the section that begins here, if one does.
@@ -64,6 +48,36 @@ pub enum Said {
     Script,
     /// It says nothing: it is no line of the grammar, and was left out.
     Unread,
+    /// It is a line that tailorings alone have.
+    Tailors(Tailoring),
+}
+
+/// What a line of a source declares.
+#[derive(Drop)]
+pub enum Declaration {
+    /// `collating-symbol <X>`: declares the name.
+    Symbol(TextBuf),
+    /// `collating-symbol <X>..<Y>`: declares each name of a range.
+    Symbols(NameRange),
+    /// `collating-element <X> from "text"`: declares the name, for the text.
+    Element {
+        /// The name.
+        name: TextBuf,
+        /// The characters that it stands for, one or more.
+        text: TextBuf,
+    },
+    /// `symbol-equivalence <X> <Y>`: declares the first name as a second name of a symbol.
+    Equivalence {
+        /// The second name.
+        name: TextBuf,
+        /// The name of the symbol that it stands for.
+        symbol: TextBuf,
+    },
+}
+
+/// What a line of a tailoring says that other sources don't have.
+#[derive(Drop)]
+pub enum Tailoring {
     /// `reorder-after <X>`: what follows is placed behind this.
     ReorderAfter(Id),
     /// `reorder-end`.

@@ -229,13 +229,14 @@ impl Blocks {
 
     // Opens a block.
     fn open(&mut self, place: SourcePlace, target: Id, is_left_out: bool) {
-        self.block = Some(Block {
+        let block = Block {
             place,
             target,
             lines: Vec::new(self.alloc),
             ids: IdSet::new(self.alloc, self.keys),
             is_left_out,
-        });
+        };
+        drop(self.block.replace(block));
     }
 
     // Ends the block that is open, if one is, and makes a statement of it, if it has a line.

@@ -68,7 +68,7 @@ impl LaterWeights {
     // Drops a line.
     fn drop_at(&mut self, at: usize) {
         if let Some(line) = self.lines.get_mut(at) {
-            *line = None;
+            drop(line.take());
         }
     }
 

@@ -7,7 +7,9 @@
 use coll_lex::{LexFault, MOST_LINES, TextBuf};
 use coll_lookups::{HashKeys, IdSet};
 use coll_meanings::{Ellipses, Meanings, OrderLines, put_line, put_range};
-use coll_sources::{Adjustment, Lost, Report, Said, SourceFault, SourceLine, SourcePlace};
+use coll_sources::{
+    Adjustment, Lost, Report, Said, SourceFault, SourceLine, SourcePlace, Tailoring,
+};
 use coll_syntax::{Id, OrderLine, SyntaxFault};
 use coll_texts::LoadCause;
 use indexmap::IndexSet;
@@ -146,23 +148,39 @@ impl Steps {
                 weights,
             } => put_range(self, place, first, last, weights, report),
             Said::Ellipsis(weights) => self.ellipses.dots(place, weights, report),
-            Said::ReorderAfter(target) => self.after(place, target, report),
-            Said::ReorderEnd => self.end_block(place, report),
-            Said::SectionAfter { moved, after } => self.section_after(place, moved, after, report),
-            Said::SectionsAfter(after) => self.sections_after(place, after, report),
-            Said::SectionsEnd => self.end_sections(place, report),
-            Said::Base(name) => self.base(place, name),
+            Said::Tailors(tailoring) => self.tailoring(place, tailoring, report),
             Said::Unread => self.ellipses.leave(report),
             Said::OrderEnd => self.lose(place, "order_end", report),
             Said::Section(name) => self.lose_section(place, name, report),
-            Said::OrderStart { .. } => {
+            Said::OrderStart { section, rules } => {
+                drop(section);
+                drop(rules);
                 Err(place.load_fault(LoadCause::Syntax(SyntaxFault::UnknownStatement)))
             }
-            Said::Symbol(_)
-            | Said::Symbols(_)
-            | Said::Element { .. }
-            | Said::Equivalence { .. }
-            | Said::Script => Ok(()),
+            Said::Declares(declaration) => {
+                drop(declaration);
+                Ok(())
+            }
+            Said::Script => Ok(()),
+        }
+    }
+
+    // Takes a line that tailorings alone have.
+    fn tailoring(
+        &mut self,
+        place: SourcePlace,
+        tailoring: Tailoring,
+        report: &mut Report,
+    ) -> Result<(), SourceFault> {
+        match tailoring {
+            Tailoring::ReorderAfter(target) => self.after(place, target, report),
+            Tailoring::ReorderEnd => self.end_block(place, report),
+            Tailoring::SectionAfter { moved, after } => {
+                self.section_after(place, moved, after, report)
+            }
+            Tailoring::SectionsAfter(after) => self.sections_after(place, after, report),
+            Tailoring::SectionsEnd => self.end_sections(place, report),
+            Tailoring::Base(name) => self.base(place, name),
         }
     }
 
