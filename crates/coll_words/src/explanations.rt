@@ -189,10 +189,10 @@ fn id_of(element: ElementEntry<'_>) -> Result<Id, AllocError>
 }
 
 // Writes the explanation of two texts that were compared.
-fn write_compared<W: Sink>(
-    table: &Table,
-    ranks: &Ranks,
-    compared: &Compared,
+fn write_compared<'a, W: Sink>(
+    table: &'a Table,
+    ranks: &'a Ranks,
+    compared: &'a Compared,
     output: &mut W,
 ) -> Result<(), RunFault>
     requires ranks { AreRanksOf ranks.now (collation table.now) }
@@ -215,11 +215,11 @@ fn write_compared<W: Sink>(
 }
 
 // Writes the lines of an explanation.
-fn write_explanation<W: Sink>(
+fn write_explanation<'a, W: Sink>(
     out: &mut W,
-    weighing: &Weighing<'_>,
+    weighing: &'a Weighing<'a>,
     rules: &[Rule],
-    compared: &Compared,
+    compared: &'a Compared,
 ) -> Result<(), WriteStop>
     requires rules { rules.now ≡ weighing.now.rules }
     requires few { length compared.now.elements.items ≤ 65_536 }
@@ -235,12 +235,12 @@ fn write_explanation<W: Sink>(
 }
 
 // Writes the lines of levels, up to the first that decides.
-fn write_levels<W: Sink>(
+fn write_levels<'a, W: Sink>(
     out: &mut W,
-    weighing: &Weighing<'_>,
+    weighing: &'a Weighing<'a>,
     rules: &[Rule],
-    elements: &[Id],
-    others: &[Id],
+    elements: &'a [Id],
+    others: &'a [Id],
 ) -> Result<(), WriteStop>
     requires rules { rules.now ≡ weighing.now.rules }
     requires few { length elements.now ≤ 65_536 }

@@ -27,7 +27,7 @@ pub(crate) fn first_difference<'a>(
     numbers: LevelNumbers<'a>,
     others: LevelNumbers<'a>,
 ) -> Option<Difference<'a>>
-    requires { length numbers.entry ≤ 2_097_152 }
+    requires { length numbers ≤ 2_097_152 }
     ensures { option_map apart_of result ≡ first_apart 1 (told_from position 0 numbers.entry) (told_from position 0 others.entry) }
 {
     let mut numbers = numbers;

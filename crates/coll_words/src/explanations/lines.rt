@@ -44,11 +44,19 @@ fn write_each<W: Sink>(out: &mut W, elements: &[Id]) -> Result<(), WriteStop>
 {
     for element in elements {
         // Not `?`: behind its conversion this exit would need a lemma.
-        if let Err(stop) = write_pieces(out, &[Piece::Bytes(b" "), Piece::Id(element)]) {
+        if let Err(stop) = write_element(out, element) {
             return Err(stop);
         }
     }
     Ok(())
+}
+
+// Writes an element, with a space before it.
+fn write_element<W: Sink>(out: &mut W, element: &Id) -> Result<(), WriteStop>
+    ensures sent { Sends (W.taken out.old) (W.taken out.new) (element_word element.now) result }
+    ensures errors { CountsErr (W.failed out.old) (W.failed out.new) result }
+{
+    write_pieces(out, &[Piece::Bytes(b" "), Piece::Id(element)])
 }
 
 /// Writes the line of a level, by its number from 1 and its rule.

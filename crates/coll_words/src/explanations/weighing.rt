@@ -119,7 +119,7 @@ impl<'a> Weighing<'a> {
 // The identifiers of a weight, if there is one, where `own` is what stands for itself, with this added.
 fn ids_of<'a>(weight: Option<&'a Weight>, own: &'a Id, added: u32) -> ElementIds<'a>
     ensures { (table : Collation) (element : Id) → map (source table result.added element) result.ids.now
-        ≡ weight_sources table element (source table added element own.now) (unwrap_or (option_copied weight) Ignore) }
+        ≡ weight_sources table element (source table added element own.now) (unwrap_or (option_copied weight.entry) Ignore) }
 {
     match weight {
         Some(Weight::Own) => ElementIds {
