@@ -1,18 +1,27 @@
 -- The parts of an explanation, one behind another.
-use Rattle.std.proofs.Common.{◌≡◌, ℕ, suc, ◌+◌, ◌<◌, ◌≤◌, List, [], ◌∷◌, ◌++◌, length, get_or, drop, codes, Option, Some, None, refl, sym, ap, ap₂, subst, ◌∙◌, append_assoc, append-nil, arith}
-use Rattle.std.specs.Prelude.{decimal, encode_utf8_all}
+use Rattle.std.proofs.Common.{◌≡◌, ℕ, suc, ◌+◌, ◌<◌, ◌≤◌, List, [], ◌∷◌, ◌++◌, length, get_or, drop, codes, Option, Some, None, true, false, inr, refl, sym, ap, ap₂, subst, ◌∙◌, append_assoc, append-nil, arith}
+use Rattle.std.specs.Prelude.{decimal, encode_utf8_all, option_map, is_some, Result, Ok, Err, IfErr, ◌⊎◌}
+use Rattle.std.specs.declared.cmp.Ordering.{Ordering}
+use Rattle.std.proofs.lemmas.Bool.{false≢true}
 use Rattle.std.specs.Io.KnownBytes.{Appends}
 use Rattle.std.proofs.KnownBytes.{Appends-trans}
 use Rattle.std.proofs.lemmas.List.{at_drop_all, at_drop_more}
-use Rattle.coll_devices.specs.Devices.{AppendsPrefix}
+use Rattle.coll_devices.specs.Devices.{AppendsPrefix, Sends}
 use Rattle.coll_devices.specs.PhysicalLines.{line_feed}
 use Rattle.coll_devices.proofs.WritingLemmas.{AppendsPrefix-after, AppendsPrefix-before}
 use Rattle.coll_syntax.specs.declared.identifiers.Id.{Id}
 use Rattle.coll_syntax.specs.declared.rules.Rule.{Rule}
 use Rattle.coll_nodes.specs.Table.{Collation}
 use Rattle.coll_texts.specs.CanonicalText.{spelled_rule}
-use Rattle.coll_words.specs.Explanations.{apart_at, difference_words, level_line, level_lines, unless_apart}
+use Rattle.coll_elements.specs.Elements.{elements_of}
+use Rattle.coll_key.specs.TextOrder.{order_of}
+use Rattle.coll_bench.specs.Serving.{write_failed}
+use Rattle.coll_bench.specs.declared.faults.RunFault.{RunFault}
+use Rattle.coll_words.specs.Explaining.{WritesWhole}
+use Rattle.coll_words.specs.Explanations.{apart_at, difference_words, level_line, level_lines, unless_apart, explanation, explanation_of}
 use Rattle.coll_words.specs.ToldLists.{Apart}
+use Rattle.coll_words.specs.ToldSteps.{apart_of}
+use Rattle.coll_words.specs.declared.explanations.differences.Difference.{Difference}
 
 -- the line of a level, as far as its rule
 abbrev pub level_start : (number : ℕ) → Rule → List ℕ
@@ -45,33 +54,32 @@ module _ (table : Collation) (elements others : List Id) where
   HasLevels rules left level before now =
       (done : List ℕ) × (level_lines table 0 rules elements others ≡ done ++ level_lines table level left elements others) × Appends before now done
 
-  module _ (rules : List Rule) (level : ℕ) (rule : Rule) (apart : Option Apart) (within : level < length rules) (is : get_or rules level rule ≡ rule)
-      (found : apart ≡ apart_at table level rule elements others) (a b c : Option (List ℕ)) (so_far : HasLevels rules (drop level rules) level a b) where
+  module _ (rules : List Rule) (level : ℕ) (none : Rule) (apart : Option Apart) (within : level < length rules)
+      (found : apart ≡ apart_at table level (get_or rules level none) elements others) (a b c : Option (List ℕ)) (so_far : HasLevels rules (drop level rules) level a b) where
     -- what is left begins with the line of the level
     left : level_lines table level (drop level rules) elements others
-        ≡ level_line (level + 1) rule apart ++ unless_apart apart (level_lines table (level + 1) (drop (level + 1) rules) elements others)
+        ≡ level_line (level + 1) (get_or rules level none) apart ++ unless_apart apart (level_lines table (level + 1) (drop (level + 1) rules) elements others)
     left =
         let next : suc level ≡ level + 1 = omega arith in
-        at_drop_more (lines_from level) rules level rule within
-        ∙ ap (λ r. lines_from level (r ∷ drop (level + 1) rules)) is
-        ∙ ap₂ (λ (p : Option Apart) (n : ℕ). level_line n rule p ++ unless_apart p (level_lines table n (drop (level + 1) rules) elements others)) (sym found) next
+        at_drop_more (lines_from level) rules level none within
+        ∙ ap₂ (λ (p : Option Apart) (n : ℕ). level_line n (get_or rules level none) p ++ unless_apart p (level_lines table n (drop (level + 1) rules) elements others)) (sym found) next
 
     -- its line stops
-    pub level_stops : AppendsPrefix b c (level_line (level + 1) rule apart) → AppendsPrefix a c (level_lines table 0 rules elements others)
+    pub level_stops : AppendsPrefix b c (level_line (level + 1) (get_or rules level none) apart) → AppendsPrefix a c (level_lines table 0 rules elements others)
     level_stops prefix =
         subst (AppendsPrefix a c) (sym (so_far.1 ∙ ap (λ l. so_far.0 ++ l) left))
-        (AppendsPrefix-after a b c so_far.0 (level_line (level + 1) rule apart ++ unless_apart apart (level_lines table (level + 1) (drop (level + 1) rules) elements others)) so_far.2
-        (AppendsPrefix-before b c (level_line (level + 1) rule apart) (unless_apart apart (level_lines table (level + 1) (drop (level + 1) rules) elements others)) prefix))
+        (AppendsPrefix-after a b c so_far.0 (level_line (level + 1) (get_or rules level none) apart ++ unless_apart apart (level_lines table (level + 1) (drop (level + 1) rules) elements others)) so_far.2
+        (AppendsPrefix-before b c (level_line (level + 1) (get_or rules level none) apart) (unless_apart apart (level_lines table (level + 1) (drop (level + 1) rules) elements others)) prefix))
 
-    module _ (written : Appends b c (level_line (level + 1) rule apart)) where
+    module _ (written : Appends b c (level_line (level + 1) (get_or rules level none) apart)) where
       -- it is equal, and the next follows
       pub level_passes : apart ≡ None → HasLevels rules (drop (level + 1) rules) (level + 1) a c
       level_passes equal = (
-        so_far.0 ++ level_line (level + 1) rule apart,
+        so_far.0 ++ level_line (level + 1) (get_or rules level none) apart,
         so_far.1
-        ∙ ap (λ l. so_far.0 ++ l) (left ∙ ap (λ p. level_line (level + 1) rule apart ++ unless_apart p (level_lines table (level + 1) (drop (level + 1) rules) elements others)) equal)
-        ∙ sym (append_assoc so_far.0 (level_line (level + 1) rule apart) (level_lines table (level + 1) (drop (level + 1) rules) elements others)),
-        Appends-trans a b c so_far.0 (level_line (level + 1) rule apart) so_far.2 written,
+        ∙ ap (λ l. so_far.0 ++ l) (left ∙ ap (λ p. level_line (level + 1) (get_or rules level none) apart ++ unless_apart p (level_lines table (level + 1) (drop (level + 1) rules) elements others)) equal)
+        ∙ sym (append_assoc so_far.0 (level_line (level + 1) (get_or rules level none) apart) (level_lines table (level + 1) (drop (level + 1) rules) elements others)),
+        Appends-trans a b c so_far.0 (level_line (level + 1) (get_or rules level none) apart) so_far.2 written,
       )
 
       -- it decides
@@ -79,11 +87,38 @@ module _ (table : Collation) (elements others : List Id) where
       level_decides difference decides =
           subst (Appends a c)
           (sym (so_far.1
-          ∙ ap (λ l. so_far.0 ++ l) (left ∙ ap (λ p. level_line (level + 1) rule apart ++ unless_apart p (level_lines table (level + 1) (drop (level + 1) rules) elements others)) decides
-          ∙ append-nil (level_line (level + 1) rule apart))))
-          (Appends-trans a b c so_far.0 (level_line (level + 1) rule apart) so_far.2 written)
+          ∙ ap (λ l. so_far.0 ++ l) (left ∙ ap (λ p. level_line (level + 1) (get_or rules level none) apart ++ unless_apart p (level_lines table (level + 1) (drop (level + 1) rules) elements others)) decides
+          ∙ append-nil (level_line (level + 1) (get_or rules level none) apart))))
+          (Appends-trans a b c so_far.0 (level_line (level + 1) (get_or rules level none) apart) so_far.2 written)
 
   -- no level is left
   pub levels_done : (rules : List Rule) (level : ℕ) (a b : Option (List ℕ)) → length rules ≤ level → HasLevels rules (drop level rules) level a b → Appends a b (level_lines table 0 rules elements others)
   levels_done rules level a b past so_far =
       subst (Appends a b) (sym (so_far.1 ∙ ap (λ l. so_far.0 ++ l) (at_drop_all (lines_from level) rules level past) ∙ append-nil so_far.0)) so_far.2
+
+-- no difference was found
+pub none_apart : (difference : Option Difference) → false ≡ is_some difference → option_map apart_of difference ≡ None
+none_apart None none = refl
+none_apart (Some difference) none = absurd (false≢true none)
+
+-- one was
+pub some_apart : (difference : Option Difference) → true ≡ is_some difference → (apart : Apart) × (option_map apart_of difference ≡ Some apart)
+some_apart None some = absurd (false≢true (sym some))
+some_apart (Some difference) some = (apart_of difference, refl)
+
+-- The whole.
+
+-- what was sent is the whole, or a write failed
+pub whole_sent : (bytes : List ℕ) (taken taken_after : Option (List ℕ)) (r : Result (Unit {0}) RunFault) → Sends taken taken_after bytes r → IfErr r (λ ended. ended ≡ write_failed)
+    → WritesWhole bytes taken taken_after r
+whole_sent bytes taken taken_after (Ok done) sent fault = sent
+whole_sent bytes taken taken_after (Err ended) sent fault = inr (fault, sent)
+
+-- the elements and the order of two texts make up their explanation
+pub explained : (table : Collation) (text other : List ℕ) (elements others : List Id) (order : Ordering) → elements ≡ elements_of table text → others ≡ elements_of table other
+    → order ≡ order_of table text other → explanation_of table elements others order ≡ explanation table text other
+unfolding explanation
+explained table text other elements others order is others_are ordered =
+    ap (λ (es : List Id). explanation_of table es others order) is
+    ∙ ap (λ (es : List Id). explanation_of table (elements_of table text) es order) others_are
+    ∙ ap (explanation_of table (elements_of table text) (elements_of table other)) ordered

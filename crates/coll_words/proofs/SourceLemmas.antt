@@ -1,21 +1,30 @@
 -- What the numbers of an element come from: they are its numbers, and no more than a weight may name.
-use Rattle.std.proofs.Common.{◌≡◌, ℕ, zero, suc, ◌<◌, ◌≤◌, Bool, true, false, cond, List, [], ◌∷◌, length, map, get_or, Option, Some, None, is_some, All, refl, sym, ap, ap₂, subst, ◌∙◌, add-zero, arith}
-use Rattle.std.specs.Prelude.{replicate, slice_get, unwrap_or}
+use Rattle.std.proofs.Common.{◌≡◌, ℕ, zero, suc, ◌+◌, ◌<◌, ◌≤◌, Bool, true, false, cond, List, [], ◌∷◌, ◌++◌, length, map, get_or, drop, Option, Some, None, is_some, All, refl, sym, ap, ap₂, subst, ◌∙◌, add-zero, append_assoc, append-nil, arith}
+use Rattle.std.specs.Prelude.{replicate, nat_lt, Result, Ok, Err, IfOk}
+use Rattle.std.proofs.lemmas.Bool.{false≢true, ltb-false}
+use Rattle.std.proofs.lemmas.List.{at_drop_all, at_drop_more}
 use Rattle.std.proofs.lemmas.List.Elements.{All-head, All-tail}
+use Rattle.coll_syntax.specs.Identifier.{has_id}
 use Rattle.coll_syntax.specs.Proper.{IsProperWeight}
 use Rattle.coll_syntax.specs.declared.identifiers.Id.{Id}
 use Rattle.coll_syntax.specs.declared.identifiers.Id.TheVariants.{Undefined}
 use Rattle.coll_syntax.specs.declared.weights.Weight.{Weight}
 use Rattle.coll_syntax.specs.declared.weights.Weight.TheVariants.{Ignore, Own, Names}
 use Rattle.coll_nodes.specs.Placement.{entry_at}
-use Rattle.coll_nodes.specs.Table.{Collation, entries_of, is_placed, is_symbol}
+use Rattle.coll_nodes.specs.Table.{Collation, entries_of, ids_of, is_placed, is_symbol}
 use Rattle.coll_nodes.specs.WellFormed.{HasWeights, IsKeptWeight, IsWeighted, IsWellFormed}
 use Rattle.coll_nodes.specs.declared.entries.Entry.{Entry}
 use Rattle.coll_nodes.proofs.EntryLemmas.{entry_found, entry_there}
+use Rattle.coll_elements.specs.ElementEntries.{AreElementsOf}
+use Rattle.coll_elements.specs.Elements.{element_id, element_text, elements_of, elements_placed}
 use Rattle.coll_elements.specs.Rank.{known_rank}
+use Rattle.coll_elements.specs.declared.element_entries.ElementEntry.{ElementEntry}
+use Rattle.coll_elements.specs.declared.element_entries.ElementEntry.TheVariants.{Absent, Placed}
+use Rattle.coll_elements.proofs.SplitTexts.{few_split}
 use Rattle.coll_elements.proofs.Tests.{by_test}
 use Rattle.coll_ranks.specs.WeightNumbers.{code_point, number_of, numbers_at, own_number, undefined_weights, weight_at, weight_numbers, weights_of, weights_or}
 use Rattle.coll_words.specs.Sources.{Source, own_source, source, sources_at, weight_sources}
+use Rattle.coll_words.specs.ToldSteps.{id_of}
 
 -- the number that a source has
 abbrev pub number_in : Source → ℕ
@@ -47,12 +56,6 @@ unfolding sources_at numbers_at
 numbers_are table level element = weight_numbers_are table element (weight_at table level element)
 
 -- How many they are.
-
--- what is found, or else another
-pub found_or : {X : Type 0} (xs : List X) (i : ℕ) (d : X) → unwrap_or (slice_get xs i) d ≡ get_or xs i d
-found_or [] i d = refl
-found_or (x ∷ xs) zero d = refl
-found_or (x ∷ xs) (suc i) d = found_or xs i d
 
 -- a weight that is kept is within the limits
 kept_at : (id : Id) (weights : List Weight) (level : ℕ) → All (IsKeptWeight id) weights → IsProperWeight (get_or weights level Ignore)
@@ -104,35 +107,80 @@ module _ (table : Collation) (well : IsWellFormed table) (level : ℕ) where
 
 -- Where they are found.
 
-module _ (table : Collation) (level : ℕ) (element : Id) where
-  -- an element with an entry
-  pub placed_sources : (entry : Entry) → entry_at (entries_of table) element ≡ Some entry
-      → weight_sources table element (source table 0 element element) (unwrap_or (slice_get entry.weights level) Ignore) ≡ sources_at table level element
-  unfolding sources_at
-  placed_sources entry is =
-      let there : is_placed table element ≡ true = entry_there (entries_of table) element ∙ ap is_some is in
-      ap₂ (λ (own : Source) (weight : Weight). weight_sources table element own weight)
-      (ap (λ b. cond b (source table 0 element element) (source table (code_point element) element Undefined)) (sym there))
-      (found_or entry.weights level Ignore ∙ ap (λ (found : Option Entry). get_or (weights_or found (undefined_weights table)) level Ignore) (sym is))
+-- what isn't placed has no entry
+no_entry : (entries : List Entry) (id : Id) → has_id (ids_of entries) id ≡ false → entry_at entries id ≡ None
+no_entry entries id absent = by (entry_at entries id) refl where
+  by : (found : Option Entry) → entry_at entries id ≡ found → entry_at entries id ≡ None
+  by None is = is
+  by (Some entry) is = absurd (false≢true (sym absent ∙ (entry_there entries id ∙ ap is_some is)))
 
-  module _ (none : entry_at (entries_of table) element ≡ None) where
+module _ (table : Collation) (level : ℕ) (element : Id) (weight : Weight) where
+  -- an element with an entry
+  pub placed_sources : (entry : Entry) → entry_at (entries_of table) element ≡ Some entry → weight ≡ get_or entry.weights level Ignore
+      → weight_sources table element (source table 0 element element) weight ≡ sources_at table level element
+  unfolding sources_at
+  placed_sources entry is found =
+      let there : is_placed table element ≡ true = entry_there (entries_of table) element ∙ ap is_some is in
+      ap₂ (λ (own : Source) (w : Weight). weight_sources table element own w)
+      (ap (λ b. cond b (source table 0 element element) (source table (code_point element) element Undefined)) (sym there))
+      (found ∙ ap (λ (e : Option Entry). get_or (weights_or e (undefined_weights table)) level Ignore) (sym is))
+
+  module _ (absent : is_placed table element ≡ false) where
     -- an element without one
-    absent_sources : (weight : Weight) → weight ≡ get_or (undefined_weights table) level Ignore
+    absent_sources : weight ≡ get_or (undefined_weights table) level Ignore
         → weight_sources table element (source table (code_point element) element Undefined) weight ≡ sources_at table level element
     unfolding sources_at
-    absent_sources weight is =
-        let there : is_placed table element ≡ false = entry_there (entries_of table) element ∙ ap is_some none in
-        ap₂ (λ (own : Source) (weight : Weight). weight_sources table element own weight)
-        (ap (λ b. cond b (source table 0 element element) (source table (code_point element) element Undefined)) (sym there))
-        (is ∙ ap (λ (found : Option Entry). get_or (weights_or found (undefined_weights table)) level Ignore) (sym none))
+    absent_sources found =
+        ap₂ (λ (own : Source) (w : Weight). weight_sources table element own w)
+        (ap (λ b. cond b (source table 0 element element) (source table (code_point element) element Undefined)) (sym absent))
+        (found ∙ ap (λ (e : Option Entry). get_or (weights_or e (undefined_weights table)) level Ignore) (sym (no_entry (entries_of table) element absent)))
 
-    pub undefined_sources : (entry : Entry) → entry_at (entries_of table) Undefined ≡ Some entry
-        → weight_sources table element (source table (code_point element) element Undefined) (unwrap_or (slice_get entry.weights level) Ignore) ≡ sources_at table level element
-    undefined_sources entry is =
-        absent_sources (unwrap_or (slice_get entry.weights level) Ignore)
-        (found_or entry.weights level Ignore ∙ ap (λ (found : Option Entry). get_or (weights_or found (replicate (length table.rules) Own)) level Ignore) (sym is))
+    -- where UNDEFINED is placed
+    pub undefined_sources : (entry : Entry) → entry_at (entries_of table) Undefined ≡ Some entry → weight ≡ get_or entry.weights level Ignore
+        → weight_sources table element (source table (code_point element) element Undefined) weight ≡ sources_at table level element
+    undefined_sources entry is found =
+        absent_sources (found ∙ ap (λ (e : Option Entry). get_or (weights_or e (replicate (length table.rules) Own)) level Ignore) (sym is))
 
-    pub unplaced_sources : entry_at (entries_of table) Undefined ≡ None → level < length table.rules → source table (code_point element) element Undefined ∷ [] ≡ sources_at table level element
-    unplaced_sources is within =
-        absent_sources Own
-        (sym (ap (λ (found : Option Entry). get_or (weights_or found (replicate (length table.rules) Own)) level Ignore) is ∙ own_within (length table.rules) level within))
+-- where it isn't, it stands for itself
+pub unplaced_sources : (table : Collation) (level : ℕ) (element : Id) → is_placed table element ≡ false → entry_at (entries_of table) Undefined ≡ None → level < length table.rules
+    → source table (code_point element) element Undefined ∷ [] ≡ sources_at table level element
+unplaced_sources table level element absent is within =
+    absent_sources table level element Own absent
+    (sym (ap (λ (e : Option Entry). get_or (weights_or e (replicate (length table.rules) Own)) level Ignore) is ∙ own_within (length table.rules) level within))
+
+-- The elements of a text.
+
+-- the identifiers of elements
+pub ids_are : (table : Collation) (ids : List Id) (elements : List ElementEntry) → AreElementsOf table ids elements → map id_of elements ≡ ids
+ids_are table [] [] are = refl
+ids_are table [] (element ∷ elements) are = absurd are
+ids_are table (id ∷ ids) [] are = absurd are
+ids_are table (id ∷ ids) (Placed entry ∷ elements) are =
+    let same : entry.now.id ≡ id = (entry_found (λ e. Unit {0}) (entries_of table) id entry.now (λ i d within. tt) are.0).1 in
+    ap₂ (λ (i : Id) (is : List Id). i ∷ is) same (ids_are table ids elements are.1)
+ids_are table (id ∷ ids) (Absent c ∷ elements) are = ap₂ (λ (i : Id) (is : List Id). i ∷ is) (sym are.0.0) (ids_are table ids elements are.1)
+
+-- one more is put in
+pub ids_go_on : (elements : List ElementEntry) (element : ElementEntry) (at : ℕ) (id : Id) (old new whole : List Id) → at < length elements → element ≡ get_or elements at element → id ≡ id_of element
+    → new ≡ old ++ id ∷ [] → whole ≡ old ++ map id_of (drop at elements) → whole ≡ new ++ map id_of (drop (at + 1) elements)
+ids_go_on elements element at id old new whole within is same put so_far =
+    so_far
+    ∙ at_drop_more (λ (es : List ElementEntry). old ++ map id_of es) elements at element within
+    ∙ ap (λ (e : ElementEntry). old ++ id_of e ∷ map id_of (drop (at + 1) elements)) (sym is)
+    ∙ ap (λ (i : Id). old ++ i ∷ map id_of (drop (at + 1) elements)) (sym same)
+    ∙ sym (append_assoc old (id ∷ []) (map id_of (drop (at + 1) elements)))
+    ∙ ap (λ (ids : List Id). ids ++ map id_of (drop (at + 1) elements)) (sym put)
+
+pub all_ids : (elements : List ElementEntry) (at : ℕ) (ids : List Id) → length elements ≤ at → map id_of elements ≡ ids ++ map id_of (drop at elements) → ids ≡ map id_of elements
+all_ids elements at ids past so_far =
+    sym (so_far ∙ at_drop_all (λ (es : List ElementEntry). ids ++ map id_of es) elements at past ∙ append-nil ids)
+
+-- a text that isn't too long has few elements
+pub few_ids : (table : Collation) (text : List ℕ) → nat_lt 65_536 (length text) ≡ false → length (elements_of table text) ≤ 65_536
+unfolding elements_of
+few_ids table text short = omega (arith, few_split element_text (elements_placed table) element_id 0 text, ltb-false 65_536 (length text) short)
+
+-- what holds of a result holds of what follows from it
+pub if_ok_follows : {T E : Type 0} {P Q : T → Type 0} (r : Result T E) → ((x : T) → P x → Q x) → IfOk r P → IfOk r Q
+if_ok_follows (Ok x) follows h = follows x h
+if_ok_follows (Err e) follows h = tt

@@ -2,7 +2,8 @@
 use Rattle.std.proofs.Common.{◌≡◌, ◌≢◌, ℕ, zero, suc, ◌+◌, ◌-◌, ◌*◌, ◌<◌, ◌≤◌, ◌==◌, Bool, true, false, cond, List, [], ◌∷◌, ◌++◌, length, map, take, reverse, Option, Some, None}
 use Rattle.std.proofs.Common.{refl, sym, ap, ap₂, subst, ◌∙◌, add-one, add-zero, append-nil, length-append, arith}
 use Rattle.std.specs.Prelude.{slice_get, option_map}
-use Rattle.std.proofs.lemmas.Bool.{eqb-true}
+use Rattle.std.proofs.lemmas.Bool.{eqb-true, false≢true}
+use Rattle.std.proofs.lemmas.Bool.Decides.{Decides-eqb}
 use Rattle.std.proofs.lemmas.Grind.{flat_map-append}
 use Rattle.std.proofs.lemmas.List.{reverse-append, map-append, length-reverse}
 use Rattle.coll_syntax.specs.declared.identifiers.Id.{Id}
@@ -77,18 +78,16 @@ few_new b f g ps few short = subst (λ (items : List (Option Source)). length it
 
 -- Steps.
 
--- the next item is a number
-number_next : (p : Bool) (gaps : ℕ) (s : Source) (seq : List (Option Source)) → told_from p gaps (Some s ∷ seq) ≡ told_position p gaps s ++ told_number s ∷ told_from p 0 seq
-number_next p gaps s seq = refl
+-- a list with a last member has no gap
+some_last : {X : Type 0} (x : X) (ys : List X) → gap_count (ys ++ x ∷ []) ≡ 0
+some_last x [] = refl
+some_last x (y ∷ ys) = refl
 
 -- an element without sources is a gap, in each direction
-counted_alike : {X : Type 0} (b : Bool) (xs : List X) → gap_count (directed b xs) ≡ gap_count xs
+pub counted_alike : {X : Type 0} (b : Bool) (xs : List X) → gap_count (directed b xs) ≡ gap_count xs
 counted_alike false xs = refl
 counted_alike true [] = refl
-counted_alike true (x ∷ xs) = ap gap_count (reverse-append (x ∷ []) xs) ∙ some_last (reverse xs) where
-  some_last : {X : Type 0} {x : X} (ys : List X) → gap_count (ys ++ x ∷ []) ≡ 0
-  some_last [] = refl
-  some_last (y ∷ ys) = refl
+counted_alike true (x ∷ xs) = ap gap_count (reverse-append (x ∷ []) xs) ∙ some_last x (reverse xs)
 
 -- an element is one gap at most
 pub gap_count_small : {X : Type 0} (xs : List X) → gap_count xs ≤ 1
@@ -166,10 +165,10 @@ TellsBehind passed list other (Some apart) =
     × (apart.other_words ≡ words_or_end (slice_get other ahead))
 
 -- a number more that both have
-one_more : (passed n m : ℕ) (told opposite : Told) (list other : List Told) (r : Option Apart) → told.number ≡ opposite.number → TellsBehind (suc passed) list other r
+one_more : (passed : ℕ) (told opposite : Told) (list other : List Told) (r : Option Apart) → told.number ≡ opposite.number → TellsBehind (suc passed) list other r
     → TellsBehind passed (told ∷ list) (opposite ∷ other) r
-one_more passed n m told opposite list other None same h = ap₂ (λ (n : ℕ) (ns : List ℕ). n ∷ ns) same h
-one_more passed n m told opposite list other (Some apart) same h = (
+one_more passed told opposite list other None same h = ap₂ (λ (n : ℕ) (ns : List ℕ). n ∷ ns) same h
+one_more passed told opposite list other (Some apart) same h = (
   suc h.0,
   h.1 ∙ (let moved : suc (suc passed + h.0) ≡ suc (passed + suc h.0) = omega arith in moved),
   ap₂ (λ (n : ℕ) (ns : List ℕ). n ∷ ns) same h.2,
@@ -185,10 +184,12 @@ tells_behind passed [] (opposite ∷ other) = (0, ap suc (sym (add-zero passed))
 tells_behind passed (told ∷ list) (opposite ∷ other) =
     by_test (λ b. TellsBehind passed (told ∷ list) (opposite ∷ other)
     (cond b (first_apart (suc (suc passed)) list other) (Some (record { place = suc passed; words = told.words; other_words = opposite.words })))) (told.number == opposite.number)
-    (λ on. one_more passed 0 0 told opposite list other (first_apart (suc (suc passed)) list other) (eqb-true told.number opposite.number on) (tells_behind (suc passed) list other))
+    (λ on. one_more passed told opposite list other (first_apart (suc (suc passed)) list other) (eqb-true told.number opposite.number on) (tells_behind (suc passed) list other))
     (λ off. (0, ap suc (sym (add-zero passed)), refl, apart off, refl, refl)) where
       apart : (told.number == opposite.number) ≡ false → slice_get (told_numbers (told ∷ list)) 0 ≢ slice_get (told_numbers (opposite ∷ other)) 0
-      apart off e = cc
+      apart off e =
+          let same : told.number ≡ opposite.number = cc in
+          false≢true (sym off ∙ (Decides-eqb told.number opposite.number).1 same)
 
 differ : (numbers others : List ℕ) (ahead : ℕ) → take ahead numbers ≡ take ahead others → slice_get numbers ahead ≢ slice_get others ahead → DifferFirstAt numbers others (suc (0 + ahead))
 differ numbers others ahead same apart =
