@@ -1,13 +1,12 @@
 -- The parts of an explanation, one behind another.
-use Rattle.std.proofs.Common.{◌≡◌, ℕ, suc, ◌+◌, ◌<◌, ◌≤◌, List, [], ◌∷◌, ◌++◌, length, get_or, drop, codes, Option, Some, None, true, false, inr, refl, sym, ap, ap₂, subst, ◌∙◌, append_assoc, append-nil, arith}
-use Rattle.std.specs.Prelude.{decimal, encode_utf8_all, option_map, is_some, Result, Ok, Err, IfErr, ◌⊎◌}
+use Rattle.std.proofs.Common.{◌≡◌, ℕ, suc, ◌+◌, ◌<◌, List, [], ◌++◌, length, get_or, drop, codes, Option, Some, None, false, inr, refl, sym, ap, ap₂, subst, ◌∙◌, append_assoc, arith}
+use Rattle.std.specs.Prelude.{decimal, encode_utf8_all, option_map, is_some, Result, Ok, Err, IfErr}
 use Rattle.std.specs.declared.cmp.Ordering.{Ordering}
 use Rattle.std.proofs.lemmas.Bool.{false≢true}
 use Rattle.std.specs.Io.KnownBytes.{Appends}
 use Rattle.std.proofs.KnownBytes.{Appends-trans}
-use Rattle.std.proofs.lemmas.List.{at_drop_all, at_drop_more}
+use Rattle.std.proofs.lemmas.List.{at_drop_more}
 use Rattle.coll_devices.specs.Devices.{AppendsPrefix, Sends}
-use Rattle.coll_devices.specs.PhysicalLines.{line_feed}
 use Rattle.coll_devices.proofs.WritingLemmas.{AppendsPrefix-after, AppendsPrefix-before}
 use Rattle.coll_syntax.specs.declared.identifiers.Id.{Id}
 use Rattle.coll_syntax.specs.declared.rules.Rule.{Rule}
@@ -77,34 +76,15 @@ module _ (table : Collation) (elements others : List Id) where
       level_passes equal = (
         so_far.0 ++ level_line (level + 1) (get_or rules level none) apart,
         so_far.1
-        ∙ ap (λ l. so_far.0 ++ l) (left ∙ ap (λ p. level_line (level + 1) (get_or rules level none) apart ++ unless_apart p (level_lines table (level + 1) (drop (level + 1) rules) elements others)) equal)
-        ∙ sym (append_assoc so_far.0 (level_line (level + 1) (get_or rules level none) apart) (level_lines table (level + 1) (drop (level + 1) rules) elements others)),
+            ∙ ap (λ l. so_far.0 ++ l) (left ∙ ap (λ p. level_line (level + 1) (get_or rules level none) apart ++ unless_apart p (level_lines table (level + 1) (drop (level + 1) rules) elements others)) equal)
+            ∙ sym (append_assoc so_far.0 (level_line (level + 1) (get_or rules level none) apart) (level_lines table (level + 1) (drop (level + 1) rules) elements others)),
         Appends-trans a b c so_far.0 (level_line (level + 1) (get_or rules level none) apart) so_far.2 written,
       )
-
-      -- it decides
-      pub level_decides : (difference : Apart) → apart ≡ Some difference → Appends a c (level_lines table 0 rules elements others)
-      level_decides difference decides =
-          subst (Appends a c)
-          (sym (so_far.1
-          ∙ ap (λ l. so_far.0 ++ l) (left ∙ ap (λ p. level_line (level + 1) (get_or rules level none) apart ++ unless_apart p (level_lines table (level + 1) (drop (level + 1) rules) elements others)) decides
-          ∙ append-nil (level_line (level + 1) (get_or rules level none) apart))))
-          (Appends-trans a b c so_far.0 (level_line (level + 1) (get_or rules level none) apart) so_far.2 written)
-
-  -- no level is left
-  pub levels_done : (rules : List Rule) (level : ℕ) (a b : Option (List ℕ)) → length rules ≤ level → HasLevels rules (drop level rules) level a b → Appends a b (level_lines table 0 rules elements others)
-  levels_done rules level a b past so_far =
-      subst (Appends a b) (sym (so_far.1 ∙ ap (λ l. so_far.0 ++ l) (at_drop_all (lines_from level) rules level past) ∙ append-nil so_far.0)) so_far.2
 
 -- no difference was found
 pub none_apart : (difference : Option Difference) → false ≡ is_some difference → option_map apart_of difference ≡ None
 none_apart None none = refl
 none_apart (Some difference) none = absurd (false≢true none)
-
--- one was
-pub some_apart : (difference : Option Difference) → true ≡ is_some difference → (apart : Apart) × (option_map apart_of difference ≡ Some apart)
-some_apart None some = absurd (false≢true (sym some))
-some_apart (Some difference) some = (apart_of difference, refl)
 
 -- The whole.
 

@@ -1,8 +1,7 @@
 -- What the numbers of an element come from: they are its numbers, and no more than a weight may name.
-use Rattle.std.proofs.Common.{◌≡◌, ℕ, zero, suc, ◌+◌, ◌<◌, ◌≤◌, Bool, true, false, cond, List, [], ◌∷◌, ◌++◌, length, map, get_or, drop, Option, Some, None, is_some, All, refl, sym, ap, ap₂, subst, ◌∙◌, add-zero, append_assoc, append-nil, arith}
+use Rattle.std.proofs.Common.{◌≡◌, ℕ, zero, suc, ◌+◌, ◌<◌, ◌≤◌, Bool, true, false, cond, List, [], ◌∷◌, length, map, get_or, Option, Some, None, is_some, All, refl, sym, ap, ap₂, subst, ◌∙◌, add-zero, arith}
 use Rattle.std.specs.Prelude.{replicate, nat_lt, Result, Ok, Err, IfOk}
 use Rattle.std.proofs.lemmas.Bool.{false≢true, ltb-false}
-use Rattle.std.proofs.lemmas.List.{at_drop_all, at_drop_more}
 use Rattle.std.proofs.lemmas.List.Elements.{All-head, All-tail}
 use Rattle.coll_syntax.specs.Identifier.{has_id}
 use Rattle.coll_syntax.specs.Proper.{IsProperWeight}
@@ -22,7 +21,7 @@ use Rattle.coll_elements.specs.declared.element_entries.ElementEntry.{ElementEnt
 use Rattle.coll_elements.specs.declared.element_entries.ElementEntry.TheVariants.{Absent, Placed}
 use Rattle.coll_elements.proofs.SplitTexts.{few_split}
 use Rattle.coll_elements.proofs.Tests.{by_test}
-use Rattle.coll_ranks.specs.WeightNumbers.{code_point, number_of, numbers_at, own_number, undefined_weights, weight_at, weight_numbers, weights_of, weights_or}
+use Rattle.coll_ranks.specs.WeightNumbers.{code_point, number_of, numbers_at, own_number, undefined_weights, weight_at, weight_numbers, weights_or}
 use Rattle.coll_words.specs.Sources.{Source, own_source, source, sources_at, weight_sources}
 use Rattle.coll_words.specs.ToldSteps.{id_of}
 
@@ -159,21 +158,6 @@ ids_are table (id ∷ ids) (Placed entry ∷ elements) are =
     let same : entry.now.id ≡ id = (entry_found (λ e. Unit {0}) (entries_of table) id entry.now (λ i d within. tt) are.0).1 in
     ap₂ (λ (i : Id) (is : List Id). i ∷ is) same (ids_are table ids elements are.1)
 ids_are table (id ∷ ids) (Absent c ∷ elements) are = ap₂ (λ (i : Id) (is : List Id). i ∷ is) (sym are.0.0) (ids_are table ids elements are.1)
-
--- one more is put in
-pub ids_go_on : (elements : List ElementEntry) (element : ElementEntry) (at : ℕ) (id : Id) (old new whole : List Id) → at < length elements → element ≡ get_or elements at element → id ≡ id_of element
-    → new ≡ old ++ id ∷ [] → whole ≡ old ++ map id_of (drop at elements) → whole ≡ new ++ map id_of (drop (at + 1) elements)
-ids_go_on elements element at id old new whole within is same put so_far =
-    so_far
-    ∙ at_drop_more (λ (es : List ElementEntry). old ++ map id_of es) elements at element within
-    ∙ ap (λ (e : ElementEntry). old ++ id_of e ∷ map id_of (drop (at + 1) elements)) (sym is)
-    ∙ ap (λ (i : Id). old ++ i ∷ map id_of (drop (at + 1) elements)) (sym same)
-    ∙ sym (append_assoc old (id ∷ []) (map id_of (drop (at + 1) elements)))
-    ∙ ap (λ (ids : List Id). ids ++ map id_of (drop (at + 1) elements)) (sym put)
-
-pub all_ids : (elements : List ElementEntry) (at : ℕ) (ids : List Id) → length elements ≤ at → map id_of elements ≡ ids ++ map id_of (drop at elements) → ids ≡ map id_of elements
-all_ids elements at ids past so_far =
-    sym (so_far ∙ at_drop_all (λ (es : List ElementEntry). ids ++ map id_of es) elements at past ∙ append-nil ids)
 
 -- a text that isn't too long has few elements
 pub few_ids : (table : Collation) (text : List ℕ) → nat_lt 65_536 (length text) ≡ false → length (elements_of table text) ≤ 65_536

@@ -1,23 +1,20 @@
 -- The list of a level on the way along it, and what is told of two lists.
-use Rattle.std.proofs.Common.{◌≡◌, ◌≢◌, ℕ, zero, suc, ◌+◌, ◌-◌, ◌*◌, ◌<◌, ◌≤◌, ◌==◌, Bool, true, false, cond, List, [], ◌∷◌, ◌++◌, length, map, take, reverse, Option, Some, None}
+use Rattle.std.proofs.Common.{◌≡◌, ◌≢◌, ℕ, suc, ◌+◌, ◌-◌, ◌*◌, ◌≤◌, ◌==◌, Bool, true, false, cond, List, [], ◌∷◌, ◌++◌, length, map, take, reverse, Option, Some, None}
 use Rattle.std.proofs.Common.{refl, sym, ap, ap₂, subst, ◌∙◌, add-one, add-zero, append-nil, length-append, arith}
 use Rattle.std.specs.Prelude.{slice_get, option_map}
 use Rattle.std.proofs.lemmas.Bool.{eqb-true, false≢true}
 use Rattle.std.proofs.lemmas.Bool.Decides.{Decides-eqb}
 use Rattle.std.proofs.lemmas.Grind.{flat_map-append}
-use Rattle.std.proofs.lemmas.List.{reverse-append, map-append, length-reverse}
-use Rattle.coll_syntax.specs.declared.identifiers.Id.{Id}
-use Rattle.coll_syntax.specs.declared.rules.Rule.{Rule}
-use Rattle.coll_nodes.specs.Table.{Collation}
+use Rattle.std.proofs.lemmas.List.{reverse-append, map-append}
 use Rattle.coll_elements.proofs.Tests.{by_test}
 use Rattle.coll_ranks.specs.WeightNumbers.{numbers_at}
 use Rattle.coll_key.specs.LevelList.{directed, items, items_of, level_list, listed}
 use Rattle.coll_key.proofs.DirectionLemmas.{length-directed, map-directed, map-reverse}
 use Rattle.coll_key.proofs.RowLemmas.{list_alike}
 use Rattle.coll_words.specs.ExplanationLaws.{DifferFirstAt, FirstDifferencesAreTold, TellsFirst, ToldNumbersAreListed, words_or_end}
-use Rattle.coll_words.specs.Sources.{Source, source, sources_at}
-use Rattle.coll_words.specs.ToldLists.{Apart, Told, all_items, end_word, first_apart, source_items, told_from, told_list, told_number, told_position}
-use Rattle.coll_words.specs.ToldSteps.{before_told, directed_sources, gap_count, sources_left}
+use Rattle.coll_words.specs.Sources.{Source, sources_at}
+use Rattle.coll_words.specs.ToldLists.{Apart, Told, all_items, first_apart, source_items, told_from, told_list}
+use Rattle.coll_words.specs.ToldSteps.{directed_sources, gap_count, sources_left}
 use Rattle.coll_words.proofs.SourceLemmas.{number_in, numbers_are}
 
 -- Directions.
@@ -220,14 +217,13 @@ told_first table level rule elements others =
         (told_list rule (sources_at table level) others) r
     by None h = sym are ∙ h ∙ others_are
     by (Some apart) h =
-        let ahead : apart.place - 1 ≡ h.0 = omega (arith, h.1) in
-        (
+        let ahead : apart.place - 1 ≡ h.0 = omega (arith, h.1) in (
           subst (λ (n : ℕ). DifferFirstAt (level_list rule (numbers_at table level) elements) (level_list rule (numbers_at table level) others) n) (sym h.1)
-          (differ (level_list rule (numbers_at table level) elements) (level_list rule (numbers_at table level) others) h.0
-          (subst (λ (ns : List ℕ). take h.0 ns ≡ take h.0 (level_list rule (numbers_at table level) others)) are
-          (subst (λ (ns : List ℕ). take h.0 (told_numbers (told_list rule (sources_at table level) elements)) ≡ take h.0 ns) others_are h.2))
-          (subst (λ (ns : List ℕ). slice_get ns h.0 ≢ slice_get (level_list rule (numbers_at table level) others) h.0) are
-          (subst (λ (ns : List ℕ). slice_get (told_numbers (told_list rule (sources_at table level) elements)) h.0 ≢ slice_get ns h.0) others_are h.3))),
+              (differ (level_list rule (numbers_at table level) elements) (level_list rule (numbers_at table level) others) h.0
+              (subst (λ (ns : List ℕ). take h.0 ns ≡ take h.0 (level_list rule (numbers_at table level) others)) are
+              (subst (λ (ns : List ℕ). take h.0 (told_numbers (told_list rule (sources_at table level) elements)) ≡ take h.0 ns) others_are h.2))
+              (subst (λ (ns : List ℕ). slice_get ns h.0 ≢ slice_get (level_list rule (numbers_at table level) others) h.0) are
+              (subst (λ (ns : List ℕ). slice_get (told_numbers (told_list rule (sources_at table level) elements)) h.0 ≢ slice_get ns h.0) others_are h.3))),
           h.4 ∙ ap (λ (n : ℕ). words_or_end (slice_get (told_list rule (sources_at table level) elements) n)) (sym ahead),
           h.5 ∙ ap (λ (n : ℕ). words_or_end (slice_get (told_list rule (sources_at table level) others) n)) (sym ahead),
         )

@@ -4,8 +4,8 @@
 //! name, a case of `about`, `taking`, `task_of` and of `task_for` in `specs/Tasks.antt`, a place in `SUBCOMMANDS` and an example in
 //! `EXAMPLES`; `version` alone takes no table, and is no variant. There is one level of subcommands, and no option but help.
 
-ghost use Rattle.std.specs.Prelude.{◌≡◌, ◌≢◌, ◌<◌, None, map, chars, vec_len, IfOk, IfSome};
-ghost use Rattle.collbench.specs.Tasks.{subcommand_name, task_for};
+ghost use Rattle.std.specs.Prelude.{◌≡◌, ◌≢◌, ◌<◌, ◌∷◌, [], None, map, chars, vec_len, IfOk, IfSome};
+ghost use Rattle.collbench.specs.Tasks.{explained, subcommand_name, task_for};
 ghost use Rattle.collbench.specs.declared.command_line.Subcommand.{Subcommand};
 
 use clap::error::ErrorKind;
@@ -453,12 +453,7 @@ fn task_of(
             copied_text(alloc, first)?,
             copied_text(alloc, second)?,
         ),
-        (Subcommand::Explain, [first, second]) => {
-            return Ok(Some(Task::Explain(
-                copied_text(alloc, first)?,
-                copied_text(alloc, second)?,
-            )));
-        }
+        (Subcommand::Explain, [first, second]) => return explained(alloc, first, second),
         (Subcommand::Compare | Subcommand::Explain, _) => return Ok(None),
         (Subcommand::Sort, _) => return Ok(Some(Task::Sort)),
         (Subcommand::Session, _) => return Ok(Some(Task::Session)),
@@ -469,6 +464,15 @@ fn task_of(
         )?))),
     };
     Ok(Some(Task::Batch(batch)))
+}
+
+// The task of explaining two texts.
+fn explained(alloc: Global, first: &str, second: &str) -> Result<Option<Task>, AllocError>
+    ensures { IfOk result (λ task. task ≡ explained (chars first.now ∷ chars second.now ∷ [])) }
+{
+    let first = copied_text(alloc, first)?;
+    let second = copied_text(alloc, second)?;
+    Ok(Some(Task::Explain(first, second)))
 }
 
 // Texts, in new memory.

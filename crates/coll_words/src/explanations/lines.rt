@@ -131,11 +131,7 @@ fn write_words<'a, W: Sink>(
 }
 
 // Writes the words of a position, and what stands behind them.
-fn write_position<'a, W: Sink>(
-    out: &mut W,
-    step: Step<'a>,
-    tail: &'a [u8],
-) -> Result<(), WriteStop>
+fn write_position<'a, W: Sink>(out: &mut W, step: Step<'a>, tail: &'a [u8]) -> Result<(), WriteStop>
     ensures sent { Sends (W.taken out.old) (W.taken out.new) (gap_words step.entry.position step.entry.element.now ++ tail.now) result }
     ensures errors { CountsErr (W.failed out.old) (W.failed out.new) result }
 {

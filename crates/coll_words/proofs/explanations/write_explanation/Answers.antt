@@ -1,5 +1,5 @@
 -- Each part, one behind another.
-use Rattle.std.proofs.Common.{◌++◌, ◌∷◌, [], codes, refl, sym}
+use Rattle.std.proofs.Common.{◌++◌, ◌∷◌, [], codes, refl}
 use Rattle.coll_devices.specs.PhysicalLines.{line_feed}
 use Rattle.coll_devices.proofs.WritingLemmas.{Sends-after}
 use Rattle.coll_bench.specs.Replies.{order_word}

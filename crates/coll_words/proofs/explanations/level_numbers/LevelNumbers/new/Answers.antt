@@ -1,5 +1,4 @@
 -- Nothing is taken yet.
-use Rattle.std.proofs.Common.{[]}
 use Rattle.coll_words.specs.Sources.{source, sources_at}
 use Rattle.coll_words.proofs.ToldLemmas.{few_new, none_taken}
 use Rattle.coll_words.proofs.explanations.level_numbers.LevelNumbers.new.Goals as goal

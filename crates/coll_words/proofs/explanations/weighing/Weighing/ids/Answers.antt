@@ -1,5 +1,5 @@
 -- The weights of the element's entry, or those of UNDEFINED.
-use Rattle.std.proofs.Common.{◌≡◌, ◌∙◌, get_or, is_some, false, Some, sym, ap, arith}
+use Rattle.std.proofs.Common.{◌≡◌, ◌∙◌, get_or, is_some, Some, sym, ap, arith}
 use Rattle.std.specs.Prelude.{option_copied, unwrap_or}
 use Rattle.coll_syntax.specs.declared.weights.Weight.TheVariants.{Ignore}
 use Rattle.coll_nodes.specs.Placement.{entry_at}

@@ -1,11 +1,11 @@
 -- The weights of UNDEFINED's entry, or itself.
-use Rattle.std.proofs.Common.{◌≡◌, ◌∙◌, ◌∷◌, [], ℕ, get_or, false, map, None, Some, sym, ap, ap₂, arith}
+use Rattle.std.proofs.Common.{◌≡◌, ◌∙◌, ◌∷◌, [], ℕ, get_or, map, None, Some, sym, ap, ap₂, arith}
 use Rattle.std.specs.Prelude.{option_copied, unwrap_or}
 use Rattle.coll_syntax.specs.declared.identifiers.Id.{Id}
 use Rattle.coll_syntax.specs.declared.identifiers.Id.TheVariants.{Undefined}
 use Rattle.coll_syntax.specs.declared.weights.Weight.TheVariants.{Ignore}
 use Rattle.coll_nodes.specs.Placement.{entry_at}
-use Rattle.coll_nodes.specs.Table.{entries_of, is_placed}
+use Rattle.coll_nodes.specs.Table.{entries_of}
 use Rattle.coll_nodes.specs.TableLayout.{collation}
 use Rattle.coll_words.specs.Sources.{source, weight_sources}
 use Rattle.coll_words.proofs.SourceLemmas.{undefined_sources, unplaced_sources}
