@@ -1,6 +1,6 @@
 #!/usr/bin/env python3
 """The merge gate: whether each edit of crates/*/more-edits/ can still be applied, `rt ci`, and then the runs of the programs that it
-built, withdrawals from random histories among them, and whether the version that is told is that of the changelog and of the kit.
+built, withdrawals from random histories and explanations of pairs among them, and whether the version that is told is that of the changelog and of the kit.
 What the prover says of those edits, `make edits` tells.
 
 usage: checkers/gate.py
@@ -13,6 +13,7 @@ import subprocess
 import sys
 
 import edits
+import explained_pairs
 import random_withdrawals
 import refuse_growths
 import run_program
@@ -70,11 +71,13 @@ def main():
     print(f"runs of the program: {ran[0]} passed, {ran[1]} failed")
     withdrawn = random_withdrawals.run_all(run_program.PROGRAM)
     print(f"withdrawals from random histories: {withdrawn[0]} passed, {withdrawn[1]} failed")
+    explained = explained_pairs.run_all(run_program.PROGRAM)
+    print(f"explanations of pairs of words: {explained[0]} passed, {explained[1]} failed")
     refused = refuse_growths.run_all()
     print(f"runs with refused growths: {refused[0]} passed, {refused[1]} failed")
     told = version()
     print(f"version: {told[0]} passed, {told[1]} failed")
-    passed, failed = (sum(counts) for counts in zip(can_be_applied, proved, ran, withdrawn, refused, told))
+    passed, failed = (sum(counts) for counts in zip(can_be_applied, proved, ran, withdrawn, explained, refused, told))
     print(f"{passed} passed, {failed} failed")
     return 1 if failed or not ran[0] else 0
 

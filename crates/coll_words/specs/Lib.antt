@@ -1,7 +1,13 @@
+pub mod Explaining
+pub mod ExplanationLaws
+pub mod Explanations
 pub mod KeyedWords
 pub mod LedWords
 pub mod PackedKeys
 pub mod SortRuns
 pub mod SortedWords
+pub mod Sources
+pub mod ToldLists
+pub mod ToldSteps
 pub mod WordReading
 pub mod Words

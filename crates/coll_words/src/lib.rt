@@ -6,14 +6,17 @@
 //! - `packed_keys`: sort keys in half the memory, in the same order (`PackedKeys`);
 //! - `words`: a word with its key, and the sort (`KeyedWords`, `LedWords`, `SortedWords`);
 //! - `reading`: the words of an input (`Words`, `WordReading`);
-//! - `sorting`: the words of an input are sorted, and written (`SortRuns`).
+//! - `sorting`: the words of an input are sorted, and written (`SortRuns`);
+//! - `explanations`: why two texts compare as they do (`Explanations`, `Explaining`, `ExplanationLaws`).
 #![tactic(auto)]
 
+mod explanations;
 mod packed_keys;
 mod reading;
 mod sorting;
 mod words;
 
+pub use explanations::{explain, first_differences_are_told, told_numbers_are_listed};
 pub use packed_keys::packed_keys_are_ordered_alike;
 pub use reading::read_words;
 pub use sorting::sort_lines;

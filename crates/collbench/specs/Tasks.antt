@@ -14,6 +14,7 @@ subcommand_name subcommand.Export = codes "export"
 subcommand_name subcommand.Compile = codes "compile"
 subcommand_name subcommand.Key = codes "key"
 subcommand_name subcommand.Compare = codes "compare"
+subcommand_name subcommand.Explain = codes "explain"
 subcommand_name subcommand.Sort = codes "sort"
 subcommand_name subcommand.Session = codes "session"
 subcommand_name subcommand.Diff = codes "diff"
@@ -25,6 +26,11 @@ abbrev pub comparison : (texts : List (List ℕ)) → Option Task
 comparison (first ∷ second ∷ []) = Some (task.Batch (batch.Compare first second))
 comparison texts = None
 
+-- an explanation is one of two texts
+abbrev pub explained : (texts : List (List ℕ)) → Option Task
+explained (first ∷ second ∷ []) = Some (task.Explain first second)
+explained texts = None
+
 -- what a subcommand does with a table, or with a source, by the texts given to it; nothing if they aren't as many as it takes
 abbrev pub task_for : Subcommand → (texts : List (List ℕ)) → Option Task
 task_for subcommand.Check texts = Some (task.Batch batch.Check)
@@ -33,6 +39,7 @@ task_for subcommand.Export texts = Some (task.Batch batch.Export)
 task_for subcommand.Compile texts = Some (task.Batch batch.Compile)
 task_for subcommand.Key texts = Some (task.Batch (batch.Key texts))
 task_for subcommand.Compare texts = comparison texts
+task_for subcommand.Explain texts = explained texts
 task_for subcommand.Sort texts = Some task.Sort
 task_for subcommand.Session texts = Some task.Session
 task_for subcommand.Diff texts = Some task.Differences

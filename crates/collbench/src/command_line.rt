@@ -4,8 +4,8 @@
 //! name, a case of `about`, `taking`, `task_of` and of `task_for` in `specs/Tasks.antt`, a place in `SUBCOMMANDS` and an example in
 //! `EXAMPLES`; `version` alone takes no table, and is no variant. There is one level of subcommands, and no option but help.
 
-ghost use Rattle.std.specs.Prelude.{◌≡◌, ◌≢◌, ◌<◌, None, map, chars, vec_len, IfOk, IfSome};
-ghost use Rattle.collbench.specs.Tasks.{subcommand_name, task_for};
+ghost use Rattle.std.specs.Prelude.{◌≡◌, ◌≢◌, ◌<◌, ◌∷◌, [], None, map, chars, vec_len, IfOk, IfSome};
+ghost use Rattle.collbench.specs.Tasks.{explained, subcommand_name, task_for};
 ghost use Rattle.collbench.specs.declared.command_line.Subcommand.{Subcommand};
 
 use clap::error::ErrorKind;
@@ -39,6 +39,22 @@ const VERSION: &str = "version";
 const COPIES: &str =
     "A source with `copy` goes through `collbench import-delta` first: in a delta file `copy` has no effect.";
 
+// What help says last of the lines of an explanation.
+const EXPLAINED: &str = "Lines:
+  A <U0061> ..          the elements of the first text, characters and collating elements
+  B <U0041> ..          those of the second
+  level 1 forward equal
+                        a level by its number and its rule, at which the keys of both are the same
+  level 3 forward differs at 1: 2 <MIN> of <U0061>, 3 <CAP> of <U0041>
+                        the first level at which they differ, and the first place of its numbers where they do, counted from
+                        the end of the text where the level is backward: of either text the number there, the identifier that
+                        has this rank, and the element that it comes from
+  12+8364 UNDEFINED of <U20AC>
+                        a number to which a code point is added, since the character has no entry
+  gap 2 before <U002D>  under position, a number's position, which a key spells @2, and the element before which it stands
+  end                   the list of the text has ended there
+  less                  what compare says: less, equal or greater";
+
 const EXAMPLES: &str = "Examples:
   collbench check base.txt                     table entries 9 declared 3 sections 2 levels 4
   collbench print base.txt c_behind_a.txt      the table, in which c goes behind a
@@ -46,6 +62,7 @@ const EXAMPLES: &str = "Examples:
   collbench compile base.txt                   the rank of each entry, and its weights as ranks
   collbench key base.txt ab                    4 6 | 1 1 | 2 2 | |
   collbench compare base.txt a A               less
+  collbench explain base.txt a A               the elements of both texts, each level, and less
   collbench sort base.txt < words.txt          the words, one a line, in the order of the table
   collbench session base.txt < lines.txt       a reply to each line
   collbench diff base.txt other.txt            same, or a line for each difference
@@ -53,13 +70,14 @@ const EXAMPLES: &str = "Examples:
   collbench import-delta common.txt sv_SE      the delta file of a published tailoring, for that table";
 
 // The subcommands that work on a table or make one, in the order in which help tells them.
-const SUBCOMMANDS: [Subcommand; 11] = [
+const SUBCOMMANDS: [Subcommand; 12] = [
     Subcommand::Check,
     Subcommand::Print,
     Subcommand::Export,
     Subcommand::Compile,
     Subcommand::Key,
     Subcommand::Compare,
+    Subcommand::Explain,
     Subcommand::Sort,
     Subcommand::Session,
     Subcommand::Diff,
@@ -82,6 +100,8 @@ pub enum Subcommand {
     Key,
     /// Compares two texts.
     Compare,
+    /// Tells why two texts compare as they do.
+    Explain,
     /// Sorts lines.
     Sort,
     /// Serves a session over a table.
@@ -99,6 +119,8 @@ pub enum Subcommand {
 pub enum Task {
     /// It is read, rewritten by delta files, and answered from once.
     Batch(Batch),
+    /// It is read, and why these two texts compare as they do by it is told.
+    Explain(TextBuf, TextBuf),
     /// It is read, rewritten by delta files, and the lines of standard input are sorted by it.
     Sort,
     /// It is read, and a session over it is served.
@@ -248,6 +270,7 @@ fn taking<'a>(alloc: Global, subcommand: Subcommand) -> Result<Command<'a>, Allo
         }
         Subcommand::Key => over_table(alloc, subcommand)?.arg(texts(alloc)),
         Subcommand::Compare => over_two_texts(alloc, subcommand),
+        Subcommand::Explain => Ok(over_two_texts(alloc, subcommand)?.after_help(EXPLAINED)),
         Subcommand::Session => over_table(alloc, subcommand),
         Subcommand::Diff => over_two_tables(alloc, subcommand),
         Subcommand::Import => over_source(alloc, subcommand),
@@ -430,7 +453,8 @@ fn task_of(
             copied_text(alloc, first)?,
             copied_text(alloc, second)?,
         ),
-        (Subcommand::Compare, _) => return Ok(None),
+        (Subcommand::Explain, [first, second]) => return explained(alloc, first, second),
+        (Subcommand::Compare | Subcommand::Explain, _) => return Ok(None),
         (Subcommand::Sort, _) => return Ok(Some(Task::Sort)),
         (Subcommand::Session, _) => return Ok(Some(Task::Session)),
         (Subcommand::Diff, _) => return Ok(Some(Task::Differences)),
@@ -440,6 +464,15 @@ fn task_of(
         )?))),
     };
     Ok(Some(Task::Batch(batch)))
+}
+
+// The task of explaining two texts.
+fn explained(alloc: Global, first: &str, second: &str) -> Result<Option<Task>, AllocError>
+    ensures { IfOk result (λ task. task ≡ explained (chars first.now ∷ chars second.now ∷ [])) }
+{
+    let first = copied_text(alloc, first)?;
+    let second = copied_text(alloc, second)?;
+    Ok(Some(Task::Explain(first, second)))
 }
 
 // Texts, in new memory.
@@ -472,6 +505,7 @@ impl Subcommand {
             Subcommand::Compile => "compile",
             Subcommand::Key => "key",
             Subcommand::Compare => "compare",
+            Subcommand::Explain => "explain",
             Subcommand::Sort => "sort",
             Subcommand::Session => "session",
             Subcommand::Diff => "diff",
@@ -493,6 +527,9 @@ impl Subcommand {
             }
             Subcommand::Key => "Prints the sort key of each text, one a line",
             Subcommand::Compare => "Compares two texts: less, equal or greater",
+            Subcommand::Explain => {
+                "Tells why two texts compare as they do, level by level up to the one that decides"
+            }
             Subcommand::Sort => {
                 "Reads lines from standard input, and prints them in the order of a table"
             }
@@ -523,6 +560,7 @@ impl Subcommand {
             "compile" => Some(Subcommand::Compile),
             "key" => Some(Subcommand::Key),
             "compare" => Some(Subcommand::Compare),
+            "explain" => Some(Subcommand::Explain),
             "sort" => Some(Subcommand::Sort),
             "session" => Some(Subcommand::Session),
             "diff" => Some(Subcommand::Diff),

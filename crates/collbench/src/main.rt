@@ -1,15 +1,16 @@
 //! The program: a thin `main` over `coll_bench`, which runs batches and serves sessions.
 //!
 //! `command_line` reads the words, `random_keys` draws the keys that names are looked up under, `files` opens what the words name,
-//! `importing` makes tables and delta files of sources, `words` sorts lines, and `differences` compares two tables. Here the runs are
-//! started, and their faults are told: a line on standard error, and the exit status, which stands also where that line can't be
-//! written.
+//! `importing` makes tables and delta files of sources, `explaining` tells why texts compare as they do, `words` sorts lines, and
+//! `differences` compares two tables. Here the runs are started, and their faults are told: a line on standard error, and the exit
+//! status, which stands also where that line can't be written.
 #![tactic(auto)]
 
 ghost use Rattle.std.specs.Prelude.{◌<◌, length, vec_len, IfOk, IfErr, ◌≡◌};
 
 mod command_line;
 mod differences;
+mod explaining;
 mod files;
 mod importing;
 mod laws;
@@ -24,6 +25,7 @@ use coll_lex::{Counted, LexFault, ReadStop, Sink, TextBuf, WriteStop};
 use coll_table::{HashKeys, Table, load_keyed};
 use command_line::{Request, Task, Unasked, read_words};
 use differences::tell_differences;
+use explaining::explain_texts;
 use files::{Input, at_no_line, open_all};
 use importing::{Wanted, import};
 use random_keys::random_keys;
@@ -97,6 +99,7 @@ fn do_keyed(
 {
     match task {
         Task::Batch(batch) => run(rt, keys, batch, files, names),
+        Task::Explain(text, other) => explain_texts(rt, keys, files, names, &text, &other),
         Task::Sort => match String::from_str(rt.alloc(), STANDARD_INPUT) {
             Ok(name) => sort(rt, keys, files, names, &[name]),
             Err(_) => tell_no_memory(rt),

@@ -1,0 +1,42 @@
+-- What follows from the definitions of an explanation: what is told of a level is told of the lists that keys are made of.
+use Rattle.std.specs.Prelude.{◌≡◌, ◌≢◌, ℕ, ◌-◌, List, Option, Some, None, map, take, slice_get}
+use Rattle.coll_syntax.specs.declared.identifiers.Id.{Id}
+use Rattle.coll_syntax.specs.declared.rules.Rule.{Rule}
+use Rattle.coll_nodes.specs.Table.{Collation}
+use Rattle.coll_ranks.specs.WeightNumbers.{numbers_at}
+use Rattle.coll_key.specs.LevelList.{level_list}
+use Rattle.coll_words.specs.Explanations.{apart_at}
+use Rattle.coll_words.specs.Sources.{sources_at}
+use Rattle.coll_words.specs.ToldLists.{Apart, Told, end_word, told_list}
+
+-- two lists of numbers are the same before a place, counted from 1, and differ there, where one of them may have ended
+pub record DifferFirstAt (list other : List ℕ) (place : ℕ) : Type 0 where
+  pub same : take (place - 1) list ≡ take (place - 1) other
+  pub apart : slice_get list (place - 1) ≢ slice_get other (place - 1)
+
+-- the words of what stands there, if something does
+abbrev pub words_or_end : Option Told → List ℕ
+words_or_end None = end_word
+words_or_end (Some told) = told.words
+
+-- the words that tell what stands at a place, counted from 1
+abbrev pub words_there : List Told → (place : ℕ) → List ℕ
+words_there list place = words_or_end (slice_get list (place - 1))
+
+-- what is told of two lists: nothing where their numbers are the same, and else the first place at which they differ, and what stands
+-- there
+abbrev pub TellsFirst : (numbers other_numbers : List ℕ) → (list other : List Told) → Option Apart → Type 0
+TellsFirst numbers other_numbers list other None = numbers ≡ other_numbers
+TellsFirst numbers other_numbers list other (Some apart) =
+    DifferFirstAt numbers other_numbers apart.place × (apart.words ≡ words_there list apart.place) × (apart.other_words ≡ words_there other apart.place)
+
+-- the numbers that are told of a level are its list, from which keys are made
+abbrev pub ToldNumbersAreListed : Type 0
+ToldNumbersAreListed = (table : Collation) (level : ℕ) (rule : Rule) (elements : List Id)
+    → map (λ (told : Told). told.number) (told_list rule (sources_at table level) elements) ≡ level_list rule (numbers_at table level) elements
+
+-- of each level is told whether its lists are the same, and else the first place at which they differ, and what stands there
+abbrev pub FirstDifferencesAreTold : Type 0
+FirstDifferencesAreTold = (table : Collation) (level : ℕ) (rule : Rule) (elements others : List Id)
+    → TellsFirst (level_list rule (numbers_at table level) elements) (level_list rule (numbers_at table level) others)
+    (told_list rule (sources_at table level) elements) (told_list rule (sources_at table level) others) (apart_at table level rule elements others)
