@@ -1,5 +1,5 @@
 -- The lines that tell what differs between two tables (the project's own).
-use Rattle.std.specs.Prelude.{ℕ, Bool, true, false, if◌then◌else◌, List, [], ◌∷◌, ◌++◌, Option, Some, None, codes, decimal, count_by, is_some, vec_len, encode_utf8_all}
+use Rattle.std.specs.Prelude.{ℕ, Bool, if◌then◌else◌, List, [], ◌∷◌, ◌++◌, Option, Some, None, codes, decimal, count_by, is_some, vec_len, encode_utf8_all}
 use Rattle.std.specs.List.{flat_map}
 use Rattle.std.specs.Borrow.{Bor}
 use Rattle.coll_devices.specs.PhysicalLines.{line_feed}
@@ -16,6 +16,7 @@ use Rattle.coll_differences.specs.declared.orders.Point.{Point}
 use Rattle.coll_differences.specs.declared.changes.Change.{Change}
 use Rattle.coll_differences.specs.declared.changes.Change.TheVariants.{Removed, Added, Moved}
 use Rattle.coll_differences.specs.declared.differences.Differences.{Differences}
+use Rattle.coll_differences.specs.Changes.{is_removal, is_addition, is_move}
 use Rattle.coll_differences.specs.Orders.{Mark, Declares, Begins, Stands, mark_of}
 
 -- the end of a line
@@ -95,22 +96,6 @@ lent_weights_told entry = weights_told entry.now
 -- one, or none
 abbrev pub one_if : Bool → ℕ
 one_if b = if b then 1 else 0
-
--- a change is of this kind
-abbrev pub is_removal : Change → Bool
-is_removal (Removed point) = true
-is_removal (Added point behind) = false
-is_removal (Moved point behind) = false
-
-abbrev pub is_addition : Change → Bool
-is_addition (Removed point) = false
-is_addition (Added point behind) = true
-is_addition (Moved point behind) = false
-
-abbrev pub is_move : Change → Bool
-is_move (Removed point) = false
-is_move (Added point behind) = false
-is_move (Moved point behind) = true
 
 -- the counts of all lines before it: of rules, of declarations, of each kind of change of the order, and of weights
 abbrev pub counts_told : Differences → List ℕ

@@ -11,8 +11,9 @@ ghost use Rattle.coll_texts.specs.Pieces.{piece_bytes};
 ghost use Rattle.coll_nodes.specs.declared.declarations.Declaration.TheVariants.{Element, Equivalence};
 ghost use Rattle.coll_texts.specs.PrintedParts.{id_bytes, symbol_bytes};
 ghost use Rattle.coll_differences.specs.Lines.{behind_told, change_told, counts_told, declaration_told, difference_told, differences_told};
-ghost use Rattle.coll_differences.specs.Lines.{is_addition, is_move, is_removal, line_end, mark_told, one_if, rule_word, rules_told, worded};
+ghost use Rattle.coll_differences.specs.Lines.{line_end, mark_told, one_if, rule_word, rules_told, worded};
 ghost use Rattle.coll_differences.specs.Lines.{all_weights, lent_weights_told, names_told, weight_told, weights_told};
+ghost use Rattle.coll_differences.specs.Changes.{is_addition, is_move, is_removal};
 ghost use Rattle.coll_differences.specs.Orders.{mark_of};
 
 use crate::changes::Change;
