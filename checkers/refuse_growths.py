@@ -16,9 +16,10 @@ and a list that is collected grows member by member where the room for all is re
 that each making of ranks needs, and the rows of a text that is looked up by itself. How many of these there are is stated.
 
 The program counts its growths from the start of `main`. Each file tests/growths/NAME.json is a session, or a list of other runs
-(`rows`); values, `words`, `input`, `output` and `errors` are those of run_program.py. At most one growth is refused, so either the program ends with
-its fault 70, a line on standard error, before which it has written nothing, or of a batch a prefix of its output; or else one request of
-a session has the reply `refused 70 OutOfMemory`. Of that, a session says for each of its `requests`:
+(`rows`); values, `words`, `input`, `output`, `errors` and `status` are those of run_program.py. At most one growth is refused, so
+either the program ends with its fault 70, a line on standard error, before which it has written nothing, or of a batch a prefix of
+its output; or else one request of a session has the reply `refused 70 OutOfMemory`. Of that, a session says for each of its
+`requests`:
 
     lines     its lines, a value
     reply     its reply, a value; empty if left out
@@ -163,9 +164,10 @@ def wrong(ran):
 def refuse_to_batch(shim, batch):
     """Refuses each growth to a run that answers once. Returns how many were refused."""
     output, table, errors = bytes_of(batch["output"]), batch["words"][1].encode(), bytes_of(batch.get("errors", ""))
+    whole = (batch.get("status", 0), output, errors)
 
     def judge(ran):
-        is_whole = ran.output == output and not ran.status and ran.errors == errors
+        is_whole = ran[1:] == whole
         if not (is_whole or (output.startswith(ran.output) and is_told(ran, table))):
             raise wrong(ran)
         return not is_whole
@@ -177,16 +179,17 @@ def refuse_to_devices(shim, batch):
     """Refuses each read and each write to a run that answers once. Returns how many were refused."""
     output, errors = bytes_of(batch["output"]), bytes_of(batch.get("errors", ""))
     unwritten = f"{batch['source']}:0: 68 WriteFault\n".encode()
+    status = batch.get("status", 0)
 
     def judge_read(ran):
         is_told = ran.status == 2 and not ran.output and UNREAD.fullmatch(ran.errors)
-        if not (is_told if ran.refused else ran[1:] == (0, output, errors)):
+        if not (is_told if ran.refused else ran[1:] == (status, output, errors)):
             raise wrong(ran)
         return True
 
     def judge_write(ran):
         is_told = ran.status == 2 and output.startswith(ran.output) and ran.errors == unwritten
-        is_whole = ran.status == 0 and ran.output == output and (ran.refused or ran.errors == errors)
+        is_whole = ran.status == status and ran.output == output and (ran.refused or ran.errors == errors)
         if not (is_whole or ran.refused and is_told):
             raise wrong(ran)
         return True

@@ -1,7 +1,6 @@
 -- Lists that are made along a walk: what was made and what is to be made of what is left is the whole.
-use Rattle.std.proofs.Common.{◌≡◌, Bool, true, false, cond, not, List, [], ◌∷◌, ◌++◌, map, filter, Option, Some, None, sym, ap, ap₂, ◌∙◌, refl, append_assoc, append-nil}
+use Rattle.std.proofs.Common.{◌≡◌, Bool, true, false, cond, List, [], ◌∷◌, ◌++◌, map, filter, Some, None, sym, ap, ◌∙◌, refl, append_assoc, append-nil}
 use Rattle.std.specs.Borrow.{Bor}
-use Rattle.std.specs.Option.{option_copied}
 use Rattle.std.proofs.lemmas.List.{map-append}
 use Rattle.coll_order.proofs.Sameness.{by_test}
 use Rattle.coll_nodes.specs.Walks.{Visited, VisitedSection, VisitedEntry, entries_visited}

@@ -1,23 +1,16 @@
--- What only one of two tables declares, by its names, and whether what both declare is the same.
-use Rattle.std.specs.Prelude.{Bool, not, List, filter, map}
-use Rattle.coll_nodes.specs.Table.{name_of, is_declared}
-use Rattle.coll_nodes.specs.WalkItems.{declared_by}
+-- A declaration, looked for by its name.
+use Rattle.std.specs.Prelude.{◌≡◌, Bool, List, ◌∷◌, ◌++◌}
+use Rattle.coll_nodes.specs.Table.{name_of}
 use Rattle.coll_nodes.specs.declared.declarations.Declaration.{Declaration}
-use Rattle.coll_nodes.specs.declared.walks.DeclaredItem.{DeclaredItem}
-use Rattle.coll_differences.specs.Sameness.{same_list, same_declaration}
+use Rattle.coll_differences.specs.Orders.{Mark, Declares}
+use Rattle.coll_differences.specs.Sameness.{same_declaration}
 
--- what is declared whose name others declare in some way
-abbrev pub declared_both : (declared others : List Declaration) → List Declaration
-declared_both declared others = filter (λ declaration. is_declared others (name_of declaration)) declared
+-- a point declares the name of a declaration, and this is whether it is that one
+abbrev pub IsTold : Mark → Declaration → Bool → Type 0
+IsTold mark declaration same =
+    (there : Declaration) × (mark ≡ Declares there) × (name_of there ≡ name_of declaration) × (same ≡ same_declaration declaration there)
 
--- what is declared whose name others don't declare
-abbrev pub declared_only : (declared others : List Declaration) → List Declaration
-declared_only declared others = filter (λ declaration. not (is_declared others (name_of declaration))) declared
-
--- the names that both declare are declared otherwise, or in another order
-abbrev pub is_redeclared : (declared others : List Declaration) → Bool
-is_redeclared declared others = not (same_list same_declaration (declared_both declared others) (declared_both others declared))
-
--- what borrowing declarations say
-abbrev pub declarations_of : List DeclaredItem → List Declaration
-declarations_of items = map declared_by items
+-- so does one of these points
+abbrev pub TellsNamed : List Mark → Declaration → Bool → Type 0
+TellsNamed marks declaration same =
+    (before : List Mark) × (mark : Mark) × (later : List Mark) × (marks ≡ before ++ mark ∷ later) × IsTold mark declaration same

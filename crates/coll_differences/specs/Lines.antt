@@ -1,25 +1,23 @@
 -- The lines that tell what differs between two tables (the project's own).
-use Rattle.std.specs.Prelude.{ℕ, Bool, true, false, if◌then◌else◌, List, [], ◌∷◌, ◌++◌, Option, Some, None, codes, decimal, count_by, is_some, vec_len, encode_utf8_all}
+use Rattle.std.specs.Prelude.{ℕ, Bool, if◌then◌else◌, List, [], ◌∷◌, ◌++◌, Option, Some, None, codes, decimal, count_by, is_some, vec_len, encode_utf8_all}
 use Rattle.std.specs.List.{flat_map}
 use Rattle.std.specs.Borrow.{Bor}
 use Rattle.coll_devices.specs.PhysicalLines.{line_feed}
-use Rattle.coll_lex.specs.Characters.{space, quotation_mark}
 use Rattle.coll_syntax.specs.declared.identifiers.Id.{Id}
 use Rattle.coll_syntax.specs.declared.rules.Rule.{Rule}
 use Rattle.coll_syntax.specs.declared.weights.Weight.{Weight}
 use Rattle.coll_syntax.specs.declared.weights.Weight.TheVariants.{Ignore, Own, Names}
-use Rattle.coll_nodes.specs.WalkItems.{declared_by}
 use Rattle.coll_nodes.specs.declared.declarations.Declaration.{Declaration}
 use Rattle.coll_nodes.specs.declared.declarations.Declaration.TheVariants.{Symbol, Element, Equivalence}
-use Rattle.coll_nodes.specs.declared.walks.DeclaredItem.{DeclaredItem}
 use Rattle.coll_nodes.specs.declared.entries.Entry.{Entry}
 use Rattle.coll_texts.specs.CanonicalText.{spelled_rule}
-use Rattle.coll_texts.specs.PrintedParts.{id_bytes, symbol_bytes, element_bytes, names_bytes}
+use Rattle.coll_texts.specs.PrintedParts.{char_bytes, id_bytes, symbol_bytes}
 use Rattle.coll_differences.specs.declared.orders.Point.{Point}
 use Rattle.coll_differences.specs.declared.changes.Change.{Change}
 use Rattle.coll_differences.specs.declared.changes.Change.TheVariants.{Removed, Added, Moved}
 use Rattle.coll_differences.specs.declared.differences.Differences.{Differences}
-use Rattle.coll_differences.specs.Orders.{Mark, Begins, Stands, mark_of}
+use Rattle.coll_differences.specs.Changes.{is_removal, is_addition, is_move}
+use Rattle.coll_differences.specs.Orders.{Mark, Declares, Begins, Stands, mark_of}
 
 -- the end of a line
 abbrev pub line_end : List ℕ
@@ -36,50 +34,35 @@ abbrev pub rules_told : Option (Bor (List Rule)) → List ℕ
 rules_told None = []
 rules_told (Some rules) = codes "rules" ++ (flat_map rule_word rules.now ++ line_end)
 
--- Declarations.
+-- Points of a list.
 
--- a declaration, as its line in a table, behind a word
-abbrev pub declaration_told : (word : List ℕ) → Declaration → List ℕ
-declaration_told word (Symbol name) = word ++ (codes " collating-symbol " ++ (symbol_bytes name ++ line_end))
-declaration_told word (Element name text) = word ++ (codes " collating-element " ++ element_bytes name text)
-declaration_told word (Equivalence name symbol) = word ++ (codes " symbol-equivalence " ++ names_bytes name symbol)
+-- a declaration, as its line in a table
+abbrev pub declaration_told : Declaration → List ℕ
+declaration_told (Symbol name) = codes "collating-symbol " ++ symbol_bytes name
+declaration_told (Element name text) =
+    codes "collating-element " ++ (symbol_bytes name ++ (codes " from \"" ++ (flat_map char_bytes text ++ codes "\"")))
+declaration_told (Equivalence name symbol) = codes "symbol-equivalence " ++ (symbol_bytes name ++ (codes " " ++ symbol_bytes symbol))
 
--- that of a borrowing one
-abbrev pub item_told : (word : List ℕ) → DeclaredItem → List ℕ
-item_told word item = declaration_told word (declared_by item)
-
--- the line that says that names which both tables declare are declared otherwise
-abbrev pub redeclared_told : Bool → List ℕ
-redeclared_told true = codes "declared otherwise\n"
-redeclared_told false = []
-
--- The order.
-
--- the word before the name of a section
-abbrev pub section_word : Mark → List ℕ
-section_word (Begins name) = codes "section "
-section_word (Stands id) = []
-
--- the name of a section, or an identifier
-abbrev pub mark_name : Mark → List ℕ
-mark_name (Begins name) = symbol_bytes name
-mark_name (Stands id) = id_bytes id
-
--- a point: an identifier, or the name of a section behind a word
+-- a point: a declaration, the beginning of a section by its name, or the identifier of an entry
 abbrev pub mark_told : Mark → List ℕ
-mark_told mark = section_word mark ++ mark_name mark
+mark_told (Declares declaration) = declaration_told declaration
+mark_told (Begins name) = codes "section " ++ symbol_bytes name
+mark_told (Stands id) = id_bytes id
 
--- the line of a point that goes to where it stands in the second table
-abbrev pub placed_told : (word : List ℕ) → Mark → Option Point → List ℕ
-placed_told word mark None = word ++ (section_word mark ++ (mark_name mark ++ codes " first\n"))
-placed_told word mark (Some behind) =
-    word ++ (section_word mark ++ (mark_name mark ++ (codes " behind " ++ (section_word (mark_of behind) ++ (mark_name (mark_of behind) ++ line_end)))))
+-- a point behind a word
+abbrev pub worded : (word : List ℕ) → Mark → List ℕ
+worded word mark = word ++ mark_told mark
 
--- the line of a change
+-- what a point stands behind, and the end of the line
+abbrev pub behind_told : Option Point → List ℕ
+behind_told None = codes " first\n"
+behind_told (Some behind) = worded (codes " behind ") (mark_of behind) ++ line_end
+
+-- the line of a change: what is removed, or what is added or moved to where it stands in the second table
 abbrev pub change_told : Change → List ℕ
-change_told (Removed point) = codes "removed " ++ (section_word (mark_of point) ++ (mark_name (mark_of point) ++ line_end))
-change_told (Added point behind) = placed_told (codes "added ") (mark_of point) behind
-change_told (Moved point behind) = placed_told (codes "moved ") (mark_of point) behind
+change_told (Removed point) = worded (codes "removed ") (mark_of point) ++ line_end
+change_told (Added point behind) = worded (codes "added ") (mark_of point) ++ behind_told behind
+change_told (Moved point behind) = worded (codes "moved ") (mark_of point) ++ behind_told behind
 
 -- Weights.
 
@@ -114,43 +97,21 @@ lent_weights_told entry = weights_told entry.now
 abbrev pub one_if : Bool → ℕ
 one_if b = if b then 1 else 0
 
--- a change is of this kind
-abbrev pub is_removal : Change → Bool
-is_removal (Removed point) = true
-is_removal (Added point behind) = false
-is_removal (Moved point behind) = false
-
-abbrev pub is_addition : Change → Bool
-is_addition (Removed point) = false
-is_addition (Added point behind) = true
-is_addition (Moved point behind) = false
-
-abbrev pub is_move : Change → Bool
-is_move (Removed point) = false
-is_move (Added point behind) = false
-is_move (Moved point behind) = true
-
--- the counts of all lines before it
+-- the counts of all lines before it: of rules, of declarations, of each kind of change of the order, and of weights
 abbrev pub counts_told : Differences → List ℕ
 counts_told told =
-    codes "differences rules " ++ (decimal (one_if (is_some told.rules)) ++ (codes " undeclared " ++ (decimal (vec_len told.undeclared)
-    ++ (codes " declared " ++ (decimal (vec_len told.declared) ++ (codes " otherwise " ++ (decimal (one_if told.redeclared)
+    codes "differences rules " ++ (decimal (one_if (is_some told.rules)) ++ (codes " declarations " ++ (decimal (vec_len told.declarations)
     ++ (codes " removed " ++ (decimal (count_by is_removal told.changes.items) ++ (codes " added " ++ (decimal (count_by is_addition told.changes.items)
-    ++ (codes " moved " ++ (decimal (count_by is_move told.changes.items) ++ (codes " weights " ++ (decimal (vec_len told.weights) ++ line_end)))))))))))))))
+    ++ (codes " moved " ++ (decimal (count_by is_move told.changes.items) ++ (codes " weights " ++ (decimal (vec_len told.weights) ++ line_end)))))))))))
 
 -- All lines.
-
--- what is told of declarations
-abbrev pub declarations_told : Differences → List ℕ
-declarations_told told =
-    flat_map (item_told (codes "undeclared")) told.undeclared.items
-    ++ (flat_map (item_told (codes "declared")) told.declared.items ++ redeclared_told told.redeclared)
 
 -- the lines of all differences, in the order of the second table but for what that has not, and then their counts
 unfoldable pub differences_told : Differences → List ℕ
 differences_told told =
     rules_told told.rules
-    ++ (declarations_told told ++ (flat_map change_told told.changes.items ++ (flat_map lent_weights_told told.weights.items ++ counts_told told)))
+    ++ (flat_map change_told told.declarations.items
+    ++ (flat_map change_told told.changes.items ++ (flat_map lent_weights_told told.weights.items ++ counts_told told)))
 
 -- what is told of two tables: that they are the same, or what differs
 abbrev pub difference_told : Option Differences → List ℕ

@@ -1,5 +1,5 @@
 -- Entries that two tables have, with other weights in the second.
-use Rattle.std.specs.Prelude.{ℕ, Bool, false, if◌then◌else◌, not, List, Option, Some, None, filter}
+use Rattle.std.specs.Prelude.{Bool, false, if◌then◌else◌, not, List, Option, Some, None, filter}
 use Rattle.coll_nodes.specs.Placement.{entry_at}
 use Rattle.coll_nodes.specs.Walks.{Visited, VisitedSection, VisitedEntry}
 use Rattle.coll_nodes.specs.declared.entries.Entry.{Entry}

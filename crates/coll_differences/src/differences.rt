@@ -8,11 +8,11 @@ ghost use Rattle.coll_nodes.specs.TableLayout.{collation};
 ghost use Rattle.coll_differences.specs.Differences.{AreDifferences, TellsRules};
 
 use crate::changes::{Change, changes_between};
-use crate::declarations::{declared_alone, is_declared_otherwise};
+use crate::declarations::declarations_between;
 use crate::sameness::{are_same, has_same_rules};
 use crate::weights::reweighted_entries;
 use coll_syntax::Rule;
-use coll_table::{DeclaredItem, Entry, Table};
+use coll_table::{Entry, Table};
 use std::alloc::{AllocError, Global};
 
 /// What differs between a first table and a second.
@@ -20,14 +20,10 @@ use std::alloc::{AllocError, Global};
 pub struct Differences<'a> {
     /// The rules of the second table, where they are others.
     pub rules: Option<&'a [Rule]>,
-    /// What the first declares whose names the second does not, in order.
-    pub undeclared: Vec<DeclaredItem<'a>>,
-    /// What the second declares whose names the first does not, in order.
-    pub declared: Vec<DeclaredItem<'a>>,
-    /// Whether names that both declare are declared otherwise, or in another order.
-    pub redeclared: bool,
-    /// What makes the order of the second of that of the first: removals, in the order of the first, and then additions and moves, in
-    /// the order of the second.
+    /// What makes the declarations of the second of those of the first: removals, in the order of the first, and then additions and
+    /// moves, in the order of the second.
+    pub declarations: Vec<Change<'a>>,
+    /// What makes the order of the second of that of the first, so too.
     pub changes: Vec<Change<'a>>,
     /// The entries that the first has with other weights, in the order of the second and as they are there.
     pub weights: Vec<&'a Entry>,
@@ -59,16 +55,12 @@ fn all_differences<'a>(
 ) -> Result<Differences<'a>, AllocError>
     ensures { IfOk result (AreDifferences (collation first.now) (collation second.now)) }
 {
-    let redeclared = is_declared_otherwise(alloc, first, second)?;
-    let undeclared = declared_alone(alloc, first, second)?;
-    let declared = declared_alone(alloc, second, first)?;
+    let declarations = declarations_between(alloc, first, second)?;
     let changes = changes_between(alloc, first, second)?;
     let weights = reweighted_entries(alloc, first, second)?;
     Ok(Differences {
         rules: other_rules(first, second),
-        undeclared,
-        declared,
-        redeclared,
+        declarations,
         changes,
         weights,
     })

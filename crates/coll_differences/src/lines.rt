@@ -8,11 +8,12 @@ ghost use Rattle.std.specs.List.{flat_map};
 ghost use Rattle.coll_devices.specs.Devices.{CountsErr, Sends};
 ghost use Rattle.coll_nodes.specs.WalkItems.{declared_by};
 ghost use Rattle.coll_texts.specs.Pieces.{piece_bytes};
-ghost use Rattle.coll_texts.specs.PrintedParts.{element_bytes, id_bytes, names_bytes, symbol_bytes};
-ghost use Rattle.coll_differences.specs.Lines.{change_told, counts_told, declaration_told, declarations_told, difference_told};
-ghost use Rattle.coll_differences.specs.Lines.{differences_told, is_addition, is_move, is_removal, item_told, line_end, mark_name, one_if};
-ghost use Rattle.coll_differences.specs.Lines.{placed_told, redeclared_told, rule_word, rules_told, section_word};
+ghost use Rattle.coll_nodes.specs.declared.declarations.Declaration.TheVariants.{Element, Equivalence};
+ghost use Rattle.coll_texts.specs.PrintedParts.{id_bytes, symbol_bytes};
+ghost use Rattle.coll_differences.specs.Lines.{behind_told, change_told, counts_told, declaration_told, difference_told, differences_told};
+ghost use Rattle.coll_differences.specs.Lines.{line_end, mark_told, one_if, rule_word, rules_told, worded};
 ghost use Rattle.coll_differences.specs.Lines.{all_weights, lent_weights_told, names_told, weight_told, weights_told};
+ghost use Rattle.coll_differences.specs.Changes.{is_addition, is_move, is_removal};
 ghost use Rattle.coll_differences.specs.Orders.{mark_of};
 
 use crate::changes::Change;
@@ -45,7 +46,7 @@ fn write_differences<W: Sink>(out: &mut W, told: &Differences<'_>) -> Result<(),
     ensures errors { CountsErr (W.failed out.old) (W.failed out.new) result }
 {
     write_rules(out, told.rules)?;
-    write_declarations(out, told)?;
+    write_changes(out, told.declarations.as_slice())?;
     write_changes(out, told.changes.as_slice())?;
     write_all_weights(out, told.weights.as_slice())?;
     write_counts(out, told)
@@ -86,131 +87,7 @@ fn write_rule_word<W: Sink>(out: &mut W, rule: Rule) -> Result<(), WriteStop>
     write_pieces(out, &[Piece::Bytes(b" "), Piece::Rule(rule)])
 }
 
-// Writes the lines of declarations.
-fn write_declarations<W: Sink>(out: &mut W, told: &Differences<'_>) -> Result<(), WriteStop>
-    ensures sent { Sends (W.taken out.old) (W.taken out.new) (declarations_told told.now) result }
-    ensures errors { CountsErr (W.failed out.old) (W.failed out.new) result }
-{
-    write_items(out, b"undeclared", told.undeclared.as_slice())?;
-    write_items(out, b"declared", told.declared.as_slice())?;
-    write_redeclared(out, told.redeclared)
-}
-
-// Writes a line for each declaration, behind a word.
-fn write_items<W: Sink>(
-    out: &mut W,
-    word: &[u8],
-    items: &[DeclaredItem<'_>],
-) -> Result<(), WriteStop>
-    ensures sent { Sends (W.taken out.old) (W.taken out.new) (flat_map (item_told word.now) items.now) result }
-    ensures errors { CountsErr (W.failed out.old) (W.failed out.new) result }
-{
-    for item in items {
-        if let Err(stop) = write_item(out, word, *item) {
-            return Err(stop);
-        }
-    }
-    Ok(())
-}
-
-// Writes the line of a declaration, behind a word.
-fn write_item<'a, W: Sink>(
-    out: &mut W,
-    word: &'a [u8],
-    item: DeclaredItem<'a>,
-) -> Result<(), WriteStop>
-    ensures sent { Sends (W.taken out.old) (W.taken out.new) (item_told word.now item.entry) result }
-    ensures errors { CountsErr (W.failed out.old) (W.failed out.new) result }
-{
-    match item {
-        DeclaredItem::Symbol(name) => write_symbol_item(out, word, name),
-        DeclaredItem::Element(name, text) => write_element_item(out, word, name, text),
-        DeclaredItem::Equivalence(name, symbol) => write_second_item(out, word, name, symbol),
-    }
-}
-
-// Writes the line of a collating symbol, behind a word.
-fn write_symbol_item<'a, W: Sink>(
-    out: &mut W,
-    word: &'a [u8],
-    name: &'a str,
-) -> Result<(), WriteStop>
-    ensures sent { Sends (W.taken out.old) (W.taken out.new) (word.now ++ (codes " collating-symbol " ++ (symbol_bytes (chars name.now) ++ line_end)))
-        result }
-    ensures errors { CountsErr (W.failed out.old) (W.failed out.new) result }
-{
-    write_pieces(
-        out,
-        &[
-            Piece::Bytes(word),
-            Piece::Bytes(b" collating-symbol "),
-            Piece::Symbol(name),
-            Piece::Bytes(b"\n"),
-        ],
-    )
-}
-
-// Writes the line of a collating element, behind a word.
-fn write_element_item<'a, W: Sink>(
-    out: &mut W,
-    word: &'a [u8],
-    name: &'a str,
-    text: &'a str,
-) -> Result<(), WriteStop>
-    ensures sent { Sends (W.taken out.old) (W.taken out.new)
-        (word.now ++ (codes " collating-element " ++ element_bytes (chars name.now) (chars text.now))) result }
-    ensures errors { CountsErr (W.failed out.old) (W.failed out.new) result }
-{
-    write_pieces(
-        out,
-        &[
-            Piece::Bytes(word),
-            Piece::Bytes(b" collating-element "),
-            Piece::Symbol(name),
-            Piece::Bytes(b" from \""),
-            Piece::Text(text),
-            Piece::Bytes(b"\"\n"),
-        ],
-    )
-}
-
-// Writes the line of a second name, behind a word.
-fn write_second_item<'a, W: Sink>(
-    out: &mut W,
-    word: &'a [u8],
-    name: &'a str,
-    symbol: &'a str,
-) -> Result<(), WriteStop>
-    ensures sent { Sends (W.taken out.old) (W.taken out.new)
-        (word.now ++ (codes " symbol-equivalence " ++ names_bytes (chars name.now) (chars symbol.now))) result }
-    ensures errors { CountsErr (W.failed out.old) (W.failed out.new) result }
-{
-    write_pieces(
-        out,
-        &[
-            Piece::Bytes(word),
-            Piece::Bytes(b" symbol-equivalence "),
-            Piece::Symbol(name),
-            Piece::Bytes(b" "),
-            Piece::Symbol(symbol),
-            Piece::Bytes(b"\n"),
-        ],
-    )
-}
-
-// Writes the line that names are declared otherwise, if they are.
-fn write_redeclared<W: Sink>(out: &mut W, redeclared: bool) -> Result<(), WriteStop>
-    ensures sent { Sends (W.taken out.old) (W.taken out.new) (redeclared_told redeclared) result }
-    ensures errors { CountsErr (W.failed out.old) (W.failed out.new) result }
-{
-    if redeclared {
-        write_bytes(out, b"declared otherwise\n")
-    } else {
-        Ok(())
-    }
-}
-
-// Writes a line for each change of the order.
+// Writes a line for each change.
 fn write_changes<W: Sink>(out: &mut W, changes: &[Change<'_>]) -> Result<(), WriteStop>
     ensures sent { Sends (W.taken out.old) (W.taken out.new) (flat_map change_told changes.now) result }
     ensures errors { CountsErr (W.failed out.old) (W.failed out.new) result }
@@ -229,106 +106,122 @@ fn write_change<W: Sink>(out: &mut W, change: Change<'_>) -> Result<(), WriteSto
     ensures errors { CountsErr (W.failed out.old) (W.failed out.new) result }
 {
     match change {
-        Change::Removed(point) => write_removed(out, point),
+        Change::Removed(point) => write_ended(out, b"removed ", point),
         Change::Added { point, behind } => write_placed(out, b"added ", point, behind),
         Change::Moved { point, behind } => write_placed(out, b"moved ", point, behind),
     }
 }
 
-// Writes the line of a point that is removed.
-fn write_removed<W: Sink>(out: &mut W, point: Point<'_>) -> Result<(), WriteStop>
-    ensures sent { Sends (W.taken out.old) (W.taken out.new)
-        (codes "removed " ++ (section_word (mark_of point.entry) ++ (mark_name (mark_of point.entry) ++ line_end))) result }
+// Writes the line of a point that goes behind another, or first of all.
+fn write_placed<W: Sink>(
+    out: &mut W,
+    word: &[u8],
+    point: Point<'_>,
+    behind: Option<Point<'_>>,
+) -> Result<(), WriteStop>
+    ensures sent { Sends (W.taken out.old) (W.taken out.new) (worded word.now (mark_of point.entry) ++ behind_told behind.entry) result }
     ensures errors { CountsErr (W.failed out.old) (W.failed out.new) result }
 {
-    write_pieces(
-        out,
-        &[
-            Piece::Bytes(b"removed "),
-            section_piece(point),
-            name_piece(point),
-            Piece::Bytes(b"\n"),
-        ],
-    )
+    write_worded(out, word, point)?;
+    write_behind(out, behind)
 }
 
-// Writes the line of a point that goes behind another, or first of all.
-fn write_placed<'a, W: Sink>(
-    out: &mut W,
-    word: &'a [u8],
-    point: Point<'a>,
-    behind: Option<Point<'a>>,
-) -> Result<(), WriteStop>
-    ensures sent { Sends (W.taken out.old) (W.taken out.new) (placed_told word.now (mark_of point.entry) behind.entry) result }
+// Writes what a point stands behind, and the end of the line.
+fn write_behind<W: Sink>(out: &mut W, behind: Option<Point<'_>>) -> Result<(), WriteStop>
+    ensures sent { Sends (W.taken out.old) (W.taken out.new) (behind_told behind.entry) result }
     ensures errors { CountsErr (W.failed out.old) (W.failed out.new) result }
 {
     match behind {
-        None => write_first(out, word, point),
-        Some(behind) => write_behind(out, word, point, behind),
+        None => write_bytes(out, b" first\n"),
+        Some(behind) => write_ended(out, b" behind ", behind),
     }
 }
 
-// Writes the line of a point that goes first of all.
-fn write_first<'a, W: Sink>(out: &mut W, word: &'a [u8], point: Point<'a>) -> Result<(), WriteStop>
-    ensures sent { Sends (W.taken out.old) (W.taken out.new)
-        (word.now ++ (section_word (mark_of point.entry) ++ (mark_name (mark_of point.entry) ++ codes " first\n"))) result }
+// Writes a point behind a word, and the end of the line.
+fn write_ended<W: Sink>(out: &mut W, word: &[u8], point: Point<'_>) -> Result<(), WriteStop>
+    ensures sent { Sends (W.taken out.old) (W.taken out.new) (worded word.now (mark_of point.entry) ++ line_end) result }
+    ensures errors { CountsErr (W.failed out.old) (W.failed out.new) result }
+{
+    write_worded(out, word, point)?;
+    write_bytes(out, b"\n")
+}
+
+// Writes a point behind a word.
+fn write_worded<W: Sink>(out: &mut W, word: &[u8], point: Point<'_>) -> Result<(), WriteStop>
+    ensures sent { Sends (W.taken out.old) (W.taken out.new) (worded word.now (mark_of point.entry)) result }
+    ensures errors { CountsErr (W.failed out.old) (W.failed out.new) result }
+{
+    write_bytes(out, word)?;
+    write_point(out, point)
+}
+
+// Writes a point: a declaration, the beginning of a section by its name, or the identifier of an entry.
+fn write_point<W: Sink>(out: &mut W, point: Point<'_>) -> Result<(), WriteStop>
+    ensures sent { Sends (W.taken out.old) (W.taken out.new) (mark_told (mark_of point.entry)) result }
+    ensures errors { CountsErr (W.failed out.old) (W.failed out.new) result }
+{
+    match point {
+        Point::Declared(item) => write_declaration(out, item),
+        Point::Section(name) => write_named(out, b"section ", name),
+        Point::Entry(id) => write_id(out, id),
+    }
+}
+
+// Writes a declaration, as its line in a table.
+fn write_declaration<W: Sink>(out: &mut W, item: DeclaredItem<'_>) -> Result<(), WriteStop>
+    ensures sent { Sends (W.taken out.old) (W.taken out.new) (declaration_told (declared_by item.entry)) result }
+    ensures errors { CountsErr (W.failed out.old) (W.failed out.new) result }
+{
+    match item {
+        DeclaredItem::Symbol(name) => write_named(out, b"collating-symbol ", name),
+        DeclaredItem::Element(name, text) => write_element(out, name, text),
+        DeclaredItem::Equivalence(name, symbol) => write_second_name(out, name, symbol),
+    }
+}
+
+// Writes a name between its brackets, behind a word.
+fn write_named<'a, W: Sink>(out: &mut W, word: &'a [u8], name: &'a str) -> Result<(), WriteStop>
+    ensures sent { Sends (W.taken out.old) (W.taken out.new) (word.now ++ symbol_bytes (chars name.now)) result }
+    ensures errors { CountsErr (W.failed out.old) (W.failed out.new) result }
+{
+    write_pieces(out, &[Piece::Bytes(word), Piece::Symbol(name)])
+}
+
+// Writes the declaration of a collating element.
+fn write_element<'a, W: Sink>(out: &mut W, name: &'a str, text: &'a str) -> Result<(), WriteStop>
+    ensures sent { Sends (W.taken out.old) (W.taken out.new) (declaration_told (Element (chars name.now) (chars text.now))) result }
     ensures errors { CountsErr (W.failed out.old) (W.failed out.new) result }
 {
     write_pieces(
         out,
         &[
-            Piece::Bytes(word),
-            section_piece(point),
-            name_piece(point),
-            Piece::Bytes(b" first\n"),
+            Piece::Bytes(b"collating-element "),
+            Piece::Symbol(name),
+            Piece::Bytes(b" from \""),
+            Piece::Text(text),
+            Piece::Bytes(b"\""),
         ],
     )
 }
 
-// Writes the line of a point that goes behind another.
-fn write_behind<'a, W: Sink>(
+// Writes the declaration of a second name.
+fn write_second_name<'a, W: Sink>(
     out: &mut W,
-    word: &'a [u8],
-    point: Point<'a>,
-    behind: Point<'a>,
+    name: &'a str,
+    symbol: &'a str,
 ) -> Result<(), WriteStop>
-    ensures sent { Sends (W.taken out.old) (W.taken out.new)
-        (word.now ++ (section_word (mark_of point.entry) ++ (mark_name (mark_of point.entry) ++ (codes " behind "
-        ++ (section_word (mark_of behind.entry) ++ (mark_name (mark_of behind.entry) ++ line_end)))))) result }
+    ensures sent { Sends (W.taken out.old) (W.taken out.new) (declaration_told (Equivalence (chars name.now) (chars symbol.now))) result }
     ensures errors { CountsErr (W.failed out.old) (W.failed out.new) result }
 {
     write_pieces(
         out,
         &[
-            Piece::Bytes(word),
-            section_piece(point),
-            name_piece(point),
-            Piece::Bytes(b" behind "),
-            section_piece(behind),
-            name_piece(behind),
-            Piece::Bytes(b"\n"),
+            Piece::Bytes(b"symbol-equivalence "),
+            Piece::Symbol(name),
+            Piece::Bytes(b" "),
+            Piece::Symbol(symbol),
         ],
     )
-}
-
-// The word before the name of a section.
-fn section_piece<'a>(point: Point<'a>) -> Piece<'a>
-    ensures { piece_bytes result ≡ section_word (mark_of point.entry) }
-{
-    match point {
-        Point::Section(_) => Piece::Bytes(b"section "),
-        Point::Entry(_) => Piece::Bytes(b""),
-    }
-}
-
-// The name of a section, or an identifier.
-fn name_piece<'a>(point: Point<'a>) -> Piece<'a>
-    ensures { piece_bytes result ≡ mark_name (mark_of point.entry) }
-{
-    match point {
-        Point::Section(name) => Piece::Symbol(name),
-        Point::Entry(id) => Piece::Id(id),
-    }
 }
 
 // Writes a line for each entry with other weights.
@@ -466,12 +359,8 @@ fn write_counts<W: Sink>(out: &mut W, told: &Differences<'_>) -> Result<(), Writ
         &[
             Piece::Bytes(b"differences rules "),
             Piece::Number(rules),
-            Piece::Bytes(b" undeclared "),
-            Piece::Number(told.undeclared.len() as u64),
-            Piece::Bytes(b" declared "),
-            Piece::Number(told.declared.len() as u64),
-            Piece::Bytes(b" otherwise "),
-            Piece::Number(count_one(told.redeclared)),
+            Piece::Bytes(b" declarations "),
+            Piece::Number(told.declarations.len() as u64),
             Piece::Bytes(b" removed "),
             Piece::Number(removals(changes)),
             Piece::Bytes(b" added "),

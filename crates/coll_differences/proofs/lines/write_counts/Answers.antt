@@ -7,11 +7,9 @@ returns-clause-sent g c =
       c.count_one-rules.ensures,
       c.is_some.ensures,
       c.len.ensures,
-      c.len-2.ensures,
-      c.count_one.ensures,
       c.removals.ensures,
       c.additions.ensures,
       c.moves.ensures,
-      c.len-3.ensures,
+      c.len-2.ensures,
       c.as_slice-changes.ensures.value,
     ) at c.write_pieces.ensures.sent

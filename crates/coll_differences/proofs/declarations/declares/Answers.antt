@@ -2,7 +2,7 @@
 use Rattle.std.proofs.Common.{chars, ◌∙◌}
 use Rattle.coll_nodes.specs.TableLayout.{collation}
 use Rattle.coll_differences.proofs.DeclaredNames.{name_told}
-use Rattle.coll_differences.proofs.declarations.declares_name.Goals as goal
+use Rattle.coll_differences.proofs.declarations.declares.Goals as goal
 
 pub returns : goal.returns
 returns c = c.is_some.ensures ∙ name_told (collation c.args.table.now).declared (chars c.args.name.now) c.resolve.result c.resolve.ensures
