@@ -15,7 +15,7 @@ first_less : (a b : ℕ) (ks ls : List ℕ) → a < b → list_order (a ∷ ks) 
 first_less a b ks ls less = ap (λ o. ordering_then o (list_order ks ls)) (sym (nat_cmp_is a b Less less))
 
 -- where they are the same, the later ones do
-first_same : (a b : ℕ) (ks ls : List ℕ) → a ≡ b → list_order (a ∷ ks) (b ∷ ls) ≡ list_order ks ls
+pub first_same : (a b : ℕ) (ks ls : List ℕ) → a ≡ b → list_order (a ∷ ks) (b ∷ ls) ≡ list_order ks ls
 first_same a b ks ls same = ap (λ o. ordering_then o (list_order ks ls)) (sym (nat_cmp_is a b Equal same))
 
 -- a number that is no greater decides for less, or leaves it to the later ones

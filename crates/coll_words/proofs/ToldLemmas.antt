@@ -1,20 +1,24 @@
 -- The list of a level on the way along it, and what is told of two lists.
-use Rattle.std.proofs.Common.{◌≡◌, ◌≢◌, ℕ, suc, ◌+◌, ◌-◌, ◌*◌, ◌≤◌, ◌==◌, Bool, true, false, cond, List, [], ◌∷◌, ◌++◌, length, map, take, reverse, Option, Some, None}
+use Rattle.std.proofs.Common.{◌≡◌, ◌≢◌, ℕ, suc, ◌+◌, ◌-◌, ◌*◌, ◌<◌, ◌≤◌, ◌==◌, Bool, true, false, cond, List, [], ◌∷◌, ◌++◌, length, map, take, reverse, Option, Some, None}
 use Rattle.std.proofs.Common.{refl, sym, ap, ap₂, subst, ◌∙◌, add-one, add-zero, append-nil, length-append, arith}
 use Rattle.std.specs.Prelude.{slice_get, option_map}
 use Rattle.std.proofs.lemmas.Bool.{eqb-true, false≢true}
 use Rattle.std.proofs.lemmas.Bool.Decides.{Decides-eqb}
+use Rattle.std.proofs.lemmas.Cmp.{by_ranked, ranked}
+use Rattle.std.specs.Ordering.{nat_cmp, ordering_then}
 use Rattle.std.proofs.lemmas.Grind.{flat_map-append}
 use Rattle.std.proofs.lemmas.List.{reverse-append, map-append}
 use Rattle.coll_elements.proofs.Tests.{by_test}
 use Rattle.coll_ranks.specs.WeightNumbers.{numbers_at}
 use Rattle.coll_key.specs.LevelList.{directed, items, items_of, level_list, listed}
+use Rattle.coll_key.specs.TextOrder.{list_order}
 use Rattle.coll_key.proofs.DirectionLemmas.{length-directed, map-directed, map-reverse}
 use Rattle.coll_key.proofs.RowLemmas.{list_alike}
-use Rattle.coll_words.specs.ExplanationLaws.{DifferFirstAt, FirstDifferencesAreTold, TellsFirst, ToldNumbersAreListed, words_or_end}
+use Rattle.coll_words.specs.ExplanationLaws.{FirstDifferencesAreTold, TellsFirst, ToldNumbersAreListed, order_there, words_or_end}
 use Rattle.coll_words.specs.Sources.{Source, sources_at}
 use Rattle.coll_words.specs.ToldLists.{Apart, Told, all_items, first_apart, source_items, told_from, told_list}
 use Rattle.coll_words.specs.ToldSteps.{directed_sources, gap_count, sources_left}
+use Rattle.coll_words.proofs.PackedOrder.{first_same}
 use Rattle.coll_words.proofs.SourceLemmas.{number_in, numbers_are}
 
 -- Directions.
@@ -153,6 +157,14 @@ told_are_listed table level rule elements =
 
 -- Where two lists differ first.
 
+-- numbers that differ decide
+first_decides : (a b : ℕ) (ks ls : List ℕ) → (a ≡ b → ⊥) → list_order (a ∷ ks) (b ∷ ls) ≡ nat_cmp a b
+first_decides a b ks ls apart =
+    by_ranked (a < b) (a ≡ b) (b < a) (nat_cmp a b) (ranked a b (nat_cmp a b) refl)
+    (λ is less. ap (λ o. ordering_then o (list_order ks ls)) is ∙ sym is)
+    (λ is same. absurd (apart same))
+    (λ is more. ap (λ o. ordering_then o (list_order ks ls)) is ∙ sym is)
+
 -- a difference that many places on, behind others
 abbrev TellsBehind : (passed : ℕ) → (list other : List Told) → Option Apart → Type 0
 TellsBehind passed list other None = told_numbers list ≡ told_numbers other
@@ -160,6 +172,7 @@ TellsBehind passed list other (Some apart) =
     (ahead : ℕ) × (apart.place ≡ suc (passed + ahead)) × (take ahead (told_numbers list) ≡ take ahead (told_numbers other))
     × (slice_get (told_numbers list) ahead ≢ slice_get (told_numbers other) ahead) × (apart.words ≡ words_or_end (slice_get list ahead))
     × (apart.other_words ≡ words_or_end (slice_get other ahead))
+    × (list_order (told_numbers list) (told_numbers other) ≡ order_there (slice_get (told_numbers list) ahead) (slice_get (told_numbers other) ahead))
 
 -- a number more that both have
 one_more : (passed : ℕ) (told opposite : Told) (list other : List Told) (r : Option Apart) → told.number ≡ opposite.number → TellsBehind (suc passed) list other r
@@ -172,58 +185,43 @@ one_more passed told opposite list other (Some apart) same h = (
   h.3,
   h.4,
   h.5,
+  first_same told.number opposite.number (told_numbers list) (told_numbers other) same ∙ h.6,
 )
 
 tells_behind : (passed : ℕ) (list other : List Told) → TellsBehind passed list other (first_apart (suc passed) list other)
 tells_behind passed [] [] = refl
-tells_behind passed (told ∷ list) [] = (0, ap suc (sym (add-zero passed)), refl, (λ e. cc), refl, refl)
-tells_behind passed [] (opposite ∷ other) = (0, ap suc (sym (add-zero passed)), refl, (λ e. cc), refl, refl)
+tells_behind passed (told ∷ list) [] = (0, ap suc (sym (add-zero passed)), refl, (λ e. cc), refl, refl, refl)
+tells_behind passed [] (opposite ∷ other) = (0, ap suc (sym (add-zero passed)), refl, (λ e. cc), refl, refl, refl)
 tells_behind passed (told ∷ list) (opposite ∷ other) =
     by_test (λ b. TellsBehind passed (told ∷ list) (opposite ∷ other)
     (cond b (first_apart (suc (suc passed)) list other) (Some (record { place = suc passed; words = told.words; other_words = opposite.words })))) (told.number == opposite.number)
     (λ on. one_more passed told opposite list other (first_apart (suc (suc passed)) list other) (eqb-true told.number opposite.number on) (tells_behind (suc passed) list other))
-    (λ off. (0, ap suc (sym (add-zero passed)), refl, apart off, refl, refl)) where
-      apart : (told.number == opposite.number) ≡ false → slice_get (told_numbers (told ∷ list)) 0 ≢ slice_get (told_numbers (opposite ∷ other)) 0
-      apart off e =
-          let same : told.number ≡ opposite.number = cc in
-          false≢true (sym off ∙ (Decides-eqb told.number opposite.number).1 same)
+    (λ off. (0, ap suc (sym (add-zero passed)), refl, apart off, refl, refl, first_decides told.number opposite.number (told_numbers list) (told_numbers other) (others off))) where
+      others : (told.number == opposite.number) ≡ false → told.number ≡ opposite.number → ⊥
+      others off same = false≢true (sym off ∙ (Decides-eqb told.number opposite.number).1 same)
 
-differ : (numbers others : List ℕ) (ahead : ℕ) → take ahead numbers ≡ take ahead others → slice_get numbers ahead ≢ slice_get others ahead → DifferFirstAt numbers others (suc (0 + ahead))
-differ numbers others ahead same apart =
-    let here : ahead ≡ suc (0 + ahead) - 1 = omega arith in
-    record {
-      same = subst (λ (n : ℕ). take n numbers ≡ take n others) here same;
-      apart = subst (λ (n : ℕ). slice_get numbers n ≢ slice_get others n) here apart;
-    }
+      apart : (told.number == opposite.number) ≡ false → slice_get (told_numbers (told ∷ list)) 0 ≢ slice_get (told_numbers (opposite ∷ other)) 0
+      apart off e = others off (let same : told.number ≡ opposite.number = cc in same)
+
+-- the first of all is told
+tells_first : (list other : List Told) (r : Option Apart) → TellsBehind 0 list other r → TellsFirst (told_numbers list) (told_numbers other) list other r
+tells_first list other None h = h
+tells_first list other (Some apart) h =
+    let ahead : h.0 ≡ apart.place - 1 = omega (arith, h.1) in
+    (
+      record {
+        same = subst (λ (n : ℕ). take n (told_numbers list) ≡ take n (told_numbers other)) ahead h.2;
+        apart = subst (λ (n : ℕ). slice_get (told_numbers list) n ≢ slice_get (told_numbers other) n) ahead h.3;
+      },
+      h.4 ∙ ap (λ (n : ℕ). words_or_end (slice_get list n)) ahead,
+      h.5 ∙ ap (λ (n : ℕ). words_or_end (slice_get other n)) ahead,
+      h.6 ∙ ap (λ (n : ℕ). order_there (slice_get (told_numbers list) n) (slice_get (told_numbers other) n)) ahead,
+    )
 
 pub told_first : FirstDifferencesAreTold
 told_first table level rule elements others =
-    by (first_apart 1 list other) (tells_behind 0 list other)
-  where
-    list : List Told
-    list = told_list rule (sources_at table level) elements
-
-    other : List Told
-    other = told_list rule (sources_at table level) others
-
-    are : told_numbers (told_list rule (sources_at table level) elements) ≡ level_list rule (numbers_at table level) elements
-    are = told_are_listed table level rule elements
-
-    others_are : told_numbers (told_list rule (sources_at table level) others) ≡ level_list rule (numbers_at table level) others
-    others_are = told_are_listed table level rule others
-
-    by : (r : Option Apart) → TellsBehind 0 (told_list rule (sources_at table level) elements) (told_list rule (sources_at table level) others) r
-        → TellsFirst (level_list rule (numbers_at table level) elements) (level_list rule (numbers_at table level) others) (told_list rule (sources_at table level) elements)
-        (told_list rule (sources_at table level) others) r
-    by None h = sym are ∙ h ∙ others_are
-    by (Some apart) h =
-        let ahead : apart.place - 1 ≡ h.0 = omega (arith, h.1) in (
-          subst (λ (n : ℕ). DifferFirstAt (level_list rule (numbers_at table level) elements) (level_list rule (numbers_at table level) others) n) (sym h.1)
-              (differ (level_list rule (numbers_at table level) elements) (level_list rule (numbers_at table level) others) h.0
-              (subst (λ (ns : List ℕ). take h.0 ns ≡ take h.0 (level_list rule (numbers_at table level) others)) are
-              (subst (λ (ns : List ℕ). take h.0 (told_numbers (told_list rule (sources_at table level) elements)) ≡ take h.0 ns) others_are h.2))
-              (subst (λ (ns : List ℕ). slice_get ns h.0 ≢ slice_get (level_list rule (numbers_at table level) others) h.0) are
-              (subst (λ (ns : List ℕ). slice_get (told_numbers (told_list rule (sources_at table level) elements)) h.0 ≢ slice_get ns h.0) others_are h.3))),
-          h.4 ∙ ap (λ (n : ℕ). words_or_end (slice_get (told_list rule (sources_at table level) elements) n)) (sym ahead),
-          h.5 ∙ ap (λ (n : ℕ). words_or_end (slice_get (told_list rule (sources_at table level) others) n)) (sym ahead),
-        )
+    let list = told_list rule (sources_at table level) elements in
+    let other = told_list rule (sources_at table level) others in
+    let r = first_apart 1 list other in
+    subst (λ (ns : List ℕ). TellsFirst ns (level_list rule (numbers_at table level) others) list other r) (told_are_listed table level rule elements)
+    (subst (λ (ns : List ℕ). TellsFirst (told_numbers list) ns list other r) (told_are_listed table level rule others) (tells_first list other r (tells_behind 0 list other)))

@@ -1,10 +1,14 @@
 -- What follows from the definitions of an explanation: what is told of a level is told of the lists that keys are made of.
 use Rattle.std.specs.Prelude.{◌≡◌, ◌≢◌, ℕ, ◌-◌, List, Option, Some, None, map, take, slice_get}
+use Rattle.std.specs.Ordering.{nat_cmp}
+use Rattle.std.specs.declared.cmp.Ordering.{Ordering}
+use Rattle.std.specs.declared.cmp.Ordering.TheVariants.{Less, Equal, Greater}
 use Rattle.coll_syntax.specs.declared.identifiers.Id.{Id}
 use Rattle.coll_syntax.specs.declared.rules.Rule.{Rule}
 use Rattle.coll_nodes.specs.Table.{Collation}
 use Rattle.coll_ranks.specs.WeightNumbers.{numbers_at}
 use Rattle.coll_key.specs.LevelList.{level_list}
+use Rattle.coll_key.specs.TextOrder.{list_order}
 use Rattle.coll_words.specs.Explanations.{apart_at}
 use Rattle.coll_words.specs.Sources.{sources_at}
 use Rattle.coll_words.specs.ToldLists.{Apart, Told, end_word, told_list}
@@ -23,19 +27,28 @@ words_or_end (Some told) = told.words
 abbrev pub words_there : List Told → (place : ℕ) → List ℕ
 words_there list place = words_or_end (slice_get list (place - 1))
 
+-- the order of what stands at a place of two lists: that of the numbers; a list that has ended is less
+abbrev pub order_there : Option ℕ → Option ℕ → Ordering
+order_there None None = Equal
+order_there None (Some n) = Less
+order_there (Some n) None = Greater
+order_there (Some n) (Some m) = nat_cmp n m
+
 -- what is told of two lists: nothing where their numbers are the same, and else the first place at which they differ, and what stands
--- there
+-- there, which decides the order of the lists
 abbrev pub TellsFirst : (numbers other_numbers : List ℕ) → (list other : List Told) → Option Apart → Type 0
 TellsFirst numbers other_numbers list other None = numbers ≡ other_numbers
 TellsFirst numbers other_numbers list other (Some apart) =
     DifferFirstAt numbers other_numbers apart.place × (apart.words ≡ words_there list apart.place) × (apart.other_words ≡ words_there other apart.place)
+    × (list_order numbers other_numbers ≡ order_there (slice_get numbers (apart.place - 1)) (slice_get other_numbers (apart.place - 1)))
 
 -- the numbers that are told of a level are its list, from which keys are made
 abbrev pub ToldNumbersAreListed : Type 0
 ToldNumbersAreListed = (table : Collation) (level : ℕ) (rule : Rule) (elements : List Id)
     → map (λ (told : Told). told.number) (told_list rule (sources_at table level) elements) ≡ level_list rule (numbers_at table level) elements
 
--- of each level is told whether its lists are the same, and else the first place at which they differ, and what stands there
+-- of each level is told whether its lists are the same, and else the first place at which they differ, and what stands there, which
+-- decides
 abbrev pub FirstDifferencesAreTold : Type 0
 FirstDifferencesAreTold = (table : Collation) (level : ℕ) (rule : Rule) (elements others : List Id)
     → TellsFirst (level_list rule (numbers_at table level) elements) (level_list rule (numbers_at table level) others)
