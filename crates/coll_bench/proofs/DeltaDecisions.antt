@@ -71,6 +71,7 @@ module _ (input : ℕ) where
     pub counts : after.ended ≡ false → CountsOne s.lexer after.lexer
     pub decides : (ends : Bool) (lines : List (List ℕ)) → decision input table (outcome_from ends block s (line ∷ lines)) ≡ decision input changed (outcome_from ends next after lines)
     pub given : List StatementAt
+    pub step : delta_line s line ≡ Ok (given, after)
     pub says : (ends : Bool) (lines : List (List ℕ)) → outcome_from ends block s (line ∷ lines) ≡ after_statements given (outcome_from ends next after lines)
 
   -- a line leads on, or it decides, whatever comes behind it
@@ -85,22 +86,23 @@ module _ (input : ℕ) where
     said given r o later e f = ap (decision input table) f ∙ (decided_after table given later ∙ ap (λ (r : Result Collation RunFault). by_statements r (λ changed. decision input changed later)) e)
 
     by_table : (given : List StatementAt) (after : DeltaState) (r : Result Collation RunFault) (stored : Option DeltaFault) → rewritten input table given ≡ r → after.fault ≡ stored
-        → Judged block s line (Ok (given, after))
+        → delta_line s line ≡ Ok (given, after) → Judged block s line (Ok (given, after))
         → LineDecides block table s line (unless_faulty r (λ changed. unless_stored input stored (changed, after)))
-    by_table given after (Err f) stored e g h =
+    by_table given after (Err f) stored e g step h =
         ⊎_elim (λ (on : LeadsOn block s line given after). λ ends lines. said given (Err f) (outcome_from ends block s (line ∷ lines)) (outcome_from ends on.next after lines) e (on.says ends lines))
         (λ (at : IsFaultBehind block s line given after). λ ends lines. said given (Err f) (outcome_from ends block s (line ∷ lines)) (ends_so (AtFault at.fault)) e (at.says ends lines)) h
-    by_table given after (Ok changed) None e g h =
+    by_table given after (Ok changed) None e g step h =
         ⊎_elim (λ (on : LeadsOn block s line given after). record {
           next = on.next;
           stands = on.stands;
           counts = on.counts;
           decides = λ ends lines. said given (Ok changed) (outcome_from ends block s (line ∷ lines)) (outcome_from ends on.next after lines) e (on.says ends lines);
           given = given;
+          step = step;
           says = on.says;
         })
         (λ (at : IsFaultBehind block s line given after). let both : None ≡ Some at.fault = sym g ∙ at.stored in absurd (cc)) h
-    by_table given after (Ok changed) (Some f) e g h =
+    by_table given after (Ok changed) (Some f) e g step h =
         ⊎_elim (λ (on : LeadsOn block s line given after). let both : None ≡ Some f = sym on.stands.faultless ∙ g in absurd (cc))
         (λ (at : IsFaultBehind block s line given after). λ ends lines.
         let same : Some at.fault ≡ Some f = sym at.stored ∙ g in
@@ -108,14 +110,14 @@ module _ (input : ℕ) where
         said given (Ok changed) (outcome_from ends block s (line ∷ lines)) (ends_so (AtFault at.fault)) e (at.says ends lines)
         ∙ (decided_end changed (AtFault at.fault) ∙ ap (λ (f : DeltaFault). Decided (Err (delta_fault_in input f))) is)) h
 
-    by_judged : (r : Step) → Judged block s line r → LineDecides block table s line (by_step input table r)
-    by_judged (Ok (given, after)) h = by_table given after (rewritten input table given) after.fault refl refl h
-    by_judged (Err f) h = λ ends lines. ap (decision input table) (h ends lines) ∙ decided_end table (AtFault f)
+    by_judged : (r : Step) → delta_line s line ≡ r → Judged block s line r → LineDecides block table s line (by_step input table r)
+    by_judged (Ok (given, after)) step h = by_table given after (rewritten input table given) after.fault refl refl step h
+    by_judged (Err f) step h = λ ends lines. ap (decision input table) (h ends lines) ∙ decided_end table (AtFault f)
 
     -- what a line is taken as is what it decides
     pub line_decides : StandsAfter block s → LineDecides block table s line (line_taken input table s line)
     unfolding line_taken
-    line_decides stands = by_judged (delta_line s line) (judged_line block s line stands)
+    line_decides stands = by_judged (delta_line s line) refl (judged_line block s line stands)
 
   module _ (block : Option BlockLines) (table : Collation) (s : DeltaState) (stands : StandsAfter block s) where
     -- A line that is too long.

@@ -1,6 +1,6 @@
 -- A delta file that is read line by line: what is known of it after some lines, and what each end of the reading says of it.
 use Rattle.std.proofs.Common.{◌≡◌, ℕ, Bool, true, false, List, [], ◌∷◌, ◌++◌, length, Option, Some, None, Result, Ok, Err, ◌⊎◌}
-use Rattle.std.proofs.Common.{⊎_elim, inl, inr, sym, ap, subst, ◌∙◌, refl, arith, append_assoc}
+use Rattle.std.proofs.Common.{⊎_elim, inl, inr, sym, ap, subst, ◌∙◌, refl, arith, append_assoc, append-nil}
 use Rattle.std.specs.Prelude.{◌+◌, option_map, IfErr, OnOk}
 use Rattle.coll_devices.specs.LineReading.{ReaderState, no_line, Advances, GivesLine, GivesEnd, EndsAgain, StopsNow, StopsAgain}
 use Rattle.coll_lex.specs.EarlyEnds.{ends_at}
@@ -11,14 +11,14 @@ use Rattle.coll_devices.specs.declared.stops.ReadStop.TheVariants as stop
 use Rattle.coll_nodes.specs.Table.{Collation}
 use Rattle.coll_table.proofs.TextSteps.{ReadSoFar, gives_first, stops_long, none_given, cut_behind, said_ahead, said_before, read_on, said_at_end, all_counted}
 use Rattle.coll_requests.specs.DeltaFaults.{early_fault}
-use Rattle.coll_requests.specs.DeltaFiles.{DeltaOutcome, after_statements, delta_outcome}
+use Rattle.coll_requests.specs.DeltaFiles.{DeltaOutcome, after_statements, delta_outcome, ends_so, Ended as CategoryEnded}
 use Rattle.coll_requests.specs.DeltaReading.{DeltaState, Step, first_delta, delta_line, early_end, delta_end}
 use Rattle.coll_requests.specs.Requests.{BlockLines}
 use Rattle.coll_requests.specs.declared.delta_faults.DeltaFault.{DeltaFault}
 use Rattle.coll_requests.specs.declared.delta_files.StatementAt.{StatementAt}
-use Rattle.coll_requests.proofs.DeltaSteps.{outcome_from, StandsAfter, CountsOne, stands_first}
-use Rattle.coll_bench.specs.BatchOutcome.{Decision, Decided, delta_fault_in, unless_faulty, rewritten, decision, answer_at_end, after_delta}
-use Rattle.coll_bench.specs.BatchReading.{Taken, DeltaFails, ReadsDelta, FailsAs, IsNumberOf, IsFaultNumber, unless_stored, by_step, stopped_in, line_taken}
+use Rattle.coll_requests.proofs.DeltaSteps.{outcome_from, StandsAfter, CountsOne, stands_first, from_ended}
+use Rattle.coll_bench.specs.BatchOutcome.{Decision, Decided, delta_fault_in, unless_faulty, rewritten, decision, answer_at_end, after_delta, statements_of}
+use Rattle.coll_bench.specs.BatchReading.{Taken, DeltaFails, ReadsDelta, FailsAs, IsNumberOf, IsFaultNumber, LeadsOver, unless_stored, by_step, stopped_in, line_taken}
 use Rattle.coll_bench.specs.BatchRuns.{Ending, ReadFailed, WriteFailed, Starved, Refused, ending_of, DecidesNothing, IsLineOfStatement, DeltaStarvesWithin}
 use Rattle.coll_table.specs.Loads.{IsLineWithin}
 use Rattle.coll_bench.specs.declared.faults.RunFault.{RunFault}
@@ -31,8 +31,13 @@ abbrev state_of : DeltaState → Taken → DeltaState
 state_of s (Ok taken) = taken.1
 state_of s (Err f) = s
 
+-- the statements that a line gives
+abbrev given_of : Step → List StatementAt
+given_of (Ok taken) = taken.0
+given_of (Err f) = []
+
 -- statements, further ones, and then what later lines say
-statements_append : (given more : List StatementAt) (later : DeltaOutcome) → after_statements given (after_statements more later) ≡ after_statements (given ++ more) later
+pub statements_append : (given more : List StatementAt) (later : DeltaOutcome) → after_statements given (after_statements more later) ≡ after_statements (given ++ more) later
 statements_append given more later = ap (λ (all : List StatementAt). record { statements = all; ending = later.ending }) (sym (append_assoc given more later.statements))
 
 -- a line that was taken is one that the file's reader took
@@ -77,7 +82,7 @@ module _ (input : ℕ) (first : Collation) where
     pub taken : (text : List ℕ) → start ≡ Some text → TakenSoFar text reader left block table s
 
   -- before the first line
-  pub sets_out : (start : Option (List ℕ)) → OnWay start no_line start first first_delta
+  abbrev pub sets_out : (start : Option (List ℕ)) → OnWay start no_line start first first_delta
   sets_out start = record {
     block = None;
     stands = stands_first;
@@ -118,13 +123,13 @@ module _ (input : ℕ) (first : Collation) where
     module _ (going : s.ended ≡ false) (new : ReaderState) (left_after : Option (List ℕ)) (failed failed_after : ℕ) where
       -- a line more that was taken
       module _ (changed : Collation) (after : DeltaState) (taken : line_taken input table s new.line ≡ Ok (changed, after)) where
-        opens_on : IsOpenWithin after.lexer
+        pub opens_on : IsOpenWithin after.lexer
         opens_on = let step = line_step input table s new.line changed after taken in opens_after s new.line way.stands.faultless step.0 after going way.stands.few step.1 way.opens
 
-        leads : Leads input way.block table changed s new.line after
+        pub leads : Leads input way.block table changed s new.line after
         leads = subst (LineDecides input way.block table s new.line) taken (line_decides input way.block table s new.line way.stands)
 
-        pub goes_on : GivesLine reader new left left_after failed failed_after → OnWay start new left_after changed after
+        abbrev pub goes_on : GivesLine reader new left left_after failed failed_after → OnWay start new left_after changed after
         goes_on gives = record {
           block = leads.next;
           stands = leads.stands;
@@ -251,9 +256,51 @@ module _ (input : ℕ) (first : Collation) where
       ends_ill : delta_end s ≡ None → ⊥
       ends_ill none = let both : Some (early_end s s.lexer.line) ≡ None = sym (reader_ends input way.block table s way.stands going) ∙ none in cc
 
+      -- so nothing has to be said of one that does
+      pub ends_nothing : (P : Type 0) (r : Result (Unit {0}) RunFault) → OnOk r (delta_end s ≡ None) → OnOk r P
+      ends_nothing P (Ok done) ok = absurd (ends_ill ok)
+      ends_nothing P (Err ended) ok = tt
+
       -- a file that ends here
       pub ends_file : GivesEnd reader new left left_after failed failed_after ⊎ EndsAgain reader new left left_after failed failed_after → (r : Result (Unit {0}) RunFault)
           → OnOk r (delta_end s ≡ None) → IfErr r (λ ended. option_map (delta_fault_in input) (delta_end s) ≡ Some ended)
           → ReadsDelta input first table start left_after r
       ends_file ends (Ok done) ok err = absurd (ends_ill ok)
       ends_file ends (Err ended) ok err = ends_early ends ended err
+
+  -- What takes the statements.
+
+  module _ {S : Type 0} (reaches : S → List StatementAt → S → Type 0) (begun : S) where
+    -- it was reached by the statements of the lines read so far
+    pub record Reached (now : S) (start : Option (List ℕ)) (reader : ReaderState) (left : Option (List ℕ)) (table : Collation) (s : DeltaState) : Type 0 where
+      pub way : OnWay start reader left table s
+      pub by_given : (text : List ℕ) (e : start ≡ Some text) → reaches begun (way.taken text e).given now
+
+    -- before the first line
+    pub begins : (start : Option (List ℕ)) → reaches begun [] begun → Reached begun start no_line start first first_delta
+    begins start stays = record { way = sets_out start; by_given = λ text e. stays }
+
+    module _ (now : S) (start : Option (List ℕ)) (reader : ReaderState) (left : Option (List ℕ)) (table : Collation) (s : DeltaState) (reached : Reached now start reader left table s) where
+      -- one line more
+      pub leads_on : (going : s.ended ≡ false) (new : ReaderState) (left_after : Option (List ℕ)) (failed failed_after : ℕ) (changed : Collation) (after : DeltaState)
+          → line_taken input table s new.line ≡ Ok (changed, after) → GivesLine reader new left left_after failed failed_after → (later : S)
+          → LeadsOver reaches now later s new.line after → Reached later start new left_after changed after
+      leads_on going new left_after failed failed_after changed after taken gives later over =
+          let line = leads start reader left table s reached.way going new left_after failed failed_after changed after taken in
+          let both : Ok (over.0, after) ≡ Ok (line.given, after) = sym over.1 ∙ line.step in
+          let same : over.0 ≡ line.given = ap given_of both in
+          record {
+            way = goes_on start reader left table s reached.way going new left_after failed failed_after changed after taken gives;
+            by_given = λ text e.
+                let before = (reached.way.taken text e).given in
+                subst (λ (given : List StatementAt). reaches begun (before ++ given) later) same (over.2 begun before (reached.by_given text e));
+          }
+
+      -- where the category has ended, these are the statements of the text
+      pub by_all : s.ended ≡ true → (text : List ℕ) → start ≡ Some text → reaches begun (statements_of text) now
+      by_all ended text e =
+          let at = reached.way.taken text e in
+          let rest = lines_of at.read.lines.rest in
+          let said : delta_outcome true (lines_of text) ≡ after_statements at.given (ends_so CategoryEnded) =
+              ap (delta_outcome true) at.read.lines.lines ∙ at.says true rest ∙ ap (after_statements at.given) (from_ended true reached.way.block s rest ended) in
+          subst (λ (given : List StatementAt). reaches begun given now) (sym (ap (λ (o : DeltaOutcome). o.statements) said ∙ append-nil at.given)) (reached.by_given text e)

@@ -95,6 +95,10 @@ answer_at_end input count (Undecided cause) = Err (delta_fault_in input (at_line
 unfoldable pub after_delta : (input : ℕ) → Collation → (text : List ℕ) → Result Collation RunFault
 after_delta input table file = answer_at_end input (length (lines_of file)) (decision input table (delta_outcome true (lines_of file)))
 
+-- the statements of a delta file, up to the end of its category or its first fault
+abbrev pub statements_of : (text : List ℕ) → List StatementAt
+statements_of file = (delta_outcome true (lines_of file)).statements
+
 -- a table after delta files, of which the first is the input with this number
 unfoldable pub after_deltas : (first : ℕ) → Collation → (texts : List (List ℕ)) → Result Collation RunFault
 after_deltas first table [] = Ok table

@@ -1,5 +1,5 @@
 -- What reading the inputs of a batch answers, input by input, and what an answer says of the batch then.
-use Rattle.std.specs.Prelude.{◌≡◌, ◌⊎◌, ◌==◌, ℕ, pred, false, if◌then◌else◌, List, [], ◌∷◌, map, Option, Some, None, Result, Ok, Err}
+use Rattle.std.specs.Prelude.{◌≡◌, ◌⊎◌, ◌==◌, ℕ, pred, false, if◌then◌else◌, List, [], ◌∷◌, ◌++◌, map, Option, Some, None, Result, Ok, Err}
 use Rattle.coll_devices.specs.Devices.{raised}
 use Rattle.coll_lex.specs.declared.faults.LexFault.TheVariants as lex
 use Rattle.coll_devices.specs.declared.stops.ReadStop.{ReadStop}
@@ -37,6 +37,12 @@ by_step input table (Err f) = Err (delta_fault_in input f)
 -- what one more line of a delta file is taken as
 unfoldable pub line_taken : (input : ℕ) → Collation → DeltaState → List ℕ → Taken
 line_taken input table s line = by_step input table (delta_line s line)
+
+-- a line led on, and from whatever reached its beginning the statement that it completes, if it completes one, reaches its end
+abbrev pub LeadsOver : {S : Type 0} → (S → List StatementAt → S → Type 0) → (old new : S) → DeltaState → List ℕ → DeltaState → Type 0
+LeadsOver {S} reaches old new s line after =
+    (given : List StatementAt) × (delta_line s line ≡ Ok (given, after))
+    × ((start : S) (before : List StatementAt) → reaches start before old → reaches start (before ++ given) new)
 
 -- a fault of a line or of a statement, by its kind: what is answered is this, unless memory was refused
 abbrev pub FailsAs : {A : Type 0} → Ending → Result A RunFault → RunFault → Type 0

@@ -1,8 +1,8 @@
 //! A batch: a table is read, rewritten by delta files, and answered from once.
 //!
 //! `run_batch_keyed` carries the theorem of a batch: what is written and what is answered are stated functions of the texts of its
-//! inputs (`BatchRuns` of `specs/BatchRuns.antt`). `inputs` reads the table and the delta files, `delta_files` a single one, and
-//! `output` writes what the batch asks for. Every input is read before the first byte is written, and no history is kept. A new
+//! inputs (`BatchRuns` of `specs/BatchRuns.antt`). `inputs` reads the table and the delta files, `delta_files` a single one, whose
+//! statements are put to what `taking` says, and `output` writes what the batch asks for. Every input is read before the first byte is written, and no history is kept. A new
 //! batch is a new variant of `Batch`, a case of `batch_output`, and of `write_output`.
 
 ghost use Rattle.std.specs.Prelude.{◌≡◌, ◌≤◌, ◌∷◌, length, map, IfErr, IfOk, Ok};
@@ -15,6 +15,7 @@ ghost use Rattle.coll_bench.specs.Serving.{CountsWrites, ReadsNone};
 mod delta_files;
 mod inputs;
 mod output;
+mod taking;
 
 use crate::faults::{Fault, RunFault};
 use coll_devices::{Sink, Source};
@@ -22,9 +23,11 @@ use coll_key::{KeyFault, MOST_TEXT_CHARACTERS};
 use coll_lex::{ListBuf, TextBuf};
 use coll_lookups::HashKeys;
 use coll_table::Table;
+pub use delta_files::read_delta;
 pub use inputs::read_inputs;
 use output::write_output;
 use std::alloc::Global;
+pub use taking::TakesStatements;
 
 /// What is asked of the table that the inputs of a batch give.
 #[derive(Drop)]

@@ -27,10 +27,13 @@ mod reports;
 mod runs;
 mod serving;
 
-pub use batches::{Batch, read_inputs, run_batch, run_batch_keyed};
+pub use batches::{
+    Batch, TakesStatements, read_delta, read_inputs, run_batch, run_batch_keyed,
+};
 pub use coll_history::{BenchFault, Session};
 pub use exports::write_symbols_behind;
 pub use faults::{Fault, RunFault};
 pub use laws::{lack_of_memory_shows, refused_lines_change_nothing};
+pub use replies::write_history_line;
 pub use reports::{exit_status, write_fault};
 pub use runs::run_session;

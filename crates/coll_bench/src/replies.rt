@@ -27,6 +27,7 @@ use coll_requests::{Command, Request};
 use coll_table::{Refusal, Table};
 use coll_texts::{Piece, write_pieces};
 use history_reply::write_history;
+pub use history_reply::write_history_line;
 use std::alloc::Global;
 use texts::{answer_compare, answer_key};
 pub(crate) use texts::{write_key_ended, write_order};

@@ -1,61 +1,66 @@
-//! A delta file is read line by line, and each statement rewrites the table at once.
+//! A delta file is read line by line, and each statement is put at once to what takes them.
 //!
-//! No history is kept: the record of a statement is dropped. Whoever keeps more of a file than its reader and the table gives up
-//! that a file of any length is read in the memory of its longest block.
+//! No history is kept: whoever keeps more of a file than its reader and the table gives up that a file of any length is read in the
+//! memory of its longest block.
 
-ghost use Rattle.std.specs.Prelude.{◌≡◌, option_map, option_to_list, IfSome, IfErr, OnOk, Ok, None, Some};
+ghost use Rattle.std.specs.Prelude.{◌≡◌, ◌++◌, ℕ, List, option_map, option_to_list, IfSome, IfErr, OnOk, Ok, None, Some};
 ghost use Rattle.coll_devices.specs.LineReading.{no_line};
 ghost use Rattle.coll_requests.specs.DeltaReading.{delta_end, first_delta};
+ghost use Rattle.coll_requests.specs.declared.delta_files.StatementAt.{StatementAt};
 ghost use Rattle.coll_syntax.specs.Proper.{IsProper};
-ghost use Rattle.coll_table.specs.Delta.{delta as delta_of};
-ghost use Rattle.coll_nodes.specs.TableLayout.{collation};
-ghost use Rattle.coll_bench.specs.BatchOutcome.{delta_fault_in, judged_at, rewritten};
-ghost use Rattle.coll_bench.specs.BatchReading.{ReadsDelta, CountsDelta, WritesNone, FailsAs, IsNumberOf};
+ghost use Rattle.coll_bench.specs.BatchOutcome.{delta_fault_in, rewritten, statements_of};
+ghost use Rattle.coll_bench.specs.BatchReading.{ReadsDelta, CountsDelta, WritesNone, FailsAs, IsNumberOf, LeadsOver};
 ghost use Rattle.coll_bench.specs.BatchReading.{IsFaultNumber, line_taken, starved_in, stopped_in};
 ghost use Rattle.coll_bench.specs.BatchRuns.{ending_of};
 
+use super::taking::TakesStatements;
 use crate::faults::{Fault, RunFault};
 use coll_devices::{LineReader, ReadStop, Source};
 use coll_lex::LexFault;
 use coll_requests::{DeltaFault, DeltaReader, StatementAt};
-use coll_table::Table;
 use std::alloc::Global;
 
-/// Rewrites a table by a delta file, which is the input with this number.
-pub(crate) fn read_delta<R: Source>(
+/// Rewrites a table by a delta file, which is the input with this number: each statement is put to what takes them as soon as it was
+/// read whole.
+///
+/// Nothing behind the end of the category is looked at. The first fault met is the answer, with its line (of a refused block that of
+/// its `reorder-after`). A read that fails has line 0, unless the lines read whole before it are at fault already.
+pub fn read_delta<R: Source, T: TakesStatements>(
     alloc: Global,
     input: usize,
-    table: &mut Table,
+    taker: &mut T,
     delta: &mut R,
 ) -> Result<(), RunFault>
-    ensures file { ReadsDelta input (collation table.old) (collation table.new) (R.left delta.old) (R.left delta.new) result }
+    ensures file { ReadsDelta input (T.table taker.old) (T.table taker.new) (R.left delta.old) (R.left delta.new) result }
+    ensures reaches { OnOk result ((text : List ℕ) → R.left delta.old ≡ Some text → T.Reaches taker.old (statements_of text) taker.new) }
     ensures input { IfErr result (λ ended. ended.input ≡ input) }
     ensures writes { IfErr result (λ ended. WritesNone ended) }
     ensures reads { CountsDelta (R.failed delta.old) (R.failed delta.new) result }
 {
     match DeltaReader::new(alloc) {
-        Ok(file) => read_text(alloc, input, table, file, delta),
+        Ok(file) => read_text(alloc, input, taker, file, delta),
         Err(_) => Err(no_memory(input)),
     }
 }
 
 // Rewrites a table by the text of a delta file, of which no line was handed in yet.
-fn read_text<R: Source>(
+fn read_text<R: Source, T: TakesStatements>(
     alloc: Global,
     input: usize,
-    table: &mut Table,
+    taker: &mut T,
     file: DeltaReader,
     delta: &mut R,
 ) -> Result<(), RunFault>
     requires { file ≡ first_delta }
-    ensures file { ReadsDelta input (collation table.old) (collation table.new) (R.left delta.old) (R.left delta.new) result }
+    ensures file { ReadsDelta input (T.table taker.old) (T.table taker.new) (R.left delta.old) (R.left delta.new) result }
+    ensures reaches { OnOk result ((text : List ℕ) → R.left delta.old ≡ Some text → T.Reaches taker.old (statements_of text) taker.new) }
     ensures input { IfErr result (λ ended. ended.input ≡ input) }
     ensures writes { IfErr result (λ ended. WritesNone ended) }
     ensures reads { CountsDelta (R.failed delta.old) (R.failed delta.new) result }
 {
     match LineReader::new(alloc) {
         Ok(mut reader) => {
-            let answer = read_lines(input, table, file, &mut reader, delta);
+            let answer = read_lines(input, taker, file, &mut reader, delta);
             drop(reader);
             answer
         }
@@ -67,16 +72,17 @@ fn read_text<R: Source>(
 }
 
 // Rewrites a table by the lines of a delta file, of which none was read yet.
-fn read_lines<R: Source>(
+fn read_lines<R: Source, T: TakesStatements>(
     input: usize,
-    table: &mut Table,
+    taker: &mut T,
     mut file: DeltaReader,
     reader: &mut LineReader,
     delta: &mut R,
 ) -> Result<(), RunFault>
     requires file { file ≡ first_delta }
     requires reader { reader.old ≡ no_line }
-    ensures file { ReadsDelta input (collation table.old) (collation table.new) (R.left delta.old) (R.left delta.new) result }
+    ensures file { ReadsDelta input (T.table taker.old) (T.table taker.new) (R.left delta.old) (R.left delta.new) result }
+    ensures reaches { OnOk result ((text : List ℕ) → R.left delta.old ≡ Some text → T.Reaches taker.old (statements_of text) taker.new) }
     ensures input { IfErr result (λ ended. ended.input ≡ input) }
     ensures writes { IfErr result (λ ended. WritesNone ended) }
     ensures reads { CountsDelta (R.failed delta.old) (R.failed delta.new) result }
@@ -84,7 +90,7 @@ fn read_lines<R: Source>(
     'lines: loop {
         match reader.advance(delta) {
             Ok(true) => {
-                if let Err(ended) = take_line(input, table, &mut file, reader.line()) {
+                if let Err(ended) = take_line(input, taker, &mut file, reader.line()) {
                     drop(file);
                     return Err(ended);
                 }
@@ -105,21 +111,22 @@ fn read_lines<R: Source>(
 
 // Hands a line in, and rewrites the table by the statement that it completes. A line may be at fault behind that statement, and the
 // fault is then stored.
-fn take_line(
+fn take_line<T: TakesStatements>(
     input: usize,
-    table: &mut Table,
+    taker: &mut T,
     file: &mut DeltaReader,
     line: &[u8],
 ) -> Result<(), RunFault>
-    ensures ok { OnOk result (line_taken input (collation table.old) file.old line.now ≡ Ok (collation table.new, file.new)) }
-    ensures err { IfErr result (λ ended. FailsAs (ending_of ended) (line_taken input (collation table.old) file.old line.now) ended) }
+    ensures ok { OnOk result (line_taken input (T.table taker.old) file.old line.now ≡ Ok (T.table taker.new, file.new)) }
+    ensures reaches { OnOk result (LeadsOver T.Reaches taker.old taker.new file.old line.now file.new) }
+    ensures err { IfErr result (λ ended. FailsAs (ending_of ended) (line_taken input (T.table taker.old) file.old line.now) ended) }
     ensures number { file.old.fault ≡ None → IfErr result (λ ended. IsFaultNumber file.old line.now ended.line) }
     ensures input { IfErr result (λ ended. ended.input ≡ input) }
 {
     match file.line(line) {
         Ok(given) => {
             // Not `?`: behind its conversion this exit would need a lemma.
-            if let Err(ended) = rewrite_if(input, table, given) {
+            if let Err(ended) = put_if(input, taker, given) {
                 return Err(ended);
             }
         }
@@ -133,35 +140,22 @@ fn take_line(
 
 // Rewrites the table by a statement, if there is one.
 #[tactic(auto, unfolding(crate::specs::BatchOutcome::rewritten))]
-fn rewrite_if(input: usize, table: &mut Table, given: Option<StatementAt>) -> Result<(), RunFault>
+fn put_if<T: TakesStatements>(
+    input: usize,
+    taker: &mut T,
+    given: Option<StatementAt>,
+) -> Result<(), RunFault>
     requires proper { IfSome given (λ at. IsProper at.statement) }
-    ensures ok { OnOk result (rewritten input (collation table.old) (option_to_list given) ≡ Ok (collation table.new)) }
-    ensures err { IfErr result (λ ended. FailsAs (ending_of ended) (rewritten input (collation table.old) (option_to_list given)) ended) }
+    ensures ok { OnOk result (rewritten input (T.table taker.old) (option_to_list given) ≡ Ok (T.table taker.new)) }
+    ensures reaches { OnOk result ((start : T) (before : List StatementAt) → T.Reaches start before taker.old
+        → T.Reaches start (before ++ option_to_list given) taker.new) }
+    ensures err { IfErr result (λ ended. FailsAs (ending_of ended) (rewritten input (T.table taker.old) (option_to_list given)) ended) }
     ensures number { IfErr result (λ ended. IsNumberOf (option_to_list given) ended.line) }
     ensures input { IfErr result (λ ended. ended.input ≡ input) }
 {
     match given {
-        Some(at) => rewrite(input, table, &at),
+        Some(at) => taker.put(input, &at),
         None => Ok(()),
-    }
-}
-
-// Rewrites the table by a statement. The record that would take it back is dropped.
-fn rewrite(input: usize, table: &mut Table, at: &StatementAt) -> Result<(), RunFault>
-    requires proper { IsProper at.now.statement }
-    ensures ok { OnOk result (judged_at input at.now.line (delta_of (collation table.old) at.now.statement) ≡ Ok (collation table.new)) }
-    ensures err { IfErr result (λ ended.
-        FailsAs (ending_of ended) (judged_at input at.now.line (delta_of (collation table.old) at.now.statement)) ended) }
-    ensures number { IfErr result (λ ended. ended.line ≡ at.now.line) }
-    ensures input { IfErr result (λ ended. ended.input ≡ input) }
-{
-    match table.apply(&at.statement) {
-        Ok(_) => Ok(()),
-        Err(refusal) => Err(RunFault {
-            input,
-            line: at.line,
-            fault: Fault::Table(refusal),
-        }),
     }
 }
 

@@ -1,6 +1,6 @@
 //! The reply to `:history`: a line for each statement that remains, and how many remain and were taken back.
 //!
-//! A new statement is a case of `write_remaining_line`, and of `statement_words` of `specs/Replies.antt`.
+//! A new statement is a case of `write_history_line`, and of `statement_words` of `specs/Replies.antt`.
 
 ghost use Rattle.std.specs.Prelude.{◌++◌, ◌∷◌, [], codes, decimal};
 ghost use Rattle.coll_devices.specs.Devices.{CountsErr, Sends};
@@ -37,16 +37,17 @@ fn write_remaining<W: Sink>(out: &mut W, session: &Session) -> Result<(), WriteS
             unreachable!();
         };
         // Not `?`: behind its conversion this exit would need a lemma.
-        if let Err(stop) = write_remaining_line(out, number, statement) {
+        if let Err(stop) = write_history_line(out, number, statement) {
             return Err(stop);
         }
     }
     Ok(())
 }
 
-// Writes the line of a statement with its number.
+/// Writes the line that a statement with its number has in the reply to `:history`. Where it stops, the device has taken a prefix of
+/// it.
 #[tactic(auto, unfolding(crate::specs::Replies::history_line))]
-fn write_remaining_line<W: Sink>(
+pub fn write_history_line<W: Sink>(
     out: &mut W,
     number: u32,
     statement: &Statement,

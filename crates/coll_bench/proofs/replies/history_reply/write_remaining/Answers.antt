@@ -18,11 +18,11 @@ pub returns-in-Err-clause-sent : goal.returns-in-Err-clause-sent
 returns-in-Err-clause-sent g c =
     let taken = g.W.Sink.taken in
     let done = c.loop-number.invariant.sent in
-    past_stopped (taken c.args.out.now) (taken c.loop-number.out) (taken c.write_remaining_line.new.out) c.loop-number.number c.args.session.now.history.remaining c.in-Some.statement.now done.0 _
+    past_stopped (taken c.args.out.now) (taken c.loop-number.out) (taken c.write_history_line.new.out) c.loop-number.number c.args.session.now.history.remaining c.in-Some.statement.now done.0 _
     c.in-Some.ensures done.1 done.2 c.in-Err.ensures.sent
 
 pub returns-in-Err-clause-errors : goal.returns-in-Err-clause-errors
-returns-in-Err-clause-errors g c = subst (λ (failed : ℕ). g.W.Sink.failed c.write_remaining_line.new.out ≡ raised failed) c.loop-number.invariant.errors c.in-Err.ensures.errors
+returns-in-Err-clause-errors g c = subst (λ (failed : ℕ). g.W.Sink.failed c.write_history_line.new.out ≡ raised failed) c.loop-number.invariant.errors c.in-Err.ensures.errors
 
 pub loop-number-preserved : goal.loop-number-preserved
 loop-number-preserved g c =
@@ -35,9 +35,9 @@ loop-number-preserved g c =
       sent = (
         done.0 ++ line,
         past_more n statements c.in-Some.statement.now done.0 _ c.in-Some.ensures done.1 ∙ sym (append_assoc done.0 line (history_lines (n + 1 + 1) (drop (n + 1) statements))),
-        Appends-trans (taken c.args.out.now) (taken c.loop-number.out) (taken c.write_remaining_line.new.out) done.0 line done.2 c.in_default-write_remaining_line.ensures.sent,
+        Appends-trans (taken c.args.out.now) (taken c.loop-number.out) (taken c.write_history_line.new.out) done.0 line done.2 c.in_default-write_history_line.ensures.sent,
       );
-      errors = c.in_default-write_remaining_line.ensures.errors ∙ c.loop-number.invariant.errors;
+      errors = c.in_default-write_history_line.ensures.errors ∙ c.loop-number.invariant.errors;
       within = omega (arith, c.loop-number-test.true);
       count = c.loop-number.invariant.count;
     }

@@ -3,7 +3,7 @@ use Rattle.std.proofs.Common.{sym, subst}
 use Rattle.coll_devices.specs.Devices.{Sends}
 use Rattle.coll_syntax.specs.declared.statements.Statement.{Statement}
 use Rattle.coll_bench.specs.Replies.{history_line}
-use Rattle.coll_bench.proofs.replies.history_reply.write_remaining_line.Goals as goal
+use Rattle.coll_bench.proofs.replies.history_reply.write_history_line.Goals as goal
 
 pub returns-in-Equivalence-clause-sent : goal.returns-in-Equivalence-clause-sent
 unfolding history_line
