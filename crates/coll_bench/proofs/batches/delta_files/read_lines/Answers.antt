@@ -86,7 +86,8 @@ returns-then-finished-clause-reaches g c =
 pub returns-in-Ok-false-clause-reaches : goal.returns-in-Ok-false-clause-reaches
 returns-in-Ok-false-clause-reaches g c =
     ends_nothing c.args.input (g.T.TakesStatements.table c.args.taker.now) (g.R.Source.left c.args.delta.now) c.lines.reader (g.R.Source.left c.lines.delta)
-    (g.T.TakesStatements.table c.lines.taker) c.lines.file c.lines.invariant.reached.way c.lines.invariant.going _ c.end_file.result c.end_file.ensures.ok
+    (g.T.TakesStatements.table c.lines.taker) c.lines.file c.lines.invariant.reached.way c.lines.invariant.going c.advance.new.self (g.R.Source.left c.advance.new.input)
+    (g.R.Source.failed c.lines.delta) (g.R.Source.failed c.advance.new.input) _ c.end_file.result c.end_file.ensures.ok
 
 pub lines-smaller : goal.lines-smaller
 lines-smaller g c =

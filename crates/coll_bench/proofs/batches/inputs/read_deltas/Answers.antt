@@ -41,7 +41,7 @@ loop-before-preserved g c =
       rest = drop-set c.loop-before.deltas i c.read_delta.new.delta ∙ drop-one c.loop-before.deltas c.args.deltas.now i c.loop-before.invariant.rest;
       taken = λ texts e.
           let text = text_got (map left c.args.deltas.now) texts i (left c.index-deltas-before.result) e (got-map left c.args.deltas.now i c.index-deltas-before.result start) in
-          one_more (collation c.args.table.now) (collation c.loop-before.table) texts i text.0 text.1 (c.loop-before.invariant.taken texts e) (collation c.read_delta.new.table)
+          one_more (collation c.args.table.now) (collation c.loop-before.table) texts i text.0 text.1 (c.loop-before.invariant.taken texts e) (collation c.read_delta.new.taker)
           (c.in_default.ensures.file text.0 (ap left (sym c.index-deltas-before.is) ∙ text.2));
       errors = set-same g.R.Source.failed c.loop-before.deltas i c.index-deltas-before.result c.read_delta.new.delta now
           (c.in_default.ensures.reads ∙ ap g.R.Source.failed (sym c.index-deltas-before.is)) ∙ c.loop-before.invariant.errors;
