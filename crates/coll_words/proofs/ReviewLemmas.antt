@@ -123,7 +123,7 @@ module _ (begun old new : Review) (given : List StatementAt) (at : StatementAt) 
           ordered = anew.ordered;
         };
         count = omega (arith, counted);
-        told = refl;
+        lines = refl;
       } in (
         so_far.0 ++ more,
         put_behind words (standing_of begun) given (standing_of old) so_far.0 at (standing_of new) more so_far.1 one,

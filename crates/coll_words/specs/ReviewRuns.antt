@@ -1,5 +1,5 @@
 -- What reviewing a delta file over the words of an input writes and answers.
-use Rattle.std.specs.Prelude.{◌≡◌, ◌==◌, ◌&&◌, ℕ, if◌then◌else◌, List, [], ◌++◌, Option, Some, Result, Ok, Err}
+use Rattle.std.specs.Prelude.{◌≡◌, ◌==◌, ◌&&◌, ℕ, zero, suc, if◌then◌else◌, List, [], ◌++◌, Option, Some, Result, Ok, Err}
 use Rattle.coll_devices.specs.Devices.{raised}
 use Rattle.coll_nodes.specs.Table.{Collation}
 use Rattle.coll_bench.specs.Faults.{fault_number}
@@ -22,13 +22,13 @@ ReviewsText table delta_text words_text written =
 -- delta file is at fault, and the words are not; or the words are at fault; and then nothing is written
 abbrev pub ReviewRanTo : (input : ℕ) → Collation → (delta_text words_text : List ℕ) → (delta_left words_left : Option (List ℕ))
     → (written : List ℕ) → RunFault → Type 0
-ReviewRanTo 0 table delta_text words_text delta_left words_left written ended =
+ReviewRanTo zero table delta_text words_text delta_left words_left written ended =
     (ended ≡ write_failed) × (later : List ℕ) × ReviewsText table delta_text words_text (written ++ later)
-ReviewRanTo 1 table delta_text words_text delta_left words_left written ended =
+ReviewRanTo (suc zero) table delta_text words_text delta_left words_left written ended =
     (written ≡ []) × (words : List (List ℕ)) × (words_of words_text ≡ Ok words) × DeltaFails (ending_of ended) 1 table delta_text delta_left ended
-ReviewRanTo 2 table delta_text words_text delta_left words_left written ended =
+ReviewRanTo (suc (suc zero)) table delta_text words_text delta_left words_left written ended =
     (written ≡ []) × WordsFail (ending_of ended) words_text words_left (record ended { input = 0 })
-ReviewRanTo _ table delta_text words_text delta_left words_left written ended = ⊥
+ReviewRanTo (suc (suc (suc more))) table delta_text words_text delta_left words_left written ended = ⊥
 
 -- what a run wrote, by its answer
 abbrev pub ReviewRan : Collation → (delta_text words_text : List ℕ) → (delta_left words_left : Option (List ℕ)) → (written : List ℕ)

@@ -18,7 +18,7 @@ pub record IsPut (words : List NumberedWord) (old : Standing) (at : StatementAt)
   pub rewritten : delta old.table at.statement ≡ Ok new.table
   pub sorted : AreInOrder new.table words new.sorted
   pub count : new.count ≡ suc old.count
-  pub told : told ≡ statement_told new.count at.statement old.sorted new.sorted
+  pub lines : told ≡ statement_told new.count at.statement old.sorted new.sorted
 
 -- statements were put, one after another
 abbrev pub ArePut : (words : List NumberedWord) → (old : Standing) → List StatementAt → (new : Standing) → (told : List ℕ) → Type 0
