@@ -2,6 +2,7 @@ pub mod LeadLemmas
 pub mod ListedLemmas
 pub mod NeighbourLemmas
 pub mod PackedOrder
+pub mod ReviewCases
 pub mod ReviewLemmas
 pub mod SortCases
 pub mod SortedLemmas

@@ -31,6 +31,14 @@ total f (x ∷ xs) = f x + total f xs
 abbrev count : {X : Type 0} → (X → Bool) → List X → ℕ
 count p xs = total (λ x. one (p x)) xs
 
+any_step : (b a : Bool) (n : ℕ) → one b + n ≤ 1 → (n ≤ 1 → one a ≡ n) → one (b || a) ≡ one b + n
+any_step true a n few ih = omega (arith, few)
+any_step false a n few ih = omega (arith, ih (omega (arith, few)))
+
+none_of : (b : Bool) → one b ≡ 0 → b ≡ false
+none_of true e = absurd (omega (arith, e))
+none_of false e = refl
+
 module _ {X : Type 0} where
   total_alike : (f g : X → ℕ) (xs : List X) → ((x : X) → f x ≡ g x) → total f xs ≡ total g xs
   total_alike f g [] same = refl
@@ -61,18 +69,10 @@ module _ {X : Type 0} where
   failed_count p [] = refl
   failed_count p (x ∷ xs) = omega (arith, failed_one (p x) x (filter (λ x. not (p x)) xs), failed_count p xs)
 
-  any_step : (b a : Bool) (n : ℕ) → one b + n ≤ 1 → (n ≤ 1 → one a ≡ n) → one (b || a) ≡ one b + n
-  any_step true a n few ih = omega (arith, few)
-  any_step false a n few ih = omega (arith, ih (omega (arith, few)))
-
   -- whether one passes is told by how many do, where that is one at most
   any_count : (p : X → Bool) (xs : List X) → count p xs ≤ 1 → one (list_any p xs) ≡ count p xs
   any_count p [] few = refl
   any_count p (x ∷ xs) few = any_step (p x) (list_any p xs) (count p xs) few (any_count p xs)
-
-  none_of : (b : Bool) → one b ≡ 0 → b ≡ false
-  none_of true e = absurd (omega (arith, e))
-  none_of false e = refl
 
   any_none : (p : X → Bool) (xs : List X) → count p xs ≡ 0 → list_any p xs ≡ false
   any_none p xs none = none_of (list_any p xs) (any_count p xs (omega (arith, none)) ∙ none)
@@ -179,7 +179,7 @@ others_lines : (line leader : ℕ) (list : List ListedWord) → at_line line (al
 others_lines line leader [] none = All-nil (λ (listed : ListedWord). (listed.line == line) ≡ false)
 others_lines line leader (listed ∷ list) none =
     All-cons (λ (listed : ListedWord). (listed.line == line) ≡ false) (record listed { leader = leader }) (led_by listed.line list)
-    (same_number listed.line line ∙ none_of {X = ℕ} (line == listed.line) (omega (arith, none))) (others_lines line listed.line list (omega (arith, none)))
+    (same_number listed.line line ∙ none_of (line == listed.line) (omega (arith, none))) (others_lines line listed.line list (omega (arith, none)))
 
 led_more : (before first : NumberedWord) (words : List NumberedWord) (list : List ListedWord) → All (IsLedIn (first ∷ words)) list
     → All (λ (listed : ListedWord). (listed.line == first.line) ≡ false) list → All (IsLedIn (before ∷ first ∷ words)) list
@@ -251,7 +251,7 @@ told_new words (listed ∷ next ∷ list) led above =
     either false pair pairs = refl
 
 -- a list that was led stays the same words
-numbered_still : (leader : ℕ) (list : List ListedWord) → all_numbered (led_by leader list) ≡ all_numbered list
+pub numbered_still : (leader : ℕ) (list : List ListedWord) → all_numbered (led_by leader list) ≡ all_numbered list
 numbered_still leader [] = refl
 numbered_still leader (listed ∷ list) = ap (λ (words : List NumberedWord). numbered_of listed ∷ words) (numbered_still listed.line list)
 

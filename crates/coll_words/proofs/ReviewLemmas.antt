@@ -1,23 +1,29 @@
 -- Where statements lead a review, and what it writes then.
-use Rattle.std.proofs.Common.{◌≡◌, ◌⊎◌, inl, inr, ⊎_elim, ℕ, zero, suc, ◌+◌, ◌<◌, ◌≤◌, ◌==◌, Bool, true, false, if◌then◌else◌, List, [], ◌∷◌, ◌++◌, length, take, Option, Some, None, Result, Ok, Err}
+use Rattle.std.proofs.Common.{◌≡◌, ◌⊎◌, inl, inr, ⊎_elim, ℕ, zero, suc, ◌+◌, ◌<◌, ◌≤◌, ◌==◌, Bool, true, false, if◌then◌else◌, List, [], ◌∷◌, ◌++◌, length, map, take, Option, Some, None, Result, Ok, Err}
 use Rattle.std.proofs.Common.{refl, sym, ap, subst, ◌∙◌, arith, append-nil, append_assoc, length-append}
 use Rattle.std.specs.Prelude.{All, filter}
 use Rattle.std.specs.List.{flat_map}
-use Rattle.std.specs.List.Sorted.{IsPermutation}
+use Rattle.std.specs.List.Sorted.{IsPermutation, IsSorted}
 use Rattle.std.proofs.lemmas.Bool.{ne_eqb, eqb-true}
 use Rattle.std.proofs.lemmas.List.Elements.{All-cons, All-nil}
-use Rattle.std.proofs.lemmas.List.Sorted.{IsPermutation-trans, IsPermutation-sym, length_permutation}
+use Rattle.std.proofs.lemmas.List.{get_or-map, length-map}
+use Rattle.std.proofs.lemmas.List.Sorted.{IsPermutation-map, IsPermutation-trans}
 use Rattle.coll_elements.proofs.Tests.{by_test}
 use Rattle.coll_nodes.specs.Table.{Collation}
 use Rattle.coll_nodes.specs.TableLayout.{collation}
 use Rattle.coll_table.specs.Delta.{delta}
 use Rattle.coll_requests.specs.declared.delta_files.StatementAt.{StatementAt}
+use Rattle.coll_table.specs.declared.refusals.Refusal.{Refusal}
+use Rattle.coll_bench.specs.BatchOutcome.{judged_at}
 use Rattle.coll_bench.specs.Replies.{history_line}
-use Rattle.coll_words.specs.ListedWords.{IsSortedAnew, all_numbered, newly_beside}
+use Rattle.coll_bench.specs.declared.faults.RunFault.{RunFault}
+use Rattle.coll_nodes.specs.WellFormed.{IsWellFormed}
+use Rattle.coll_words.specs.KeyedWords.{KeyedWord, IsKeyed, AreKeyed, texts_of}
+use Rattle.coll_words.specs.ListedWords.{AreListedByKeys, IsSortedAnew, all_numbered, newly_beside, numbered_of}
 use Rattle.coll_words.specs.Neighbours.{NumberedWord, WordPair, only_in}
 use Rattle.coll_words.specs.NumberedWords.{AreInOrder, line_order, numbered_from}
 use Rattle.coll_words.specs.ReviewLines.{joined_line, most_told, parted_line, statement_told}
-use Rattle.coll_words.specs.ReviewSteps.{HaveLines, LeadsTo, standing_of}
+use Rattle.coll_words.specs.ReviewSteps.{HaveLines, LeadsTo, SortsListed, standing_of}
 use Rattle.coll_words.specs.Reviews.{ArePut, IsPut, Standing}
 use Rattle.coll_words.specs.declared.listed_words.ListedWord.{ListedWord}
 use Rattle.coll_words.specs.declared.reviews.Review.{Review}
@@ -61,6 +67,23 @@ pub length_numbered : (n : ℕ) (words : List (List ℕ)) → length (numbered_f
 length_numbered n [] = refl
 length_numbered n (word ∷ words) = omega (arith, length_numbered (suc n) words)
 
+-- The list.
+
+-- words that are listed have the keys that they had
+keyed_listed : (table : Collation) (list : List ListedWord) → AreKeyed table (map (λ (listed : ListedWord). listed.word) list) → AreListedByKeys table list
+keyed_listed table list keyed = λ k d within.
+    subst (IsKeyed table) (get_or-map (λ (listed : ListedWord). listed.word) list k d d.word within)
+    (keyed k d.word (omega (arith, within, length-map list (λ (listed : ListedWord). listed.word))))
+
+-- words that were listed, and then sorted
+pub sorts_listed : (words : List KeyedWord) (list sorted : List ListedWord) → all_numbered list ≡ numbered_from 1 (texts_of words)
+    → map (λ (listed : ListedWord). listed.word) list ≡ words → IsPermutation list sorted
+    → ((table : Collation) → IsWellFormed table → AreListedByKeys table list → IsSorted (line_order table) (all_numbered sorted)) → SortsListed words sorted
+sorts_listed words list sorted lines same moved orders = λ table well keyed. record {
+  same = subst (λ (l : List NumberedWord). IsPermutation l (all_numbered sorted)) lines (IsPermutation-map numbered_of list sorted moved);
+  ordered = orders table well (keyed_listed table list (subst (AreKeyed table) (sym same) keyed));
+}
+
 -- Statements.
 
 module _ (words : List NumberedWord) where
@@ -101,6 +124,15 @@ told_so number at table old new lines anew =
     (new_told anew.from new anew.moved from_lines)
     ∙ ap (λ (words : List NumberedWord). history_line number at.statement
     ++ (parted_line (length (only_in words (all_numbered new))) ++ flat_map joined_line (take most_told (only_in (all_numbered new) words)))) anew.same
+
+-- a statement that was judged well gives the table
+pub judged_well : (input line : ℕ) (r : Result Collation Refusal) (table : Collation) → judged_at input line r ≡ Ok table → r ≡ Ok table
+judged_well input line (Ok t) table e = ap (λ (r : Result Collation RunFault). given_or t r) e
+  where
+    given_or : Collation → Result Collation RunFault → Result Collation Refusal
+    given_or other (Ok t) = Ok t
+    given_or other (Err f) = Ok other
+judged_well input line (Err refusal) table e = absurd cc
 
 module _ (begun old new : Review) (given : List StatementAt) (at : StatementAt) where
   -- one statement more leads on

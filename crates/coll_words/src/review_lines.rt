@@ -60,7 +60,9 @@ fn new_pairs(list: &[ListedWord]) -> usize
 {
     let mut count = 0;
     for place in 1..list.len() {
-        if list[place - 1].line != list[place].leader {
+        let first = &list[place - 1];
+        let second = &list[place];
+        if first.line != second.leader {
             count += 1;
         }
     }
@@ -92,9 +94,11 @@ fn write_joined<W: Sink>(out: &mut W, list: &[ListedWord]) -> Result<(), WriteSt
         if left == 0 {
             return Ok(());
         }
-        if list[place - 1].line != list[place].leader {
+        let first = &list[place - 1];
+        let second = &list[place];
+        if first.line != second.leader {
             // Not `?`: behind its conversion this exit would need a lemma.
-            if let Err(stop) = write_pair(out, &list[place - 1], &list[place]) {
+            if let Err(stop) = write_pair(out, first, second) {
                 return Err(stop);
             }
             left -= 1;

@@ -76,7 +76,7 @@ impl TakesStatements for Review {
         if let Err(ended) = self.table.put(input, at) {
             return Err(ended);
         }
-        if sort_anew(self.alloc, &self.table, &mut self.list).is_err() {
+        if let Err(_) = sort_anew(self.alloc, &self.table, &mut self.list) {
             return Err(no_memory(input, at.line));
         }
         self.count = number;
