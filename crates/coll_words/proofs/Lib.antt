@@ -1,6 +1,10 @@
 pub mod ExplanationParts
 pub mod LeadLemmas
+pub mod ListedLemmas
+pub mod NeighbourLemmas
 pub mod PackedOrder
+pub mod ReviewCases
+pub mod ReviewLemmas
 pub mod SortCases
 pub mod SortedLemmas
 pub mod SourceLemmas

@@ -35,7 +35,7 @@ writes words sorted taken taken_after (Ok done) sorts sent fault = (sorted, sort
 writes words sorted taken taken_after (Err ended) sorts sent fault = inr (fault, sorted, sorts, sent)
 
 -- bytes behind those that are known
-appended : (a c : Option (List ℕ)) (before bytes : List ℕ) → a ≡ Some before → Appends a c bytes → c ≡ Some (before ++ bytes)
+pub appended : (a c : Option (List ℕ)) (before bytes : List ℕ) → a ≡ Some before → Appends a c bytes → c ≡ Some (before ++ bytes)
 appended None c before bytes e h = absurd (cc)
 appended (Some l) None before bytes e h = absurd h
 appended (Some l) (Some m) before bytes e h = let same : l ≡ before = cc in ap Some (h ∙ ap (λ l. l ++ bytes) same)

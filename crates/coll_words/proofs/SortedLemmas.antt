@@ -35,7 +35,7 @@ module _ (table : Collation) (well : IsWellFormed table) where
   keyed text = record { text = text; key = packed_key (key_of table text) }
 
   -- the keys of words are ordered as the words
-  keys_order : (word other : KeyedWord) → IsKeyed table word → IsKeyed table other → list_order word.key other.key ≡ order_of table word.text other.text
+  pub keys_order : (word other : KeyedWord) → IsKeyed table word → IsKeyed table other → list_order word.key other.key ≡ order_of table word.text other.text
   keys_order word other is other_is =
       ap (λ key. list_order key other.key) is ∙ ap (list_order (packed_key (key_of table word.text))) other_is
       ∙ packed_in_order (key_of table word.text) (key_of table other.text)

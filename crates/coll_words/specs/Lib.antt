@@ -3,7 +3,14 @@ pub mod ExplanationLaws
 pub mod Explanations
 pub mod KeyedWords
 pub mod LedWords
+pub mod ListedWords
+pub mod Neighbours
+pub mod NumberedWords
 pub mod PackedKeys
+pub mod ReviewLines
+pub mod ReviewRuns
+pub mod ReviewSteps
+pub mod Reviews
 pub mod SortRuns
 pub mod SortedWords
 pub mod Sources

@@ -19,6 +19,8 @@ const TABLE: &str = "TABLE";
 
 const DELTA: &str = "DELTA";
 
+const WORDS: &str = "WORDS";
+
 const TEXT: &str = "TEXT";
 
 const FIRST: &str = "A";
@@ -55,6 +57,16 @@ const EXPLAINED: &str = "Lines:
   end                   the list of the text has ended there
   less                  what compare says: less, equal or greater";
 
+// What help says last of the subcommand that reviews a delta file: what each line means.
+const TOLD: &str = "For each statement:
+  2 block <U0061> 1   its number, and what it is, as :history tells it
+  parted 3            how many pairs of neighbours in the sorted words are neighbours no longer
+  joined \"a\" \"c\"      a pair that is new, with the word that comes first; the first five of them
+And last:
+  review 2 7          how many statements were put, and how many words there are
+
+A source with `copy` goes through `collbench import-delta` first: in a delta file `copy` has no effect.";
+
 const EXAMPLES: &str = "Examples:
   collbench check base.txt                     table entries 9 declared 3 sections 2 levels 4
   collbench print base.txt c_behind_a.txt      the table, in which c goes behind a
@@ -64,13 +76,14 @@ const EXAMPLES: &str = "Examples:
   collbench compare base.txt a A               less
   collbench explain base.txt a A               the elements of both texts, each level, and less
   collbench sort base.txt < words.txt          the words, one a line, in the order of the table
+  collbench review base.txt c_behind_a.txt words.txt  which neighbours among the words each statement parts and joins
   collbench session base.txt < lines.txt       a reply to each line
   collbench diff base.txt other.txt            same, or a line for each difference
   collbench import iso14651_t1 > common.txt    the table of a published source
   collbench import-delta common.txt sv_SE      the delta file of a published tailoring, for that table";
 
 // The subcommands that work on a table or make one, in the order in which help tells them.
-const SUBCOMMANDS: [Subcommand; 12] = [
+const SUBCOMMANDS: [Subcommand; 13] = [
     Subcommand::Check,
     Subcommand::Print,
     Subcommand::Export,
@@ -79,6 +92,7 @@ const SUBCOMMANDS: [Subcommand; 12] = [
     Subcommand::Compare,
     Subcommand::Explain,
     Subcommand::Sort,
+    Subcommand::Review,
     Subcommand::Session,
     Subcommand::Diff,
     Subcommand::Import,
@@ -104,6 +118,8 @@ pub enum Subcommand {
     Explain,
     /// Sorts lines.
     Sort,
+    /// Tells what the statements of a delta file do to words.
+    Review,
     /// Serves a session over a table.
     Session,
     /// Tells what differs between two tables.
@@ -123,6 +139,8 @@ pub enum Task {
     Explain(TextBuf, TextBuf),
     /// It is read, rewritten by delta files, and the lines of standard input are sorted by it.
     Sort,
+    /// It is read, then words and a delta file, and what each statement does to the words is told.
+    Review,
     /// It is read, and a session over it is served.
     Session,
     /// It is read, then another, and what differs between them is told.
@@ -138,8 +156,8 @@ pub enum Task {
 pub struct Request<'a> {
     /// What is done with the table, or with the source.
     pub task: Task,
-    /// The names of the files: that of the table, if one is read, and then those of the delta files, in their order, of the source, or of
-    /// the other table.
+    /// The names of the files: that of the table, if one is read, and then those of the delta files, in their order, and of the
+    /// words, of the source, or of the other table.
     pub files: Vec<&'a str>,
 }
 
@@ -271,6 +289,7 @@ fn taking<'a>(alloc: Global, subcommand: Subcommand) -> Result<Command<'a>, Allo
         Subcommand::Key => over_table(alloc, subcommand)?.arg(texts(alloc)),
         Subcommand::Compare => over_two_texts(alloc, subcommand),
         Subcommand::Explain => Ok(over_two_texts(alloc, subcommand)?.after_help(EXPLAINED)),
+        Subcommand::Review => over_words(alloc, subcommand),
         Subcommand::Session => over_table(alloc, subcommand),
         Subcommand::Diff => over_two_tables(alloc, subcommand),
         Subcommand::Import => over_source(alloc, subcommand),
@@ -290,6 +309,14 @@ fn over_two_texts<'a>(alloc: Global, subcommand: Subcommand) -> Result<Command<'
     over_table(alloc, subcommand)?
         .arg(text(alloc, FIRST))?
         .arg(text(alloc, SECOND))
+}
+
+// A subcommand that takes a table, a delta file and words.
+fn over_words<'a>(alloc: Global, subcommand: Subcommand) -> Result<Command<'a>, AllocError> {
+    over_table(alloc, subcommand)?
+        .after_help(TOLD)
+        .arg(delta(alloc))?
+        .arg(words(alloc))
 }
 
 // A subcommand that takes two tables.
@@ -354,6 +381,20 @@ fn other_table<'a>(alloc: Global) -> Arg<'a> {
         .help("The file of the table that it is compared with")
 }
 
+// One delta file.
+fn delta<'a>(alloc: Global) -> Arg<'a> {
+    Arg::new(alloc, DELTA)
+        .required(true)
+        .help("The file of statements that change the table, one after another")
+}
+
+// Words.
+fn words<'a>(alloc: Global) -> Arg<'a> {
+    Arg::new(alloc, WORDS)
+        .required(true)
+        .help("The file of the words, one a line")
+}
+
 // Delta files, perhaps none.
 fn deltas<'a>(alloc: Global) -> Arg<'a> {
     Arg::new(alloc, DELTA).num_args(0..).help(
@@ -409,8 +450,8 @@ fn request_on<'a>(
     }
 }
 
-// The names of the files: that of the table or of what stands in its place, and then those of the delta files, of the source, or of the
-// other table.
+// The names of the files: that of the table or of what stands in its place, and then those of the delta files, of the words, of the
+// source, or of the other table.
 fn files_of<'a>(
     alloc: Global,
     table: &'a str,
@@ -421,6 +462,7 @@ fn files_of<'a>(
     let mut files = Vec::new(alloc);
     files.push(table)?;
     files.extend_from_slice(found.get_strs(DELTA).unwrap_or(&[]))?;
+    files.extend_from_slice(found.get_strs(WORDS).unwrap_or(&[]))?;
     files.extend_from_slice(found.get_strs(SOURCE).unwrap_or(&[]))?;
     files.extend_from_slice(found.get_strs(OTHER).unwrap_or(&[]))?;
     Ok(files)
@@ -456,6 +498,7 @@ fn task_of(
         (Subcommand::Explain, [first, second]) => return explained(alloc, first, second),
         (Subcommand::Compare | Subcommand::Explain, _) => return Ok(None),
         (Subcommand::Sort, _) => return Ok(Some(Task::Sort)),
+        (Subcommand::Review, _) => return Ok(Some(Task::Review)),
         (Subcommand::Session, _) => return Ok(Some(Task::Session)),
         (Subcommand::Diff, _) => return Ok(Some(Task::Differences)),
         (Subcommand::Import, _) => return Ok(Some(Task::Import(copied_texts(alloc, texts)?))),
@@ -507,6 +550,7 @@ impl Subcommand {
             Subcommand::Compare => "compare",
             Subcommand::Explain => "explain",
             Subcommand::Sort => "sort",
+            Subcommand::Review => "review",
             Subcommand::Session => "session",
             Subcommand::Diff => "diff",
             Subcommand::Import => "import",
@@ -532,6 +576,9 @@ impl Subcommand {
             }
             Subcommand::Sort => {
                 "Reads lines from standard input, and prints them in the order of a table"
+            }
+            Subcommand::Review => {
+                "Tells what each statement of a delta file does to the order of words"
             }
             Subcommand::Session => {
                 "Reads the lines of a session from standard input, and replies to each"
@@ -562,6 +609,7 @@ impl Subcommand {
             "compare" => Some(Subcommand::Compare),
             "explain" => Some(Subcommand::Explain),
             "sort" => Some(Subcommand::Sort),
+            "review" => Some(Subcommand::Review),
             "session" => Some(Subcommand::Session),
             "diff" => Some(Subcommand::Diff),
             "import" => Some(Subcommand::Import),

@@ -1,9 +1,9 @@
 //! The program: a thin `main` over `coll_bench`, which runs batches and serves sessions.
 //!
 //! `command_line` reads the words, `random_keys` draws the keys that names are looked up under, `files` opens what the words name,
-//! `importing` makes tables and delta files of sources, `explaining` tells why texts compare as they do, `words` sorts lines, and
-//! `differences` compares two tables. Here the runs are started, and their faults are told: a line on standard error, and the exit
-//! status, which stands also where that line can't be written.
+//! `importing` makes tables and delta files of sources, `explaining` tells why texts compare as they do, `words` sorts lines,
+//! `reviews` tells what statements do to words, and `differences` compares two tables. Here the runs are started, and their faults
+//! are told: a line on standard error, and the exit status, which stands also where that line can't be written.
 #![tactic(auto)]
 
 ghost use Rattle.std.specs.Prelude.{◌<◌, length, vec_len, IfOk, IfErr, ◌≡◌};
@@ -15,6 +15,7 @@ mod files;
 mod importing;
 mod laws;
 mod random_keys;
+mod reviews;
 mod words;
 
 use coll_bench::{
@@ -29,6 +30,7 @@ use explaining::explain_texts;
 use files::{Input, at_no_line, open_all};
 use importing::{Wanted, import};
 use random_keys::random_keys;
+use reviews::review;
 use std::alloc::{AllocError, Global};
 use std::env;
 use std::io::{BufWriter, ErrorKind, Stdout};
@@ -103,6 +105,10 @@ fn do_keyed(
         Task::Sort => match String::from_str(rt.alloc(), STANDARD_INPUT) {
             Ok(name) => sort(rt, keys, files, names, &[name]),
             Err(_) => tell_no_memory(rt),
+        },
+        Task::Review => match review(rt, keys, files) {
+            Ok(()) => ExitCode::SUCCESS,
+            Err(fault) => tell_fault(rt, &fault, names),
         },
         Task::Session => match String::from_str(rt.alloc(), STANDARD_INPUT) {
             Ok(name) => serve(rt, keys, files, names, &[name]),

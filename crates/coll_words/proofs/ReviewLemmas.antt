@@ -1,0 +1,164 @@
+-- Where statements lead a review, and what it writes then.
+use Rattle.std.proofs.Common.{◌≡◌, ◌⊎◌, inl, inr, ⊎_elim, ℕ, zero, suc, ◌+◌, ◌<◌, ◌≤◌, ◌==◌, Bool, true, false, if◌then◌else◌, List, [], ◌∷◌, ◌++◌, length, map, take, Option, Some, None, Result, Ok, Err}
+use Rattle.std.proofs.Common.{refl, sym, ap, subst, ◌∙◌, arith, append-nil, append_assoc, length-append}
+use Rattle.std.specs.Prelude.{All, filter}
+use Rattle.std.specs.List.{flat_map}
+use Rattle.std.specs.List.Sorted.{IsPermutation, IsSorted}
+use Rattle.std.proofs.lemmas.Bool.{ne_eqb, eqb-true}
+use Rattle.std.proofs.lemmas.List.Elements.{All-cons, All-nil}
+use Rattle.std.proofs.lemmas.List.{get_or-map, length-map}
+use Rattle.std.proofs.lemmas.List.Sorted.{IsPermutation-map, IsPermutation-trans}
+use Rattle.coll_elements.proofs.Tests.{by_test}
+use Rattle.coll_nodes.specs.Table.{Collation}
+use Rattle.coll_nodes.specs.TableLayout.{collation}
+use Rattle.coll_table.specs.Delta.{delta}
+use Rattle.coll_requests.specs.declared.delta_files.StatementAt.{StatementAt}
+use Rattle.coll_table.specs.declared.refusals.Refusal.{Refusal}
+use Rattle.coll_bench.specs.BatchOutcome.{judged_at}
+use Rattle.coll_bench.specs.Replies.{history_line}
+use Rattle.coll_bench.specs.declared.faults.RunFault.{RunFault}
+use Rattle.coll_nodes.specs.WellFormed.{IsWellFormed}
+use Rattle.coll_words.specs.KeyedWords.{KeyedWord, IsKeyed, AreKeyed, texts_of}
+use Rattle.coll_words.specs.ListedWords.{AreListedByKeys, IsSortedAnew, all_numbered, newly_beside, numbered_of}
+use Rattle.coll_words.specs.Neighbours.{NumberedWord, WordPair, only_in}
+use Rattle.coll_words.specs.NumberedWords.{AreInOrder, line_order, numbered_from}
+use Rattle.coll_words.specs.ReviewLines.{joined_line, most_told, parted_line, statement_told}
+use Rattle.coll_words.specs.ReviewSteps.{HaveLines, LeadsTo, SortsListed, standing_of}
+use Rattle.coll_words.specs.Reviews.{ArePut, IsPut, Standing}
+use Rattle.coll_words.specs.declared.listed_words.ListedWord.{ListedWord}
+use Rattle.coll_words.specs.declared.reviews.Review.{Review}
+use Rattle.coll_words.proofs.NeighbourLemmas.{lines_still, moved_words, new_told, lost_told}
+
+-- Lines from a number on.
+
+module _ (line : ℕ) where
+  abbrev has_line : NumberedWord → Bool
+  has_line word = line == word.line
+
+  with_line : (n : ℕ) (word : List ℕ) (words : List (List ℕ)) (b : Bool) → (line == n) ≡ b
+      → length (filter has_line (numbered_from n (word ∷ words))) ≡ (if b then suc (length (filter has_line (numbered_from (suc n) words))) else length (filter has_line (numbered_from (suc n) words)))
+  with_line n word words true e = rw e refl
+  with_line n word words false e = rw e refl
+
+  -- none before the first
+  none_below : (n : ℕ) (words : List (List ℕ)) → line < n → length (filter has_line (numbered_from n words)) ≡ 0
+  none_below n [] below = refl
+  none_below n (word ∷ words) below =
+      with_line n word words false (ne_eqb line n (λ same. omega (arith, below, same))) ∙ none_below (suc n) words (omega (arith, below))
+
+  -- and one at most
+  one_at_most : (n : ℕ) (words : List (List ℕ)) → length (filter has_line (numbered_from n words)) ≤ 1
+  one_at_most n [] = omega arith
+  one_at_most n (word ∷ words) =
+      by_test (λ b. length (filter has_line (numbered_from n (word ∷ words))) ≤ 1) (line == n)
+      (λ on. omega (arith, with_line n word words true on, none_below (suc n) words (omega (arith, eqb-true line n on))))
+      (λ off. omega (arith, with_line n word words false off, one_at_most (suc n) words))
+
+lines_above : (n : ℕ) (words : List (List ℕ)) → 0 < n → All (λ (word : NumberedWord). 0 < word.line) (numbered_from n words)
+lines_above n [] above = All-nil (λ (word : NumberedWord). 0 < word.line)
+lines_above n (word ∷ words) above =
+    All-cons (λ (word : NumberedWord). 0 < word.line) (record { line = n; text = word }) (numbered_from (suc n) words) above (lines_above (suc n) words (omega arith))
+
+-- words that are numbered from 1 have lines
+pub numbered_lines : (words : List (List ℕ)) → HaveLines (numbered_from 1 words)
+numbered_lines words = record { once = λ line. one_at_most line 1 words; above = lines_above 1 words (omega arith) }
+
+pub length_numbered : (n : ℕ) (words : List (List ℕ)) → length (numbered_from n words) ≡ length words
+length_numbered n [] = refl
+length_numbered n (word ∷ words) = omega (arith, length_numbered (suc n) words)
+
+-- The list.
+
+-- words that are listed have the keys that they had
+keyed_listed : (table : Collation) (list : List ListedWord) → AreKeyed table (map (λ (listed : ListedWord). listed.word) list) → AreListedByKeys table list
+keyed_listed table list keyed = λ k d within.
+    subst (IsKeyed table) (get_or-map (λ (listed : ListedWord). listed.word) list k d d.word within)
+    (keyed k d.word (omega (arith, within, length-map list (λ (listed : ListedWord). listed.word))))
+
+-- words that were listed, and then sorted
+pub sorts_listed : (words : List KeyedWord) (list sorted : List ListedWord) → all_numbered list ≡ numbered_from 1 (texts_of words)
+    → map (λ (listed : ListedWord). listed.word) list ≡ words → IsPermutation list sorted
+    → ((table : Collation) → IsWellFormed table → AreListedByKeys table list → IsSorted (line_order table) (all_numbered sorted)) → SortsListed words sorted
+sorts_listed words list sorted lines same moved orders = λ table well keyed. record {
+  same = subst (λ (l : List NumberedWord). IsPermutation l (all_numbered sorted)) lines (IsPermutation-map numbered_of list sorted moved);
+  ordered = orders table well (keyed_listed table list (subst (AreKeyed table) (sym same) keyed));
+}
+
+-- Statements.
+
+module _ (words : List NumberedWord) where
+  -- the words are in order where statements led
+  pub in_order_still : (old : Standing) (given : List StatementAt) (new : Standing) (told : List ℕ) → AreInOrder old.table words old.sorted → ArePut words old given new told
+      → AreInOrder new.table words new.sorted
+  in_order_still old [] new told ordered put = subst (λ (s : Standing). AreInOrder s.table words s.sorted) (sym put.0) ordered
+  in_order_still old (at ∷ later) new told ordered put = in_order_still put.0 later new put.2 put.3.sorted put.4
+
+  -- each statement was counted
+  pub all_counted : (old : Standing) (given : List StatementAt) (new : Standing) (told : List ℕ) → ArePut words old given new told → new.count ≡ old.count + length given
+  all_counted old [] new told put = omega (arith, ap (λ (s : Standing). s.count) put.0)
+  all_counted old (at ∷ later) new told put = omega (arith, all_counted put.0 later new put.2 put.4, put.3.count)
+
+  -- one statement more
+  put_behind : (old : Standing) (given : List StatementAt) (now : Standing) (told : List ℕ) (at : StatementAt) (new : Standing) (more : List ℕ)
+      → ArePut words old given now told → IsPut words now at new more → ArePut words old (given ++ at ∷ []) new (told ++ more)
+  put_behind old [] now told at new more put one =
+      (new, more, [], subst (λ (s : Standing). IsPut words s at new more) put.0 one, (refl, refl), ap (λ (l : List ℕ). l ++ more) put.1 ∙ sym (append-nil more))
+  put_behind old (first ∷ later) now told at new more put one = (
+    put.0,
+    put.1,
+    put.2 ++ more,
+    put.3,
+    put_behind put.0 later now put.2 at new more put.4 one,
+    ap (λ (l : List ℕ). l ++ more) put.5 ∙ append_assoc put.1 put.2 more,
+  )
+
+-- what a statement did to the words, where their list was sorted anew behind it
+told_so : (number : ℕ) (at : StatementAt) (table : Collation) (old new : List ListedWord) → HaveLines (all_numbered old) → IsSortedAnew table old new
+    → history_line number at.statement ++ (parted_line (length (newly_beside new)) ++ flat_map joined_line (take most_told (newly_beside new)))
+    ≡ statement_told number at.statement (all_numbered old) (all_numbered new)
+unfolding statement_told
+told_so number at table old new lines anew =
+    let from_lines = subst HaveLines (sym anew.same) lines in
+    ap (λ (n : ℕ). history_line number at.statement ++ (parted_line n ++ flat_map joined_line (take most_told (newly_beside new)))) (lost_told anew.from new anew.moved from_lines)
+    ∙ ap (λ (pairs : List WordPair). history_line number at.statement ++ (parted_line (length (only_in (all_numbered anew.from) (all_numbered new))) ++ flat_map joined_line (take most_told pairs)))
+    (new_told anew.from new anew.moved from_lines)
+    ∙ ap (λ (words : List NumberedWord). history_line number at.statement
+    ++ (parted_line (length (only_in words (all_numbered new))) ++ flat_map joined_line (take most_told (only_in (all_numbered new) words)))) anew.same
+
+-- a statement that was judged well gives the table
+pub judged_well : (input line : ℕ) (r : Result Collation Refusal) (table : Collation) → judged_at input line r ≡ Ok table → r ≡ Ok table
+judged_well input line (Ok t) table e = ap (λ (r : Result Collation RunFault). given_or t r) e
+  where
+    given_or : Collation → Result Collation RunFault → Result Collation Refusal
+    given_or other (Ok t) = Ok t
+    given_or other (Err f) = Ok other
+judged_well input line (Err refusal) table e = absurd cc
+
+module _ (begun old new : Review) (given : List StatementAt) (at : StatementAt) where
+  -- one statement more leads on
+  pub leads_on : LeadsTo begun given old → delta (collation old.table) at.statement ≡ Ok (collation new.table)
+      → IsSortedAnew (collation new.table) old.list.items new.list.items → new.count ≡ old.count + 1
+      → new.told.bytes.items ≡ old.told.bytes.items ++ (history_line new.count at.statement
+      ++ (parted_line (length (newly_beside new.list.items)) ++ flat_map joined_line (take most_told (newly_beside new.list.items))))
+      → LeadsTo begun (given ++ at ∷ []) new
+  leads_on leads rewritten anew counted told words lines ordered =
+      let so_far = leads words lines ordered in
+      let now_ordered = in_order_still words (standing_of begun) given (standing_of old) so_far.0 ordered so_far.1 in
+      let old_lines = lines_still words (all_numbered old.list.items) now_ordered.same lines in
+      let from_lines = subst HaveLines (sym anew.same) old_lines in
+      let more = statement_told new.count at.statement (all_numbered old.list.items) (all_numbered new.list.items) in
+      let one : IsPut words (standing_of old) at (standing_of new) more = record {
+        rewritten = rewritten;
+        sorted = record {
+          same = IsPermutation-trans words (all_numbered old.list.items) (all_numbered new.list.items) now_ordered.same
+              (subst (λ (l : List NumberedWord). IsPermutation l (all_numbered new.list.items)) anew.same (moved_words anew.from new.list.items anew.moved from_lines));
+          ordered = anew.ordered;
+        };
+        count = omega (arith, counted);
+        lines = refl;
+      } in (
+        so_far.0 ++ more,
+        put_behind words (standing_of begun) given (standing_of old) so_far.0 at (standing_of new) more so_far.1 one,
+        told ∙ ap (λ (l : List ℕ). old.told.bytes.items ++ l) (told_so new.count at (collation new.table) old.list.items new.list.items old_lines anew)
+        ∙ ap (λ (l : List ℕ). l ++ more) so_far.2 ∙ append_assoc begun.told.bytes.items so_far.0 more,
+      )

@@ -1,0 +1,55 @@
+-- The first pairs that are new, up to five, or to the last.
+use Rattle.std.proofs.Common.{◌+◌, ◌-◌, ap, arith, subst, sym, take, drop, ◌∙◌, List, ℕ}
+use Rattle.std.specs.Io.KnownBytes.{Appends}
+use Rattle.coll_texts.proofs.PrintedParts.{HasWritten, written_all}
+use Rattle.coll_words.specs.ListedWords.{newly_beside}
+use Rattle.coll_words.specs.Neighbours.{WordPair}
+use Rattle.coll_words.specs.ReviewLines.{joined_line, most_told}
+use Rattle.coll_words.proofs.ListedLemmas.{joined_new, joined_old, joined_stops, pairs_end, take_nothing}
+use Rattle.coll_words.proofs.review_lines.write_joined.Goals as goal
+use Rattle.coll_words.proofs.review_lines.write_joined.Goals.{then-first-second+in_default, else-first-second}
+
+pub returns-in-Err-clause-sent : goal.returns-in-Err-clause-sent
+returns-in-Err-clause-sent g c =
+    let taken = g.W.Sink.taken in
+    joined_stops c.args.list.now c.loop-place.place c.index-list-place.result c.index-list-place-in-loop-place.result c.loop-place.invariant.above c.loop-place-test.true c.index-list-place.is
+    c.index-list-place-in-loop-place.is (take most_told (newly_beside c.args.list.now)) c.loop-place.left (taken c.args.out.now) (taken c.loop-place.out) (taken c.write_pair.new.out)
+    c.if-left-eq0.false c.if-first-second.true c.loop-place.invariant.sent c.in-Err.ensures.sent
+
+pub loop-place-preserved : goal.loop-place-preserved
+loop-place-preserved g c =
+    let taken = g.W.Sink.taken in
+    let list = c.args.list.now in
+    let place = c.loop-place.place in
+    let first = c.index-list-place.result in
+    let next = c.index-list-place-in-loop-place.result in
+    let all = take most_told (newly_beside list) in
+    elim c.if-first-second.branch [
+      then-first-second+in_default w ↦ record {
+        above = omega arith;
+        sent = rw (w.out-is, w.left-is)
+            (joined_new list place first next c.loop-place.invariant.above c.loop-place-test.true c.index-list-place.is c.index-list-place-in-loop-place.is all c.loop-place.left (taken c.args.out.now)
+            (taken c.loop-place.out) (taken w.write_pair.new.out) c.if-left-eq0.false w.if-first-second.true c.loop-place.invariant.sent w.in_default.ensures.sent);
+        count = rw w.out-is (w.in_default.ensures.errors ∙ c.loop-place.invariant.count);
+      }
+    | else-first-second w ↦ record {
+        above = omega arith;
+        sent = rw (w.out-is, w.left-is)
+            (joined_old list place first next c.loop-place.invariant.above c.loop-place-test.true c.index-list-place.is c.index-list-place-in-loop-place.is all c.loop-place.left (taken c.args.out.now)
+            (taken c.loop-place.out) w.if-first-second.false c.loop-place.invariant.sent);
+        count = rw w.out-is c.loop-place.invariant.count;
+      }
+    ]
+
+pub returns-clause-sent : goal.returns-clause-sent
+returns-clause-sent g c =
+    let taken = g.W.Sink.taken in
+    let none = pairs_end c.args.list.now c.loop-place.place c.loop-place-test.false in
+    written_all joined_line (take most_told (newly_beside c.args.list.now)) (take c.loop-place.left (newly_beside (drop (c.loop-place.place - 1) c.args.list.now))) (taken c.args.out.now)
+    (taken c.loop-place.out) (ap (take c.loop-place.left) none ∙ take_nothing c.loop-place.left) c.loop-place.invariant.sent
+
+pub returns-then-left-eq0-clause-sent : goal.returns-then-left-eq0-clause-sent
+returns-then-left-eq0-clause-sent g c =
+    let taken = g.W.Sink.taken in
+    written_all joined_line (take most_told (newly_beside c.args.list.now)) (take c.loop-place.left (newly_beside (drop (c.loop-place.place - 1) c.args.list.now))) (taken c.args.out.now)
+    (taken c.loop-place.out) (ap (λ (n : ℕ). take n (newly_beside (drop (c.loop-place.place - 1) c.args.list.now))) c.if-left-eq0.true) c.loop-place.invariant.sent

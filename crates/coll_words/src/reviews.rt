@@ -1,0 +1,108 @@
+//! A review, statement by statement: the table, the words in its order, and what was told so far.
+
+ghost use Rattle.std.specs.Prelude.{◌≡◌, ◌∷◌, ◌++◌, [], length, zero};
+ghost use Rattle.coll_devices.specs.Devices.{Sends};
+ghost use Rattle.coll_nodes.specs.TableLayout.{collation};
+ghost use Rattle.coll_bench.specs.BatchOutcome.{fault_in};
+ghost use Rattle.coll_bench.specs.declared.faults.Fault.TheVariants.{Lex};
+ghost use Rattle.coll_lex.specs.declared.faults.LexFault.TheVariants.{OutOfMemory};
+ghost use Rattle.coll_words.specs.ListedWords.{all_numbered};
+ghost use Rattle.coll_words.specs.ReviewLines.{review_line};
+ghost use Rattle.coll_devices.specs.Devices.{CountsErr};
+
+use crate::kept_bytes::KeptBytes;
+use crate::listed_words::{ListedWord, sort_anew};
+use crate::review_lines::{write_counts, write_told};
+use coll_bench::{Fault, RunFault, TakesStatements};
+use coll_devices::{Sink, WriteStop, write_bytes};
+use coll_lex::LexFault;
+use coll_requests::StatementAt;
+use coll_table::Table;
+use std::alloc::Global;
+
+/// Where a review stands.
+#[derive(Drop)]
+pub(crate) struct Review {
+    alloc: Global,
+    table: Table,
+    // The words, in the order of the table.
+    list: Vec<ListedWord>,
+    // How many statements were put.
+    count: u32,
+    // What is told of them.
+    told: KeptBytes,
+}
+
+impl Review {
+    ghost use Rattle.coll_words.specs.ReviewSteps.{standing_of};
+
+    /// A review of these words, which are in the order of the table, before the first statement.
+    pub fn new(alloc: Global, table: Table, list: Vec<ListedWord>) -> Review
+        ensures stands { standing_of result ≡ record { table = collation table; sorted = all_numbered list.items; count = zero } }
+        ensures told { result.told.bytes.items ≡ [] }
+    {
+        Review {
+            alloc,
+            table,
+            list,
+            count: 0,
+            told: KeptBytes::new(alloc),
+        }
+    }
+
+    /// Writes what is told of the statements, and last a line of counts.
+    pub fn write<W: Sink>(&self, out: &mut W) -> Result<(), WriteStop>
+        ensures sent { Sends (W.taken out.old) (W.taken out.new)
+            (self.now.told.bytes.items ++ review_line self.now.count (length self.now.list.items)) result }
+        ensures errors { CountsErr (W.failed out.old) (W.failed out.new) result }
+    {
+        write_bytes(out, self.told.bytes())?;
+        write_counts(out, self.count, self.list.len())
+    }
+}
+
+impl TakesStatements for Review {
+    ghost use Rattle.coll_words.specs.ReviewSteps.{LeadsTo};
+
+    ghost table = { λ review. collation review.table };
+
+    ghost Reaches = { LeadsTo };
+
+    fn put(&mut self, input: usize, at: &StatementAt) -> Result<(), RunFault> {
+        // A delta file has no more lines than that.
+        let Some(number) = self.count.checked_add(1) else {
+            return Err(no_memory(input, at.line));
+        };
+        if let Err(ended) = self.table.put(input, at) {
+            return Err(ended);
+        }
+        if let Err(_) = sort_anew(self.alloc, &self.table, &mut self.list) {
+            return Err(no_memory(input, at.line));
+        }
+        self.count = number;
+        match write_told(
+            &mut self.told,
+            number,
+            &at.statement,
+            self.list.as_slice(),
+        ) {
+            Ok(()) => Ok(()),
+            Err(_) => Err(no_memory(input, at.line)),
+        }
+    }
+
+    ghost stays = { λ start words lines ordered. ([], (refl, refl), sym (append-nil start.told.bytes.items)) };
+
+    ghost use Rattle.std.proofs.Common.{refl, sym, append-nil};
+}
+
+// Lack of memory at the line of a statement.
+fn no_memory(input: usize, line: u32) -> RunFault
+    ensures { result ≡ fault_in input line (Lex OutOfMemory) }
+{
+    RunFault {
+        input,
+        line,
+        fault: Fault::Lex(LexFault::OutOfMemory),
+    }
+}
