@@ -55,31 +55,36 @@ module _ (table : Collation) (elements others : List Id) where
 
   module _ (rules : List Rule) (level : ℕ) (none : Rule) (apart : Option Apart) (within : level < length rules)
       (found : apart ≡ apart_at table level (get_or rules level none) elements others) (a b c : Option (List ℕ)) (so_far : HasLevels rules (drop level rules) level a b) where
+    -- the line of this level, and those of the levels behind it
+    abbrev pub line : List ℕ
+    line = level_line (level + 1) (get_or rules level none) apart
+
+    abbrev later : List ℕ
+    later = level_lines table (level + 1) (drop (level + 1) rules) elements others
+
     -- what is left begins with the line of the level
-    left : level_lines table level (drop level rules) elements others
-        ≡ level_line (level + 1) (get_or rules level none) apart ++ unless_apart apart (level_lines table (level + 1) (drop (level + 1) rules) elements others)
+    left : level_lines table level (drop level rules) elements others ≡ line ++ unless_apart apart later
     left =
         let next : suc level ≡ level + 1 = omega arith in
         at_drop_more (lines_from level) rules level none within
         ∙ ap₂ (λ (p : Option Apart) (n : ℕ). level_line n (get_or rules level none) p ++ unless_apart p (level_lines table n (drop (level + 1) rules) elements others)) (sym found) next
 
-    -- its line stops
-    pub level_stops : AppendsPrefix b c (level_line (level + 1) (get_or rules level none) apart) → AppendsPrefix a c (level_lines table 0 rules elements others)
-    level_stops prefix =
-        subst (AppendsPrefix a c) (sym (so_far.1 ∙ ap (λ l. so_far.0 ++ l) left))
-        (AppendsPrefix-after a b c so_far.0 (level_line (level + 1) (get_or rules level none) apart ++ unless_apart apart (level_lines table (level + 1) (drop (level + 1) rules) elements others)) so_far.2
-        (AppendsPrefix-before b c (level_line (level + 1) (get_or rules level none) apart) (unless_apart apart (level_lines table (level + 1) (drop (level + 1) rules) elements others)) prefix))
+    whole : level_lines table 0 rules elements others ≡ so_far.0 ++ (line ++ unless_apart apart later)
+    whole = so_far.1 ∙ ap (λ l. so_far.0 ++ l) left
 
-    module _ (written : Appends b c (level_line (level + 1) (get_or rules level none) apart)) where
-      -- it is equal, and the next follows
-      pub level_passes : apart ≡ None → HasLevels rules (drop (level + 1) rules) (level + 1) a c
-      level_passes equal = (
-        so_far.0 ++ level_line (level + 1) (get_or rules level none) apart,
-        so_far.1
-            ∙ ap (λ l. so_far.0 ++ l) (left ∙ ap (λ p. level_line (level + 1) (get_or rules level none) apart ++ unless_apart p (level_lines table (level + 1) (drop (level + 1) rules) elements others)) equal)
-            ∙ sym (append_assoc so_far.0 (level_line (level + 1) (get_or rules level none) apart) (level_lines table (level + 1) (drop (level + 1) rules) elements others)),
-        Appends-trans a b c so_far.0 (level_line (level + 1) (get_or rules level none) apart) so_far.2 written,
-      )
+    -- its line stops
+    pub level_stops : AppendsPrefix b c line → AppendsPrefix a c (level_lines table 0 rules elements others)
+    level_stops prefix =
+        subst (AppendsPrefix a c) (sym whole)
+        (AppendsPrefix-after a b c so_far.0 (line ++ unless_apart apart later) so_far.2 (AppendsPrefix-before b c line (unless_apart apart later) prefix))
+
+    -- it is equal, and the next follows
+    pub level_passes : Appends b c line → apart ≡ None → HasLevels rules (drop (level + 1) rules) (level + 1) a c
+    level_passes written equal = (
+      so_far.0 ++ line,
+      whole ∙ ap (λ p. so_far.0 ++ (line ++ unless_apart p later)) equal ∙ sym (append_assoc so_far.0 line later),
+      Appends-trans a b c so_far.0 line so_far.2 written,
+    )
 
 -- no difference was found
 pub none_apart : (difference : Option Difference) → false ≡ is_some difference → option_map apart_of difference ≡ None

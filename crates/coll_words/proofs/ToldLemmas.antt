@@ -69,7 +69,8 @@ pub few_directed : {P : Type 0} (b : Bool) (f : P → List Source) (ps : List P)
 few_directed b f ps few short = omega (arith, short, few_items f few ps, length-directed b (all_items f ps))
 
 -- where none is left of an element, and nothing was taken yet, the items are those of all elements
-pub none_taken : {P X : Type 0} (b : Bool) (f : P → List Source) (g : X → Source) (ps : List P) → sources_left (directed_sources b f) (map g (directed b [])) (directed b ps) ≡ directed b (all_items f ps)
+pub none_taken : {P X : Type 0} (b : Bool) (f : P → List Source) (g : X → Source) (ps : List P)
+    → sources_left (directed_sources b f) (map g (directed b [])) (directed b ps) ≡ directed b (all_items f ps)
 none_taken true f g ps = items_directed true f ps
 none_taken false f g ps = refl
 
@@ -207,8 +208,7 @@ tells_behind passed (told ∷ list) (opposite ∷ other) =
 tells_first : (list other : List Told) (r : Option Apart) → TellsBehind 0 list other r → TellsFirst (told_numbers list) (told_numbers other) list other r
 tells_first list other None h = h
 tells_first list other (Some apart) h =
-    let ahead : h.0 ≡ apart.place - 1 = omega (arith, h.1) in
-    (
+    let ahead : h.0 ≡ apart.place - 1 = omega (arith, h.1) in (
       record {
         same = subst (λ (n : ℕ). take n (told_numbers list) ≡ take n (told_numbers other)) ahead h.2;
         apart = subst (λ (n : ℕ). slice_get (told_numbers list) n ≢ slice_get (told_numbers other) n) ahead h.3;

@@ -39,17 +39,20 @@ order_there (Some n) (Some m) = nat_cmp n m
 abbrev pub TellsFirst : (numbers other_numbers : List ℕ) → (list other : List Told) → Option Apart → Type 0
 TellsFirst numbers other_numbers list other None = numbers ≡ other_numbers
 TellsFirst numbers other_numbers list other (Some apart) =
-    DifferFirstAt numbers other_numbers apart.place × (apart.words ≡ words_there list apart.place) × (apart.other_words ≡ words_there other apart.place)
+    DifferFirstAt numbers other_numbers apart.place × (apart.words ≡ words_there list apart.place)
+    × (apart.other_words ≡ words_there other apart.place)
     × (list_order numbers other_numbers ≡ order_there (slice_get numbers (apart.place - 1)) (slice_get other_numbers (apart.place - 1)))
 
 -- the numbers that are told of a level are its list, from which keys are made
 abbrev pub ToldNumbersAreListed : Type 0
 ToldNumbersAreListed = (table : Collation) (level : ℕ) (rule : Rule) (elements : List Id)
-    → map (λ (told : Told). told.number) (told_list rule (sources_at table level) elements) ≡ level_list rule (numbers_at table level) elements
+    → map (λ (told : Told). told.number) (told_list rule (sources_at table level) elements)
+    ≡ level_list rule (numbers_at table level) elements
 
 -- of each level is told whether its lists are the same, and else the first place at which they differ, and what stands there, which
 -- decides
 abbrev pub FirstDifferencesAreTold : Type 0
 FirstDifferencesAreTold = (table : Collation) (level : ℕ) (rule : Rule) (elements others : List Id)
     → TellsFirst (level_list rule (numbers_at table level) elements) (level_list rule (numbers_at table level) others)
-    (told_list rule (sources_at table level) elements) (told_list rule (sources_at table level) others) (apart_at table level rule elements others)
+    (told_list rule (sources_at table level) elements) (told_list rule (sources_at table level) others)
+    (apart_at table level rule elements others)

@@ -89,8 +89,8 @@ fn difference_at<'a>(
 
 // Whether the numbers of two steps differ, which stand at this place.
 fn number_difference<'a>(place: u64, step: Step<'a>, other: Step<'a>) -> Option<Difference<'a>>
-    ensures { (list others : List Told) → first_apart place (told_number (source_of step.entry) ∷ list) (told_number (source_of other.entry) ∷ others)
-        ≡ apart_or (option_map apart_of result) (first_apart (suc place) list others) }
+    ensures { (list others : List Told) → first_apart place (told_number (source_of step.entry) ∷ list)
+        (told_number (source_of other.entry) ∷ others) ≡ apart_or (option_map apart_of result) (first_apart (suc place) list others) }
 {
     if step.number == other.number {
         return None;

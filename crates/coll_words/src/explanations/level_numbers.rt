@@ -48,7 +48,8 @@ impl<'a> Model for LevelNumbers<'a> {
     ghost Value = { List (Option Source) };
 
     ghost view = { λ n. sources_left (directed_sources n.backward (sources_at n.weighing.now n.level))
-        (map (source n.weighing.now n.left.added n.element.now) (directed n.backward n.left.ids.now)) (directed n.backward n.elements.now) };
+        (map (source n.weighing.now n.left.added n.element.now) (directed n.backward n.left.ids.now))
+        (directed n.backward n.elements.now) };
 
     ghost invariant = { λ n. (n.level < length n.weighing.now.rules) × (length n.elements.now ≤ 65_536) };
 }

@@ -11,7 +11,8 @@ returns-in-Ok-clause-run g c =
     let taken = g.W.Sink.taken in
     let made = c.in-Ok.compared in
     let table = collation c.args.table.now in
-    let bytes = explained table (chars c.args.text.now) (chars c.args.other.now) made.elements.items made.others.items made.order c.in-Ok.ensures.elements c.in-Ok.ensures.others c.in-Ok.ensures.order in
+    let bytes = explained table (chars c.args.text.now) (chars c.args.other.now) made.elements.items made.others.items made.order c.in-Ok.ensures.elements c.in-Ok.ensures.others
+    c.in-Ok.ensures.order in
     subst (λ (bytes : List ℕ). WritesWhole bytes (taken c.args.output.now) (taken c.write_compared-wrote.new.output) c.write_compared-wrote.result) bytes
     (whole_sent (explanation_of table made.elements.items made.others.items made.order) (taken c.args.output.now) (taken c.write_compared-wrote.new.output) c.write_compared-wrote.result
     c.write_compared-wrote.ensures.sent c.write_compared-wrote.ensures.fault)

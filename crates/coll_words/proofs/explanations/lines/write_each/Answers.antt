@@ -8,7 +8,8 @@ pub returns-in-Err-clause-sent : goal.returns-in-Err-clause-sent
 returns-in-Err-clause-sent g c =
     let taken = g.W.Sink.taken in
     let all = c.args.elements.now in
-    written_prefix element_word all (drop c.loop-element.element-index all) (drop (c.loop-element.element-index + 1) all) c.element-item.result (taken c.args.out.now) (taken c.loop-element.out) (taken c.write_element.new.out)
+    written_prefix element_word all (drop c.loop-element.element-index all) (drop (c.loop-element.element-index + 1) all) c.element-item.result (taken c.args.out.now)
+    (taken c.loop-element.out) (taken c.write_element.new.out)
     (left_begins all c.loop-element.element-index c.element-item.result c.loop-element-test.true c.element-item.is) c.loop-element.invariant.sent c.in-Err.ensures.sent
 
 pub loop-element-preserved : goal.loop-element-preserved
@@ -16,7 +17,8 @@ loop-element-preserved g c =
     let taken = g.W.Sink.taken in
     let all = c.args.elements.now in
     record {
-      sent = written_more element_word all (drop c.loop-element.element-index all) (drop (c.loop-element.element-index + 1) all) c.element-item.result (taken c.args.out.now) (taken c.loop-element.out) (taken c.write_element.new.out)
+      sent = written_more element_word all (drop c.loop-element.element-index all) (drop (c.loop-element.element-index + 1) all) c.element-item.result (taken c.args.out.now)
+          (taken c.loop-element.out) (taken c.write_element.new.out)
           (left_begins all c.loop-element.element-index c.element-item.result c.loop-element-test.true c.element-item.is) c.loop-element.invariant.sent c.in_default.ensures.sent;
       count = c.in_default.ensures.errors ∙ c.loop-element.invariant.count;
     }
