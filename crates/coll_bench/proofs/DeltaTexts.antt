@@ -302,5 +302,5 @@ module _ (input : ℕ) (first : Collation) where
           let at = reached.way.taken text e in
           let rest = lines_of at.read.lines.rest in
           let said : delta_outcome true (lines_of text) ≡ after_statements at.given (ends_so CategoryEnded) =
-              ap (delta_outcome true) at.read.lines.lines ∙ at.says true rest ∙ ap (after_statements at.given) (from_ended true reached.way.block s rest ended) in
+          ap (delta_outcome true) at.read.lines.lines ∙ at.says true rest ∙ ap (after_statements at.given) (from_ended true reached.way.block s rest ended) in
           subst (λ (given : List StatementAt). reaches begun given now) (sym (ap (λ (o : DeltaOutcome). o.statements) said ∙ append-nil at.given)) (reached.by_given text e)

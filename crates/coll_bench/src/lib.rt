@@ -27,9 +27,7 @@ mod reports;
 mod runs;
 mod serving;
 
-pub use batches::{
-    Batch, TakesStatements, read_delta, read_inputs, run_batch, run_batch_keyed,
-};
+pub use batches::{Batch, TakesStatements, read_delta, read_inputs, run_batch, run_batch_keyed};
 pub use coll_history::{BenchFault, Session};
 pub use exports::write_symbols_behind;
 pub use faults::{Fault, RunFault};
