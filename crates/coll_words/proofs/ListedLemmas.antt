@@ -1,6 +1,6 @@
 -- A list of words that is led, keyed and sorted, member by member.
-use Rattle.std.proofs.Common.{◌≡◌, ◌≢◌, ℕ, zero, suc, ◌+◌, ◌-◌, ◌<◌, ◌≤◌, ◌==◌, Bool, true, false, if◌then◌else◌, List, [], ◌∷◌, ◌++◌, length, map, take, drop, get_or, set, Option, eq-eqb, refl, sym, ap, subst, ◌∙◌, arith}
-use Rattle.std.proofs.Common.{append-nil, append_assoc, length-append, below_more, get_or-set_same, get_or-set_other}
+use Rattle.std.proofs.Common.{◌≡◌, ◌≢◌, ℕ, zero, suc, ◌+◌, ◌-◌, ◌<◌, ◌≤◌, ◌==◌, Bool, false, if◌then◌else◌, List, [], ◌∷◌, ◌++◌, length, map, take, drop, get_or, set, Option, eq-eqb, refl, sym, ap, subst, ◌∙◌, arith}
+use Rattle.std.proofs.Common.{append-nil, append_assoc, get_or-set_same, get_or-set_other}
 use Rattle.std.specs.List.Sorted.{IsPermutation, IsSortedBy, IsSorted, IsSortedWithin}
 use Rattle.std.proofs.lemmas.List.Elements.{All-cons}
 use Rattle.std.proofs.lemmas.List.Sorted.{IsPermutation-refl}
@@ -14,7 +14,7 @@ use Rattle.coll_devices.specs.Devices.{AppendsPrefix}
 use Rattle.coll_elements.proofs.Tests.{by_test}
 use Rattle.coll_nodes.specs.Table.{Collation}
 use Rattle.coll_nodes.specs.WellFormed.{IsWellFormed}
-use Rattle.coll_key.specs.TextOrder.{list_order, order_of}
+use Rattle.coll_key.specs.TextOrder.{list_order}
 use Rattle.coll_texts.proofs.PrintedParts.{HasWritten, left_begins, written_more, written_prefix}
 use Rattle.coll_words.specs.KeyedWords.{KeyedWord, IsKeyed, texts_of}
 use Rattle.coll_words.specs.ListedWords.{AreListedByKeys, IsSortedAnew, all_numbered, led_by, newly_beside, numbered_of}
@@ -166,7 +166,7 @@ module _ (list : List ListedWord) (place : ℕ) where
   pairs_from first next above within is next_is =
       let second = left_begins list place next within next_is in
       let begun : drop (place - 1) list ≡ first ∷ drop place list = left_begins list (place - 1) first (omega (arith, within)) is
-          ∙ ap (λ (n : ℕ). first ∷ drop n list) (omega (arith, above)) in
+      ∙ ap (λ (n : ℕ). first ∷ drop n list) (omega (arith, above)) in
       ap newly_beside (begun ∙ ap (λ (l : List ListedWord). first ∷ l) second)
       ∙ ap (λ (l : List ListedWord). if first.line == next.leader then newly_beside l else (numbered_of first, numbered_of next) ∷ newly_beside l) (sym second)
 
@@ -263,9 +263,9 @@ module _ (list : List ListedWord) (place : ℕ) (first next : ListedWord) (above
       let at : k + 1 ≡ place = eqb-true (k + 1) place on in
       let before : k ≡ place - 1 = omega (arith, at) in
       let second : get_or (all_numbered list) (k + 1) d ≡ numbered_of next =
-          ap (λ (n : ℕ). get_or (all_numbered list) n d) at ∙ get_or-map numbered_of list place next d within ∙ ap numbered_of (sym next_is) in
+      ap (λ (n : ℕ). get_or (all_numbered list) n d) at ∙ get_or-map numbered_of list place next d within ∙ ap numbered_of (sym next_is) in
       let one : get_or (all_numbered list) k d ≡ numbered_of first =
-          ap (λ (n : ℕ). get_or (all_numbered list) n d) before ∙ get_or-map numbered_of list (place - 1) first d (omega (arith, within)) ∙ ap numbered_of (sym is) in
+      ap (λ (n : ℕ). get_or (all_numbered list) n d) before ∙ get_or-map numbered_of list (place - 1) first d (omega (arith, within)) ∙ ap numbered_of (sym is) in
       ap (λ (word : NumberedWord). is_lt (line_order table word (get_or (all_numbered list) k d))) second
       ∙ ap (λ (word : NumberedWord). is_lt (line_order table (numbered_of next) word)) one ∙ ordered)
       (λ off. let other : k + 1 ≢ place = eqb-false (k + 1) place off in sorted k d low (omega (arith, high, other)))

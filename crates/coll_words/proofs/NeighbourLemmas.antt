@@ -1,11 +1,10 @@
 -- Neighbours in one list and in another: as many pairs are lost as are new, and the new ones are told by what stands beside each word.
 use Rattle.std.proofs.Common.{◌≡◌, ℕ, zero, suc, ◌+◌, ◌<◌, ◌≤◌, ◌==◌, ◌&&◌, ◌||◌, not, Bool, true, false, cond, if◌then◌else◌, List, [], ◌∷◌, length, refl, sym, ap, subst, ◌∙◌, arith}
 use Rattle.std.proofs.Common.{eq-eqb}
-use Rattle.std.specs.Prelude.{All, filter, map}
+use Rattle.std.specs.Prelude.{All, filter}
 use Rattle.std.specs.List.{list_any}
 use Rattle.std.specs.List.Sorted.{IsPermutation}
 use Rattle.std.proofs.lemmas.Bool.{ne_eqb, eqb-true}
-use Rattle.std.proofs.lemmas.List.{length-map}
 use Rattle.std.proofs.lemmas.List.Elements.{All-cons, All-nil}
 use Rattle.std.proofs.lemmas.List.Sorted.{All-permutation, IsPermutation-map, sum_by-IsPermutation, length_permutation}
 use Rattle.std.proofs.lemmas.List.Sums.{length-filter}
@@ -156,8 +155,13 @@ as_many_pairs (word ∷ words) (other ∷ others) same = omega (arith, same, few
 -- as many pairs are neighbours no longer as are new
 pub as_many_lost : (old new : List NumberedWord) → HaveLines old → HaveLines new → length old ≡ length new → length (only_in old new) ≡ length (only_in new old)
 as_many_lost old new lines new_lines same =
-    omega (arith, failed_count (are_neighbours new) (neighbours old), failed_count (are_neighbours old) (neighbours new), common_alike old new lines new_lines,
-    as_many_pairs old new same)
+    omega (
+      arith,
+      failed_count (are_neighbours new) (neighbours old),
+      failed_count (are_neighbours old) (neighbours new),
+      common_alike old new lines new_lines,
+      as_many_pairs old new same,
+    )
 
 -- What stands beside a word.
 

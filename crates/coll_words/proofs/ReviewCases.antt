@@ -1,15 +1,13 @@
 -- How a review ends, by what reading its words, reading its delta file and writing answered.
-use Rattle.std.proofs.Common.{◌≡◌, ◌⊎◌, inl, inr, ⊎_elim, ℕ, zero, suc, ◌+◌, ◌<◌, ◌≤◌, ◌==◌, ◌&&◌, Bool, true, false, if◌then◌else◌, List, [], ◌∷◌, ◌++◌, length, map, Option, Some, None, Result, Ok, Err}
-use Rattle.std.proofs.Common.{refl, sym, ap, subst, ◌∙◌, arith, append-nil, append_assoc, eq-eqb}
+use Rattle.std.proofs.Common.{◌≡◌, inr, ⊎_elim, ℕ, zero, ◌+◌, ◌≤◌, ◌==◌, ◌&&◌, Bool, true, false, if◌then◌else◌, List, [], ◌++◌, length, Option, Some, Result, Ok, Err}
+use Rattle.std.proofs.Common.{refl, sym, ap, subst, ◌∙◌, arith, append-nil, eq-eqb}
 use Rattle.std.specs.Prelude.{IfErr}
-use Rattle.std.specs.Io.KnownBytes.{Appends}
 use Rattle.std.proofs.lemmas.Bool.{ne_eqb}
 use Rattle.std.proofs.lemmas.List.{length-map}
 use Rattle.std.proofs.lemmas.List.Sorted.{length_permutation}
 use Rattle.coll_devices.specs.Devices.{AppendsPrefix, Sends, raised}
 use Rattle.coll_nodes.specs.Table.{Collation}
 use Rattle.coll_nodes.specs.TableLayout.{collation}
-use Rattle.coll_requests.specs.declared.delta_files.StatementAt.{StatementAt}
 use Rattle.coll_bench.specs.BatchOutcome.{after_delta, statements_of}
 use Rattle.coll_bench.specs.BatchReading.{DeltaFails}
 use Rattle.coll_bench.specs.BatchRuns.{ending_of}
@@ -17,14 +15,12 @@ use Rattle.coll_bench.specs.Faults.{fault_number}
 use Rattle.coll_bench.specs.Serving.{write_failed}
 use Rattle.coll_bench.specs.declared.faults.RunFault.{RunFault}
 use Rattle.coll_words.specs.ListedWords.{all_numbered, numbered_of}
-use Rattle.coll_words.specs.Neighbours.{NumberedWord}
 use Rattle.coll_words.specs.NumberedWords.{AreInOrder, numbered_from}
 use Rattle.coll_words.specs.ReviewLines.{review_line}
-use Rattle.coll_words.specs.ReviewRuns.{CountsReadingOf, ReviewRan, ReviewRanTo, ReviewRuns, ReviewsText}
-use Rattle.coll_words.specs.ReviewSteps.{LeadsTo, ListsWordsOf, ReachesAll, WritesReview, review_bytes, standing_of}
-use Rattle.coll_words.specs.Reviews.{ArePut, IsReview, Standing}
-use Rattle.coll_words.specs.WordReading.{CountsReading, ReadingFails, WordsFail}
-use Rattle.coll_words.specs.Words.{words_of}
+use Rattle.coll_words.specs.ReviewRuns.{CountsReadingOf, ReviewRanTo, ReviewRuns, ReviewsText}
+use Rattle.coll_words.specs.ReviewSteps.{ListsWordsOf, ReachesAll, WritesReview, review_bytes, standing_of}
+use Rattle.coll_words.specs.Reviews.{ArePut, Standing}
+use Rattle.coll_words.specs.WordReading.{ReadingFails}
 use Rattle.coll_words.specs.declared.listed_words.ListedWord.{ListedWord}
 use Rattle.coll_words.specs.declared.reviews.Review.{Review}
 use Rattle.coll_words.proofs.ReviewLemmas.{numbered_lines, length_numbered, in_order_still, all_counted}
@@ -97,14 +93,13 @@ module _ (table : Collation) (delta delta_after words words_after taken : Option
         let statements = statements_of delta_text in
         let at = reaches delta_text e in
         let begun_ordered : AreInOrder (collation begun.table) numbered (all_numbered begun.list.items) =
-            subst (λ (s : Standing). AreInOrder s.table numbered s.sorted) (sym stands) listed.2 in
+        subst (λ (s : Standing). AreInOrder s.table numbered s.sorted) (sym stands) listed.2 in
         let led = at.1 numbered (numbered_lines texts) begun_ordered in
         let ordered = in_order_still numbered (standing_of begun) statements (standing_of now) led.0 begun_ordered led.1 in
         let counted : now.count ≡ length statements = all_counted numbered (standing_of begun) statements (standing_of now) led.0 led.1 ∙ ap (λ (s : Standing). s.count + length statements) stands
-            ∙ none_before (length statements) in
+        ∙ none_before (length statements) in
         let long : length now.list.items ≡ length texts =
-            sym (length-map now.list.items numbered_of) ∙ length_permutation numbered (all_numbered now.list.items) ordered.same ∙ length_numbered 1 texts in
-        (
+        sym (length-map now.list.items numbered_of) ∙ length_permutation numbered (all_numbered now.list.items) ordered.same ∙ length_numbered 1 texts in (
           after,
           texts,
           subst (λ (t : Collation). after_delta 1 t delta_text ≡ Ok after) same_table at.0,
@@ -116,8 +111,8 @@ module _ (table : Collation) (delta delta_after words words_after taken : Option
             listed.2,
             subst (λ (s : Standing). ArePut numbered s statements (standing_of now) led.0) stands led.1,
             ap (λ (bytes : List ℕ). bytes ++ review_line now.count (length now.list.items)) (led.2 ∙ ap (λ (bytes : List ℕ). bytes ++ led.0) none)
-            ∙ ap (λ (n : ℕ). led.0 ++ review_line n (length now.list.items)) counted
-            ∙ ap (λ (n : ℕ). led.0 ++ review_line (length statements) n) long,
+                ∙ ap (λ (n : ℕ). led.0 ++ review_line n (length now.list.items)) counted
+                ∙ ap (λ (n : ℕ). led.0 ++ review_line (length statements) n) long,
           ),
         )
       where
@@ -141,12 +136,11 @@ module _ (table : Collation) (delta delta_after words words_after taken : Option
     told_reviews taken_after (Err ended) h delta_text words_text before e f t =
         ⊎_elim
         (λ (faulty : (ended.input ≡ 1) × (taken_after ≡ taken)
-        × ((text : List ℕ) → delta ≡ Some text → DeltaFails (ending_of ended) 1 (collation begun.table) text delta_after ended)).
-        (
+        × ((text : List ℕ) → delta ≡ Some text → DeltaFails (ending_of ended) 1 (collation begun.table) text delta_after ended)). (
           [],
           faulty.1 ∙ t ∙ ap Some (sym (append-nil before)),
           subst (λ (n : ℕ). ReviewRanTo n table delta_text words_text delta_after words_after [] ended) (sym faulty.0)
-          (refl, (lists words_text f).0, (lists words_text f).1, subst (λ (t : Collation). DeltaFails (ending_of ended) 1 t delta_text delta_after ended) same_table (faulty.2 delta_text e)),
+              (refl, (lists words_text f).0, (lists words_text f).1, subst (λ (t : Collation). DeltaFails (ending_of ended) 1 t delta_text delta_after ended) same_table (faulty.2 delta_text e)),
         ))
         (λ stops. subst (λ (r : RunFault). ReviewRuns table delta delta_after words words_after taken taken_after (Err r)) (sym stops.0)
         (stopped_reviews taken_after stops.1 stops.2 stops.3 stops.4) delta_text words_text before e f t)

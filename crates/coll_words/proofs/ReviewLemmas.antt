@@ -1,6 +1,6 @@
 -- Where statements lead a review, and what it writes then.
-use Rattle.std.proofs.Common.{◌≡◌, ◌⊎◌, inl, inr, ⊎_elim, ℕ, zero, suc, ◌+◌, ◌<◌, ◌≤◌, ◌==◌, Bool, true, false, if◌then◌else◌, List, [], ◌∷◌, ◌++◌, length, map, take, Option, Some, None, Result, Ok, Err}
-use Rattle.std.proofs.Common.{refl, sym, ap, subst, ◌∙◌, arith, append-nil, append_assoc, length-append}
+use Rattle.std.proofs.Common.{◌≡◌, ℕ, suc, ◌+◌, ◌<◌, ◌≤◌, ◌==◌, Bool, true, false, if◌then◌else◌, List, [], ◌∷◌, ◌++◌, length, map, take, Result, Ok, Err}
+use Rattle.std.proofs.Common.{refl, sym, ap, subst, ◌∙◌, arith, append-nil, append_assoc}
 use Rattle.std.specs.Prelude.{All, filter}
 use Rattle.std.specs.List.{flat_map}
 use Rattle.std.specs.List.Sorted.{IsPermutation, IsSorted}
@@ -160,5 +160,5 @@ module _ (begun old new : Review) (given : List StatementAt) (at : StatementAt) 
         so_far.0 ++ more,
         put_behind words (standing_of begun) given (standing_of old) so_far.0 at (standing_of new) more so_far.1 one,
         told ∙ ap (λ (l : List ℕ). old.told.bytes.items ++ l) (told_so new.count at (collation new.table) old.list.items new.list.items old_lines anew)
-        ∙ ap (λ (l : List ℕ). l ++ more) so_far.2 ∙ append_assoc begun.told.bytes.items so_far.0 more,
+            ∙ ap (λ (l : List ℕ). l ++ more) so_far.2 ∙ append_assoc begun.told.bytes.items so_far.0 more,
       )

@@ -2,7 +2,7 @@
 use Rattle.std.specs.Prelude.{◌≡◌, ℕ, zero, ◌==◌, if◌then◌else◌, List, [], ◌∷◌, All, map}
 use Rattle.std.specs.List.Sorted.{IsPermutation, IsSorted}
 use Rattle.coll_nodes.specs.Table.{Collation}
-use Rattle.coll_words.specs.KeyedWords.{KeyedWord, IsKeyed}
+use Rattle.coll_words.specs.KeyedWords.{IsKeyed}
 use Rattle.coll_words.specs.Neighbours.{NumberedWord, WordPair}
 use Rattle.coll_words.specs.NumberedWords.{line_order}
 use Rattle.coll_words.specs.declared.listed_words.ListedWord.{ListedWord}

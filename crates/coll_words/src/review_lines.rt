@@ -155,11 +155,5 @@ fn is_plain(c: char) -> bool
     ensures { result ≡ stands_for_itself c }
 {
     let code = c as u32;
-    !(code < 32
-        || code == 127
-        || c == '"'
-        || c == '/'
-        || c == '<'
-        || c == '>'
-        || c == '\\')
+    !(code < 32 || code == 127 || c == '"' || c == '/' || c == '<' || c == '>' || c == '\\')
 }

@@ -80,12 +80,7 @@ impl TakesStatements for Review {
             return Err(no_memory(input, at.line));
         }
         self.count = number;
-        match write_told(
-            &mut self.told,
-            number,
-            &at.statement,
-            self.list.as_slice(),
-        ) {
+        match write_told(&mut self.told, number, &at.statement, self.list.as_slice()) {
             Ok(()) => Ok(()),
             Err(_) => Err(no_memory(input, at.line)),
         }

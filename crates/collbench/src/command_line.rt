@@ -383,9 +383,9 @@ fn other_table<'a>(alloc: Global) -> Arg<'a> {
 
 // One delta file.
 fn delta<'a>(alloc: Global) -> Arg<'a> {
-    Arg::new(alloc, DELTA)
-        .required(true)
-        .help("The file of statements that change the table, one after another")
+    Arg::new(alloc, DELTA).required(true).help(
+        "The file of statements that change the table, one after another",
+    )
 }
 
 // Words.

@@ -1,5 +1,5 @@
 -- Each word is led by the one before it.
-use Rattle.std.proofs.Common.{◌≡◌, get_or, ap, sym, ◌∙◌, arith, append-nil}
+use Rattle.std.proofs.Common.{get_or, ap, arith}
 use Rattle.coll_words.proofs.ListedLemmas.{one_more_led, all_led}
 use Rattle.coll_words.proofs.listed_words.lead.Goals as goal
 

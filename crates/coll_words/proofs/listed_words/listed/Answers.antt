@@ -1,5 +1,5 @@
 -- Each word in turn, up to the last.
-use Rattle.std.proofs.Common.{length, arith, ◌∙◌, ◌+◌, ◌++◌, ◌∷◌, [], sym, ap, subst}
+use Rattle.std.proofs.Common.{arith, ◌∙◌, ◌+◌, ◌++◌, ◌∷◌, [], sym, ap, subst}
 use Rattle.std.proofs.lemmas.Iterator.Adapters.{YieldsList-from_vec}
 use Rattle.std.proofs.lemmas.Iterator.Consumers.{YieldsList-turn, YieldsList-end}
 use Rattle.coll_words.specs.KeyedWords.{texts_of}

@@ -1,5 +1,5 @@
 -- The words so far are listed, and there is room for the others.
-use Rattle.std.proofs.Common.{◌≡◌, length, vec_len, vec_capacity}
+use Rattle.std.proofs.Common.{◌≡◌, vec_len, vec_capacity}
 use Rattle.coll_words.proofs.ListedLemmas.{ListedSoFar}
 use Rattle.coll_words.proofs.listed_words.listed.Given as goal
 

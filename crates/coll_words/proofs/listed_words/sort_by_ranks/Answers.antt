@@ -1,5 +1,5 @@
 -- The words are in order still, or they are keyed, led and sorted.
-use Rattle.std.proofs.Common.{◌≡◌, List, length, refl, sym, ap, ◌∙◌}
+use Rattle.std.proofs.Common.{◌≡◌, List, length, sym, ap, ◌∙◌}
 use Rattle.coll_nodes.specs.TableLayout.{collation}
 use Rattle.coll_words.specs.ListedWords.{all_numbered, led_by}
 use Rattle.coll_words.specs.declared.listed_words.ListedWord.{ListedWord}

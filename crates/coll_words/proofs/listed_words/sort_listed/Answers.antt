@@ -1,6 +1,6 @@
 -- The closure answers the order of two keys, and of two lines where these are the same.
 use Rattle.std.proofs.Common.{ℕ, List, ap, rules}
-use Rattle.std.specs.Ordering.{is_lt, nat_cmp}
+use Rattle.std.specs.Ordering.{is_lt}
 use Rattle.std.proofs.lemmas.Cmp.{nat_cmp_total, nat_list_cmp_total, on_total, then_total}
 use Rattle.std.proofs.lemmas.List.Sorted.{All-permutation, answers_always, ranks_by}
 use Rattle.coll_words.specs.KeyedWords.{IsKeyed}

@@ -14,10 +14,10 @@ loop-place-preserved c =
     let first = c.index-list-place.result in
     let next = c.index-list-place-in-loop-place.result in
     elim c.if-first-second.branch [
-      then-first-second w ↦ subst (CountedSoFar list (place + 1)) (sym w.count-is)
+      | then-first-second w ↦ subst (CountedSoFar list (place + 1)) (sym w.count-is)
           (counted_new list place first next c.loop-place.invariant.above c.loop-place-test.true c.index-list-place.is c.index-list-place-in-loop-place.is c.loop-place.count c.loop-place.invariant
           w.if-first-second.true)
-    | else-first-second w ↦ subst (CountedSoFar list (place + 1)) (sym w.count-is)
+      | else-first-second w ↦ subst (CountedSoFar list (place + 1)) (sym w.count-is)
           (counted_old list place first next c.loop-place.invariant.above c.loop-place-test.true c.index-list-place.is c.index-list-place-in-loop-place.is c.loop-place.count c.loop-place.invariant
           w.if-first-second.false)
     ]

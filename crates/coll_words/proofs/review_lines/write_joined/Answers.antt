@@ -1,9 +1,7 @@
 -- The first pairs that are new, up to five, or to the last.
-use Rattle.std.proofs.Common.{◌+◌, ◌-◌, ap, arith, subst, sym, take, drop, ◌∙◌, List, ℕ}
-use Rattle.std.specs.Io.KnownBytes.{Appends}
-use Rattle.coll_texts.proofs.PrintedParts.{HasWritten, written_all}
+use Rattle.std.proofs.Common.{◌-◌, ap, arith, take, drop, ◌∙◌, ℕ}
+use Rattle.coll_texts.proofs.PrintedParts.{written_all}
 use Rattle.coll_words.specs.ListedWords.{newly_beside}
-use Rattle.coll_words.specs.Neighbours.{WordPair}
 use Rattle.coll_words.specs.ReviewLines.{joined_line, most_told}
 use Rattle.coll_words.proofs.ListedLemmas.{joined_new, joined_old, joined_stops, pairs_end, take_nothing}
 use Rattle.coll_words.proofs.review_lines.write_joined.Goals as goal
@@ -25,14 +23,14 @@ loop-place-preserved g c =
     let next = c.index-list-place-in-loop-place.result in
     let all = take most_told (newly_beside list) in
     elim c.if-first-second.branch [
-      then-first-second+in_default w ↦ record {
+      | then-first-second+in_default w ↦ record {
         above = omega arith;
         sent = rw (w.out-is, w.left-is)
             (joined_new list place first next c.loop-place.invariant.above c.loop-place-test.true c.index-list-place.is c.index-list-place-in-loop-place.is all c.loop-place.left (taken c.args.out.now)
             (taken c.loop-place.out) (taken w.write_pair.new.out) c.if-left-eq0.false w.if-first-second.true c.loop-place.invariant.sent w.in_default.ensures.sent);
         count = rw w.out-is (w.in_default.ensures.errors ∙ c.loop-place.invariant.count);
       }
-    | else-first-second w ↦ record {
+      | else-first-second w ↦ record {
         above = omega arith;
         sent = rw (w.out-is, w.left-is)
             (joined_old list place first next c.loop-place.invariant.above c.loop-place-test.true c.index-list-place.is c.index-list-place-in-loop-place.is all c.loop-place.left (taken c.args.out.now)

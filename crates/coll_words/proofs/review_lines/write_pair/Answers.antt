@@ -1,5 +1,5 @@
 -- Each part, one behind another.
-use Rattle.std.proofs.Common.{◌++◌, ap, refl}
+use Rattle.std.proofs.Common.{◌++◌, refl}
 use Rattle.std.specs.Prelude.{codes}
 use Rattle.std.specs.List.{flat_map}
 use Rattle.coll_devices.proofs.WritingLemmas.{Sends-after}

@@ -1,6 +1,6 @@
 -- The words are read, and the delta file behind them, or there is a fault.
 use Rattle.coll_nodes.specs.TableLayout.{collation}
-use Rattle.coll_words.proofs.ReviewCases.{below_two, counts_none, counts_own, told_reviews, unread_reviews}
+use Rattle.coll_words.proofs.ReviewCases.{told_reviews, unread_reviews}
 use Rattle.coll_words.proofs.reviewing.review_words.Goals as goal
 
 pub returns-in-Ok-clause-run : goal.returns-in-Ok-clause-run

@@ -1,5 +1,5 @@
 -- What is told, and then the counts.
-use Rattle.std.proofs.Common.{List, ℕ, length, subst, refl, ◌∙◌}
+use Rattle.std.proofs.Common.{ℕ, length, subst, refl, ◌∙◌}
 use Rattle.coll_devices.specs.Devices.{Sends}
 use Rattle.coll_devices.proofs.WritingLemmas.{Sends-after}
 use Rattle.coll_texts.proofs.PrintedParts.{stops_first}

@@ -1,0 +1,58 @@
+#!/usr/bin/env python3
+"""Reviews 200 statements over 100,000 words of nine letters, by glibc's common table.
+
+usage: bench/review_words.py PROGRAM
+
+PROGRAM is a build of collbench. It needs the source of the common table, from Debian's package `locales`, and GNU time. Two delta
+files are reviewed: in one every statement declares a symbol, so that the words are only looked over, and in the other every statement
+moves a letter behind another one, so that they are sorted anew. Of each the processor time and the most memory are printed, and how
+many of its statements parted words.
+"""
+
+import os
+import random
+import subprocess
+import sys
+import tempfile
+
+SOURCES = "/usr/share/i18n/locales"
+LETTERS = "abcdefghijklmnopqrstuvwxyz"
+WORDS = 100_000
+STATEMENTS = 200
+
+
+def moves(chosen):
+    """The lines of a block that moves a letter behind another one."""
+    letter, other = chosen.sample(LETTERS, 2)
+    return f"reorder-after <U{ord(other):04X}>\n<U{ord(letter):04X}>\nreorder-end\n"
+
+
+def reviewed(program, table, delta, words):
+    """The processor time in seconds of a review, its peak memory in megabytes, and how many statements parted words."""
+    run = subprocess.run(["/usr/bin/time", "-f", "%U %S %M", program, "review", table, delta, words], capture_output=True, text=True, check=True)
+    user, system, kilobytes = run.stderr.split()
+    told = [line for line in run.stdout.splitlines() if line.startswith("parted ")]
+    if len(told) != STATEMENTS:
+        sys.exit(f"{len(told)} statements were told")
+    return float(user) + float(system), int(kilobytes) / 1024, sum(line != "parted 0" for line in told)
+
+
+def main(program):
+    chosen = random.Random(7)
+    with tempfile.TemporaryDirectory() as room:
+        words, table, delta = (f"{room}/{it}" for it in ("words.txt", "common.txt", "delta.txt"))
+        with open(words, "w", encoding="utf-8") as out:
+            out.writelines("".join(chosen.choices(LETTERS, k=9)) + "\n" for _ in range(WORDS))
+        with open(table, "wb") as out:
+            subprocess.run([program, "import", f"{SOURCES}/iso14651_t1"], check=True, stdout=out, stderr=subprocess.DEVNULL)
+        for name, statement in (("declarations", lambda n: f"collating-symbol <NEW_{n}>\n"), ("moved letters", lambda n: moves(chosen))):
+            with open(delta, "w", encoding="utf-8") as out:
+                out.write("LC_COLLATE\n" + "".join(map(statement, range(STATEMENTS))) + "END LC_COLLATE\n")
+            seconds, megabytes, parted = reviewed(program, table, delta, words)
+            print(f"{name}: {seconds:.2f} s, {megabytes:.0f} MB, {parted} of {STATEMENTS} part words")
+
+
+if __name__ == "__main__":
+    if len(sys.argv) != 2:
+        sys.exit(__doc__)
+    main(os.path.abspath(sys.argv[1]))
