@@ -1,5 +1,6 @@
 -- The lines that tell what differs between two tables (the project's own).
-use Rattle.std.specs.Prelude.{ℕ, Bool, if◌then◌else◌, List, [], ◌∷◌, ◌++◌, Option, Some, None, codes, decimal, count_by, is_some, vec_len, encode_utf8_all}
+use Rattle.std.specs.Prelude.{ℕ, Bool, if◌then◌else◌, List, [], ◌∷◌, ◌++◌, Option, Some, None, is_some}
+use Rattle.std.specs.Prelude.{codes, decimal, count_by, vec_len, encode_utf8_all}
 use Rattle.std.specs.List.{flat_map}
 use Rattle.std.specs.Borrow.{Bor}
 use Rattle.coll_devices.specs.PhysicalLines.{line_feed}
@@ -101,8 +102,10 @@ one_if b = if b then 1 else 0
 abbrev pub counts_told : Differences → List ℕ
 counts_told told =
     codes "differences rules " ++ (decimal (one_if (is_some told.rules)) ++ (codes " declarations " ++ (decimal (vec_len told.declarations)
-    ++ (codes " removed " ++ (decimal (count_by is_removal told.changes.items) ++ (codes " added " ++ (decimal (count_by is_addition told.changes.items)
-    ++ (codes " moved " ++ (decimal (count_by is_move told.changes.items) ++ (codes " weights " ++ (decimal (vec_len told.weights) ++ line_end)))))))))))
+    ++ (codes " removed " ++ (decimal (count_by is_removal told.changes.items)
+    ++ (codes " added " ++ (decimal (count_by is_addition told.changes.items)
+    ++ (codes " moved " ++ (decimal (count_by is_move told.changes.items)
+    ++ (codes " weights " ++ (decimal (vec_len told.weights) ++ line_end)))))))))))
 
 -- All lines.
 

@@ -317,7 +317,8 @@ fn write_marked<'a, W: Sink>(out: &mut W, mark: &'a [u8], id: &'a Id) -> Result<
 
 // Writes identifiers between quotation marks, behind a mark.
 fn write_string<W: Sink>(out: &mut W, mark: &[u8], ids: &[Id]) -> Result<(), WriteStop>
-    ensures sent { Sends (W.taken out.old) (W.taken out.new) (mark.now ++ (codes "\"" ++ (flat_map id_bytes ids.now ++ codes "\""))) result }
+    ensures sent { Sends (W.taken out.old) (W.taken out.new)
+        (mark.now ++ (codes "\"" ++ (flat_map id_bytes ids.now ++ codes "\""))) result }
     ensures errors { CountsErr (W.failed out.old) (W.failed out.new) result }
 {
     write_bytes(out, mark)?;

@@ -9,7 +9,8 @@ use Rattle.coll_differences.proofs.declarations.is_there.Goals as goal
 
 pub returns-in-Some : goal.returns-in-Some
 returns-in-Some c =
-    told_named (collation c.args.table.now).declared (marks_of c.args.declared.now) (declared_by c.args.item) c.in-Some.is_same c.requires c.lemma_well_formed.ensures.well_formed.built.distinct_names c.in-Some.ensures
+    told_named (collation c.args.table.now).declared (marks_of c.args.declared.now) (declared_by c.args.item) c.in-Some.is_same c.requires
+    c.lemma_well_formed.ensures.well_formed.built.distinct_names c.in-Some.ensures
 
 pub returns-then-not-declares : goal.returns-then-not-declares
 returns-then-not-declares c =

@@ -8,7 +8,8 @@ pub returns-in-Err-clause-sent : goal.returns-in-Err-clause-sent
 returns-in-Err-clause-sent g c =
     let taken = g.W.Sink.taken in
     let all = c.args.entries.now in
-    written_prefix lent_weights_told all (drop c.loop-entry.entry-index all) (drop (c.loop-entry.entry-index + 1) all) c.entry-item.result (taken c.args.out.now) (taken c.loop-entry.out) (taken c.write_reweighted.new.out)
+    written_prefix lent_weights_told all (drop c.loop-entry.entry-index all) (drop (c.loop-entry.entry-index + 1) all) c.entry-item.result (taken c.args.out.now) (taken c.loop-entry.out)
+    (taken c.write_reweighted.new.out)
     (left_begins all c.loop-entry.entry-index c.entry-item.result c.loop-entry-test.true c.entry-item.is) c.loop-entry.invariant.sent c.in-Err.ensures.sent
 
 pub loop-entry-preserved : goal.loop-entry-preserved
@@ -16,7 +17,8 @@ loop-entry-preserved g c =
     let taken = g.W.Sink.taken in
     let all = c.args.entries.now in
     record {
-      sent = written_more lent_weights_told all (drop c.loop-entry.entry-index all) (drop (c.loop-entry.entry-index + 1) all) c.entry-item.result (taken c.args.out.now) (taken c.loop-entry.out) (taken c.write_reweighted.new.out)
+      sent = written_more lent_weights_told all (drop c.loop-entry.entry-index all) (drop (c.loop-entry.entry-index + 1) all) c.entry-item.result (taken c.args.out.now) (taken c.loop-entry.out)
+          (taken c.write_reweighted.new.out)
           (left_begins all c.loop-entry.entry-index c.entry-item.result c.loop-entry-test.true c.entry-item.is) c.loop-entry.invariant.sent c.in_default.ensures.sent;
       count = c.in_default.ensures.errors ∙ c.loop-entry.invariant.count;
     }

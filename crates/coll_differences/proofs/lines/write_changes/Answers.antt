@@ -8,7 +8,8 @@ pub returns-in-Err-clause-sent : goal.returns-in-Err-clause-sent
 returns-in-Err-clause-sent g c =
     let taken = g.W.Sink.taken in
     let all = c.args.changes.now in
-    written_prefix change_told all (drop c.loop-change.change-index all) (drop (c.loop-change.change-index + 1) all) c.change-item.result (taken c.args.out.now) (taken c.loop-change.out) (taken c.write_change.new.out)
+    written_prefix change_told all (drop c.loop-change.change-index all) (drop (c.loop-change.change-index + 1) all) c.change-item.result (taken c.args.out.now) (taken c.loop-change.out)
+    (taken c.write_change.new.out)
     (left_begins all c.loop-change.change-index c.change-item.result c.loop-change-test.true c.change-item.is) c.loop-change.invariant.sent c.in-Err.ensures.sent
 
 pub loop-change-preserved : goal.loop-change-preserved
@@ -16,7 +17,8 @@ loop-change-preserved g c =
     let taken = g.W.Sink.taken in
     let all = c.args.changes.now in
     record {
-      sent = written_more change_told all (drop c.loop-change.change-index all) (drop (c.loop-change.change-index + 1) all) c.change-item.result (taken c.args.out.now) (taken c.loop-change.out) (taken c.write_change.new.out)
+      sent = written_more change_told all (drop c.loop-change.change-index all) (drop (c.loop-change.change-index + 1) all) c.change-item.result (taken c.args.out.now) (taken c.loop-change.out)
+          (taken c.write_change.new.out)
           (left_begins all c.loop-change.change-index c.change-item.result c.loop-change-test.true c.change-item.is) c.loop-change.invariant.sent c.in_default.ensures.sent;
       count = c.in_default.ensures.errors ∙ c.loop-change.invariant.count;
     }

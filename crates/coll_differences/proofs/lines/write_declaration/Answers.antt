@@ -9,4 +9,5 @@ use Rattle.coll_differences.proofs.lines.write_declaration.Goals as goal
 pub returns-in-Symbol-clause-sent : goal.returns-in-Symbol-clause-sent
 returns-in-Symbol-clause-sent g c =
     let taken = g.W.Sink.taken in
-    subst (λ (item : DeclaredItem). Sends (taken c.args.out.now) (taken c.write_named.new.out) (declaration_told (declared_by item)) c.write_named.result) (sym c.in-Symbol.is) c.write_named.ensures.sent
+    subst (λ (item : DeclaredItem). Sends (taken c.args.out.now) (taken c.write_named.new.out) (declaration_told (declared_by item)) c.write_named.result) (sym c.in-Symbol.is)
+    c.write_named.ensures.sent

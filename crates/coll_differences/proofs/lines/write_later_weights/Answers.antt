@@ -8,7 +8,8 @@ pub returns-in-Err-clause-sent : goal.returns-in-Err-clause-sent
 returns-in-Err-clause-sent g c =
     let taken = g.W.Sink.taken in
     let all = c.args.weights.now in
-    written_prefix (weight_told (codes ";") c.args.owner.now) all (drop c.loop-weight.weight-index all) (drop (c.loop-weight.weight-index + 1) all) c.weight-item.result (taken c.args.out.now) (taken c.loop-weight.out) (taken c.write_weight.new.out)
+    written_prefix (weight_told (codes ";") c.args.owner.now) all (drop c.loop-weight.weight-index all) (drop (c.loop-weight.weight-index + 1) all) c.weight-item.result (taken c.args.out.now)
+    (taken c.loop-weight.out) (taken c.write_weight.new.out)
     (left_begins all c.loop-weight.weight-index c.weight-item.result c.loop-weight-test.true c.weight-item.is) c.loop-weight.invariant.sent c.in-Err.ensures.sent
 
 pub loop-weight-preserved : goal.loop-weight-preserved
@@ -16,7 +17,8 @@ loop-weight-preserved g c =
     let taken = g.W.Sink.taken in
     let all = c.args.weights.now in
     record {
-      sent = written_more (weight_told (codes ";") c.args.owner.now) all (drop c.loop-weight.weight-index all) (drop (c.loop-weight.weight-index + 1) all) c.weight-item.result (taken c.args.out.now) (taken c.loop-weight.out) (taken c.write_weight.new.out)
+      sent = written_more (weight_told (codes ";") c.args.owner.now) all (drop c.loop-weight.weight-index all) (drop (c.loop-weight.weight-index + 1) all) c.weight-item.result
+          (taken c.args.out.now) (taken c.loop-weight.out) (taken c.write_weight.new.out)
           (left_begins all c.loop-weight.weight-index c.weight-item.result c.loop-weight-test.true c.weight-item.is) c.loop-weight.invariant.sent c.in_default.ensures.sent;
       count = c.in_default.ensures.errors ∙ c.loop-weight.invariant.count;
     }

@@ -11,7 +11,8 @@ returns-in-Err-clause-sent g c =
     let taken = g.W.Sink.taken in
     let all = c.args.rules.now in
     let none : Rule = record { backward = false; position = false } in
-    written_prefix rule_word all (drop c.loop-rule.rule-index all) (drop (c.loop-rule.rule-index + 1) all) (get_or all c.loop-rule.rule-index none) (taken c.args.out.now) (taken c.loop-rule.out) (taken c.write_rule_word.new.out)
+    written_prefix rule_word all (drop c.loop-rule.rule-index all) (drop (c.loop-rule.rule-index + 1) all) (get_or all c.loop-rule.rule-index none) (taken c.args.out.now) (taken c.loop-rule.out)
+    (taken c.write_rule_word.new.out)
     (drop_more all c.loop-rule.rule-index none c.loop-rule-test.true) c.loop-rule.invariant.sent c.in-Err.ensures.sent
 
 pub loop-rule-preserved : goal.loop-rule-preserved
@@ -20,7 +21,8 @@ loop-rule-preserved g c =
     let all = c.args.rules.now in
     let none : Rule = record { backward = false; position = false } in
     record {
-      sent = written_more rule_word all (drop c.loop-rule.rule-index all) (drop (c.loop-rule.rule-index + 1) all) (get_or all c.loop-rule.rule-index none) (taken c.args.out.now) (taken c.loop-rule.out) (taken c.write_rule_word.new.out)
+      sent = written_more rule_word all (drop c.loop-rule.rule-index all) (drop (c.loop-rule.rule-index + 1) all) (get_or all c.loop-rule.rule-index none) (taken c.args.out.now)
+          (taken c.loop-rule.out) (taken c.write_rule_word.new.out)
           (drop_more all c.loop-rule.rule-index none c.loop-rule-test.true) c.loop-rule.invariant.sent c.in_default.ensures.sent;
       count = c.in_default.ensures.errors ∙ c.loop-rule.invariant.count;
     }

@@ -10,12 +10,14 @@ returns-in_err-write_weight-clause-sent g c =
     let taken = g.W.Sink.taken in
     let owner = c.args.owner.now in
     stops_first (taken c.args.out.now) (taken c.write_weight.new.out) (all_weights owner c.args.weights.now) (weight_told (codes " ") owner c.in-Some.first.now)
-    (flat_map (weight_told (codes ";") owner) c.in-Some.later.now) c.from_residual.result (ap (all_weights owner) c.in-Some.ensures.cases.0) c.from_residual.ensures.0 c.in_err-write_weight.ensures.sent
+    (flat_map (weight_told (codes ";") owner) c.in-Some.later.now) c.from_residual.result (ap (all_weights owner)
+    c.in-Some.ensures.cases.0) c.from_residual.ensures.0 c.in_err-write_weight.ensures.sent
 
 pub returns-clause-sent : goal.returns-clause-sent
 returns-clause-sent g c =
     let taken = g.W.Sink.taken in
     let owner = c.args.owner.now in
-    writes_rest (taken c.args.out.now) (taken c.write_weight.new.out) (taken c.write_later_weights.new.out) (all_weights owner c.args.weights.now) (weight_told (codes " ") owner c.in-Some.first.now)
+    writes_rest (taken c.args.out.now) (taken c.write_weight.new.out) (taken c.write_later_weights.new.out) (all_weights owner c.args.weights.now)
+    (weight_told (codes " ") owner c.in-Some.first.now)
     (flat_map (weight_told (codes ";") owner) c.in-Some.later.now) c.write_later_weights.result (ap (all_weights owner) c.in-Some.ensures.cases.0) c.in_ok-write_weight.ensures.sent
     c.write_later_weights.ensures.sent

@@ -7,7 +7,8 @@ use Rattle.coll_differences.proofs.sameness.are_same.Goals as goal
 
 pub returns-then-not-is_same_declared : goal.returns-then-not-is_same_declared
 returns-then-not-is_same_declared c =
-    other_declared (collation c.args.first.now) (collation c.args.second.now) false (c.if-not-is_same_declared.ensures ∙ ap₂ (same_list same_declaration) c.declared.ensures c.declared-2.ensures) refl
+    other_declared (collation c.args.first.now) (collation c.args.second.now) false (c.if-not-is_same_declared.ensures ∙ ap₂ (same_list same_declaration) c.declared.ensures c.declared-2.ensures)
+    refl
 
 pub returns : goal.returns
 returns c =
