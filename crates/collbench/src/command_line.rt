@@ -8,6 +8,7 @@ ghost use Rattle.std.specs.Prelude.{◌≡◌, ◌≢◌, ◌<◌, ◌∷◌, []
 ghost use Rattle.collbench.specs.Tasks.{explained, subcommand_name, task_for};
 ghost use Rattle.collbench.specs.declared.command_line.Subcommand.{Subcommand};
 
+use crate::differences::LINES;
 use clap::error::ErrorKind;
 use clap::{Arg, ArgMatches, Command};
 use coll_bench::Batch;
@@ -321,7 +322,8 @@ fn over_words<'a>(alloc: Global, subcommand: Subcommand) -> Result<Command<'a>, 
 
 // A subcommand that takes two tables.
 fn over_two_tables<'a>(alloc: Global, subcommand: Subcommand) -> Result<Command<'a>, AllocError> {
-    over_table(alloc, subcommand)?.arg(other_table(alloc))
+    let command = over_table(alloc, subcommand)?.arg(other_table(alloc))?;
+    Ok(command.after_help(LINES))
 }
 
 // A subcommand that takes a source.

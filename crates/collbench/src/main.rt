@@ -19,13 +19,13 @@ mod reviews;
 mod words;
 
 use coll_bench::{
-    Batch, Fault, RunFault, exit_status, run_batch_keyed, run_session, write_fault,
+    Batch, Fault, RunFault, exit_status, read_inputs, run_batch_keyed, run_session, write_fault,
     write_symbols_behind,
 };
 use coll_lex::{Counted, LexFault, ReadStop, Sink, TextBuf, WriteStop};
-use coll_table::{HashKeys, Table, load_keyed};
+use coll_table::{HashKeys, Table};
 use command_line::{Request, Task, Unasked, read_words};
-use differences::tell_differences;
+use differences::{read_at, tell_differences};
 use explaining::explain_texts;
 use files::{Input, at_no_line, open_all};
 use importing::{Wanted, import};
@@ -255,15 +255,24 @@ fn serve(
     }
 }
 
-// The table in the first of these files.
+// The table in the first of these files, rewritten by the others.
 fn read_table(rt: &HostRuntime, keys: HashKeys, files: &[&str]) -> Result<Table, RunFault>
     requires { 0 < length files.now }
     ensures { IfErr result (λ fault. fault.input < length files.now) }
 {
     match open_all(rt, files) {
-        Ok(mut inputs) => read_first(rt, keys, inputs.as_mut_slice()),
+        Ok(mut inputs) => read_opened(rt, keys, inputs.as_mut_slice()),
         Err(fault) => Err(fault),
     }
+}
+
+// The table in the first of these inputs, rewritten by the others.
+fn read_opened(rt: &HostRuntime, keys: HashKeys, inputs: &mut [Input]) -> Result<Table, RunFault>
+    requires { 0 < length inputs.old }
+    ensures { IfErr result (λ fault. fault.input < length inputs.old) }
+{
+    let (table, deltas) = inputs.split_at_mut(1);
+    read_inputs(rt.alloc(), keys, &mut table[0], deltas)
 }
 
 // The table in the first of these inputs.
@@ -271,14 +280,7 @@ fn read_first(rt: &HostRuntime, keys: HashKeys, inputs: &mut [Input]) -> Result<
     requires { 0 < length inputs.old }
     ensures { IfErr result (λ fault. fault.input ≡ 0) }
 {
-    match load_keyed(rt.alloc(), keys, &mut inputs[0]) {
-        Ok(table) => Ok(table),
-        Err(fault) => Err(RunFault {
-            input: 0,
-            line: fault.line,
-            fault: Fault::Load(fault),
-        }),
-    }
+    read_at(rt, keys, inputs, 0)
 }
 
 // Serves the lines of standard input.

@@ -2,9 +2,9 @@
 
 ghost use Rattle.std.specs.Prelude.{◌≡◌, ◌<◌, length, IfErr};
 
-use crate::files::{Input, at_no_line, open_all};
-use crate::{Output, standard_output, status, tell_fault};
-use coll_bench::{Fault, RunFault, read_inputs};
+use crate::files::at_no_line;
+use crate::{Output, read_table, standard_output, status, tell_fault};
+use coll_bench::{Fault, RunFault};
 use coll_lex::{Counted, Sink, WriteStop};
 use coll_table::{HashKeys, Table};
 use coll_words::sort_lines;
@@ -31,26 +31,6 @@ pub(crate) fn sort(
         }
         Err(fault) => tell_fault(rt, &fault, names),
     }
-}
-
-// The table in the first of these files, rewritten by the others.
-fn read_table(rt: &HostRuntime, keys: HashKeys, files: &[&str]) -> Result<Table, RunFault>
-    requires { 0 < length files.now }
-    ensures { IfErr result (λ fault. fault.input < length files.now) }
-{
-    match open_all(rt, files) {
-        Ok(mut inputs) => read_opened(rt, keys, inputs.as_mut_slice()),
-        Err(fault) => Err(fault),
-    }
-}
-
-// The table in the first of these inputs, rewritten by the others.
-fn read_opened(rt: &HostRuntime, keys: HashKeys, inputs: &mut [Input]) -> Result<Table, RunFault>
-    requires { 0 < length inputs.old }
-    ensures { IfErr result (λ fault. fault.input < length inputs.old) }
-{
-    let (table, deltas) = inputs.split_at_mut(1);
-    read_inputs(rt.alloc(), keys, &mut table[0], deltas)
 }
 
 // Sorts the lines of standard input by a table, to standard output.
