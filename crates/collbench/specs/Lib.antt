@@ -1,2 +1,3 @@
+pub mod MadeTexts
 pub mod Tasks
 pub mod WrittenDeltas

@@ -463,10 +463,9 @@ fn files_of<'a>(
 {
     let mut files = Vec::new(alloc);
     files.push(table)?;
-    files.extend_from_slice(found.get_strs(DELTA).unwrap_or(&[]))?;
-    files.extend_from_slice(found.get_strs(WORDS).unwrap_or(&[]))?;
-    files.extend_from_slice(found.get_strs(SOURCE).unwrap_or(&[]))?;
-    files.extend_from_slice(found.get_strs(OTHER).unwrap_or(&[]))?;
+    for name in [DELTA, WORDS, SOURCE, OTHER] {
+        files.extend_from_slice(found.get_strs(name).unwrap_or(&[]))?;
+    }
     Ok(files)
 }
 

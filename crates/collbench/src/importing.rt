@@ -3,13 +3,16 @@
 //! What a source copies lies in its folder. Nothing is written to standard output where there is a fault; what was changed, and the
 //! fault, are told on standard error.
 
+ghost use Rattle.coll_devices.specs.Devices.{CountsErr, Sends};
+ghost use Rattle.collbench.specs.MadeTexts.{made_text};
+
 use crate::Output;
 use crate::laws::written_deltas_are_accepted;
 use coll_bench::{Fault, exit_status};
 use coll_delta_texts::write_delta;
 use coll_import::{import_table, write_report, write_source_fault};
 use coll_lex::{Counted, Sink, TextBuf, WriteStop};
-use coll_sources::{Report, SourceFault, SourceKind, SourcePlace, SourceReader};
+use coll_sources::{Report, SourceFault, SourceKind, SourceLine, SourcePlace, SourceReader};
 use coll_table::{HashKeys, LoadCause, Table};
 use coll_tailorings::{Tailored, import_delta};
 use std::alloc::{AllocError, Global};
@@ -47,8 +50,11 @@ impl Wanted {
 }
 
 impl Made {
-    // Writes it.
-    fn write<W: Sink>(&self, out: &mut W) -> Result<(), WriteStop> {
+    // Writes its text.
+    fn write<W: Sink>(&self, out: &mut W) -> Result<(), WriteStop>
+        ensures sent { Sends (W.taken out.old) (W.taken out.new) (made_text self.now) result }
+        ensures errors { CountsErr (W.failed out.old) (W.failed out.new) result }
+    {
         match self {
             Made::Table(table) => table.print(out),
             Made::Delta(tailored) => {
@@ -72,37 +78,112 @@ pub(crate) fn import(
     file: &str,
     defined: &[TextBuf],
 ) -> Result<ExitCode, AllocError> {
-    let alloc = rt.alloc();
     let (folder, base) = folder_of(file);
-    let names = lent(alloc, defined)?;
-    let mut reader = SourceReader::new(alloc, keys, wanted.kind(), base, names.as_slice())?;
-    let read = read_texts(rt, &mut reader, folder);
-    let files = file_names(alloc, &reader, folder)?;
-    if let Err(fault) = read {
-        return Ok(tell(rt, &fault, files.as_slice()));
-    }
-    match made_of(alloc, keys, wanted, reader) {
-        Ok((made, report)) => Ok(print(rt, &made, &report, files.as_slice())),
-        Err(fault) => Ok(tell(rt, &fault, files.as_slice())),
+    match reader_of(rt.alloc(), keys, wanted.kind(), base, defined) {
+        Ok(reader) => import_by(rt, keys, wanted, reader, folder),
+        Err(error) => {
+            drop(wanted);
+            Err(error)
+        }
     }
 }
 
-// Makes what is wanted of a source that is read.
+// A reader of the source of this name, where these names are defined.
+fn reader_of(
+    alloc: Global,
+    keys: HashKeys,
+    kind: SourceKind,
+    base: &str,
+    defined: &[TextBuf],
+) -> Result<SourceReader, AllocError> {
+    let names = lent(alloc, defined)?;
+    let reader = SourceReader::new(alloc, keys, kind, base, names.as_slice());
+    drop(names);
+    reader
+}
+
+// Reads a source that lies in this folder, with what it copies, makes what is wanted of it, and prints that.
+fn import_by(
+    rt: &HostRuntime,
+    keys: HashKeys,
+    wanted: Wanted,
+    reader: SourceReader,
+    folder: &str,
+) -> Result<ExitCode, AllocError> {
+    let mut reader = reader;
+    let read = read_texts(rt, &mut reader, folder);
+    match file_names(rt.alloc(), &reader, folder) {
+        Ok(files) => {
+            let status = finish(rt, keys, wanted, reader, read, files.as_slice());
+            drop(files);
+            Ok(status)
+        }
+        Err(error) => {
+            drop(wanted);
+            drop(reader);
+            Err(error)
+        }
+    }
+}
+
+// Prints what is made of a source, or tells the fault with which it was read or made.
+fn finish(
+    rt: &HostRuntime,
+    keys: HashKeys,
+    wanted: Wanted,
+    reader: SourceReader,
+    read: Result<(), SourceFault>,
+    files: &[String],
+) -> ExitCode {
+    match read {
+        Ok(()) => make(rt, keys, wanted, reader, files),
+        Err(fault) => {
+            drop(wanted);
+            drop(reader);
+            tell(rt, &fault, files)
+        }
+    }
+}
+
+// Makes what is wanted of a source that is read, and prints it, or tells the fault.
+fn make(
+    rt: &HostRuntime,
+    keys: HashKeys,
+    wanted: Wanted,
+    reader: SourceReader,
+    files: &[String],
+) -> ExitCode {
+    let backward = reader.defines(BACKWARD);
+    let (lines, mut report) = reader.into_parts();
+    let status = match made_of(rt.alloc(), keys, wanted, lines, backward, &mut report) {
+        Ok(made) => {
+            let status = print(rt, &made, &report, files);
+            drop(made);
+            status
+        }
+        Err(fault) => tell(rt, &fault, files),
+    };
+    drop(report);
+    status
+}
+
+// What is wanted of a source, made of its lines.
 fn made_of(
     alloc: Global,
     keys: HashKeys,
     wanted: Wanted,
-    reader: SourceReader,
-) -> Result<(Made, Report), SourceFault> {
-    let backward = reader.defines(BACKWARD);
-    let (lines, mut report) = reader.into_parts();
-    let made = match wanted {
-        Wanted::Table => Made::Table(import_table(alloc, keys, lines, backward, &mut report)?),
+    lines: Vec<SourceLine>,
+    backward: bool,
+    report: &mut Report,
+) -> Result<Made, SourceFault> {
+    match wanted {
+        Wanted::Table => Ok(Made::Table(import_table(alloc, keys, lines, backward, report)?)),
         Wanted::Delta(mut table) => {
-            Made::Delta(import_delta(alloc, keys, &mut table, lines, &mut report)?)
+            let made = import_delta(alloc, keys, &mut table, lines, report);
+            drop(table);
+            Ok(Made::Delta(made?))
         }
-    };
-    Ok((made, report))
+    }
 }
 
 // The folder of a file, with the last `/`, and its name there.
