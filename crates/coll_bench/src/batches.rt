@@ -2,8 +2,8 @@
 //!
 //! `run_batch_keyed` carries the theorem of a batch: what is written and what is answered are stated functions of the texts of its
 //! inputs (`BatchRuns` of `specs/BatchRuns.antt`). `inputs` reads the table and the delta files, `delta_files` a single one, whose
-//! statements are put to what `taking` says, and `output` writes what the batch asks for. Every input is read before the first byte is written, and no history is kept. A new
-//! batch is a new variant of `Batch`, a case of `batch_output`, and of `write_output`.
+//! statements are put to what `taking` says, and `output` writes what the batch asks for. Every input is read before the first byte
+//! is written, and no history is kept. A new batch is a new variant of `Batch`, a case of `batch_output`, and of `write_output`.
 
 ghost use Rattle.std.specs.Prelude.{◌≡◌, ◌≤◌, ◌∷◌, length, map, IfErr, IfOk, Ok};
 ghost use Rattle.coll_bench.specs.BatchOutcome.{fault_in, texts_of as texts_asked, is_any_too_long as any_too_long};
