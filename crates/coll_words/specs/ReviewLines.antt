@@ -10,7 +10,8 @@ use Rattle.coll_words.specs.Neighbours.{NumberedWord, WordPair, only_in}
 
 -- a character that stands for itself in a string, whatever the escape character is: no control character, and none that has a meaning
 abbrev pub is_plain : ℕ → Bool
-is_plain c = not (nat_lt c space || (c == 127) || (c == quotation_mark) || (c == slash) || (c == less_than) || (c == greater_than) || (c == 92))
+is_plain c =
+    not (nat_lt c space || (c == 127) || (c == quotation_mark) || (c == slash) || (c == less_than) || (c == greater_than) || (c == 92))
 
 -- a character of a string: itself, or by its code point
 abbrev pub quoted_char : ℕ → List ℕ

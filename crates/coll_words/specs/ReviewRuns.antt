@@ -25,7 +25,8 @@ abbrev pub ReviewRanTo : (input : ℕ) → Collation → (delta_text words_text 
 ReviewRanTo zero table delta_text words_text delta_left words_left written ended =
     (ended ≡ write_failed) × (later : List ℕ) × ReviewsText table delta_text words_text (written ++ later)
 ReviewRanTo (suc zero) table delta_text words_text delta_left words_left written ended =
-    (written ≡ []) × (words : List (List ℕ)) × (words_of words_text ≡ Ok words) × DeltaFails (ending_of ended) 1 table delta_text delta_left ended
+    (written ≡ []) × (words : List (List ℕ)) × (words_of words_text ≡ Ok words)
+    × DeltaFails (ending_of ended) 1 table delta_text delta_left ended
 ReviewRanTo (suc (suc zero)) table delta_text words_text delta_left words_left written ended =
     (written ≡ []) × WordsFail (ending_of ended) words_text words_left (record ended { input = 0 })
 ReviewRanTo (suc (suc (suc more))) table delta_text words_text delta_left words_left written ended = ⊥

@@ -46,7 +46,8 @@ ListsWordsOf table left list =
 -- a list has these words with the numbers of their lines, in the order of each table that they are keyed by
 abbrev pub SortsListed : List KeyedWord → List ListedWord → Type 0
 SortsListed words list =
-    (table : Collation) → IsWellFormed table → AreKeyed table words → AreInOrder table (numbered_from 1 (texts_of words)) (all_numbered list)
+    (table : Collation) → IsWellFormed table → AreKeyed table words
+    → AreInOrder table (numbered_from 1 (texts_of words)) (all_numbered list)
 
 -- what is written of a review where it stands
 abbrev pub review_bytes : Review → List ℕ
