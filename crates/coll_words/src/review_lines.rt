@@ -5,7 +5,8 @@ ghost use Rattle.std.specs.List.{flat_map};
 ghost use Rattle.coll_devices.specs.Devices.{CountsErr, Sends};
 ghost use Rattle.coll_bench.specs.Replies.{history_line};
 ghost use Rattle.coll_words.specs.ListedWords.{newly_beside, numbered_of};
-ghost use Rattle.coll_words.specs.ReviewLines.{is_plain as stands_for_itself, joined_line, most_told, parted_line, quoted_char, review_line};
+ghost use Rattle.coll_words.specs.ReviewLines.{is_plain as stands_for_itself, joined_line, most_told, parted_line};
+ghost use Rattle.coll_words.specs.ReviewLines.{quoted_char, review_line};
 
 use crate::listed_words::ListedWord;
 use coll_bench::write_history_line;

@@ -10,7 +10,8 @@ use Rattle.coll_words.proofs.listed_words.listed.Goals as goal
 pub push_reserved-requires : goal.push_reserved-requires
 push_reserved-requires c =
     let b = c.into_iter-word-iterator.ensures.into_iter_gives in
-    let turn = YieldsList-turn (YieldsList-from_vec {s = c.into_iter-word-iterator.result} c.args.words.items b.0 (b.1 ∙ c.args.words.ok.0)) c.loop-word.yielded c.loop-word.word-iterator c.loop-word.yielded_by
+    let turn = YieldsList-turn (YieldsList-from_vec {s = c.into_iter-word-iterator.result} c.args.words.items b.0 (b.1 ∙ c.args.words.ok.0)) c.loop-word.yielded c.loop-word.word-iterator
+    c.loop-word.yielded_by
     c.next.result c.next.new.self c.in-Some.word c.in-Some.is c.next.ensures.steps in
     omega (arith, c.loop-word.invariant.room, as_many_listed c.loop-word.yielded c.loop-word.list.items c.loop-word.invariant.listed, turn.0, c.loop-word.list.ok.0, c.args.words.ok.0)
 
@@ -25,13 +26,15 @@ loop-word-preserved c = record {
 pub returns-clause-lines : goal.returns-clause-lines
 returns-clause-lines c =
     let b = c.into_iter-word-iterator.ensures.into_iter_gives in
-    let all = YieldsList-end (YieldsList-from_vec {s = c.into_iter-word-iterator.result} c.args.words.items b.0 (b.1 ∙ c.args.words.ok.0)) c.loop-word.yielded c.loop-word.word-iterator c.loop-word.yielded_by
+    let all = YieldsList-end (YieldsList-from_vec {s = c.into_iter-word-iterator.result} c.args.words.items b.0 (b.1 ∙ c.args.words.ok.0)) c.loop-word.yielded c.loop-word.word-iterator
+    c.loop-word.yielded_by
     c.next.result c.next.new.self c.in-None.is c.next.ensures.steps in
     c.loop-word.invariant.listed.lines ∙ ap (λ words. numbered_from 1 (texts_of words)) (sym (same_words c.loop-word.yielded) ∙ all.0)
 
 pub returns-clause-words : goal.returns-clause-words
 returns-clause-words c =
     let b = c.into_iter-word-iterator.ensures.into_iter_gives in
-    let all = YieldsList-end (YieldsList-from_vec {s = c.into_iter-word-iterator.result} c.args.words.items b.0 (b.1 ∙ c.args.words.ok.0)) c.loop-word.yielded c.loop-word.word-iterator c.loop-word.yielded_by
+    let all = YieldsList-end (YieldsList-from_vec {s = c.into_iter-word-iterator.result} c.args.words.items b.0 (b.1 ∙ c.args.words.ok.0)) c.loop-word.yielded c.loop-word.word-iterator
+    c.loop-word.yielded_by
     c.next.result c.next.new.self c.in-None.is c.next.ensures.steps in
     c.loop-word.invariant.listed.words_are ∙ sym (same_words c.loop-word.yielded) ∙ all.0

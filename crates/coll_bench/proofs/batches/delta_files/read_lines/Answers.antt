@@ -29,9 +29,11 @@ returns-in-Err-take_line-clause-file g c =
     let failed = g.R.Source.failed in
     let gives = gives_line c.lines.reader c.advance.new.self (left c.lines.delta) (left c.advance.new.input) (failed c.lines.delta) (failed c.advance.new.input) c.in-Ok-true.field-0
     c.in-Ok-true.field-0-test c.in-Ok-true.ensures in
-    let fails = subst (λ (line : List ℕ). FailsAs (ending_of c.in-Err-take_line.ended) (line_taken c.args.input (g.T.TakesStatements.table c.lines.taker) c.lines.file line) c.in-Err-take_line.ended) c.line.ensures
+    let fails = subst (λ (line : List ℕ). FailsAs (ending_of c.in-Err-take_line.ended) (line_taken c.args.input (g.T.TakesStatements.table c.lines.taker) c.lines.file line) c.in-Err-take_line.ended)
+    c.line.ensures
     c.in-Err-take_line.ensures.err in
-    refused c.args.input (g.T.TakesStatements.table c.args.taker.now) (left c.args.delta.now) c.lines.reader (left c.lines.delta) (g.T.TakesStatements.table c.lines.taker) c.lines.file c.lines.invariant.reached.way c.lines.invariant.going
+    refused c.args.input (g.T.TakesStatements.table c.args.taker.now) (left c.args.delta.now) c.lines.reader (left c.lines.delta) (g.T.TakesStatements.table c.lines.taker) c.lines.file
+    c.lines.invariant.reached.way c.lines.invariant.going
     c.advance.new.self (left c.advance.new.input) (failed c.lines.delta) (failed c.advance.new.input) c.in-Err-take_line.ended gives fails
     (subst (λ (line : List ℕ). c.lines.file.fault ≡ None → IsFaultNumber c.lines.file line c.in-Err-take_line.ended.line) c.line.ensures c.in-Err-take_line.ensures.number)
 
@@ -39,7 +41,8 @@ pub returns-in-Err-clause-file : goal.returns-in-Err-clause-file
 returns-in-Err-clause-file g c =
     let left = g.R.Source.left in
     let failed = g.R.Source.failed in
-    rw (c.stop_fault.ensures, c.next_number-number.ensures) (stopped c.args.input (g.T.TakesStatements.table c.args.taker.now) (left c.args.delta.now) c.lines.reader (left c.lines.delta) (g.T.TakesStatements.table c.lines.taker)
+    rw (c.stop_fault.ensures, c.next_number-number.ensures) (stopped c.args.input (g.T.TakesStatements.table c.args.taker.now) (left c.args.delta.now) c.lines.reader (left c.lines.delta)
+    (g.T.TakesStatements.table c.lines.taker)
     c.lines.file c.lines.invariant.reached.way c.lines.invariant.going
     c.advance.new.self (left c.advance.new.input) (failed c.lines.delta) (failed c.advance.new.input) c.in-Err.stop c.lines.invariant.goes_on c.in-Err.ensures)
 
@@ -49,7 +52,8 @@ returns-in-Ok-false-clause-file g c =
     let failed = g.R.Source.failed in
     let none = gives_none c.lines.reader c.advance.new.self (left c.lines.delta) (left c.advance.new.input) (failed c.lines.delta) (failed c.advance.new.input) c.in-Ok-false.field-0
     c.in-Ok-false.field-0-test c.in-Ok-false.ensures in
-    ends_file c.args.input (g.T.TakesStatements.table c.args.taker.now) (left c.args.delta.now) c.lines.reader (left c.lines.delta) (g.T.TakesStatements.table c.lines.taker) c.lines.file c.lines.invariant.reached.way c.lines.invariant.going
+    ends_file c.args.input (g.T.TakesStatements.table c.args.taker.now) (left c.args.delta.now) c.lines.reader (left c.lines.delta) (g.T.TakesStatements.table c.lines.taker) c.lines.file
+    c.lines.invariant.reached.way c.lines.invariant.going
     c.advance.new.self (left c.advance.new.input) (failed c.lines.delta) (failed c.advance.new.input) none c.end_file.result c.end_file.ensures.ok c.end_file.ensures.err
 
 pub returns-then-finished-clause-file : goal.returns-then-finished-clause-file
@@ -58,12 +62,16 @@ returns-then-finished-clause-file g c =
     let failed = g.R.Source.failed in
     let gives = gives_line c.lines.reader c.advance.new.self (left c.lines.delta) (left c.advance.new.input) (failed c.lines.delta) (failed c.advance.new.input) c.in-Ok-true.field-0
     c.in-Ok-true.field-0-test c.in-Ok-true.ensures in
-    let taken : line_taken c.args.input (g.T.TakesStatements.table c.lines.taker) c.lines.file c.advance.new.self.line ≡ Ok (g.T.TakesStatements.table c.take_line.new.taker, c.take_line.new.file) = subst
-    (λ (line : List ℕ). line_taken c.args.input (g.T.TakesStatements.table c.lines.taker) c.lines.file line ≡ Ok (g.T.TakesStatements.table c.take_line.new.taker, c.take_line.new.file)) c.line.ensures c.in_default.ensures.ok in
-    let way = goes_on c.args.input (g.T.TakesStatements.table c.args.taker.now) (left c.args.delta.now) c.lines.reader (left c.lines.delta) (g.T.TakesStatements.table c.lines.taker) c.lines.file c.lines.invariant.reached.way
+    let taken : line_taken c.args.input (g.T.TakesStatements.table c.lines.taker) c.lines.file c.advance.new.self.line ≡ Ok (g.T.TakesStatements.table c.take_line.new.taker, c.take_line.new.file)
+    = subst
+    (λ (line : List ℕ). line_taken c.args.input (g.T.TakesStatements.table c.lines.taker) c.lines.file line ≡ Ok (g.T.TakesStatements.table c.take_line.new.taker, c.take_line.new.file))
+    c.line.ensures c.in_default.ensures.ok in
+    let way = goes_on c.args.input (g.T.TakesStatements.table c.args.taker.now) (left c.args.delta.now) c.lines.reader (left c.lines.delta) (g.T.TakesStatements.table c.lines.taker) c.lines.file
+    c.lines.invariant.reached.way
     c.lines.invariant.going
     c.advance.new.self (left c.advance.new.input) (failed c.lines.delta) (failed c.advance.new.input) (g.T.TakesStatements.table c.take_line.new.taker) c.take_line.new.file taken gives in
-    given_whole c.args.input (g.T.TakesStatements.table c.args.taker.now) (left c.args.delta.now) c.advance.new.self (left c.advance.new.input) (g.T.TakesStatements.table c.take_line.new.taker) c.take_line.new.file way
+    given_whole c.args.input (g.T.TakesStatements.table c.args.taker.now) (left c.args.delta.now) c.advance.new.self (left c.advance.new.input) (g.T.TakesStatements.table c.take_line.new.taker)
+    c.take_line.new.file way
     (sym c.finished.ensures ∙ c.if-finished.true)
 
 pub returns-then-finished-clause-reaches : goal.returns-then-finished-clause-reaches
@@ -93,9 +101,12 @@ pub lines-smaller : goal.lines-smaller
 lines-smaller g c =
     let left = g.R.Source.left in
     let failed = g.R.Source.failed in
-    let taken : line_taken c.args.input (g.T.TakesStatements.table c.lines.taker) c.lines.file c.advance.new.self.line ≡ Ok (g.T.TakesStatements.table c.take_line.new.taker, c.take_line.new.file) = subst
-    (λ (line : List ℕ). line_taken c.args.input (g.T.TakesStatements.table c.lines.taker) c.lines.file line ≡ Ok (g.T.TakesStatements.table c.take_line.new.taker, c.take_line.new.file)) c.line.ensures c.in_default.ensures.ok in
-    let one = counts c.args.input (g.T.TakesStatements.table c.args.taker.now) (left c.args.delta.now) c.lines.reader (left c.lines.delta) (g.T.TakesStatements.table c.lines.taker) c.lines.file c.lines.invariant.reached.way
+    let taken : line_taken c.args.input (g.T.TakesStatements.table c.lines.taker) c.lines.file c.advance.new.self.line ≡ Ok (g.T.TakesStatements.table c.take_line.new.taker, c.take_line.new.file)
+    = subst
+    (λ (line : List ℕ). line_taken c.args.input (g.T.TakesStatements.table c.lines.taker) c.lines.file line ≡ Ok (g.T.TakesStatements.table c.take_line.new.taker, c.take_line.new.file))
+    c.line.ensures c.in_default.ensures.ok in
+    let one = counts c.args.input (g.T.TakesStatements.table c.args.taker.now) (left c.args.delta.now) c.lines.reader (left c.lines.delta) (g.T.TakesStatements.table c.lines.taker) c.lines.file
+    c.lines.invariant.reached.way
     c.lines.invariant.going
     c.advance.new.self (left c.advance.new.input) (failed c.lines.delta) (failed c.advance.new.input) (g.T.TakesStatements.table c.take_line.new.taker) c.take_line.new.file taken
     (sym c.finished.ensures ∙ c.if-finished.false) in

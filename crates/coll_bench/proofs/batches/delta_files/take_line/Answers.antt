@@ -10,18 +10,22 @@ use Rattle.coll_bench.proofs.batches.delta_files.take_line.Goals as goal
 
 pub returns-in-Err-put_if-clause-err : goal.returns-in-Err-put_if-clause-err
 returns-in-Err-put_if-clause-err g c =
-    fails_so c.args.input (g.T.TakesStatements.table c.args.taker.now) c.args.file.now c.args.line.now (option_to_list c.in-Ok.given) c.line.new.self c.in-Ok.ensures.ok (ending_of c.in-Err-put_if.ended)
+    fails_so c.args.input (g.T.TakesStatements.table c.args.taker.now) c.args.file.now c.args.line.now (option_to_list c.in-Ok.given) c.line.new.self c.in-Ok.ensures.ok
+    (ending_of c.in-Err-put_if.ended)
     c.in-Err-put_if.ended c.in-Err-put_if.ensures.err
 
 pub returns-in-Some-clause-err : goal.returns-in-Some-clause-err
 returns-in-Some-clause-err g c =
-    subst (λ (ended : RunFault). FailsAs (ending_of ended) (line_taken c.args.input (g.T.TakesStatements.table c.args.taker.now) c.args.file.now c.args.line.now) ended) (sym c.delta_fault-in-Some.ensures)
-    (stored_fails c.args.input (g.T.TakesStatements.table c.args.taker.now) c.args.file.now c.args.line.now (option_to_list c.in-Ok.given) c.line.new.self c.in-Ok.ensures.ok (g.T.TakesStatements.table c.put_if.new.taker)
+    subst (λ (ended : RunFault). FailsAs (ending_of ended) (line_taken c.args.input (g.T.TakesStatements.table c.args.taker.now) c.args.file.now c.args.line.now) ended)
+    (sym c.delta_fault-in-Some.ensures)
+    (stored_fails c.args.input (g.T.TakesStatements.table c.args.taker.now) c.args.file.now c.args.line.now (option_to_list c.in-Ok.given) c.line.new.self c.in-Ok.ensures.ok
+    (g.T.TakesStatements.table c.put_if.new.taker)
     c.in-Some.fault c.in_default.ensures.ok (sym c.fault.ensures ∙ c.in-Some.is))
 
 pub returns-in-None-clause-ok : goal.returns-in-None-clause-ok
 returns-in-None-clause-ok g c =
-    by_stored c.args.input (g.T.TakesStatements.table c.args.taker.now) c.args.file.now c.args.line.now (option_to_list c.in-Ok.given) c.line.new.self c.in-Ok.ensures.ok (g.T.TakesStatements.table c.put_if.new.taker) None
+    by_stored c.args.input (g.T.TakesStatements.table c.args.taker.now) c.args.file.now c.args.line.now (option_to_list c.in-Ok.given) c.line.new.self c.in-Ok.ensures.ok
+    (g.T.TakesStatements.table c.put_if.new.taker) None
     c.in_default.ensures.ok (sym c.fault.ensures ∙ c.in-None.is)
 
 pub returns-in-Err-clause-err : goal.returns-in-Err-clause-err

@@ -19,7 +19,8 @@ returns-clause-sent g c =
     let taken = g.W.Sink.taken in
     let told = c.args.self.now.told.bytes.items in
     let sent = rw c.bytes.ensures at c.in_ok-write_bytes.ensures.sent in
-    let counts = subst (λ (n : ℕ). Sends (taken c.write_bytes.new.out) (taken c.write_counts.new.out) (review_line c.args.self.now.count n) c.write_counts.result) (c.len.ensures ∙ c.args.self.now.list.ok.0)
+    let counts = subst (λ (n : ℕ). Sends (taken c.write_bytes.new.out) (taken c.write_counts.new.out) (review_line c.args.self.now.count n) c.write_counts.result)
+    (c.len.ensures ∙ c.args.self.now.list.ok.0)
     c.write_counts.ensures.sent in
     Sends-after (taken c.args.out.now) (taken c.write_bytes.new.out) (taken c.write_counts.new.out) told (review_line c.args.self.now.count (length c.args.self.now.list.items))
     c.write_counts.result sent counts
