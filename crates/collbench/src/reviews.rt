@@ -10,6 +10,7 @@ use coll_bench::{Fault, RunFault};
 use coll_lex::{ReadStop, Sink, WriteStop};
 use coll_table::{HashKeys, Table};
 use coll_words::review_words;
+use std::io::IsTerminal;
 
 /// Tells what the statements of a delta file do to words: the first of these files has the table, the second the statements, the
 /// third the words.
@@ -61,10 +62,20 @@ fn review_to(
     requires { 3 ≤ length inputs.old }
     ensures { IfErr result (λ fault. fault.input < length inputs.old) }
 {
+    tell_progress(rt);
     let (before, words) = inputs.split_at_mut(2);
     let told = review_words(rt.alloc(), table, &mut before[1], &mut words[0], output);
     match output.flush() {
         Ok(()) => told,
         Err(_) => Err(at_no_line(0, Fault::Write(WriteStop::WriteFault))),
+    }
+}
+
+// Says at a terminal that an answer is being made, since nothing of it is written before all statements were put.
+fn tell_progress(rt: &HostRuntime) {
+    if rt.stderr().is_terminal() {
+        let _ = eprintln!(rt;
+            "sorting the words behind each statement; what they did is told at the end"
+        );
     }
 }
