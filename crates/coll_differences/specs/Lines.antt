@@ -79,7 +79,7 @@ weight_told mark owner Ignore = mark ++ codes "IGNORE"
 weight_told mark owner Own = mark ++ id_bytes owner
 weight_told mark owner (Names ids) = names_told mark ids
 
--- the weights of the entry of this identifier, as in a table: a space before the first, and a semicolon before each other
+-- the weights of the entry of this identifier, an own one by its identifier: a space before the first, a semicolon before each other
 abbrev pub all_weights : Id → List Weight → List ℕ
 all_weights owner [] = []
 all_weights owner (weight ∷ weights) = weight_told (codes " ") owner weight ++ flat_map (weight_told (codes ";") owner) weights

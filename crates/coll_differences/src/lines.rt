@@ -249,7 +249,7 @@ fn write_reweighted<W: Sink>(out: &mut W, entry: &Entry) -> Result<(), WriteStop
     write_bytes(out, b"\n")
 }
 
-// Writes weights as in a table, with a space before the first.
+// Writes weights, an own one by the identifier of the entry, with a space before the first.
 fn write_weights<W: Sink>(out: &mut W, owner: &Id, weights: &[Weight]) -> Result<(), WriteStop>
     ensures sent { Sends (W.taken out.old) (W.taken out.new) (all_weights owner.now weights.now) result }
     ensures errors { CountsErr (W.failed out.old) (W.failed out.new) result }

@@ -1,3 +1,4 @@
+pub mod DecidingLevels
 pub mod ExplanationParts
 pub mod LeadLemmas
 pub mod ListedLemmas

@@ -210,6 +210,7 @@ tells_first list other None h = h
 tells_first list other (Some apart) h =
     let ahead : h.0 ≡ apart.place - 1 = omega (arith, h.1) in (
       record {
+        counted = omega (arith, h.1);
         same = subst (λ (n : ℕ). take n (told_numbers list) ≡ take n (told_numbers other)) ahead h.2;
         apart = subst (λ (n : ℕ). slice_get (told_numbers list) n ≢ slice_get (told_numbers other) n) ahead h.3;
       },

@@ -8,7 +8,7 @@ use Rattle.coll_texts.specs.PrintedParts.{char_bytes}
 use Rattle.coll_bench.specs.Replies.{history_line}
 use Rattle.coll_words.specs.Neighbours.{NumberedWord, WordPair, only_in}
 
--- a character that stands for itself in a string, whatever the escape character is: no control character, and none that has a meaning
+-- a character that stands for itself in a string, where the escape character is `/` or `\`: no control character, and none with a meaning
 abbrev pub is_plain : ℕ → Bool
 is_plain c =
     not (nat_lt c space || (c == 127) || (c == quotation_mark) || (c == slash) || (c == less_than) || (c == greater_than) || (c == 92))

@@ -2,7 +2,7 @@
 //!
 //! `explain` writes the elements of both texts, a line for each level up to the one that decides, and what `compare` says
 //! (`specs/Explanations.antt`). The lists of a level are those that keys are made of, each number with where it comes from
-//! (`ToldLists`, `Sources`); two laws say so (`ExplanationLaws`).
+//! (`ToldLists`, `Sources`); the laws say so (`ExplanationLaws`).
 
 ghost use Rattle.std.specs.Prelude.{◌≡◌, ◌<◌, ◌≤◌, ◌∷◌, [], chars, false, length, map, option_map, IfOk, IfErr};
 ghost use Rattle.coll_devices.specs.Devices.{CountsErr, Sends};
@@ -14,7 +14,7 @@ ghost use Rattle.coll_key.specs.TextOrder.{order_of};
 ghost use Rattle.coll_bench.specs.BatchOutcome.{fault_in, is_any_too_long};
 ghost use Rattle.coll_bench.specs.Serving.{CountsWrites, ReadsNone, write_failed};
 ghost use Rattle.coll_words.specs.Explaining.{Explains, WritesWhole, starved};
-ghost use Rattle.coll_words.specs.ExplanationLaws.{FirstDifferencesAreTold, ToldNumbersAreListed};
+ghost use Rattle.coll_words.specs.ExplanationLaws.{FirstDifferencesAreTold, OrdersAreOfLevels, ToldLevelsDecide, ToldNumbersAreListed};
 ghost use Rattle.coll_words.specs.Explanations.{apart_at, explanation, explanation_of, level_lines};
 ghost use Rattle.coll_words.specs.ToldSteps.{apart_of, id_of};
 
@@ -312,4 +312,13 @@ pub fn told_numbers_are_listed()
 /// It does nothing; its contract is the law.
 pub fn first_differences_are_told()
     ensures { FirstDifferencesAreTold }
+{}
+
+/// The law of the level that decides: the order of two texts is that by all levels, of which one that is told as equal leaves it to
+/// those behind it, and one that isn't gives it, by what stands at the place that is told.
+///
+/// It does nothing; its contract is the law.
+pub fn told_levels_decide()
+    ensures levels { ToldLevelsDecide }
+    ensures order { OrdersAreOfLevels }
 {}

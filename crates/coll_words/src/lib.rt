@@ -1,7 +1,7 @@
 //! Words, one a line, in the order of a collation table.
 //!
-//! A word is read with its whole sort key (`coll_key`), so that to sort words is to sort lists of numbers: no comparison looks at the
-//! table again, and none can fail. A way through the crate, each file with its definitions in `specs/`:
+//! A word is read with its whole sort key (`coll_key`), so that to sort words is to sort lists of numbers: no comparison of a sort
+//! looks at the table again, and none can fail. A way through the crate, each file with its definitions in `specs/`:
 //!
 //! - `packed_keys`: sort keys in half the memory, in the same order (`PackedKeys`);
 //! - `words`: a word with its key, and the sort (`KeyedWords`, `LedWords`, `SortedWords`);
@@ -25,7 +25,9 @@ mod reviews;
 mod sorting;
 mod words;
 
-pub use explanations::{explain, first_differences_are_told, told_numbers_are_listed};
+pub use explanations::{
+    explain, first_differences_are_told, told_levels_decide, told_numbers_are_listed,
+};
 pub use packed_keys::packed_keys_are_ordered_alike;
 pub use reading::read_words;
 pub use reviewing::review_words;

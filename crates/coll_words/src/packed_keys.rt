@@ -9,8 +9,8 @@ ghost use Rattle.coll_words.specs.PackedKeys.{packed_number, packed_above, packe
 
 use std::alloc::{AllocError, Global};
 
-// How far the numbers of two ranks lie apart.
-const RANK_STEP: u64 = 2_097_152;
+/// How far the numbers of two ranks lie apart.
+pub(crate) const RANK_STEP: u64 = 2_097_152;
 
 // Ranks below this have a number of their own.
 const SHORT_RANKS: u64 = 1_073_741_824;

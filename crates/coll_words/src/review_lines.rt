@@ -151,7 +151,7 @@ fn write_quoted_char<W: Sink>(out: &mut W, c: char) -> Result<(), WriteStop>
     }
 }
 
-// Whether a character stands for itself in a string, whatever the escape character is.
+// Whether a character stands for itself in a string, where the escape character is `/` or `\`.
 fn is_plain(c: char) -> bool
     ensures { result ≡ stands_for_itself c }
 {

@@ -54,14 +54,15 @@ const EXPLAINED: &str = "Lines:
                         has this rank, and the element that it comes from
   12+8364 UNDEFINED of <U20AC>
                         a number to which a code point is added, since the character has no entry
-  gap 2 before <U002D>  under position, a number's position, which a key spells @2, and the element before which it stands
+  gap 2 before <U002D>  under position, a number's position, which a key spells @2, and the element before which it stands, in the
+                        direction of the level
   end                   the list of the text has ended there
   less                  what compare says: less, equal or greater";
 
 // What help says last of the subcommand that reviews a delta file: what each line means.
 const TOLD: &str = "For each statement:
   2 block <U0061> 1   its number, and what it is, as :history tells it
-  parted 3            how many pairs of neighbours in the sorted words are neighbours no longer
+  parted 1            how many pairs of neighbours in the sorted words are neighbours no longer, in this order
   joined \"a\" \"c\"      a pair that is new, with the word that comes first; the first five of them
 And last:
   review 2 7          how many statements were put, and how many words there are

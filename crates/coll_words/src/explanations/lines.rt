@@ -15,13 +15,11 @@ ghost use Rattle.coll_words.specs.ToldSteps.{apart_of, step_words};
 
 use crate::explanations::differences::Difference;
 use crate::explanations::level_numbers::Step;
+use crate::packed_keys::RANK_STEP;
 use coll_devices::{Sink, WriteStop, write_bytes};
 use coll_syntax::{Id, Rule};
 use coll_texts::{Piece, write_pieces};
 use std::cmp::Ordering;
-
-// How far the numbers of two ranks lie apart.
-const RANK_STEP: u64 = 2_097_152;
 
 /// Writes the line of a text's elements, behind its letter.
 pub(crate) fn write_elements<W: Sink>(

@@ -11,14 +11,12 @@ ghost use Rattle.coll_nodes.specs.Table.{Collation, is_placed};
 ghost use Rattle.coll_ranks.specs.WeightNumbers.{code_point};
 ghost use Rattle.coll_words.specs.Sources.{source, weight_sources};
 
+use crate::packed_keys::RANK_STEP;
 use coll_key::Ranks;
 use coll_syntax::{Id, Weight};
 use coll_table::Table;
 use std::marker::Model;
 use std::slice;
-
-// How far the numbers of two ranks lie apart.
-const RANK_STEP: u64 = 2_097_152;
 
 /// The identifiers that the numbers of an element come from, and what is added to the number of each.
 #[derive(Clone, Copy)]
