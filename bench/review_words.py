@@ -5,7 +5,7 @@ usage: bench/review_words.py PROGRAM
 
 PROGRAM is a build of collbench. It needs the source of the common table, from Debian's package `locales`, and GNU time. Two delta
 files are reviewed: in one every statement declares a symbol, so that the words are only looked over, and in the other every statement
-moves a letter behind another one, so that they are sorted anew. Of each the processor time and the most memory are printed, and how
+moves what a letter weighs behind that of another one, so that they are sorted anew. Of each the processor time and the most memory are printed, and how
 many of its statements parted words.
 """
 
@@ -22,9 +22,9 @@ STATEMENTS = 200
 
 
 def moves(chosen):
-    """The lines of a block that moves a letter behind another one."""
+    """The lines of a block that moves the symbol that a letter weighs behind that of another one."""
     letter, other = chosen.sample(LETTERS, 2)
-    return f"reorder-after <U{ord(other):04X}>\n<U{ord(letter):04X}>\nreorder-end\n"
+    return f"reorder-after <S{ord(other):04X}>\n<S{ord(letter):04X}>\nreorder-end\n"
 
 
 def reviewed(program, table, delta, words):
