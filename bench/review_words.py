@@ -5,8 +5,9 @@ usage: bench/review_words.py PROGRAM
 
 PROGRAM is a build of collbench. It needs the source of the common table, from Debian's package `locales`, and GNU time. Two delta
 files are reviewed: in one every statement declares a symbol, so that the words are only looked over, and in the other every statement
-moves what a letter weighs behind that of another one, so that they are sorted anew. Of each the processor time and the most memory are printed, and how
-many of its statements parted words.
+moves what a letter weighs behind that of another one, so that they are sorted anew. Of each the processor time and the most memory
+are printed, and how many of its statements parted words; and last what `sort --parallel=1` takes for the same words once, under the
+compiled locale of the common table.
 """
 
 import os
@@ -14,6 +15,8 @@ import random
 import subprocess
 import sys
 import tempfile
+
+from sort_words import timed
 
 SOURCES = "/usr/share/i18n/locales"
 LETTERS = "abcdefghijklmnopqrstuvwxyz"
@@ -50,6 +53,9 @@ def main(program):
                 out.write("LC_COLLATE\n" + "".join(map(statement, range(STATEMENTS))) + "END LC_COLLATE\n")
             seconds, megabytes, parted = reviewed(program, table, delta, words)
             print(f"{name}: {seconds:.2f} s, {megabytes:.0f} MB, {parted} of {STATEMENTS} part words")
+        subprocess.run(["localedef", "-f", "UTF-8", "-i", "en_US", f"{room}/en_US.UTF-8"], check=True)
+        seconds, _ = timed(["sort", "--parallel=1"], words, f"{room}/sorted", {"LOCPATH": room, "LC_ALL": "en_US.UTF-8"})
+        print(f"sort --parallel=1 of the words, once: {seconds:.2f} s")
 
 
 if __name__ == "__main__":
