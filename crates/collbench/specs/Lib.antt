@@ -1,3 +1,2 @@
 pub mod MadeTexts
-pub mod Tasks
 pub mod WrittenDeltas

@@ -16,19 +16,6 @@ use std::process::ExitCode;
 /// The exit status where two tables differ.
 const DIFFERENT: u8 = 1;
 
-/// What help says last of the lines of a comparison.
-pub(crate) const LINES: &str = "Lines:
-  same                    the tables are the same
-  rules forward backward  the rules of the second table, where they are others
-  removed <X>             what the first table alone has
-  added <X> behind <A>    what the second alone has, and what it stands directly behind there; or first, if behind nothing
-  moved <X> behind <A>    what both have, and what it goes behind; first all that is removed or moved is taken out
-  weights <X> <A>;IGNORE  an entry with other weights: those of the second table
-  differences rules 0 ..  how many lines there were of each kind
-
-A declaration stands there as in a table, as collating-symbol <X>, and the beginning of a section as section <S>; <X> alone is
-an entry. A section that moves has a line for its beginning, and one for each of its entries; or all that it went past has.";
-
 /// Tells what differs between the table in the first of these files and that in the last, and answers the exit status.
 pub(crate) fn tell_differences(
     rt: &HostRuntime,

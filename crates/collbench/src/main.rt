@@ -1,14 +1,13 @@
 //! The program: a thin `main` over `coll_bench`, which runs batches and serves sessions.
 //!
-//! `command_line` reads the words, `random_keys` draws the keys that names are looked up under, `files` opens what the words name,
-//! `importing` makes tables and delta files of sources, `explaining` tells why texts compare as they do, `words` sorts lines,
-//! `reviews` tells what statements do to words, and `differences` compares two tables. Here the runs are started, and their faults
-//! are told: a line on standard error, and the exit status, which stands also where that line can't be written.
+//! The words are read by `coll_command_line`; `random_keys` draws the keys that names are looked up under, `files` opens what the
+//! words name, `importing` makes tables and delta files of sources, `explaining` tells why texts compare as they do, `words` sorts
+//! lines, `reviews` tells what statements do to words, and `differences` compares two tables. Here the runs are started, and their
+//! faults are told: a line on standard error, and the exit status, which stands also where that line can't be written.
 #![tactic(auto)]
 
 ghost use Rattle.std.specs.Prelude.{◌<◌, length, vec_len, IfOk, IfErr, ◌≡◌};
 
-mod command_line;
 mod differences;
 mod explaining;
 mod files;
@@ -22,9 +21,9 @@ use coll_bench::{
     Batch, Fault, RunFault, exit_status, read_inputs, run_batch_keyed, run_session, write_fault,
     write_symbols_behind,
 };
+use coll_command_line::{Request, Task, Unasked, read_words};
 use coll_lex::{Counted, LexFault, ReadStop, Sink, TextBuf, WriteStop};
 use coll_table::{HashKeys, Table};
-use command_line::{Request, Task, Unasked, read_words};
 use differences::{read_at, tell_differences};
 use explaining::explain_texts;
 use files::{Input, at_no_line, open_all};
@@ -41,7 +40,7 @@ use words::sort;
 const WRONG_WORDS: u8 = 2;
 
 // The version of the program, and the line of the kit that it is proved with, as `rt version` prints it.
-const VERSION: &str = "collbench 0.1.0\nproved with rattle-kit-13b logic dac8208d650f15bf";
+const VERSION: &str = "collbench 0.1.0\nproved with rattle-kit-13f logic dac8208d650f15bf";
 
 // The name of standard input.
 const STANDARD_INPUT: &str = "-";

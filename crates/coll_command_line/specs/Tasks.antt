@@ -1,10 +1,10 @@
 -- What a subcommand of the program does (the project's own).
 use Rattle.std.specs.Prelude.{ℕ, List, [], ◌∷◌, codes, Option, Some, None}
 use Rattle.coll_bench.specs.declared.batches.Batch.TheVariants as batch
-use Rattle.collbench.specs.declared.command_line.Subcommand.{Subcommand}
-use Rattle.collbench.specs.declared.command_line.Subcommand.TheVariants as subcommand
-use Rattle.collbench.specs.declared.command_line.Task.{Task}
-use Rattle.collbench.specs.declared.command_line.Task.TheVariants as task
+use Rattle.coll_command_line.specs.declared.subcommands.Subcommand.{Subcommand}
+use Rattle.coll_command_line.specs.declared.subcommands.Subcommand.TheVariants as subcommand
+use Rattle.coll_command_line.specs.declared.tasks.Task.{Task}
+use Rattle.coll_command_line.specs.declared.tasks.Task.TheVariants as task
 
 -- the name of a subcommand, as it stands on a command line
 abbrev pub subcommand_name : Subcommand → List ℕ

@@ -1,5 +1,5 @@
 use Rattle.std.proofs.Common.{◌≡◌, map, take, chars}
-use Rattle.collbench.proofs.command_line.copied_texts.Given as goal
+use Rattle.coll_command_line.proofs.tasks.copied_texts.Given as goal
 
 -- the texts met so far are copied
 abbrev pub invariant-loop-text : goal.invariant-loop-text

@@ -1,0 +1,208 @@
+//! The words that each subcommand takes, as `clap` reads them and as usage shows them.
+
+use crate::help::{COPIES, EXAMPLES, EXPLAINED, LINES, TOLD};
+use crate::subcommands::{SUBCOMMANDS, Subcommand};
+use clap::{Arg, Command};
+use std::alloc::{AllocError, Global};
+
+// The names of the words that a subcommand takes, as usage shows them. SOURCE stands behind a TABLE, or in place of one.
+pub(crate) const TABLE: &str = "TABLE";
+
+pub(crate) const DELTA: &str = "DELTA";
+
+pub(crate) const WORDS: &str = "WORDS";
+
+pub(crate) const TEXT: &str = "TEXT";
+
+pub(crate) const FIRST: &str = "A";
+
+pub(crate) const SECOND: &str = "B";
+
+// The second of two tables, which usage shows as TABLE too.
+pub(crate) const OTHER: &str = "OTHER";
+
+pub(crate) const SOURCE: &str = "SOURCE";
+
+pub(crate) const NAME: &str = "NAME";
+
+/// The name of the subcommand that takes no table.
+pub(crate) const VERSION: &str = "version";
+
+/// What may stand on a command line.
+pub(crate) fn command<'a>(alloc: Global) -> Result<Command<'a>, AllocError> {
+    let command = Command::new(alloc, "collbench")
+        .about("A workbench for collation tables in LC_COLLATE source form")
+        .after_help(EXAMPLES)
+        .subcommand_required(true)
+        .arg_required_else_help(true);
+    with_all(alloc, command)?.subcommand(version(alloc))
+}
+
+// The command with the subcommands that work on a table. Each call hands it on, so that nothing else is held where memory is refused.
+fn with_all<'a>(alloc: Global, command: Command<'a>) -> Result<Command<'a>, AllocError> {
+    let mut command = command;
+    for subcommand in SUBCOMMANDS {
+        command = with(command, taking(alloc, subcommand))?;
+    }
+    Ok(command)
+}
+
+// The command with a subcommand, if that was made.
+fn with<'a>(
+    command: Command<'a>,
+    made: Result<Command<'a>, AllocError>,
+) -> Result<Command<'a>, AllocError> {
+    match made {
+        Ok(subcommand) => command.subcommand(subcommand),
+        Err(refused) => Err(refused),
+    }
+}
+
+// The subcommand that takes no word.
+fn version<'a>(alloc: Global) -> Command<'a> {
+    Command::new(alloc, VERSION).about("Prints the version, and the prover that it was proved with")
+}
+
+// A subcommand with the words that it takes.
+fn taking<'a>(alloc: Global, subcommand: Subcommand) -> Result<Command<'a>, AllocError> {
+    match subcommand {
+        Subcommand::Check
+        | Subcommand::Print
+        | Subcommand::Export
+        | Subcommand::Compile
+        | Subcommand::Sort => {
+            over_table(alloc, subcommand)?
+                .before_help(COPIES)
+                .arg(deltas(alloc))
+        }
+        Subcommand::Key => over_table(alloc, subcommand)?.arg(texts(alloc)),
+        Subcommand::Compare => over_two_texts(alloc, subcommand),
+        Subcommand::Explain => Ok(over_two_texts(alloc, subcommand)?.after_help(EXPLAINED)),
+        Subcommand::Review => over_words(alloc, subcommand),
+        Subcommand::Session => over_table(alloc, subcommand),
+        Subcommand::Diff => over_two_tables(alloc, subcommand),
+        Subcommand::Import => over_source(alloc, subcommand),
+        Subcommand::ImportDelta => over_table_and_source(alloc, subcommand),
+    }
+}
+
+// A subcommand that takes a table.
+fn over_table<'a>(alloc: Global, subcommand: Subcommand) -> Result<Command<'a>, AllocError> {
+    let name: &'a str = subcommand.name();
+    let about: &'a str = subcommand.about();
+    Command::new(alloc, name).about(about).arg(table(alloc))
+}
+
+// A subcommand that takes a table and two texts.
+fn over_two_texts<'a>(alloc: Global, subcommand: Subcommand) -> Result<Command<'a>, AllocError> {
+    over_table(alloc, subcommand)?
+        .arg(text(alloc, FIRST))?
+        .arg(text(alloc, SECOND))
+}
+
+// A subcommand that takes a table, a delta file and words.
+fn over_words<'a>(alloc: Global, subcommand: Subcommand) -> Result<Command<'a>, AllocError> {
+    over_table(alloc, subcommand)?
+        .after_help(TOLD)
+        .arg(delta(alloc))?
+        .arg(words(alloc))
+}
+
+// A subcommand that takes two tables.
+fn over_two_tables<'a>(alloc: Global, subcommand: Subcommand) -> Result<Command<'a>, AllocError> {
+    let command = over_table(alloc, subcommand)?.arg(other_table(alloc))?;
+    Ok(command.after_help(LINES))
+}
+
+// A subcommand that takes a source.
+fn over_source<'a>(alloc: Global, subcommand: Subcommand) -> Result<Command<'a>, AllocError> {
+    let name: &'a str = subcommand.name();
+    let about: &'a str = subcommand.about();
+    Command::new(alloc, name)
+        .about(about)
+        .arg(source(alloc))?
+        .arg(names(alloc))
+}
+
+// A subcommand that takes a table and a tailoring.
+fn over_table_and_source<'a>(
+    alloc: Global,
+    subcommand: Subcommand,
+) -> Result<Command<'a>, AllocError> {
+    over_table(alloc, subcommand)?
+        .arg(tailoring(alloc))?
+        .arg(names(alloc))
+}
+
+// A source, which stands in place of a table.
+fn source<'a>(alloc: Global) -> Arg<'a> {
+    Arg::new(alloc, TABLE)
+        .value_name(SOURCE)
+        .required(true)
+        .help("The file of a source that orders everything; what it copies lies in the same folder")
+}
+
+// A source that changes a table.
+fn tailoring<'a>(alloc: Global) -> Arg<'a> {
+    Arg::new(alloc, SOURCE).required(true).help(
+        "The file of a source that changes the table; what it copies lies in the same folder",
+    )
+}
+
+// Names that are defined, perhaps none.
+fn names<'a>(alloc: Global) -> Arg<'a> {
+    Arg::new(alloc, NAME)
+        .num_args(0..)
+        .help("Names that an ifdef finds defined")
+}
+
+// A table.
+fn table<'a>(alloc: Global) -> Arg<'a> {
+    Arg::new(alloc, TABLE)
+        .required(true)
+        .help("The file of the table")
+}
+
+// A second table.
+fn other_table<'a>(alloc: Global) -> Arg<'a> {
+    Arg::new(alloc, OTHER)
+        .value_name(TABLE)
+        .required(true)
+        .help("The file of the table that it is compared with")
+}
+
+// One delta file.
+fn delta<'a>(alloc: Global) -> Arg<'a> {
+    Arg::new(alloc, DELTA).required(true).help(
+        "The file of statements that change the table, one after another",
+    )
+}
+
+// Words.
+fn words<'a>(alloc: Global) -> Arg<'a> {
+    Arg::new(alloc, WORDS)
+        .required(true)
+        .help("The file of the words, one a line")
+}
+
+// Delta files, perhaps none.
+fn deltas<'a>(alloc: Global) -> Arg<'a> {
+    Arg::new(alloc, DELTA).num_args(0..).help(
+        "Files of statements that change the table, in their order",
+    )
+}
+
+// One or more texts.
+fn texts<'a>(alloc: Global) -> Arg<'a> {
+    Arg::new(alloc, TEXT)
+        .required(true)
+        .num_args(1..)
+        .help("The texts, as they stand")
+}
+
+// One text.
+fn text<'a>(alloc: Global, name: &'static str) -> Arg<'a> {
+    Arg::new(alloc, name)
+        .required(true)
+        .help("A text, as it stands")
+}

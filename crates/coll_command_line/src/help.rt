@@ -1,0 +1,61 @@
+//! What help says beside the words that may stand on a command line: what is to be known before, examples, and what each line means
+//! that a subcommand writes.
+
+/// What help says first of a subcommand that takes delta files.
+pub(crate) const COPIES: &str =
+    "A source with `copy` goes through `collbench import-delta` first: in a delta file `copy` has no effect.";
+
+/// What help says last of the lines of an explanation.
+pub(crate) const EXPLAINED: &str = "Lines:
+  A <U0061> ..          the elements of the first text, characters and collating elements
+  B <U0041> ..          those of the second
+  level 1 forward equal
+                        a level by its number and its rule, at which the keys of both are the same
+  level 3 forward differs at 1: 2 <MIN> of <U0061>, 3 <CAP> of <U0041>
+                        the first level at which they differ, and the first place of its numbers where they do, counted from
+                        the end of the text where the level is backward: of either text the number there, the identifier that
+                        has this rank, and the element that it comes from
+  12+8364 UNDEFINED of <U20AC>
+                        a number to which a code point is added, since the character has no entry
+  gap 2 before <U002D>  under position, a number's position, which a key spells @2, and the element before which it stands, in the
+                        direction of the level
+  end                   the list of the text has ended there
+  less                  what compare says: less, equal or greater";
+
+/// What help says last of the subcommand that reviews a delta file: what each line means.
+pub(crate) const TOLD: &str = "For each statement:
+  2 block <U0061> 1   its number, and what it is, as :history tells it
+  parted 1            how many pairs of neighbours in the sorted words are neighbours no longer, in this order
+  joined \"a\" \"c\"      a pair that is new, with the word that comes first; the first five of them
+And last:
+  review 2 7          how many statements were put, and how many words there are
+
+A source with `copy` goes through `collbench import-delta` first: in a delta file `copy` has no effect.";
+
+/// What help says last of the lines of a comparison.
+pub(crate) const LINES: &str = "Lines:
+  same                    the tables are the same
+  rules forward backward  the rules of the second table, where they are others
+  removed <X>             what the first table alone has
+  added <X> behind <A>    what the second alone has, and what it stands directly behind there; or first, if behind nothing
+  moved <X> behind <A>    what both have, and what it goes behind; first all that is removed or moved is taken out
+  weights <X> <A>;IGNORE  an entry with other weights: those of the second table
+  differences rules 0 ..  how many lines there were of each kind
+
+A declaration stands there as in a table, as collating-symbol <X>, and the beginning of a section as section <S>; <X> alone is
+an entry. A section that moves has a line for its beginning, and one for each of its entries; or all that it went past has.";
+
+pub(crate) const EXAMPLES: &str = "Examples:
+  collbench check base.txt                     table entries 9 declared 3 sections 2 levels 4
+  collbench print base.txt c_behind_a.txt      the table, in which c goes behind a
+  collbench export base.txt > base.localedef   the table, in the form that localedef takes
+  collbench compile base.txt                   the rank of each entry, and its weights as ranks
+  collbench key base.txt ab                    4 6 | 1 1 | 2 2 | |
+  collbench compare base.txt a A               less
+  collbench explain base.txt a A               the elements of both texts, each level, and less
+  collbench sort base.txt < words.txt          the words, one a line, in the order of the table
+  collbench review base.txt c_behind_a.txt words.txt  which neighbours among the words each statement parts and joins
+  collbench session base.txt < lines.txt       a reply to each line
+  collbench diff base.txt other.txt            same, or a line for each difference
+  collbench import iso14651_t1 > common.txt    the table of a published source
+  collbench import-delta common.txt sv_SE      the delta file of a published tailoring, for that table";
