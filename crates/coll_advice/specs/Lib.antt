@@ -1,0 +1,3 @@
+pub mod FaultNumbers
+pub mod Faults
+pub mod LineFaults
