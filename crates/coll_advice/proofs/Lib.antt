@@ -1,0 +1,3 @@
+pub mod BlockLines
+pub mod FoundRefusals
+pub mod LookUps

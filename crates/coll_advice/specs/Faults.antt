@@ -47,13 +47,19 @@ line_faults table number before all (line ∷ lines) =
 abbrev pub full_faults : Refusal → List Found
 full_faults refusal = if same_refusal refusal Full then record { line = None; refusal = Full; id = None } ∷ [] else []
 
+-- the identifiers of the target of a block and of its lines, by own names
+abbrev pub block_ids : Collation → Id → List OrderLine → List Id
+block_ids table target lines = own_id table.declared target ∷ line_ids (own_lines table.declared lines)
+
+-- what is wrong with the lines of a block, in order
+abbrev pub block_line_faults : Collation → Id → List OrderLine → List Found
+block_line_faults table target lines =
+    line_faults table zero (own_id table.declared target ∷ []) (block_ids table target lines) lines
+
 -- what is wrong with a block that is refused so: with its target, with its lines, and that there would be too many entries
 abbrev pub block_faults : Collation → Id → List OrderLine → Refusal → List Found
 block_faults table target lines refusal =
-    let own = own_id table.declared target in
-    listed (target_fault table target)
-    ++ (line_faults table zero (own ∷ []) (own ∷ line_ids (own_lines table.declared lines)) lines
-    ++ full_faults refusal)
+    listed (target_fault table target) ++ (block_line_faults table target lines ++ full_faults refusal)
 
 -- Other statements.
 

@@ -4,14 +4,13 @@
 //! target and the lines before the one that is looked at, which may not stand in it again. So a block is gone through twice, line by
 //! line, each line with as many look-ups as it has identifiers.
 
-ghost use Rattle.std.specs.Prelude.{◌≡◌, ◌∷◌, ◌++◌, [], zero, IfOk, OnOk};
+ghost use Rattle.std.specs.Prelude.{◌≡◌, ◌++◌, [], IfOk, OnOk};
 ghost use Rattle.coll_lookups.specs.IdSets.{AddsId};
 ghost use Rattle.coll_nodes.specs.OwnNames.{own_id};
 ghost use Rattle.coll_nodes.specs.Table.{is_placed};
 ghost use Rattle.coll_nodes.specs.TableLayout.{collation};
-ghost use Rattle.coll_statements.specs.OwnStatements.{own_lines};
-ghost use Rattle.coll_table.specs.Judging.{HaveSame, line_ids};
-ghost use Rattle.coll_advice.specs.Faults.{block_faults, full_faults, line_faults, listed, target_fault};
+ghost use Rattle.coll_table.specs.Judging.{HaveSame};
+ghost use Rattle.coll_advice.specs.Faults.{block_faults, block_ids, block_line_faults, full_faults, listed, target_fault};
 ghost use Rattle.coll_advice.specs.LineFaults.{line_fault};
 
 use crate::found::Found;
@@ -78,14 +77,31 @@ fn find_at_lines(
     lines: &[OrderLine],
     found: &mut Vec<Found>,
 ) -> Result<(), AllocError>
-    ensures { OnOk result (found.new.items ≡ found.old.items ++ line_faults (collation table.now) zero
-        (own_id (collation table.now).declared target.now ∷ [])
-        (own_id (collation table.now).declared target.now ∷ line_ids (own_lines (collation table.now).declared lines.now)) lines.now) }
+    ensures { OnOk result (found.new.items ≡ found.old.items ++ block_line_faults (collation table.now) target.now lines.now) }
 {
     let mut all = IdSet::new(alloc, table.hash_keys());
-    insert_all(alloc, table, &mut all, target, lines)?;
+    let done = find_among(alloc, table, &mut all, target, lines, found);
+    drop(all);
+    done
+}
+
+// The same, with the identifiers of the target and of all lines put in, where there are none yet.
+fn find_among(
+    alloc: Global,
+    table: &Table,
+    all: &mut IdSet,
+    target: &Id,
+    lines: &[OrderLine],
+    found: &mut Vec<Found>,
+) -> Result<(), AllocError>
+    requires { all.old ≡ [] }
+    ensures { OnOk result (found.new.items ≡ found.old.items ++ block_line_faults (collation table.now) target.now lines.now) }
+{
+    insert_all(alloc, table, all, target, lines)?;
     let mut before = IdSet::new(alloc, table.hash_keys());
-    find_from_target(alloc, table, &mut before, &all, target, lines, found)
+    let done = find_from_target(alloc, table, &mut before, all, target, lines, found);
+    drop(before);
+    done
 }
 
 // Puts the identifiers of the target and of all lines, by own names, where there are none yet.
@@ -97,8 +113,7 @@ fn insert_all(
     lines: &[OrderLine],
 ) -> Result<(), AllocError>
     requires { all.old ≡ [] }
-    ensures { OnOk result (HaveSame all.new (own_id (collation table.now).declared target.now
-        ∷ line_ids (own_lines (collation table.now).declared lines.now))) }
+    ensures { OnOk result (HaveSame all.new (block_ids (collation table.now) target.now lines.now)) }
 {
     insert_own(alloc, table, all, target)?;
     for line in lines {
@@ -127,9 +142,9 @@ fn find_from_target(
     lines: &[OrderLine],
     found: &mut Vec<Found>,
 ) -> Result<(), AllocError>
-    requires { before.old ≡ [] }
-    ensures { OnOk result (found.new.items ≡ found.old.items ++ line_faults (collation table.now) zero
-        (own_id (collation table.now).declared target.now ∷ []) all.now lines.now) }
+    requires none { before.old ≡ [] }
+    requires all { HaveSame all.now (block_ids (collation table.now) target.now lines.now) }
+    ensures { OnOk result (found.new.items ≡ found.old.items ++ block_line_faults (collation table.now) target.now lines.now) }
 {
     insert_own(alloc, table, before, target)?;
     for (number, line) in lines.iter().enumerate() {

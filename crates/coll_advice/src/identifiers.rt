@@ -8,6 +8,7 @@ ghost use Rattle.coll_nodes.specs.OwnNames.{named_own, own_id};
 ghost use Rattle.coll_nodes.specs.Table.{is_known, is_own_name, is_placed};
 ghost use Rattle.coll_nodes.specs.TableLayout.{collation};
 
+use crate::texts::is_same_text;
 use coll_lex::TextBuf;
 use coll_syntax::Id;
 use coll_table::Table;
@@ -54,7 +55,7 @@ fn is_own_name(table: &Table, name: &TextBuf) -> bool
 {
     table.lemma_well_formed();
     match table.resolve(name.get()) {
-        Some(own) => own == name.get(),
+        Some(own) => is_same_text(own, name.get()),
         None => false,
     }
 }

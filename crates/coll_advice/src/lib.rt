@@ -21,6 +21,7 @@ mod lines;
 mod near_names;
 mod sentences;
 mod statements;
+mod texts;
 
 pub use advice_lines::write_advice;
 pub use found::Found;
