@@ -1,9 +1,9 @@
 -- What a table answers is among the faults that are found.
-use Rattle.std.proofs.Common.{◌≡◌, ℕ, suc, zero, ◌-◌, Bool, true, false, not, cond, is_some, IsTrue, List, [], ◌∷◌, ◌++◌, Option, Some, None, map, flat_map, length, sym, ap, ap₂, subst, ◌∙◌, refl}
+use Rattle.std.proofs.Common.{◌≡◌, ℕ, suc, zero, ◌-◌, Bool, true, false, not, cond, is_some, IsTrue, List, [], ◌∷◌, ◌++◌, Option, Some, None, map, flat_map, length, sym, ap, ap₂, subst, ◌∙◌, refl, eq-eqb}
 use Rattle.std.proofs.Common.{Result, Ok, Err, IsOk}
-use Rattle.std.specs.Prelude.{nat_le, ◌↔◌}
+use Rattle.std.specs.Prelude.{nat_eq, nat_le, ◌↔◌, ◌≢◌}
 use Rattle.std.specs.Option.{option_or, option_map}
-use Rattle.std.proofs.lemmas.Bool.{eqb-refl, leb-le, leb-gt}
+use Rattle.std.proofs.lemmas.Bool.{leb-true, leb-false}
 use Rattle.std.proofs.lemmas.List.{map-append}
 use Rattle.coll_order.proofs.Sameness.{by_test, not_both}
 use Rattle.coll_syntax.specs.declared.identifiers.Id.{Id}
@@ -28,7 +28,7 @@ use Rattle.coll_table.specs.OwnStatements.{own_statement}
 use Rattle.coll_table.specs.Refusals.{refusal_number}
 use Rattle.coll_table.specs.declared.refusals.Refusal.{Refusal}
 use Rattle.coll_table.specs.declared.refusals.Refusal.TheVariants.{TargetNotPlaced}
-use Rattle.coll_advice.specs.Faults.{RefusalsAreFound, answered_faults, block_faults, block_ids, block_line_faults, equivalence_name, faults, first_with, full_faults, line_faults, listed, same_refusal, section_named}
+use Rattle.coll_advice.specs.Faults.{RefusalsAreFound, answered_faults, block_faults, block_ids, block_line_faults, equivalence_name, faults, first_with, full_faults, line_faults, listed, refused_faults, same_refusal, section_named}
 use Rattle.coll_advice.specs.LineFaults.{about, ids_fault, ids_in, reweight_fault}
 use Rattle.coll_advice.specs.declared.found.Found.{Found}
 
@@ -44,7 +44,7 @@ has_first : (refusal : Refusal) (fault : Found) (later : List Found) → fault.r
 has_first refusal fault later same =
     by_test (λ b. same_refusal fault.refusal refusal ≡ b → IsTrue (is_some (cond b (Some fault) (first_with refusal later)))) (same_refusal fault.refusal refusal)
     (λ _ _. refl)
-    (λ off _. not_both (ap (λ r. same_refusal r refusal) same ∙ eqb-refl (refusal_number refusal)) off) refl
+    (λ off _. not_both (ap (λ r. same_refusal r refusal) same ∙ eq-eqb _ _ refl) off) refl
 
 -- it stays among more before it
 has_behind : (refusal : Refusal) (before faults : List Found) → Has refusal faults → Has refusal (before ++ faults)
@@ -65,7 +65,11 @@ unless_err : (found : Option Refusal) (after : Collation) (refusal : Refusal) �
 unless_err None after refusal e = cc
 unless_err (Some it) after refusal e = cc
 
-same_err : {X : Type 0} {a b : Refusal} → Err {T = X} a ≡ Err b → a ≡ b
+-- a refusal, as an answer
+abbrev refusing : Refusal → Result Collation Refusal
+refusing refusal = Err refusal
+
+same_err : {a b : Refusal} → refusing a ≡ refusing b → a ≡ b
 same_err e = cc
 
 same_some : {a b : Refusal} → Some a ≡ Some b → a ≡ b
@@ -163,23 +167,23 @@ module _ (table : Collation) where
       behind_lines passes =
           by_test (λ b. nat_le (entries_added table owned) (most_entries - length (entries_of table)) ≡ b → Has refusal rest) (nat_le (entries_added table owned) (most_entries - length (entries_of table)))
           (λ _ room.
-              let decided = weights_decide table own owned there well passes (entries_added table owned) refl (block_ids table target lines) (λ _. refl) (leb-le _ _ room) in
-              has_before refusal (block_line_faults table target lines) (full_faults refusal)
-              (weights_found zero (own ∷ []) (block_ids table target lines) lines passes (unless_err _ (all_moved table own owned) refusal (sym decided ∙ refused))))
+          let decided = weights_decide table own owned there well passes (entries_added table owned) refl (block_ids table target lines) (λ _. refl) (leb-true _ _ room) in
+          has_before refusal (block_line_faults table target lines) (full_faults refusal)
+          (weights_found zero (own ∷ []) (block_ids table target lines) lines passes (unless_err _ (all_moved table own owned) refusal (sym decided ∙ refused))))
           (λ _ many.
-              let full = entries_refused table own owned there well passes (entries_added table owned) refl (leb-gt _ _ many) in
-              has_behind refusal (block_line_faults table target lines) (full_faults refusal)
-              (subst (λ r. Has r (full_faults r)) (same_err (sym full ∙ refused)) refl)) refl
+          let full = entries_refused table own owned there well passes (entries_added table owned) refl (leb-false _ _ many) in
+          has_behind refusal (block_line_faults table target lines) (full_faults refusal)
+          (subst (λ r. Has r (full_faults r)) (same_err (sym full ∙ refused)) refl)) refl
 
       by_lines : (first : Option Refusal) → lines_refusal table (own ∷ []) owned ≡ first → Has refusal rest
       by_lines None is = behind_lines is
       by_lines (Some it) is =
           let same : it ≡ refusal = same_err (sym (first_decides it is) ∙ refused) in
           has_before refusal (block_line_faults table target lines) (full_faults refusal) (lines_found zero (own ∷ []) (block_ids table target lines) lines (is ∙ ap Some same)) where
-        first_decides : (it : Refusal) → lines_refusal table (own ∷ []) owned ≡ Some it → block_delta table own owned ≡ Err it
-        first_decides it is =
-            ap (λ b. cond (not b) (Err TargetNotPlaced) (or_refused (lines_refusal table (own ∷ []) owned) (block_result (all_moved table own owned) owned))) there
-            ∙ ap (λ r. or_refused r (block_result (all_moved table own owned) owned)) is
+            first_decides : (it : Refusal) → lines_refusal table (own ∷ []) owned ≡ Some it → block_delta table own owned ≡ Err it
+            first_decides it is =
+                ap (λ b. cond (not b) (Err TargetNotPlaced) (or_refused (lines_refusal table (own ∷ []) owned) (block_result (all_moved table own owned) owned))) there
+                ∙ ap (λ r. or_refused r (block_result (all_moved table own owned) owned)) is
 
       pub placed_found : Has refusal rest
       placed_found = by_lines (lines_refusal table (own ∷ []) owned) refl
@@ -193,28 +197,34 @@ module _ (table : Collation) where
         by_test (λ b. is_placed table own ≡ b → Has refusal (listed (about None target (refused_if (not b) TargetNotPlaced None)) ++ rest)) (is_placed table own)
         (λ _ there. placed_found target lines well there refused)
         (λ _ missing.
-            let other : TargetNotPlaced ≡ refusal = same_err
-                (sym (ap (λ b. cond (not b) (Err TargetNotPlaced) (or_refused (lines_refusal table (own ∷ []) owned) (block_result (all_moved table own owned) owned))) missing) ∙ refused) in
-            has_first refusal (record { line = None; refusal = TargetNotPlaced; id = Some target }) rest other) refl
+        let other : TargetNotPlaced ≡ refusal = same_err
+        (sym (ap (λ b. cond (not b) (Err TargetNotPlaced) (or_refused (lines_refusal table (own ∷ []) owned) (block_result (all_moved table own owned) owned))) missing) ∙ refused) in
+        has_first refusal (record { line = None; refusal = TargetNotPlaced; id = Some target }) rest other) refl
 
-    reweight_found : (line : OrderLine) → reweight_delta table (own_line table.declared line) ≡ Err refusal → Has refusal (listed (reweight_fault table line))
-    reweight_found line refused = by_line (reweight_refusal table own) refl where
-      abbrev own : OrderLine
-      own = own_line table.declared line
+    -- an order line outside of a block
+    module _ (line : OrderLine) (refused : reweight_delta table (own_line table.declared line) ≡ Err refusal) where
+      abbrev lone : OrderLine
+      lone = own_line table.declared line
 
-      by_line : (first : Option Refusal) → reweight_refusal table own ≡ first → Has refusal (listed (option_or (about None line.id (reweight_refusal table own)) (ids_fault table None [] (ids_in line))))
-      by_line None is =
-          subst (λ first. Has refusal (listed (option_or (about None line.id first) (ids_fault table None [] (ids_in line))))) (sym is)
+      abbrev told : Option Refusal → List Found
+      told first = listed (option_or (about None line.id first) (ids_fault table None [] (ids_in line)))
+
+      by_reweight : (first : Option Refusal) → reweight_refusal table lone ≡ first → Has refusal (told (reweight_refusal table lone))
+      by_reweight None is =
+          subst (λ first. Has refusal (told first)) (sym is)
           (ids_found None [] (ids_in line)
-          (sym (ap (ids_refusal table []) (own_ids_in line)) ∙ unless_err _ (reweighted table own) refusal (sym (reweight_judged table own is) ∙ refused)))
-      by_line (Some it) is =
-          subst (λ first. Has refusal (listed (option_or (about None line.id first) (ids_fault table None [] (ids_in line))))) (sym is)
+          (sym (ap (ids_refusal table []) (own_ids_in line)) ∙ unless_err _ (reweighted table lone) refusal (sym (reweight_judged table lone is) ∙ refused)))
+      by_reweight (Some it) is =
+          subst (λ first. Has refusal (told first)) (sym is)
           (has_first refusal (record { line = None; refusal = it; id = Some line.id }) []
-          (same_err (sym (ap (λ r. or_refused r (looked_up (reweighted table own) (own ∷ []))) is) ∙ refused)))
+          (same_err (sym (ap (λ r. or_refused r (looked_up (reweighted table lone) (lone ∷ []))) is) ∙ refused)))
+
+      reweight_found : Has refusal (listed (reweight_fault table line))
+      reweight_found = by_reweight (reweight_refusal table lone) refl
 
 -- the law
 pub refusals_are_found : RefusalsAreFound
-unfolding delta, own_delta, own_statement, faults
+unfolding delta own_delta own_statement faults
 refusals_are_found table (statement.Symbol name) refusal well refused = rw refused (has_first refusal (record { line = None; refusal = refusal; id = Some (Named name) }) [] refl)
 refusals_are_found table (statement.Element name text) refusal well refused = rw refused (has_first refusal (record { line = None; refusal = refusal; id = Some (Named name) }) [] refl)
 refusals_are_found table (statement.Equivalence name symbol) refusal well refused =
@@ -240,3 +250,20 @@ accepted_where_none table s found well are = by (delta table s) refl where
 pub told_where_refused : (table : Collation) (s : Statement) (refusal : Refusal) (found : Option Found) → IsWellFormed table → found ≡ first_with refusal (faults table s) → delta table s ≡ Err refusal
     → IsTrue (is_some found)
 told_where_refused table s refusal found well is refused = subst (λ f. IsTrue (is_some f)) (sym is) (refusals_are_found table s refusal well refused)
+
+-- the faults of a statement that a table refuses
+pub refused : (table : Collation) (s : Statement) (refusal : Refusal) → delta table s ≡ Err refusal → faults table s ≡ refused_faults table s refusal
+unfolding faults
+refused table s refusal is = ap (answered_faults table s) is
+
+-- one whose number is no other's is no other
+pub other_refusal : (refusal other : Refusal) (n m : ℕ) → n ≡ refusal_number refusal → m ≡ refusal_number other → n ≢ m → refusal ≢ other
+other_refusal refusal other n m is are apart same = apart (is ∙ (ap refusal_number same ∙ sym are))
+
+-- and of one that it accepts
+pub none_where_ok : (table : Collation) (s : Statement) → IsOk (delta table s) → faults table s ≡ []
+unfolding faults
+none_where_ok table s ok = by (delta table s) ok where
+  by : (answer : Result Collation Refusal) → IsOk answer → answered_faults table s answer ≡ []
+  by (Ok after) ok = refl
+  by (Err refusal) ok = absurd (no ok)

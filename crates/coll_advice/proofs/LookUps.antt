@@ -1,7 +1,7 @@
 -- What is found of a name or of an identifier says whether it is an own name, and whether it is placed.
 use Rattle.std.proofs.Common.{◌≡◌, ℕ, Bool, true, false, is_some, List, Option, Some, None, Bor, sym, ap, ◌∙◌, refl}
 use Rattle.std.specs.Option.{option_map, option_copied}
-use Rattle.std.specs.Prelude.{unwrap_or}
+use Rattle.std.specs.Prelude.{chars, unwrap_or}
 use Rattle.coll_order.proofs.Sameness.{by_test, not_both}
 use Rattle.coll_lookups.proofs.Sameness.{same_name_decides}
 use Rattle.coll_syntax.specs.Identifier.{same_name}
@@ -13,7 +13,7 @@ use Rattle.coll_nodes.specs.WellFormed.{AreDistinct}
 use Rattle.coll_nodes.specs.declared.declarations.Declaration.{Declaration}
 use Rattle.coll_nodes.specs.declared.entries.Entry.{Entry}
 use Rattle.coll_nodes.proofs.EntryLemmas.{entry_there}
-use Rattle.coll_nodes.proofs.OwnNames.{named_own_known, named_own_same, no_own_of, own_told}
+use Rattle.coll_nodes.proofs.OwnNames.{declaration_is, named_own_known, named_own_same, no_own_of, own_told}
 
 -- an entry that is lent is placed
 pub placed_if_lent : (table : Collation) (id : Id) (lent : Option (Bor Entry)) → option_copied lent ≡ entry_at (entries_of table) id → is_some lent ≡ is_placed table id
@@ -43,3 +43,16 @@ not_own declared name distinct absent = sym (own_told declared name distinct Non
   undeclared : (found : Option Declaration) → option_map stands_for found ≡ None → found ≡ None
   undeclared None absent = refl
   undeclared (Some found) absent = cc
+
+-- a name that is lent is declared
+pub declared_if_lent : (declared : List Declaration) (name : List ℕ) (lent : Option (Bor (List ℕ))) → option_map (λ (own : Bor (List ℕ)). chars own.now) lent ≡ own_name declared name
+    → is_some lent ≡ is_declared declared name
+declared_if_lent declared name lent found =
+    by lent ∙ (ap is_some found ∙ (named (declaration_of declared name) ∙ declaration_is declared name)) where
+      by : (lent : Option (Bor (List ℕ))) → is_some lent ≡ is_some (option_map (λ (own : Bor (List ℕ)). chars own.now) lent)
+      by None = refl
+      by (Some x) = refl
+
+      named : (found : Option Declaration) → is_some (option_map stands_for found) ≡ is_some found
+      named None = refl
+      named (Some found) = refl

@@ -1,3 +1,4 @@
+pub mod AdviceLines
 pub mod FaultNumbers
 pub mod Faults
 pub mod LineFaults

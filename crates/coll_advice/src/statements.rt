@@ -3,7 +3,7 @@
 //! What a table accepts has none. A statement that is no block has one, the refusal of the table, and it is told what that is about
 //! (`specs/Faults.antt`); a block has those of `blocks`. A new statement is a case of `refused_faults` first.
 
-ghost use Rattle.std.specs.Prelude.{◌≡◌, ◌↔◌, [], IsOk, IsTrue, Err, IfOk, is_some};
+ghost use Rattle.std.specs.Prelude.{◌≡◌, ◌≢◌, ◌↔◌, [], IsOk, IsTrue, Err, IfOk, is_some};
 ghost use Rattle.coll_lex.specs.Names.{IsName};
 ghost use Rattle.coll_syntax.specs.Identifier.{has_name};
 ghost use Rattle.coll_syntax.specs.Proper.{IsProper};
@@ -11,6 +11,7 @@ ghost use Rattle.coll_syntax.specs.declared.statements.Statement.TheVariants as 
 ghost use Rattle.coll_nodes.specs.Table.{section_names};
 ghost use Rattle.coll_nodes.specs.TableLayout.{collation};
 ghost use Rattle.coll_table.specs.Delta.{delta};
+ghost use Rattle.coll_table.specs.declared.refusals.Refusal.TheVariants.{OutOfMemory};
 ghost use Rattle.coll_advice.specs.Faults.{equivalence_name, fault_named, faults, first_with, refused_faults, section_named};
 ghost use Rattle.coll_advice.specs.Faults.{listed};
 ghost use Rattle.coll_advice.specs.LineFaults.{reweight_fault};
@@ -50,11 +51,18 @@ fn faults_behind(
     table: &Table,
     statement: &Statement,
     refusal: Refusal,
-) -> Result<Vec<Found>, AllocError> {
+) -> Result<Vec<Found>, AllocError>
+    requires proper { IsProper statement.now }
+    requires refused { refusal ≢ OutOfMemory → delta (collation table.now) statement.now ≡ Err refusal }
+    ensures faults { IfOk result (λ found. found.items ≡ faults (collation table.now) statement.now) }
+    ensures accepted { IfOk result (λ found. (found.items ≡ []) ↔ IsOk (delta (collation table.now) statement.now)) }
+{
     if refusal.number() == Refusal::OutOfMemory.number() {
         return Err(AllocError);
     }
-    refused_faults(alloc, table, statement, refusal)
+    table.lemma_well_formed();
+    let found = refused_faults(alloc, table, statement, refusal)?;
+    Ok(found)
 }
 
 /// What a statement that was refused is about: the first fault found that has this refusal. It is found where the refusal is that of
@@ -69,17 +77,25 @@ pub fn subject_of(
     ensures first { IfOk result (λ found. found ≡ first_with refusal (faults (collation table.now) statement.now)) }
     ensures told { IfOk result (λ found. delta (collation table.now) statement.now ≡ Err refusal → IsTrue (is_some found)) }
 {
+    table.lemma_well_formed();
     let found = faults_of(alloc, table, statement)?;
-    Ok(first_with(found, refusal))
+    let copied = first_copied(found.as_slice(), refusal);
+    drop(found);
+    let subject = copied?;
+    Ok(subject)
 }
 
-// The first of these faults that has a refusal.
-fn first_with(found: Vec<Found>, refusal: Refusal) -> Option<Found>
-    ensures { result ≡ first_with refusal found.items }
+// A copy of the first of these faults that has a refusal.
+fn first_copied(found: &[Found], refusal: Refusal) -> Result<Option<Found>, AllocError>
+    ensures { IfOk result (λ copy. copy ≡ first_with refusal found.now) }
 {
-    found
-        .into_iter()
-        .find(|fault| fault.refusal.number() == refusal.number())
+    for fault in found {
+        if fault.refusal.number() == refusal.number() {
+            let copy = fault.clone()?;
+            return Ok(Some(copy));
+        }
+    }
+    Ok(None)
 }
 
 // The faults of a statement that is refused so.

@@ -12,5 +12,5 @@ abbrev pub invariant-loop-number : goal.invariant-loop-number
 invariant-loop-number l = record {
   kept : HaveSame l.before (ids_before (collation l.table) l.target l.lines l.number);
   goes_on : l.found.items ++ line_faults (collation l.table) l.number (ids_before (collation l.table) l.target l.lines l.number) l.all (drop l.number l.lines)
-      ≡ l.initial.found.items ++ line_faults (collation l.table) zero (own_id (collation l.table).declared l.target ∷ []) l.all l.lines
+      ≡ l.initial.found.items ++ line_faults (collation l.table) zero (own_id (collation l.table).declared l.target ∷ []) l.all l.lines;
 }
