@@ -1,7 +1,7 @@
 -- What a table answers is among the faults that are found.
-use Rattle.std.proofs.Common.{◌≡◌, ℕ, suc, zero, ◌-◌, Bool, true, false, not, cond, is_some, IsTrue, List, [], ◌∷◌, ◌++◌, Option, Some, None, map, flat_map, length, sym, ap, ap₂, subst, ◌∙◌, refl, eq-eqb}
+use Rattle.std.proofs.Common.{◌≡◌, ℕ, suc, zero, ◌-◌, true, false, not, cond, is_some, IsTrue, List, [], ◌∷◌, ◌++◌, Option, Some, None, map, flat_map, length, sym, ap, ap₂, subst, ◌∙◌, refl, eq-eqb}
 use Rattle.std.proofs.Common.{Result, Ok, Err, IsOk}
-use Rattle.std.specs.Prelude.{nat_eq, nat_le, ◌↔◌, ◌≢◌}
+use Rattle.std.specs.Prelude.{nat_le, ◌↔◌, ◌≢◌}
 use Rattle.std.specs.Option.{option_or, option_map}
 use Rattle.std.proofs.lemmas.Bool.{leb-true, leb-false}
 use Rattle.std.proofs.lemmas.List.{map-append}
