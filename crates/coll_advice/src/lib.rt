@@ -1,0 +1,31 @@
+//! What a fault is about, and what to do.
+//!
+//! A table answers a statement that it refuses with one number. Here all that is wrong with the statement is found, line by line, with
+//! the identifier that each fault is about; a fault by its number has a name and a sentence that says what to do; and for a name that
+//! isn't declared the nearest one that is can be looked for. A way through the crate:
+//!
+//! - `found`: a fault, with its line and its identifier;
+//! - `identifiers`: identifiers by their own names, and whether they are known and placed;
+//! - `lines`: what is wrong with an order line (`LineFaults`);
+//! - `blocks` and `statements`: all faults of a statement, and the first with a refusal (`Faults`);
+//! - `sentences`: the name and the sentence of each number;
+//! - `near_names` and `edits`: the declared name that is nearest to another;
+//! - `advice_lines`: what is written of a fault behind its number and name.
+#![tactic(auto)]
+
+mod advice_lines;
+mod blocks;
+mod edits;
+mod found;
+mod identifiers;
+mod lines;
+mod near_names;
+mod sentences;
+mod statements;
+mod texts;
+
+pub use advice_lines::write_advice;
+pub use found::Found;
+pub use near_names::nearest_name;
+pub use sentences::{Advice, advice_of};
+pub use statements::{faults_of, subject_of};
