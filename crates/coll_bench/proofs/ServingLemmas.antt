@@ -18,7 +18,7 @@ use Rattle.coll_lex.specs.declared.faults.LexFault.TheVariants as lex
 use Rattle.coll_lex.proofs.LineEnds.{fed-count, fed-room}
 use Rattle.coll_lex.proofs.LineFaults.{fed-full}
 use Rattle.coll_bench.specs.Faults.{fault_number, fault_of}
-use Rattle.coll_history.specs.Histories.{History}
+use Rattle.coll_history.specs.Histories.{History, SessionValue}
 use Rattle.coll_requests.specs.SessionLines.{opening_of, tokens_parsed, fault_parsed}
 use Rattle.coll_requests.proofs.LineStops.{tokens_go_on}
 use Rattle.coll_requests.specs.Parsing.{parsed_by, parsed_in, parsed_at}
@@ -116,23 +116,25 @@ pub counts_line : (s s2 : LexerState) (line : List ℕ) (block block2 : Option O
 counts_line s s2 line block block2 completed (memory, takes) few = count_of memory s s2 line takes.stands takes.answers.0 few
 
 -- a line that was taken, with its reply
-pub serves_taken : {E : Type 0} (old new : RunState) (s2 : LexerState) (block2 : Option OpenBlock) (line : List ℕ) (completed : Option RequestAt) (taken taken_after : Option (List ℕ))
-    (r : Result (Unit {0}) E)
-    → Takes old.parser s2 line old.block block2 (Ok completed) → new.parser ≡ s2 → new.block ≡ block2
-    → (starved : Bool) × Sends taken taken_after (replies_to starved old.session.history (option_to_list completed)) r
-    × (new.session.history ≡ history_after_all starved old.session.history (option_to_list completed))
+pub serves_taken : {E : Type 0} (old mid new : RunState) (line : List ℕ) (completed : Option RequestAt) (taken taken1 taken_after : Option (List ℕ)) (r : Result (Unit {0}) E)
+    → Takes old.parser mid.parser line old.block mid.block (Ok completed) × (mid.session ≡ old.session) → taken1 ≡ taken → new.parser ≡ mid.parser → new.block ≡ mid.block
+    → (starved : Bool) × Sends taken1 taken_after (replies_to starved mid.session.history (option_to_list completed)) r
+    × (new.session.history ≡ history_after_all starved mid.session.history (option_to_list completed))
     → (memory : Bool) × (starved : Bool) × Served memory starved old new line × Sends taken taken_after (line_replies memory starved old line) r
-serves_taken old new s2 block2 line completed taken taken_after r (memory, takes) parser block (starved, sent, session) = (
-  memory,
-  starved,
-  record {
-    goes_on = takes.answers.0;
-    parser = parser ∙ takes.stands;
-    block = block ∙ takes.answers.1;
-    session = session ∙ ap (history_after_all starved old.session.history) takes.answers.2;
-  },
-  subst (λ (requests : List RequestAt). Sends taken taken_after (replies_to starved old.session.history requests) r) takes.answers.2 sent,
-)
+serves_taken old mid new line completed taken taken1 taken_after r ((memory, takes), kept) same parser block (starved, sent, session) =
+    let history : mid.session.history ≡ old.session.history = ap (λ (s : SessionValue). s.history) kept in (
+      memory,
+      starved,
+      record {
+        goes_on = takes.answers.0;
+        parser = parser ∙ takes.stands;
+        block = block ∙ takes.answers.1;
+        session = session ∙ ap (λ (h : History). history_after_all starved h (option_to_list completed)) history ∙ ap (history_after_all starved old.session.history) takes.answers.2;
+      },
+      subst (λ (t : Option (List ℕ)). Sends t taken_after (line_replies memory starved old line) r) same
+          (subst (λ (requests : List RequestAt). Sends taken1 taken_after (replies_to starved old.session.history requests) r) takes.answers.2
+          (subst (λ (h : History). Sends taken1 taken_after (replies_to starved h (option_to_list completed)) r) history sent)),
+    )
 
 refusals_replies : (starved : Bool) (h : History) (faults : List FaultAt) → replies_to starved h (refusals faults) ≡ refused_lines faults
 unfolding replies_to refused_lines reply history_after

@@ -3,23 +3,37 @@ use Rattle.std.specs.Prelude.{◌≡◌, ◌⊎◌, ℕ, Bool, true, false, ◌=
 use Rattle.std.specs.Io.KnownBytes.{Appends}
 use Rattle.coll_devices.specs.Devices.{AppendsPrefix, raised}
 use Rattle.coll_devices.specs.LineReading.{counted}
-use Rattle.coll_lex.specs.LogicalLines.{first_state, number_of, served, state_by}
+use Rattle.coll_lex.specs.LogicalLines.{LexerState, first_state, number_of, served, state_by}
 use Rattle.coll_lex.specs.declared.faults.LexFault.{LexFault}
 use Rattle.coll_lex.specs.declared.faults.LexFault.TheVariants as lex
 use Rattle.coll_devices.specs.declared.stops.ReadStop.{ReadStop}
 use Rattle.coll_devices.specs.declared.stops.ReadStop.TheVariants as read
 use Rattle.coll_devices.specs.declared.stops.WriteStop.TheVariants as write
 use Rattle.coll_nodes.specs.Table.{Collation}
-use Rattle.coll_history.specs.Histories.{History, begun}
+use Rattle.coll_history.specs.Histories.{History, SessionValue, begun}
 use Rattle.coll_requests.specs.Parsing.{parsed_at}
 use Rattle.coll_bench.specs.Faults.{fault_number}
-use Rattle.coll_requests.specs.Taking.{line_block, line_requests, stop_at}
+use Rattle.coll_requests.specs.Taking.{TakesPhysical, line_block, line_requests, stop_at}
 use Rattle.coll_bench.specs.Replies.{reply_if, history_after_if}
 use Rattle.coll_bench.specs.declared.faults.Fault.{Fault}
 use Rattle.coll_bench.specs.declared.faults.Fault.TheVariants as faults
 use Rattle.coll_bench.specs.declared.faults.RunFault.{RunFault}
+use Rattle.coll_requests.specs.declared.open_blocks.OpenBlock.{OpenBlock}
 use Rattle.coll_requests.specs.declared.requests.RequestAt.{RequestAt}
 use Rattle.coll_bench.specs.declared.serving.RunState.{RunState}
+
+-- what the lexer of a session was handed, the block that it has open, and its table with its history
+abbrev pub lexer_of : RunState → LexerState
+lexer_of state = state.parser
+
+abbrev pub block_of : RunState → Option OpenBlock
+block_of state = state.block
+
+abbrev pub session_of : RunState → SessionValue
+session_of state = state.session
+
+abbrev pub history_of : RunState → History
+history_of state = state.session.history
 
 -- the replies to some requests, to each of which memory was refused or not
 unfoldable pub replies_to : (starved : Bool) → History → List RequestAt → List ℕ
@@ -70,6 +84,13 @@ EndsAtLine memory starved old line taken taken_after ended =
     × EndsWith (number_of old.parser) f taken taken_after (line_replies memory starved old line) ended)
     ⊎ ((stop_at (parsed_at memory old.parser line) ≡ None) × (ended ≡ write_failed)
     × AppendsPrefix taken taken_after (line_replies memory starved old line))
+
+-- what taking a physical line did: the request that it completes is still to be answered, or the session ended
+abbrev pub TakesLine : RunState → RunState → List ℕ → Option (List ℕ) → Option (List ℕ) → Result (Option RequestAt) RunFault → Type 0
+TakesLine old new line taken taken_after (Ok request) =
+    ((memory : Bool) × TakesPhysical memory old.parser new.parser line old.block new.block (Ok request)) × (new.session ≡ old.session)
+TakesLine old new line taken taken_after (Err ended) =
+    (memory : Bool) × (starved : Bool) × EndsAtLine memory starved old line taken taken_after ended
 
 -- what serving a physical line did
 abbrev pub ServesLine : RunState → RunState → List ℕ → Option (List ℕ) → Option (List ℕ) → Result (Unit {0}) RunFault → Type 0

@@ -7,7 +7,8 @@
 //! - `faults`: all faults of a session and a batch, and the one that ends a run (`Faults`);
 //! - `replies`: the reply to each request (`Replies`, and of a table's listing `Listing`), with `history_reply` for `:history`
 //!   and `texts` for `:key` and `:compare`; a batch writes its counts, keys and orders by the same functions;
-//! - `serving` for one line and `runs` for a text: a session (`Serving`, `Underway`, `Runs`);
+//! - `serving` for one line and `runs` for a text: a session (`Serving`, `Underway`, `Runs`); who serves more than its lines takes them
+//!   one by one (`RunState`);
 //! - `batches`: a table and delta files are read, and what is asked of the result is written (`BatchRuns` and those beside it);
 //! - `exports`: what is told of a table that is exported (`Exports`);
 //! - `laws`: what follows from these definitions (`Laws`);
@@ -35,3 +36,4 @@ pub use laws::{lack_of_memory_shows, refused_lines_change_nothing};
 pub use replies::write_history_line;
 pub use reports::{exit_status, write_fault};
 pub use runs::run_session;
+pub use serving::RunState;

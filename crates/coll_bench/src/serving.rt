@@ -2,15 +2,19 @@
 //!
 //! A `RunState` is where a session stands between two lines: what the lexer was handed, what is kept of the block that is
 //! open, and the history. A line is parsed, taken by the block, and the request that it completes is answered; each of these
-//! is a function with an exact clause over what the state keeps.
+//! is a function with an exact clause over what the state keeps. Whoever serves more than the lines of a session takes each line, and
+//! has the request answered or does so in another way; what the state keeps is the session's either way.
 
-ghost use Rattle.std.specs.Prelude.{◌≡◌, ◌+◌, ◌<◌, ◌++◌, Bool, true, IfOk, IfErr, IfSome, OnOk, Option, option_to_list};
+ghost use Rattle.std.specs.Prelude.{◌≡◌, ◌+◌, ◌<◌, ◌++◌, Bool, true, is_some, length, Ok, Err};
+ghost use Rattle.std.specs.Prelude.{IfOk, IfErr, IfSome, OnOk, OnErr, Option, option_to_list};
 ghost use Rattle.coll_requests.specs.ProperLines.{IsProperRequest};
 ghost use Rattle.coll_devices.specs.Devices.{CountsErr, Sends};
 ghost use Rattle.coll_lex.specs.Faults.{ends_text};
 ghost use Rattle.coll_lex.specs.LogicalLines.{pending, number_of};
 ghost use Rattle.coll_lex.specs.Limits.{most_lines};
+ghost use Rattle.coll_syntax.specs.Proper.{IsProper};
 ghost use Rattle.coll_nodes.specs.TableLayout.{collation};
+ghost use Rattle.coll_history.specs.Histories.{RefusesStatement, judged, put_again, taken_back};
 ghost use Rattle.coll_requests.specs.OpenBlocks.{kept_end_faults, kept_dropped_faults, kept_last_faults};
 ghost use Rattle.coll_bench.specs.Replies.{refused_line, refused_lines};
 ghost use Rattle.coll_requests.specs.Requests.{dangling as dangling_faults};
@@ -21,8 +25,10 @@ use crate::faults::{Fault, RunFault};
 use crate::ranked_sessions::RankedSession;
 use crate::replies::{answer, refuse};
 use coll_devices::{ReadStop, Sink, WriteStop};
+use coll_history::{BenchFault, Session};
 use coll_lex::LexFault;
 use coll_requests::{FaultAt, LineParser, OpenBlock, RequestAt, RequestFault};
+use coll_syntax::Statement;
 use coll_table::Table;
 use std::alloc::{AllocError, Global};
 
@@ -35,7 +41,8 @@ pub struct RunState {
 }
 
 impl RunState {
-    ghost use Rattle.coll_bench.specs.Serving.{IsBegun, ServesLine, replies_to, history_after_all};
+    ghost use Rattle.coll_bench.specs.Serving.{IsBegun, ServesLine, TakesLine, replies_to, history_after_all};
+    ghost use Rattle.coll_bench.specs.Serving.{lexer_of, block_of, session_of, history_of};
 
     /// A session at the beginning of a text.
     pub fn new(alloc: Global, table: Table) -> Result<RunState, AllocError>
@@ -55,7 +62,7 @@ impl RunState {
     }
 
     /// Serves one physical line.
-    pub fn serve<W: Sink>(
+    pub(crate) fn serve<W: Sink>(
         &mut self,
         alloc: Global,
         line: &[u8],
@@ -70,9 +77,8 @@ impl RunState {
         ensures errors { CountsWrites (W.failed output.old) (W.failed output.new) result }
         ensures flushed { W.flushed output.old ≡ true → IsFlushedAfter (W.flushed output.new) result }
     {
-        let number = self.parser.next_number();
-        match self.parser.take(alloc, &mut self.block, line) {
-            Err(fault) => Err(self.stop(number, fault, output)),
+        match self.take(alloc, line, output) {
+            Err(ended) => Err(ended),
             Ok(request) => match self.answer_if(alloc, request, output) {
                 Ok(()) => Ok(()),
                 Err(stop) => Err(write_failed(stop)),
@@ -80,8 +86,35 @@ impl RunState {
         }
     }
 
-    // Answers the request that a line completes, if it completes one.
-    fn answer_if<W: Sink>(
+    /// Takes one physical line, without its line feed, and answers the request that it completes, if it completes one, which is still
+    /// to be answered; nothing is then written, and the history stays. Where the session ends at this line, since it is too long or
+    /// one too many, its last replies are written, and the fault is the answer.
+    pub fn take<W: Sink>(
+        &mut self,
+        alloc: Global,
+        line: &[u8],
+        output: &mut W,
+    ) -> Result<Option<RequestAt>, RunFault>
+        ensures taken { TakesLine self.old self.new line.now (W.taken output.old) (W.taken output.new) result }
+        ensures proper { IfOk result (λ request. IfSome request (λ completed. IsProperRequest completed.request)) }
+        ensures quiet { OnOk result (output.new ≡ output.old) }
+        ensures counts { OnOk result ((lexer_of self.new).count ≡ (lexer_of self.old).count + 1) }
+        ensures room { OnOk result ((lexer_of self.old).count < most_lines) }
+        ensures input { IfErr result (λ ended. ended.input ≡ 0) }
+        ensures ends { IfErr result (λ ended. EndsSession ended.fault) }
+        ensures reads { IfErr result (λ ended. ReadsNone ended) }
+        ensures errors { IfErr result (λ ended. CountsEnd (W.failed output.old) (W.failed output.new) ended) }
+        ensures flushed { W.flushed output.old ≡ true → IfErr result (λ ended. IsFlushedAt (W.flushed output.new) ended) }
+    {
+        let number = self.parser.next_number();
+        match self.parser.take(alloc, &mut self.block, line) {
+            Err(fault) => Err(self.stop(number, fault, output)),
+            Ok(request) => Ok(request),
+        }
+    }
+
+    /// Answers the request that a line completes, if it completes one, and flushes the reply.
+    pub fn answer_if<W: Sink>(
         &mut self,
         alloc: Global,
         request: Option<RequestAt>,
@@ -89,10 +122,10 @@ impl RunState {
     ) -> Result<(), WriteStop>
         requires { IfSome request (λ completed. IsProperRequest completed.request) }
         ensures answered { (starved : Bool)
-            × Sends (W.taken output.old) (W.taken output.new) (replies_to starved self.old.session.history (option_to_list request)) result
-            × (self.new.session.history ≡ history_after_all starved self.old.session.history (option_to_list request)) }
-        ensures block { self.new.block ≡ self.old.block }
-        ensures parser { self.new.parser ≡ self.old.parser }
+            × Sends (W.taken output.old) (W.taken output.new) (replies_to starved (history_of self.old) (option_to_list request)) result
+            × (history_of self.new ≡ history_after_all starved (history_of self.old) (option_to_list request)) }
+        ensures block { block_of self.new ≡ block_of self.old }
+        ensures parser { lexer_of self.new ≡ lexer_of self.old }
         ensures errors { CountsErr (W.failed output.old) (W.failed output.new) result }
         ensures flushed { W.flushed output.old ≡ true → OnOk result (W.flushed output.new ≡ true) }
     {
@@ -100,6 +133,58 @@ impl RunState {
             Some(request) => answer(alloc, &mut self.session, request.request, output),
             None => Ok(()),
         }
+    }
+
+    /// The table now, with the history that led to it.
+    pub fn session(&self) -> &Session
+        ensures { result.now ≡ session_of self.now }
+    {
+        self.session.session()
+    }
+
+    /// Whether a block is open.
+    pub fn is_open(&self) -> bool
+        ensures { result ≡ is_some (block_of self.now) }
+    {
+        self.block.is_some()
+    }
+
+    /// Judges a statement without a reply, and answers how many statements then remain. A refusal, lack of memory included, changes
+    /// nothing.
+    pub fn statement(&mut self, statement: Statement) -> Result<u32, BenchFault>
+        requires proper { IsProper statement }
+        ensures accepted { IfOk result (λ _. judged (history_of self.old) statement ≡ Ok (history_of self.new)) }
+        ensures count { IfOk result (λ n. n ≡ length (history_of self.new).remaining) }
+        ensures refused { IfErr result (λ fault. RefusesStatement (history_of self.old) statement fault) }
+        ensures unchanged { OnErr result (self.new ≡ self.old) }
+        ensures block { block_of self.new ≡ block_of self.old }
+        ensures parser { lexer_of self.new ≡ lexer_of self.old }
+    {
+        self.session.statement(statement)
+    }
+
+    /// Takes the last remaining statement back without a reply, and answers how many then remain. It is refused with `NothingToUndo`
+    /// exactly where no statement remains, and then changes nothing. It takes no memory.
+    pub fn undo(&mut self) -> Result<u32, BenchFault>
+        ensures undone { IfOk result (λ _. taken_back (history_of self.old) ≡ Ok (history_of self.new)) }
+        ensures refused { IfErr result (λ fault. taken_back (history_of self.old) ≡ Err fault) }
+        ensures unchanged { OnErr result (self.new ≡ self.old) }
+        ensures block { block_of self.new ≡ block_of self.old }
+        ensures parser { lexer_of self.new ≡ lexer_of self.old }
+    {
+        self.session.undo()
+    }
+
+    /// Puts the statement that was taken back last again without a reply, and answers how many then remain. It is refused with
+    /// `NothingToRedo` exactly where nothing was taken back, and then changes nothing. It takes no memory.
+    pub fn redo(&mut self) -> Result<u32, BenchFault>
+        ensures redone { IfOk result (λ _. put_again (history_of self.old) ≡ Ok (history_of self.new)) }
+        ensures refused { IfErr result (λ fault. put_again (history_of self.old) ≡ Err fault) }
+        ensures unchanged { OnErr result (self.new ≡ self.old) }
+        ensures block { block_of self.new ≡ block_of self.old }
+        ensures parser { lexer_of self.new ≡ lexer_of self.old }
+    {
+        self.session.redo()
     }
 
     // Ends the session at a fault of the lexer, with its last replies.
