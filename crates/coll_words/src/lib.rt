@@ -12,7 +12,7 @@
 //!   (`ReviewRuns`), over `listed_words` with the list that is sorted anew (`Neighbours`, `NumberedWords`, `ListedWords`), by
 //!   `staying_words` and `moved_words` as far as its words move (`MovedWords`), `review_lines` with what is told of a statement
 //!   (`ReviewLines`), and `reviews` with where a review stands (`Reviews`, `ReviewSteps`), and which statements move no word
-//!   (`Declaring`); what is told is kept by `kept_bytes`.
+//!   (`Declaring`); what is told is kept by `kept_bytes`, and how far a review got is told by `progress`.
 #![tactic(auto)]
 
 mod explanations;
@@ -20,6 +20,7 @@ mod kept_bytes;
 mod listed_words;
 mod moved_words;
 mod packed_keys;
+mod progress;
 mod reading;
 mod review_lines;
 mod reviewing;
@@ -32,6 +33,7 @@ pub use explanations::{
     explain, first_differences_are_told, told_levels_decide, told_numbers_are_listed,
 };
 pub use packed_keys::packed_keys_are_ordered_alike;
+pub use progress::Progress;
 pub use reading::read_words;
 pub use reviewing::review_words;
 pub use sorting::sort_lines;

@@ -52,6 +52,13 @@ impl Review {
         }
     }
 
+    /// How many statements were put.
+    pub fn count(&self) -> u32
+        ensures { result ≡ self.now.count }
+    {
+        self.count
+    }
+
     /// Writes what is told of the statements, and last a line of counts.
     pub fn write<W: Sink>(&self, out: &mut W) -> Result<(), WriteStop>
         ensures sent { Sends (W.taken out.old) (W.taken out.new)
