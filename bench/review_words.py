@@ -3,11 +3,11 @@
 
 usage: bench/review_words.py PROGRAM
 
-PROGRAM is a build of collbench. It needs the source of the common table, from Debian's package `locales`, and GNU time. Two delta
-files are reviewed: in one every statement declares a symbol, so that the words are only looked over, and in the other every statement
-moves what a letter weighs behind that of another one, so that they are sorted anew. Of each the processor time and the most memory
-are printed, and how many of its statements parted words; and last what `sort --parallel=1` takes for the same words once, under the
-compiled locale of the common table.
+PROGRAM is a build of collbench. It needs the source of the common table, from Debian's package `locales`, and GNU time. Three delta
+files are reviewed: in one every statement declares a symbol, so that no word is looked at; in one every statement moves what a Greek
+letter weighs, which no word has, so that the words are only looked over; and in one every statement moves what a letter weighs behind
+that of another one, so that words move. Of each the processor time and the most memory are printed, and how many of its statements
+parted words; and last what `sort --parallel=1` takes for the same words once, under the compiled locale of the common table.
 """
 
 import os
@@ -20,13 +20,14 @@ from sort_words import timed
 
 SOURCES = "/usr/share/i18n/locales"
 LETTERS = "abcdefghijklmnopqrstuvwxyz"
+UNUSED = "αβγδεζηθικλμ"
 WORDS = 100_000
 STATEMENTS = 200
 
 
-def moves(chosen):
-    """The lines of a block that moves the symbol that a letter weighs behind that of another one."""
-    letter, other = chosen.sample(LETTERS, 2)
+def moves(chosen, letters):
+    """The lines of a block that moves the symbol that one of these letters weighs behind that of another one."""
+    letter, other = chosen.sample(letters, 2)
     return f"reorder-after <S{ord(other):04X}>\n<S{ord(letter):04X}>\nreorder-end\n"
 
 
@@ -48,7 +49,11 @@ def main(program):
             out.writelines("".join(chosen.choices(LETTERS, k=9)) + "\n" for _ in range(WORDS))
         with open(table, "wb") as out:
             subprocess.run([program, "import", f"{SOURCES}/iso14651_t1"], check=True, stdout=out, stderr=subprocess.DEVNULL)
-        for name, statement in (("declarations", lambda n: f"collating-symbol <NEW_{n}>\n"), ("moved letters", lambda n: moves(chosen))):
+        for name, statement in (
+            ("declarations", lambda n: f"collating-symbol <NEW_{n}>\n"),
+            ("moved letters that no word has", lambda n: moves(chosen, UNUSED)),
+            ("moved letters", lambda n: moves(chosen, LETTERS)),
+        ):
             with open(delta, "w", encoding="utf-8") as out:
                 out.write("LC_COLLATE\n" + "".join(map(statement, range(STATEMENTS))) + "END LC_COLLATE\n")
             seconds, megabytes, parted = reviewed(program, table, delta, words)

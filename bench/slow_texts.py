@@ -6,7 +6,8 @@ Run by hand, after `make`, which builds the program; no gate runs it:
 
     bench/slow_texts.py [PROGRAM [WORD..]]
 
-What is printed is processor time. Of a session it goes beyond that of the same session without its last lines. Names that share a
+What is printed is processor time; last what `sort --parallel=1` takes for a million words, by which runs on other machines can be
+compared. Of a session it goes beyond that of the same session without its last lines. Names that share a
 hash and elements that share their beginnings have scripts of their own, hostile_names.py and hostile_elements.py. Words choose the
 rows whose names have one of them.
 
@@ -14,6 +15,7 @@ Target: twice the size takes at most 2.6 times as long, which is what sorting wo
 """
 
 import os
+import random
 import resource
 import subprocess
 import sys
@@ -112,6 +114,74 @@ LINES = {
 }
 
 
+def alike(count):
+    """Words that begin with the same 1,000 characters."""
+    return "".join(f"{'a' * 1_000}{number:06}\n" for number in range(count))
+
+
+def repeated(count):
+    """Words of one character, once, twice, and so on, from the longest to the shortest."""
+    return "".join("a" * number + "\n" for number in range(count, 0, -1))
+
+
+def delta(statements):
+    """A delta file of these statements."""
+    return f"LC_COLLATE\n{''.join(statements)}END LC_COLLATE\n"
+
+
+def turned(count):
+    """A delta file of statements each of which turns the order of 4,000 characters round."""
+    def lines(numbers):
+        return "".join(f"{character(number)}\n" for number in numbers)
+
+    turns = (f"reorder-after a\n{lines(range(4_000) if turn % 2 else range(3_999, -1, -1))}reorder-end\n" for turn in range(count))
+    return delta(turns)
+
+
+def exchanged(count):
+    """A delta file of statements each of which puts the first of two letters behind the second."""
+    return delta(f"reorder-after {'ab'[turn % 2]}\n{'ba'[turn % 2]}\nreorder-end\n" for turn in range(count))
+
+
+def declared(count):
+    """A delta file of statements each of which declares a symbol."""
+    return delta(f"collating-symbol <N{number}>\n" for number in range(count))
+
+
+def moved(count):
+    """A delta file of statements each of which moves one character among 4,000 from one end to the other."""
+    return delta(f"reorder-after {'a' if turn % 2 else character(3_999)}\n{character(0)}\nreorder-end\n" for turn in range(count))
+
+
+def backward(count):
+    """A table of characters in the reverse order."""
+    return table("".join(f"{character(number)}\n" for number in range(count - 1, -1, -1)))
+
+
+PLACED = table("a\n" + "".join(f"{character(number)}\n" for number in range(4_000)))
+SINGLE = "".join(f"{chr(0x10000 + number)}\n" for number in range(4_000))
+# Of each row of words or of two tables: its name, the size, and what gives for a size the words behind the program, the files that some
+# of these name, and the lines of standard input.
+FILES = {
+    "sort: words alike for 1,000 characters": (10_000, lambda n: (["sort", "table"], {"table": FLAT}, alike(n))),
+    "sort: words of one character many times": (4_000, lambda n: (["sort", "table"], {"table": FLAT}, repeated(n))),
+    "sort: words of the longest weights": (40_000, lambda n: (["sort", "table"], {"table": heavy(1)}, "a\n" * n)),
+    "explain: texts of the longest weights": (60_000, lambda n: (["explain", "table", "a" * n, "a" * n], {"table": heavy(1)}, "")),
+    "explain: texts that differ at the end": (60_000, lambda n: (["explain", "table", "a" * n, "a" * n + "b"], {"table": FLAT}, "")),
+    "review: statements that turn all words round": (
+        100, lambda n: (["review", "table", "delta", "words"], {"table": PLACED, "delta": turned(n), "words": SINGLE}, "")),
+    "review: statements that move a half of words alike for 1,000 characters": (
+        20, lambda n: (["review", "table", "delta", "words"],
+                       {"table": FLAT, "delta": exchanged(n), "words": alike(2_000) + alike(2_000).replace("a", "b")}, "")),
+    "review: statements that move a word": (
+        1_000, lambda n: (["review", "table", "delta", "words"], {"table": PLACED, "delta": moved(n), "words": SINGLE}, "")),
+    "review: statements that declare": (
+        100_000, lambda n: (["review", "table", "delta", "words"], {"table": PLACED, "delta": declared(n), "words": SINGLE}, "")),
+    "diff: two tables in reverse order": (
+        MOST_ENTRIES, lambda n: (["diff", "table", "other"], {"table": characters(n), "other": backward(n)}, "")),
+}
+
+
 def time(program, words, lines=b""):
     """The least processor time of some runs, in seconds."""
     least = float("inf")
@@ -155,6 +225,19 @@ def sessions(program, folder, chosen):
             yield show(f"session: {name}", size, *times, len(measured))
 
 
+def files(program, folder, chosen):
+    for name, (size, given) in FILES.items():
+        if chosen(name):
+            times = []
+            for count in (size // 2, size):
+                words, texts, lines = given(count)
+                for file_name, text in texts.items():
+                    with open(f"{folder}/{file_name}", "w", encoding="utf-8") as file:
+                        file.write(text)
+                times.append(time(program, [f"{folder}/{word}" if word in texts else word for word in words], lines.encode()))
+            yield show(name, size, *times, sum(len(text.encode()) for text in (lines, *texts.values())))
+
+
 def words(program, folder, chosen):
     name, size = "key: many words", 100_000
     if chosen(name):
@@ -168,8 +251,11 @@ def main(program, folder, some):
     def chosen(name):
         return not some or any(word in name for word in some)
 
-    met = [*loads(program, folder, chosen), *sessions(program, folder, chosen), *words(program, folder, chosen)]
+    met = [row for rows in (loads, sessions, files, words) for row in rows(program, folder, chosen)]
     print(f"{sum(met)} of {len(met)} rows are as wanted")
+    letters = random.Random(7)
+    million = "".join("".join(letters.choices("abcdefghijklmnopqrstuvwxyz", k=9)) + "\n" for _ in range(1_000_000))
+    print(f"sort --parallel=1 of a million words: {time('/usr/bin/env', ['LC_ALL=C', 'sort', '--parallel=1'], million.encode()):.3f} s")
 
 
 if __name__ == "__main__":

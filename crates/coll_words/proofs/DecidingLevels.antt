@@ -4,7 +4,6 @@ use Rattle.std.proofs.Common.{refl, sym, ap, ◌∙◌}
 use Rattle.std.specs.Prelude.{slice_get}
 use Rattle.std.specs.Ordering.{nat_cmp, ordering_then}
 use Rattle.std.proofs.lemmas.Cmp.{by_ranked, ranked}
-use Rattle.coll_elements.specs.Elements.{elements_of}
 use Rattle.coll_ranks.specs.WeightNumbers.{numbers_at}
 use Rattle.coll_key.specs.LevelList.{level_list}
 use Rattle.coll_key.specs.TextOrder.{list_order, level_lists, order_of}

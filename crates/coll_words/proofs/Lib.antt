@@ -1,8 +1,11 @@
 pub mod DecidingLevels
+pub mod DeclaredLemmas
 pub mod ExplanationParts
+pub mod KeyedAnew
 pub mod LeadLemmas
 pub mod ListedLemmas
 pub mod NeighbourLemmas
+pub mod OrderedWords
 pub mod PackedOrder
 pub mod ReviewCases
 pub mod ReviewLemmas

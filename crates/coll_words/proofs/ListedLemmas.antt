@@ -17,7 +17,7 @@ use Rattle.coll_nodes.specs.WellFormed.{IsWellFormed}
 use Rattle.coll_key.specs.TextOrder.{list_order}
 use Rattle.coll_texts.proofs.PrintedParts.{HasWritten, left_begins, written_more, written_prefix}
 use Rattle.coll_words.specs.KeyedWords.{KeyedWord, IsKeyed, texts_of}
-use Rattle.coll_words.specs.ListedWords.{AreListedByKeys, IsSortedAnew, all_numbered, led_by, newly_beside, numbered_of}
+use Rattle.coll_words.specs.ListedWords.{AreListedByKeys, IsSortedAnew, all_numbered, led_by, newly_beside, numbered_of, unkeyed}
 use Rattle.coll_words.specs.Neighbours.{NumberedWord, WordPair}
 use Rattle.coll_words.specs.NumberedWords.{line_order, numbered_from}
 use Rattle.coll_words.specs.ReviewLines.{joined_line}
@@ -129,6 +129,10 @@ keyed_led table leader (listed ∷ list) keyed =
     All-cons (λ (l : ListedWord). IsKeyed table l.word) (record listed { leader = leader }) (led_by listed.line list)
     (All-first (λ (l : ListedWord). IsKeyed table l.word) listed list keyed)
     (keyed_led table listed.line list (All-others (λ (l : ListedWord). IsKeyed table l.word) listed list keyed))
+
+-- fewer than two words are in order
+pub few_in_order : (table : Collation) (list : List ListedWord) → length list < 2 → IsSorted (line_order table) (all_numbered list)
+few_in_order table list few = λ k d low high. absurd (omega (arith, few, high, length-map list numbered_of))
 
 module _ (table : Collation) (old new : List ListedWord) where
   -- a list that is in order still
@@ -314,9 +318,12 @@ module _ (words : List KeyedWord) (list : List ListedWord) (so_far : ListedSoFar
 
 -- Keyed anew.
 
+abbrev numbered : ℕ → List ℕ → NumberedWord
+numbered line text = record { line = line; text = text }
+
 -- so many words of a list are keyed, and all are the same words
 pub record KeyedSoFar (table : Collation) (before now : List ListedWord) (count : ℕ) : Type 0 where
-  pub same : all_numbered now ≡ all_numbered before
+  pub same : map unkeyed now ≡ map unkeyed before
   pub keyed : (k : ℕ) (d : ListedWord) → k < count → IsKeyed table (get_or now k d).word
 
 module _ (table : Collation) (before now : List ListedWord) (count : ℕ) (so_far : KeyedSoFar table before now count) (listed : ListedWord) (within : count < length now) where
@@ -324,10 +331,10 @@ module _ (table : Collation) (before now : List ListedWord) (count : ℕ) (so_fa
       → KeyedSoFar table before (set now count (record listed { word = word })) (count + 1)
   one_more_keyed is word same keyed = record {
     same =
-        map-set numbered_of now count (record listed { word = word })
-        ∙ ap (set (all_numbered now) count) (ap (λ (text : List ℕ). record { line = listed.line; text = text }) same
-        ∙ ap numbered_of is ∙ sym (get_or-map numbered_of now count listed (numbered_of listed) within))
-        ∙ set-get_or (all_numbered now) count (numbered_of listed) ∙ so_far.same;
+        map-set unkeyed now count (record listed { word = word })
+        ∙ ap (set (map unkeyed now) count) (ap (λ (text : List ℕ). (numbered listed.line text, listed.leader)) same
+        ∙ ap unkeyed is ∙ sym (get_or-map unkeyed now count listed (unkeyed listed) within))
+        ∙ set-get_or (map unkeyed now) count (unkeyed listed) ∙ so_far.same;
     keyed = λ k d below.
         by_test (λ (b : Bool). IsKeyed table (get_or (set now count (record listed { word = word })) k d).word) (k == count)
         (λ on. subst (λ (n : ℕ). IsKeyed table (get_or (set now count (record listed { word = word })) n d).word) (sym (eqb-true k count on))

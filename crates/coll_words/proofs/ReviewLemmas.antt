@@ -27,6 +27,8 @@ use Rattle.coll_words.specs.ReviewSteps.{HaveLines, LeadsTo, SortsListed, standi
 use Rattle.coll_words.specs.Reviews.{ArePut, IsPut, Standing}
 use Rattle.coll_words.specs.declared.listed_words.ListedWord.{ListedWord}
 use Rattle.coll_words.specs.declared.reviews.Review.{Review}
+use Rattle.coll_words.specs.Declaring.{declares_alone}
+use Rattle.coll_words.proofs.DeclaredLemmas.{nothing_new, ordered_alike, sorted_still}
 use Rattle.coll_words.proofs.NeighbourLemmas.{lines_still, moved_words, new_told, lost_told}
 
 -- Lines from a number on.
@@ -125,6 +127,13 @@ told_so number at table old new lines anew =
     ∙ ap (λ (words : List NumberedWord). history_line number at.statement
     ++ (parted_line (length (only_in words (all_numbered new))) ++ flat_map joined_line (take most_told (only_in (all_numbered new) words)))) anew.same
 
+-- what is told of a statement that leaves all words where they stand
+unmoved_so : (number : ℕ) (at : StatementAt) (words : List NumberedWord) → history_line number at.statement ++ parted_line 0 ≡ statement_told number at.statement words words
+unfolding statement_told
+unmoved_so number at words =
+    ap (λ (l : List ℕ). history_line number at.statement ++ l) (sym (append-nil (parted_line 0)))
+    ∙ ap (λ (pairs : List WordPair). history_line number at.statement ++ (parted_line (length pairs) ++ flat_map joined_line (take most_told pairs))) (sym (nothing_new words))
+
 -- a statement that was judged well gives the table
 pub judged_well : (input line : ℕ) (r : Result Collation Refusal) (table : Collation) → judged_at input line r ≡ Ok table → r ≡ Ok table
 judged_well input line (Ok t) table e = ap (λ (r : Result Collation RunFault). given_or t r) e
@@ -134,31 +143,55 @@ judged_well input line (Ok t) table e = ap (λ (r : Result Collation RunFault). 
     given_or other (Err f) = Ok other
 judged_well input line (Err refusal) table e = absurd cc
 
-module _ (begun old new : Review) (given : List StatementAt) (at : StatementAt) where
-  -- one statement more leads on
-  pub leads_on : LeadsTo begun given old → delta (collation old.table) at.statement ≡ Ok (collation new.table)
-      → IsSortedAnew (collation new.table) old.list.items new.list.items → new.count ≡ old.count + 1
+-- a statement was put to a review, whichever words its list has in order
+abbrev pub PutsOne : (old : Review) → StatementAt → (new : Review) → Type 0
+PutsOne old at new =
+    (words : List NumberedWord) → HaveLines words → AreInOrder (collation old.table) words (all_numbered old.list.items)
+    → (more : List ℕ) × IsPut words (standing_of old) at (standing_of new) more × (new.told.bytes.items ≡ old.told.bytes.items ++ more)
+
+-- one statement more leads on
+pub leads_on : (begun old new : Review) (given : List StatementAt) (at : StatementAt) → LeadsTo begun given old → PutsOne old at new → LeadsTo begun (given ++ at ∷ []) new
+leads_on begun old new given at leads puts words lines ordered =
+    let so_far = leads words lines ordered in
+    let now_ordered = in_order_still words (standing_of begun) given (standing_of old) so_far.0 ordered so_far.1 in
+    let one = puts words lines now_ordered in (
+      so_far.0 ++ one.0,
+      put_behind words (standing_of begun) given (standing_of old) so_far.0 at (standing_of new) one.0 so_far.1 one.1,
+      one.2 ∙ ap (λ (l : List ℕ). l ++ one.0) so_far.2 ∙ append_assoc begun.told.bytes.items so_far.0 one.0,
+    )
+
+module _ (old new : Review) (at : StatementAt) (rewritten : delta (collation old.table) at.statement ≡ Ok (collation new.table)) (counted : new.count ≡ old.count + 1) where
+  abbrev told_of : List ℕ
+  told_of = statement_told new.count at.statement (all_numbered old.list.items) (all_numbered new.list.items)
+
+  puts : (words : List NumberedWord) → AreInOrder (collation new.table) words (all_numbered new.list.items) → IsPut words (standing_of old) at (standing_of new) told_of
+  puts words sorted = record { rewritten = rewritten; sorted = sorted; count = omega (arith, counted); lines = refl }
+
+  -- the words were sorted anew
+  pub puts_sorted : IsSortedAnew (collation new.table) old.list.items new.list.items
       → new.told.bytes.items ≡ old.told.bytes.items ++ (history_line new.count at.statement
       ++ (parted_line (length (newly_beside new.list.items)) ++ flat_map joined_line (take most_told (newly_beside new.list.items))))
-      → LeadsTo begun (given ++ at ∷ []) new
-  leads_on leads rewritten anew counted told words lines ordered =
-      let so_far = leads words lines ordered in
-      let now_ordered = in_order_still words (standing_of begun) given (standing_of old) so_far.0 ordered so_far.1 in
-      let old_lines = lines_still words (all_numbered old.list.items) now_ordered.same lines in
-      let from_lines = subst HaveLines (sym anew.same) old_lines in
-      let more = statement_told new.count at.statement (all_numbered old.list.items) (all_numbered new.list.items) in
-      let one : IsPut words (standing_of old) at (standing_of new) more = record {
-        rewritten = rewritten;
-        sorted = record {
-          same = IsPermutation-trans words (all_numbered old.list.items) (all_numbered new.list.items) now_ordered.same
+      → PutsOne old at new
+  puts_sorted anew told words lines ordered =
+      let old_lines = lines_still words (all_numbered old.list.items) ordered.same lines in
+      let from_lines = subst HaveLines (sym anew.same) old_lines in (
+        told_of,
+        puts words (record {
+          same = IsPermutation-trans words (all_numbered old.list.items) (all_numbered new.list.items) ordered.same
               (subst (λ (l : List NumberedWord). IsPermutation l (all_numbered new.list.items)) anew.same (moved_words anew.from new.list.items anew.moved from_lines));
           ordered = anew.ordered;
-        };
-        count = omega (arith, counted);
-        lines = refl;
-      } in (
-        so_far.0 ++ more,
-        put_behind words (standing_of begun) given (standing_of old) so_far.0 at (standing_of new) more so_far.1 one,
-        told ∙ ap (λ (l : List ℕ). old.told.bytes.items ++ l) (told_so new.count at (collation new.table) old.list.items new.list.items old_lines anew)
-            ∙ ap (λ (l : List ℕ). l ++ more) so_far.2 ∙ append_assoc begun.told.bytes.items so_far.0 more,
+        }),
+        told ∙ ap (λ (l : List ℕ). old.told.bytes.items ++ l) (told_so new.count at (collation new.table) old.list.items new.list.items old_lines anew),
+      )
+
+  -- the words stay, since the statement declares alone
+  pub puts_declared : IsWellFormed (collation old.table) → declares_alone at.statement ≡ true → new.list.items ≡ old.list.items
+      → new.told.bytes.items ≡ old.told.bytes.items ++ (history_line new.count at.statement ++ parted_line 0) → PutsOne old at new
+  puts_declared well alone same told words lines ordered =
+      let alike = ordered_alike (collation old.table) (collation new.table) well at.statement alone rewritten in
+      let items : all_numbered old.list.items ≡ all_numbered new.list.items = ap (λ (l : List ListedWord). all_numbered l) (sym same) in (
+        told_of,
+        puts words (subst (AreInOrder (collation new.table) words) items
+            (record { same = ordered.same; ordered = sorted_still (collation old.table) (collation new.table) alike (all_numbered old.list.items) ordered.ordered })),
+        told ∙ ap (λ (l : List ℕ). old.told.bytes.items ++ l) (unmoved_so new.count at (all_numbered old.list.items) ∙ ap (statement_told new.count at.statement (all_numbered old.list.items)) items),
       )

@@ -1,9 +1,11 @@
+pub mod Declaring
 pub mod Explaining
 pub mod ExplanationLaws
 pub mod Explanations
 pub mod KeyedWords
 pub mod LedWords
 pub mod ListedWords
+pub mod MovedWords
 pub mod Neighbours
 pub mod NumberedWords
 pub mod PackedKeys

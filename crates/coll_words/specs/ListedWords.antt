@@ -14,6 +14,10 @@ numbered_of listed = record { line = listed.line; text = listed.word.text }
 abbrev pub all_numbered : List ListedWord → List NumberedWord
 all_numbered list = map numbered_of list
 
+-- a word in a list without its key: the word with its line, and the word before it
+abbrev pub unkeyed : ListedWord → NumberedWord × ℕ
+unkeyed listed = (numbered_of listed, listed.leader)
+
 -- the keys are those of the words by this table
 abbrev pub AreListedByKeys : Collation → List ListedWord → Type 0
 AreListedByKeys table list = All (λ (listed : ListedWord). IsKeyed table listed.word) list

@@ -34,6 +34,19 @@ pub(crate) fn write_told<W: Sink>(
     write_joined(out, list)
 }
 
+/// Writes of a statement with its number that it left all words in their order.
+pub(crate) fn write_unmoved<W: Sink>(
+    out: &mut W,
+    number: u32,
+    statement: &Statement,
+) -> Result<(), WriteStop>
+    ensures sent { Sends (W.taken out.old) (W.taken out.new) (history_line number statement.now ++ parted_line 0) result }
+    ensures errors { CountsErr (W.failed out.old) (W.failed out.new) result }
+{
+    write_history_line(out, number, statement)?;
+    write_parted(out, 0)
+}
+
 /// Writes how many statements were put, and how many words there are.
 pub(crate) fn write_counts<W: Sink>(
     out: &mut W,

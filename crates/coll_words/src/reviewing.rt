@@ -13,6 +13,7 @@ ghost use Rattle.coll_words.specs.ReviewSteps.{ListsWordsOf, SortsListed, Writes
 ghost use Rattle.coll_words.specs.WordReading.{CountsReading, ReadingFails};
 
 use crate::listed_words::{ListedWord, listed, sort_listed};
+use crate::progress::{Progress, WatchedReview};
 use crate::reading::read_words;
 use crate::reviews::Review;
 use crate::words::Word;
@@ -34,13 +35,15 @@ const WORDS: usize = 2;
 /// statement its line in a history is told, how many pairs of neighbours are neighbours no longer, and the first five new pairs; and
 /// last how many statements and words there are. The words are read first, as input 2, and the first line at fault is the answer,
 /// as for `sort_lines`; then the delta file, as input 1, as a batch reads it. Where either is at fault, a read fails or memory is
-/// refused, nothing is written. A write that fails has input 0, and leaves a prefix of the output.
-pub fn review_words<D: Source, R: Source, W: Sink>(
+/// refused, nothing is written. A write that fails has input 0, and leaves a prefix of the output. `progress` is told behind each
+/// statement how many were put.
+pub fn review_words<D: Source, R: Source, W: Sink, P: Progress + Drop>(
     alloc: Global,
     table: Table,
     delta: &mut D,
     words: &mut R,
     output: &mut W,
+    progress: P,
 ) -> Result<(), RunFault>
     ensures run { ReviewRuns (collation table) (D.left delta.old) (D.left delta.new) (R.left words.old) (R.left words.new)
         (W.taken output.old) (W.taken output.new) result }
@@ -51,9 +54,10 @@ pub fn review_words<D: Source, R: Source, W: Sink>(
 {
     match list_words(alloc, &table, words) {
         Ok(list) => {
-            let mut review = Review::new(alloc, table, list);
-            let told = review_delta(alloc, &mut review, delta, output);
-            drop(review);
+            let review = Review::new(alloc, table, list);
+            let mut watched = WatchedReview { review, progress };
+            let told = review_delta(alloc, &mut watched, delta, output);
+            drop(watched);
             told
         }
         Err(ended) => {
@@ -106,19 +110,19 @@ fn sorted_list(alloc: Global, words: Vec<Word>) -> Option<Vec<ListedWord>>
 }
 
 // Puts the statements of a delta file, and writes what is told of them.
-fn review_delta<D: Source, W: Sink>(
+fn review_delta<D: Source, W: Sink, P: Progress + Drop>(
     alloc: Global,
-    review: &mut Review,
+    watched: &mut WatchedReview<P>,
     delta: &mut D,
     output: &mut W,
 ) -> Result<(), RunFault>
-    ensures run { WritesReview review.old (D.left delta.old) (D.left delta.new) (W.taken output.old) (W.taken output.new) result }
+    ensures run { WritesReview watched.old.review (D.left delta.old) (D.left delta.new) (W.taken output.old) (W.taken output.new) result }
     ensures input { IfErr result (λ ended. ended.input ≤ 1) }
     ensures reads { CountsReadingOf 1 (D.failed delta.old) (D.failed delta.new) result }
     ensures writes { CountsWrites (W.failed output.old) (W.failed output.new) result }
 {
-    match read_delta(alloc, DELTA, review, delta) {
-        Ok(()) => write_review(review, output),
+    match read_delta(alloc, DELTA, watched, delta) {
+        Ok(()) => write_review(&watched.review, output),
         Err(ended) => Err(ended),
     }
 }

@@ -6,17 +6,19 @@ ghost use Rattle.coll_nodes.specs.TableLayout.{collation};
 ghost use Rattle.coll_bench.specs.BatchOutcome.{fault_in};
 ghost use Rattle.coll_bench.specs.declared.faults.Fault.TheVariants.{Lex};
 ghost use Rattle.coll_lex.specs.declared.faults.LexFault.TheVariants.{OutOfMemory};
+ghost use Rattle.coll_words.specs.Declaring.{declares_alone as gives_a_name_alone};
 ghost use Rattle.coll_words.specs.ListedWords.{all_numbered};
 ghost use Rattle.coll_words.specs.ReviewLines.{review_line};
 ghost use Rattle.coll_devices.specs.Devices.{CountsErr};
 
 use crate::kept_bytes::KeptBytes;
 use crate::listed_words::{ListedWord, sort_anew};
-use crate::review_lines::{write_counts, write_told};
+use crate::review_lines::{write_counts, write_told, write_unmoved};
 use coll_bench::{Fault, RunFault, TakesStatements};
 use coll_devices::{Sink, WriteStop, write_bytes};
 use coll_lex::LexFault;
 use coll_requests::StatementAt;
+use coll_syntax::Statement;
 use coll_table::Table;
 use std::alloc::Global;
 
@@ -50,6 +52,13 @@ impl Review {
         }
     }
 
+    /// How many statements were put.
+    pub fn count(&self) -> u32
+        ensures { result ≡ self.now.count }
+    {
+        self.count
+    }
+
     /// Writes what is told of the statements, and last a line of counts.
     pub fn write<W: Sink>(&self, out: &mut W) -> Result<(), WriteStop>
         ensures sent { Sends (W.taken out.old) (W.taken out.new)
@@ -73,13 +82,20 @@ impl TakesStatements for Review {
         let Some(number) = self.count.checked_add(1) else {
             return Err(no_memory(input, at.line));
         };
+        self.table.lemma_well_formed();
         if let Err(ended) = self.table.put(input, at) {
             return Err(ended);
+        }
+        self.count = number;
+        if declares_alone(&at.statement) {
+            return match write_unmoved(&mut self.told, number, &at.statement) {
+                Ok(()) => Ok(()),
+                Err(_) => Err(no_memory(input, at.line)),
+            };
         }
         if let Err(_) = sort_anew(self.alloc, &self.table, &mut self.list) {
             return Err(no_memory(input, at.line));
         }
-        self.count = number;
         match write_told(&mut self.told, number, &at.statement, self.list.as_slice()) {
             Ok(()) => Ok(()),
             Err(_) => Err(no_memory(input, at.line)),
@@ -89,6 +105,20 @@ impl TakesStatements for Review {
     ghost stays = { λ start words lines ordered. ([], (refl, refl), sym (append-nil start.told.bytes.items)) };
 
     ghost use Rattle.std.proofs.Common.{refl, sym, append-nil};
+}
+
+// Whether a statement declares alone, so that all texts keep their order.
+fn declares_alone(statement: &Statement) -> bool
+    ensures { result ≡ gives_a_name_alone statement.now }
+{
+    match statement {
+        Statement::Symbol(_) => true,
+        Statement::Element { .. } => true,
+        Statement::Equivalence { .. } => true,
+        Statement::Block { .. } => false,
+        Statement::SectionAfter { .. } => false,
+        Statement::Reweight(_) => false,
+    }
 }
 
 // Lack of memory at the line of a statement.

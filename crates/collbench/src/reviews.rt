@@ -9,7 +9,7 @@ use crate::{Output, read_first, standard_output};
 use coll_bench::{Fault, RunFault};
 use coll_lex::{ReadStop, Sink, WriteStop};
 use coll_table::{HashKeys, Table};
-use coll_words::review_words;
+use coll_words::{Progress, review_words};
 use std::io::IsTerminal;
 
 /// Tells what the statements of a delta file do to words: the first of these files has the table, the second the statements, the
@@ -62,20 +62,46 @@ fn review_to(
     requires { 3 ≤ length inputs.old }
     ensures { IfErr result (λ fault. fault.input < length inputs.old) }
 {
-    tell_progress(rt);
+    let progress = ProgressLine {
+        rt,
+        is_shown: rt.stderr().is_terminal(),
+    };
     let (before, words) = inputs.split_at_mut(2);
-    let told = review_words(rt.alloc(), table, &mut before[1], &mut words[0], output);
+    let told = review_words(
+        rt.alloc(),
+        table,
+        &mut before[1],
+        &mut words[0],
+        output,
+        progress,
+    );
+    progress.clear();
     match output.flush() {
         Ok(()) => told,
         Err(_) => Err(at_no_line(0, Fault::Write(WriteStop::WriteFault))),
     }
 }
 
-// Says at a terminal that an answer is being made, since nothing of it is written before all statements were put.
-fn tell_progress(rt: &HostRuntime) {
-    if rt.stderr().is_terminal() {
-        let _ = eprintln!(rt;
-            "sorting the words behind each statement; what they did is told at the end"
-        );
+// A line on standard error that says how many statements were put, where that is a terminal: what a review writes comes behind all.
+#[derive(Clone, Copy)]
+struct ProgressLine<'a> {
+    rt: &'a HostRuntime,
+    is_shown: bool,
+}
+
+impl Progress for ProgressLine<'_> {
+    fn put(&mut self, count: u32) {
+        if self.is_shown {
+            let _ = eprint!(self.rt; "\rstatement {count}");
+        }
+    }
+}
+
+impl ProgressLine<'_> {
+    // Blanks the line, which is no longer than its longest number.
+    fn clear(self) {
+        if self.is_shown {
+            let _ = eprint!(self.rt; "\r                    \r");
+        }
     }
 }

@@ -1,9 +1,9 @@
--- The words are in order still, or they are keyed, led and sorted.
+-- The words are in order still, or some move, or all are sorted.
 use Rattle.std.proofs.Common.{◌≡◌, List, length, sym, ap, ◌∙◌}
 use Rattle.coll_nodes.specs.TableLayout.{collation}
-use Rattle.coll_words.specs.ListedWords.{all_numbered, led_by}
+use Rattle.coll_words.specs.ListedWords.{led_by}
 use Rattle.coll_words.specs.declared.listed_words.ListedWord.{ListedWord}
-use Rattle.coll_words.proofs.ListedLemmas.{anew_in_order, anew_sorted, length_led, same_length, take_front}
+use Rattle.coll_words.proofs.ListedLemmas.{anew_in_order, length_led, take_front}
 use Rattle.coll_words.proofs.listed_words.sort_by_ranks.Goals as goal
 
 pub returns-then-branch : goal.returns-then-branch
@@ -13,17 +13,3 @@ returns-then-branch c =
     let long : length c.lead.new.list ≡ c.args.list.now.len = ap (λ (l : List ListedWord). length l) led_is ∙ length_led 0 items ∙ sym c.args.list.now.ok.0 in
     let ordered = rw c.deref.ensures.value at (c.in_ok-is_in_order.ensures c.if-branch.true) in
     anew_in_order (collation c.args.table.now) items _ (take_front c.args.list.now.len c.lead.new.list _ long ∙ led_is) ordered
-
-pub returns : goal.returns
-returns c =
-    let items = c.args.list.now.items in
-    let len = c.args.list.now.len in
-    let keyed = c.key_anew.new.list in
-    let led = c.lead-2.new.list in
-    let same : all_numbered keyed ≡ all_numbered items = c.in_ok-key_anew.ensures.same ∙ ap (λ (l : List ListedWord). all_numbered l) c.deref_mut-2.ensures.value in
-    let long : length keyed ≡ len = same_length keyed items same ∙ sym c.args.list.now.ok.0 in
-    let is : c.deref_mut-3.result.now ≡ keyed = c.deref_mut-3.ensures.value ∙ take_front len keyed _ long in
-    let led_is : led ≡ led_by 0 keyed = c.lead-2.ensures ∙ ap (led_by 0) is in
-    let led_long : length led ≡ len = ap (λ (l : List ListedWord). length l) led_is ∙ length_led 0 keyed ∙ long in
-    anew_sorted (collation c.args.table.now) items c.sort_listed.new.list.items keyed _ c.lemma_well_formed.ensures.well_formed same c.in_ok-key_anew.ensures.keyed
-    (take_front len led _ led_long ∙ led_is) c.in_ok-sort_listed.ensures.same c.in_ok-sort_listed.ensures.sorted

@@ -1,5 +1,5 @@
 -- The table is rewritten, the words are sorted anew, and what that did is told.
-use Rattle.std.proofs.Common.{◌≡◌, ◌++◌, List, length, take, subst}
+use Rattle.std.proofs.Common.{◌≡◌, ◌++◌, List, length, take, refl, sym, subst, ◌∙◌}
 use Rattle.std.specs.List.{flat_map}
 use Rattle.coll_nodes.specs.TableLayout.{collation}
 use Rattle.coll_table.specs.Delta.{delta}
@@ -7,14 +7,24 @@ use Rattle.coll_bench.specs.Replies.{history_line}
 use Rattle.coll_words.specs.ListedWords.{newly_beside}
 use Rattle.coll_words.specs.ReviewLines.{joined_line, most_told, parted_line}
 use Rattle.coll_words.specs.declared.listed_words.ListedWord.{ListedWord}
-use Rattle.coll_words.proofs.ReviewLemmas.{leads_on, judged_well}
+use Rattle.coll_words.specs.declared.reviews.Review.{Review}
+use Rattle.coll_words.proofs.ReviewLemmas.{leads_on, judged_well, puts_declared, puts_sorted}
 use Rattle.coll_words.proofs.reviews.ReviewTakesStatements.put.Goals as goal
 
 pub returns-in-Ok-clause-reaches : goal.returns-in-Ok-clause-reaches
 returns-in-Ok-clause-reaches c = λ start before leads.
-    leads_on start c.args.self.now (record { alloc = c.args.self.now.alloc; table = c.put.new.self; list = c.sort_anew.new.list; count = c.in-Some.number; told = c.write_told.new.out }) before
-    c.args.at.now leads
+    let new : Review = record { alloc = c.args.self.now.alloc; table = c.put.new.self; list = c.args.self.now.list; count = c.in-Some.number; told = c.write_unmoved.new.out } in
+    leads_on start c.args.self.now new before c.args.at.now leads
+    (puts_declared c.args.self.now new c.args.at.now
     (judged_well c.args.input c.args.at.now.line (delta (collation c.args.self.now.table) c.args.at.now.statement) (collation c.put.new.self) c.in_default-put.ensures.ok)
-    c.in_default-sort_anew.ensures c.in-Some.ensures.1
+    c.in-Some.ensures.1 c.lemma_well_formed.ensures.well_formed (sym c.declares_alone.ensures ∙ c.if-declares_alone.true) refl c.in-Ok.ensures.sent)
+
+pub returns-in-Ok-write_told-clause-reaches : goal.returns-in-Ok-write_told-clause-reaches
+returns-in-Ok-write_told-clause-reaches c = λ start before leads.
+    let new : Review = record { alloc = c.args.self.now.alloc; table = c.put.new.self; list = c.sort_anew.new.list; count = c.in-Some.number; told = c.write_told.new.out } in
+    leads_on start c.args.self.now new before c.args.at.now leads
+    (puts_sorted c.args.self.now new c.args.at.now
+    (judged_well c.args.input c.args.at.now.line (delta (collation c.args.self.now.table) c.args.at.now.statement) (collation c.put.new.self) c.in_default-put.ensures.ok)
+    c.in-Some.ensures.1 c.in_default-sort_anew.ensures
     (subst (λ (list : List ListedWord). c.write_told.new.out.bytes.items ≡ c.args.self.now.told.bytes.items ++ (history_line c.in-Some.number c.args.at.now.statement
-    ++ (parted_line (length (newly_beside list)) ++ flat_map joined_line (take most_told (newly_beside list))))) c.as_slice.ensures.value c.in-Ok.ensures.sent)
+    ++ (parted_line (length (newly_beside list)) ++ flat_map joined_line (take most_told (newly_beside list))))) c.as_slice.ensures.value c.in-Ok-write_told.ensures.sent))

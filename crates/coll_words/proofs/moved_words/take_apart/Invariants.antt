@@ -1,0 +1,10 @@
+-- How far the list is taken apart.
+use Rattle.coll_nodes.specs.TableLayout.{collation}
+use Rattle.coll_words.proofs.OrderedWords.{ApartSoFar}
+use Rattle.coll_words.proofs.moved_words.take_apart.Given as goal
+
+abbrev pub invariant-words : goal.invariant-words
+invariant-words l = ApartSoFar (collation l.table) l.initial.list.items l.list.items l.kept.items l.moved.items
+
+abbrev pub decreases-words : goal.decreases-words
+decreases-words l = goal.left-words l
