@@ -1,6 +1,6 @@
 //! The words that each subcommand takes, as `clap` reads them and as usage shows them.
 
-use crate::help::{COPIES, EXAMPLES, EXPLAINED, LINES, TOLD};
+use crate::help::{COPIES, EDITED, EXAMPLES, EXPLAINED, LINES, LINTED, TOLD};
 use crate::subcommands::{SUBCOMMANDS, Subcommand};
 use clap::{Arg, Command};
 use std::alloc::{AllocError, Global};
@@ -79,7 +79,11 @@ fn taking<'a>(alloc: Global, subcommand: Subcommand) -> Result<Command<'a>, Allo
         Subcommand::Compare => over_two_texts(alloc, subcommand),
         Subcommand::Explain => Ok(over_two_texts(alloc, subcommand)?.after_help(EXPLAINED)),
         Subcommand::Review => over_words(alloc, subcommand),
+        Subcommand::Lint => over_one_delta(alloc, subcommand),
         Subcommand::Session => over_table(alloc, subcommand),
+        Subcommand::Edit => over_table(alloc, subcommand)?
+            .after_help(EDITED)
+            .arg(deltas(alloc)),
         Subcommand::Diff => over_two_tables(alloc, subcommand),
         Subcommand::Import => over_source(alloc, subcommand),
         Subcommand::ImportDelta => over_table_and_source(alloc, subcommand),
@@ -91,6 +95,13 @@ fn over_table<'a>(alloc: Global, subcommand: Subcommand) -> Result<Command<'a>, 
     let name: &'a str = subcommand.name();
     let about: &'a str = subcommand.about();
     Command::new(alloc, name).about(about).arg(table(alloc))
+}
+
+// A subcommand that takes a table and perhaps a delta file.
+fn over_one_delta<'a>(alloc: Global, subcommand: Subcommand) -> Result<Command<'a>, AllocError> {
+    over_table(alloc, subcommand)?
+        .after_help(LINTED)
+        .arg(perhaps_delta(alloc))
 }
 
 // A subcommand that takes a table and two texts.
@@ -176,6 +187,13 @@ fn delta<'a>(alloc: Global) -> Arg<'a> {
     Arg::new(alloc, DELTA).required(true).help(
         "The file of statements that change the table, one after another",
     )
+}
+
+// One delta file, or none.
+fn perhaps_delta<'a>(alloc: Global) -> Arg<'a> {
+    Arg::new(alloc, DELTA)
+        .required(false)
+        .help("The file of statements that change the table")
 }
 
 // Words.

@@ -32,6 +32,32 @@ And last:
 
 A source with `copy` goes through `collbench import-delta` first: in a delta file `copy` has no effect.";
 
+/// What help says last of the lines of a lint.
+pub(crate) const LINTED: &str =
+    "Lines, first of the fault that check tells, then of the others in the order of lines:
+  de.txt:116: 34 NotDeclared <d-z'>: declare it with collating-symbol; is <dz> meant?
+                          file, line, number and name of a fault, what it is about, what to do, and a declared name that is near
+And behind the faults:
+  de.txt:3: warning: ..   what has no effect
+  de.txt: more faults aren't told
+                          behind a thousand of them
+
+The exit status is 1 where there is a fault, and else 0. Where TABLE has one, DELTA isn't looked at.";
+
+/// What help says last of the subcommand that serves a person.
+pub(crate) const EDITED: &str =
+    "The statements of the delta files are the first of the history. Each line of a session is answered as there, on standard
+output, and what a refusal says is told on standard error. Beside them:
+  :show <U0061>       an entry with its rank, weights and section, and three neighbours on each side
+  :explain a A        why two texts compare as they do; texts without blanks need no quotes here, nor for :key and :compare
+  :delta              the statements that remain, as the text of a delta file
+  :write new.txt      the same, into a new file
+  :words words.txt    the words of a file in the order now, with * before those whose neighbours the last statement changed
+  :help, :help 34     what may be typed; the fault with a number, and what to do
+  :quit               the end
+
+A source with `copy` goes through `collbench import-delta` first: in a delta file `copy` has no effect.";
+
 /// What help says last of the lines of a comparison.
 pub(crate) const LINES: &str = "Lines:
   same                    the tables are the same
@@ -55,7 +81,9 @@ pub(crate) const EXAMPLES: &str = "Examples:
   collbench explain base.txt a A               the elements of both texts, each level, and less
   collbench sort base.txt < words.txt          the words, one a line, in the order of the table
   collbench review base.txt c_behind_a.txt words.txt  which neighbours among the words each statement parts and joins
+  collbench lint base.txt c_behind_a.txt       all faults of the delta file, and what has no effect in it
   collbench session base.txt < lines.txt       a reply to each line
+  collbench edit base.txt                      a session for a person; :help says what may be typed
   collbench diff base.txt other.txt            same, or a line for each difference
   collbench import iso14651_t1 > common.txt    the table of a published source
   collbench import-delta common.txt sv_SE      the delta file of a published tailoring, for that table";

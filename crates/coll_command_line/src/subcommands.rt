@@ -5,7 +5,7 @@ ghost use Rattle.coll_command_line.specs.Tasks.{subcommand_name};
 ghost use Rattle.coll_command_line.specs.declared.subcommands.Subcommand.{Subcommand};
 
 /// The subcommands that work on a table or make one, in the order in which help tells them.
-pub(crate) const SUBCOMMANDS: [Subcommand; 13] = [
+pub(crate) const SUBCOMMANDS: [Subcommand; 15] = [
     Subcommand::Check,
     Subcommand::Print,
     Subcommand::Export,
@@ -15,7 +15,9 @@ pub(crate) const SUBCOMMANDS: [Subcommand; 13] = [
     Subcommand::Explain,
     Subcommand::Sort,
     Subcommand::Review,
+    Subcommand::Lint,
     Subcommand::Session,
+    Subcommand::Edit,
     Subcommand::Diff,
     Subcommand::Import,
     Subcommand::ImportDelta,
@@ -42,8 +44,12 @@ pub enum Subcommand {
     Sort,
     /// Tells what the statements of a delta file do to words.
     Review,
+    /// Tells all that is wrong with a table, or with a delta file for it.
+    Lint,
     /// Serves a session over a table.
     Session,
+    /// Serves a person over a table.
+    Edit,
     /// Tells what differs between two tables.
     Diff,
     /// Makes a table of a published source.
@@ -67,7 +73,9 @@ impl Subcommand {
             Subcommand::Explain => "explain",
             Subcommand::Sort => "sort",
             Subcommand::Review => "review",
+            Subcommand::Lint => "lint",
             Subcommand::Session => "session",
+            Subcommand::Edit => "edit",
             Subcommand::Diff => "diff",
             Subcommand::Import => "import",
             Subcommand::ImportDelta => "import-delta",
@@ -96,9 +104,13 @@ impl Subcommand {
             Subcommand::Review => {
                 "Tells what each statement of a delta file does to the order of words"
             }
+            Subcommand::Lint => {
+                "Tells all faults of a table, or of a delta file for it, and what has no effect; the exit status is 1 where there is one"
+            }
             Subcommand::Session => {
                 "Reads the lines of a session from standard input, and replies to each"
             }
+            Subcommand::Edit => "Edits a table with a person, and replies to each line",
             Subcommand::Diff => {
                 "Tells what differs between two tables, a line each; the exit status is 1 where anything does"
             }
@@ -126,7 +138,9 @@ impl Subcommand {
             "explain" => Some(Subcommand::Explain),
             "sort" => Some(Subcommand::Sort),
             "review" => Some(Subcommand::Review),
+            "lint" => Some(Subcommand::Lint),
             "session" => Some(Subcommand::Session),
+            "edit" => Some(Subcommand::Edit),
             "diff" => Some(Subcommand::Diff),
             "import" => Some(Subcommand::Import),
             "import-delta" => Some(Subcommand::ImportDelta),

@@ -19,8 +19,12 @@ pub enum Task {
     Sort,
     /// It is read, then words and a delta file, and what each statement does to the words is told.
     Review,
+    /// It is read, and perhaps a delta file, and all that is wrong with them is told.
+    Lint,
     /// It is read, and a session over it is served.
     Session,
+    /// It is read, rewritten by delta files as the first statements of a history, and a person is served over it.
+    Edit,
     /// It is read, then another, and what differs between them is told.
     Differences,
     /// A source is read, where these names are defined, and the table that is made of it is printed.
@@ -51,7 +55,9 @@ pub(crate) fn task_of(
         (Subcommand::Compare | Subcommand::Explain, _) => return Ok(None),
         (Subcommand::Sort, _) => return Ok(Some(Task::Sort)),
         (Subcommand::Review, _) => return Ok(Some(Task::Review)),
+        (Subcommand::Lint, _) => return Ok(Some(Task::Lint)),
         (Subcommand::Session, _) => return Ok(Some(Task::Session)),
+        (Subcommand::Edit, _) => return Ok(Some(Task::Edit)),
         (Subcommand::Diff, _) => return Ok(Some(Task::Differences)),
         (Subcommand::Import, _) => return Ok(Some(Task::Import(copied_texts(alloc, texts)?))),
         (Subcommand::ImportDelta, _) => return Ok(Some(Task::ImportDelta(copied_texts(
