@@ -86,17 +86,17 @@ gaps_shifted true g a b (Some n ∷ xs) (Some m ∷ ys) = ap (λ o. ordering_the
 gaps_shifted false g a b (Some n ∷ xs) (Some m ∷ ys) = refl
 
 -- the same number before both changes no order
-same_first : (n : ℕ) (xs ys : List ℕ) → list_order (n ∷ xs) (n ∷ ys) ≡ list_order xs ys
-same_first n xs ys = ap (λ o. ordering_then o (list_order xs ys)) (let same : nat_cmp n n ≡ Equal = sym (nat_cmp_is n n Equal refl) in same)
+pub first_same : (a b : ℕ) (xs ys : List ℕ) → a ≡ b → list_order (a ∷ xs) (b ∷ ys) ≡ list_order xs ys
+first_same a b xs ys same = ap (λ o. ordering_then o (list_order xs ys)) (sym (nat_cmp_is a b Equal same))
 
 -- what stands before both changes no order
 order_behind : (p : Bool) (gaps : ℕ) (prefix xs ys : List (Option ℕ)) → list_order (listed p gaps (prefix ++ xs)) (listed p gaps (prefix ++ ys)) ≡ list_order (listed p 0 xs) (listed p 0 ys)
 order_behind p gaps [] xs ys = ap (λ n. list_order (listed p n xs) (listed p n ys)) (sym (add-zero gaps)) ∙ gaps_shifted p gaps 0 0 xs ys
 order_behind p gaps (None ∷ prefix) xs ys = order_behind p (suc gaps) prefix xs ys
 order_behind true gaps (Some n ∷ prefix) xs ys =
-    same_first (suc gaps) (n ∷ listed true 0 (prefix ++ xs)) (n ∷ listed true 0 (prefix ++ ys))
-    ∙ (same_first n (listed true 0 (prefix ++ xs)) (listed true 0 (prefix ++ ys)) ∙ order_behind true 0 prefix xs ys)
-order_behind false gaps (Some n ∷ prefix) xs ys = same_first n (listed false 0 (prefix ++ xs)) (listed false 0 (prefix ++ ys)) ∙ order_behind false 0 prefix xs ys
+    first_same (suc gaps) (suc gaps) (n ∷ listed true 0 (prefix ++ xs)) (n ∷ listed true 0 (prefix ++ ys)) refl
+    ∙ (first_same n n (listed true 0 (prefix ++ xs)) (listed true 0 (prefix ++ ys)) refl ∙ order_behind true 0 prefix xs ys)
+order_behind false gaps (Some n ∷ prefix) xs ys = first_same n n (listed false 0 (prefix ++ xs)) (listed false 0 (prefix ++ ys)) refl ∙ order_behind false 0 prefix xs ys
 
 -- the order of two ways that begin alike is that of what is left of them
 pub order_alike : {P : Type 0} (p : Bool) (f : P → List ℕ) (xs ys later others : List P) → BeginAlike xs ys later others → list_order (listed p 0 (items f xs)) (listed p 0 (items f ys))

@@ -28,7 +28,7 @@ pub use coll_ranks::Ranks;
 pub use comparison::compare;
 pub use key_faults::KeyFault;
 pub use keys::{key, keys_are_ordered_as_texts};
-pub use limits::{MOST_TEXT_CHARACTERS, limits_are_stated};
+pub use limits::{MOST_TEXT_CHARACTERS, RANK_STEP, is_too_long, limits_are_stated};
 pub use listing::write_compiled;
 pub use text_keys::{compare_texts, key_of_text};
 pub use written_keys::write_key;

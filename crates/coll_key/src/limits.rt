@@ -1,4 +1,4 @@
-//! The limit of texts.
+//! The limit of texts, and how far the numbers of two ranks lie apart.
 //!
 //! The definitions have it as a number, and `limits_are_stated` says that the constant is the same; it is changed in both.
 
@@ -10,7 +10,7 @@ ghost use Rattle.coll_ranks.specs.WeightNumbers.{rank_step};
 pub const MOST_TEXT_CHARACTERS: usize = 65_536;
 
 /// How far the numbers of two ranks lie apart, which is more than any code point.
-pub(crate) const RANK_STEP: u64 = 2_097_152;
+pub const RANK_STEP: u64 = 2_097_152;
 
 /// The limit is the number of the definitions, 65,536 characters, and so is the distance of the numbers of two ranks.
 ///
@@ -20,8 +20,8 @@ pub fn limits_are_stated()
     ensures step { RANK_STEP ≡ rank_step }
 {}
 
-/// A text has more characters than a text may have. A text of few bytes needs no count of its characters.
-pub(crate) fn is_too_long(text: &str) -> bool
+/// Whether a text has more characters than a text may have. A text of few bytes needs no count of its characters.
+pub fn is_too_long(text: &str) -> bool
     ensures { result ≡ is_too_long (chars text.now) }
 {
     if text.len() <= MOST_TEXT_CHARACTERS {

@@ -1,6 +1,4 @@
-pub mod DecidingLevels
 pub mod DeclaredLemmas
-pub mod ExplanationParts
 pub mod KeyedAnew
 pub mod LeadLemmas
 pub mod ListedLemmas
@@ -11,6 +9,4 @@ pub mod ReviewCases
 pub mod ReviewLemmas
 pub mod SortCases
 pub mod SortedLemmas
-pub mod SourceLemmas
 pub mod TextWords
-pub mod ToldLemmas

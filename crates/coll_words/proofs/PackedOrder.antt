@@ -7,16 +7,13 @@ use Rattle.std.proofs.lemmas.Bool.{cases_lt, ltb-true, ltb-false, eqb-true}
 use Rattle.std.proofs.lemmas.Cmp.{nat_list_cmp_total, by_ranked, ranked}
 use Rattle.coll_ranks.specs.WeightNumbers.{rank_step}
 use Rattle.coll_key.specs.TextOrder.{list_order}
+use Rattle.coll_key.proofs.ForwardLemmas.{first_same}
 use Rattle.coll_elements.proofs.Tests.{by_test}
 use Rattle.coll_words.specs.PackedKeys.{short_ranks, packed_rank, packed_whole, packed_above, packed_number, packed_key, PackedKeysAreOrderedAlike}
 
 -- the first numbers decide, where they differ
 first_less : (a b : ℕ) (ks ls : List ℕ) → a < b → list_order (a ∷ ks) (b ∷ ls) ≡ Less
 first_less a b ks ls less = ap (λ o. ordering_then o (list_order ks ls)) (sym (nat_cmp_is a b Less less))
-
--- where they are the same, the later ones do
-pub first_same : (a b : ℕ) (ks ls : List ℕ) → a ≡ b → list_order (a ∷ ks) (b ∷ ls) ≡ list_order ks ls
-first_same a b ks ls same = ap (λ o. ordering_then o (list_order ks ls)) (sym (nat_cmp_is a b Equal same))
 
 -- a number that is no greater decides for less, or leaves it to the later ones
 first_upto : (a b : ℕ) (ks ls : List ℕ) → a ≤ b → (a ≡ b → list_order ks ls ≡ Less) → list_order (a ∷ ks) (b ∷ ls) ≡ Less

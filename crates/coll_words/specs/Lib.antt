@@ -1,7 +1,4 @@
 pub mod Declaring
-pub mod Explaining
-pub mod ExplanationLaws
-pub mod Explanations
 pub mod KeyedWords
 pub mod LedWords
 pub mod ListedWords
@@ -15,8 +12,5 @@ pub mod ReviewSteps
 pub mod Reviews
 pub mod SortRuns
 pub mod SortedWords
-pub mod Sources
-pub mod ToldLists
-pub mod ToldSteps
 pub mod WordReading
 pub mod Words

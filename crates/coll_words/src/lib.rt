@@ -7,7 +7,6 @@
 //! - `words`: a word with its key, and the sort (`KeyedWords`, `LedWords`, `SortedWords`);
 //! - `reading`: the words of an input (`Words`, `WordReading`);
 //! - `sorting`: the words of an input are sorted, and written (`SortRuns`);
-//! - `explanations`: why two texts compare as they do (`Explanations`, `Explaining`, `ExplanationLaws`);
 //! - `reviewing`: statements are put to a table one by one, and of each it is told what it did to the words of an input
 //!   (`ReviewRuns`), over `listed_words` with the list that is sorted anew (`Neighbours`, `NumberedWords`, `ListedWords`), by
 //!   `staying_words` and `moved_words` as far as its words move (`MovedWords`), `review_lines` with what is told of a statement
@@ -15,7 +14,6 @@
 //!   (`Declaring`); what is told is kept by `kept_bytes`, and how far a review got is told by `progress`.
 #![tactic(auto)]
 
-mod explanations;
 mod kept_bytes;
 mod listed_words;
 mod moved_words;
@@ -29,9 +27,6 @@ mod sorting;
 mod staying_words;
 mod words;
 
-pub use explanations::{
-    explain, first_differences_are_told, told_levels_decide, told_numbers_are_listed,
-};
 pub use packed_keys::packed_keys_are_ordered_alike;
 pub use progress::Progress;
 pub use reading::read_words;

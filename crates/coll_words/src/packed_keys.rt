@@ -7,10 +7,8 @@
 ghost use Rattle.std.specs.Prelude.{◌≡◌, ◌++◌, IfOk, OnOk};
 ghost use Rattle.coll_words.specs.PackedKeys.{packed_number, packed_above, packed_whole, packed_key, PackedKeysAreOrderedAlike};
 
+use coll_key::RANK_STEP;
 use std::alloc::{AllocError, Global};
-
-/// How far the numbers of two ranks lie apart.
-pub(crate) const RANK_STEP: u64 = 2_097_152;
 
 // Ranks below this have a number of their own.
 const SHORT_RANKS: u64 = 1_073_741_824;

@@ -5,9 +5,9 @@ ghost use Rattle.std.specs.Prelude.{◌≡◌, ◌<◌, length, IfErr};
 use crate::files::at_no_line;
 use crate::{Output, read_table, standard_output, status, tell_fault};
 use coll_bench::{Fault, RunFault};
+use coll_explanations::explain;
 use coll_lex::{Sink, TextBuf, WriteStop};
 use coll_table::{HashKeys, Table};
-use coll_words::explain;
 use std::process::ExitCode;
 
 /// Tells why two texts compare as they do by the table in the first of these files, and answers the exit status.

@@ -1,0 +1,4 @@
+pub mod DecidingLevels
+pub mod ExplanationParts
+pub mod SourceLemmas
+pub mod ToldLemmas

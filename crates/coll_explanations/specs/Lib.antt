@@ -1,0 +1,6 @@
+pub mod Explaining
+pub mod ExplanationLaws
+pub mod Explanations
+pub mod Sources
+pub mod ToldLists
+pub mod ToldSteps
