@@ -67,7 +67,7 @@ impl Collected {
             line: begins,
             fault,
         };
-        self.push(FoundFault { fault, line, about })
+        self.push(FoundFault::new(fault, line, about))
     }
 
     // Puts a fault behind those that are told, where there is room for one more.

@@ -93,16 +93,25 @@ impl DeltaSurvey {
         match opening {
             Opening::Block => self.open_block(number, None),
             Opening::BlockEnd => self.end_block(),
-            Opening::Other => Ok(()),
+            Opening::Other => {
+                if let Some(block) = &mut self.block {
+                    block.spoiled = true;
+                }
+                Ok(())
+            }
         }
     }
 
     // Takes a line that the grammar accepts, and answers whether it ends the category.
     fn take_read(&mut self, number: u32, line: DeltaLine) -> Result<bool, AllocError> {
         match line {
-            DeltaLine::Symbol(name) => self.take_declaration(number, Statement::Symbol(name))?,
+            DeltaLine::Symbol(name) => {
+                let copy = name.try_copy()?;
+                self.take_declaration(number, copy, &Statement::Symbol(name))?
+            }
             DeltaLine::Element { name, text } => {
-                self.take_declaration(number, Statement::Element { name, text })?
+                let copy = name.try_copy()?;
+                self.take_declaration(number, copy, &Statement::Element { name, text })?
             }
             DeltaLine::Equivalence { name, symbol } => {
                 self.take_alone(number, Statement::Equivalence { name, symbol })?
@@ -175,23 +184,19 @@ impl DeltaSurvey {
         Ok(())
     }
 
-    // Takes the declaration of a symbol or an element, and notes it where the table takes it.
-    fn take_declaration(&mut self, number: u32, statement: Statement) -> Result<(), AllocError> {
+    // Takes the declaration of a symbol or an element with this name, and notes it where the table takes it.
+    fn take_declaration(
+        &mut self,
+        number: u32,
+        name: TextBuf,
+        statement: &Statement,
+    ) -> Result<(), AllocError> {
         self.tell_open(number)?;
-        if !self.judge(number, &statement)? {
-            return Ok(());
+        if self.judge(number, statement)? {
+            return self.declarations.declare(number, name);
         }
-        match statement {
-            Statement::Symbol(name) => self.declarations.declare(number, name),
-            Statement::Element { name, text } => {
-                drop(text);
-                self.declarations.declare(number, name)
-            }
-            other => {
-                drop(other);
-                Ok(())
-            }
-        }
+        drop(name);
+        Ok(())
     }
 
     // Takes an order line, in a block or outside of one.
@@ -261,10 +266,11 @@ impl DeltaSurvey {
             begins,
             statement,
             numbers,
+            spoiled,
         } = ended;
         let found = faults_of(self.alloc, &self.table, &statement)?;
         if found.is_empty() {
-            return self.put(begins, &statement);
+            return self.put(begins, &statement, spoiled);
         }
         let mended = mended(self.alloc, statement, found.as_slice())?;
         self.tell_found(begins, numbers.as_slice(), found)?;
@@ -278,7 +284,7 @@ impl DeltaSurvey {
     fn judge(&mut self, number: u32, statement: &Statement) -> Result<bool, AllocError> {
         let found = faults_of(self.alloc, &self.table, statement)?;
         if found.is_empty() {
-            self.put(number, statement)?;
+            self.put(number, statement, false)?;
             return Ok(true);
         }
         self.tell_found(number, &[], found)?;
@@ -305,8 +311,8 @@ impl DeltaSurvey {
         Ok(())
     }
 
-    // Puts a statement without fault to the table, and warns where it changes nothing.
-    fn put(&mut self, number: u32, statement: &Statement) -> Result<(), AllocError> {
+    // Puts a statement without fault to the table, and warns where it changes nothing, unless a part of it was refused.
+    fn put(&mut self, number: u32, statement: &Statement, spoiled: bool) -> Result<(), AllocError> {
         if !statement.is_proper() {
             return Ok(());
         }
@@ -314,7 +320,7 @@ impl DeltaSurvey {
             Ok(record) => {
                 let idle = changed_nothing(&self.table, statement, &record);
                 drop(record);
-                if idle {
+                if idle && !spoiled {
                     return self.told.warn(number, Warning::ChangesNothing);
                 }
                 Ok(())

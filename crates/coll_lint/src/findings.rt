@@ -2,7 +2,10 @@
 //!
 //! All of this is plain data. A new warning is a variant of `Warning`, with its text in `lint_lines` and in `specs/LintLines.antt`.
 
+ghost use Rattle.std.specs.Prelude.{◌≡◌};
+
 use crate::foreign_words::ForeignWord;
+use coll_advice::advice_of;
 use coll_bench::RunFault;
 use coll_lex::{ListBuf, TextBuf};
 use coll_syntax::Id;
@@ -32,6 +35,30 @@ pub struct FoundFault {
     pub line: u32,
     /// What it is about.
     pub about: About,
+    /// What to do.
+    pub sentence: &'static str,
+}
+
+impl FoundFault {
+    /// A fault at a line of its own, with what to do by its number.
+    pub(crate) fn new(fault: RunFault, line: u32, about: About) -> FoundFault
+        ensures { result.fault ≡ fault }
+    {
+        FoundFault {
+            fault,
+            line,
+            about,
+            sentence: sentence_of(fault.fault.number()),
+        }
+    }
+}
+
+// What to do by the number of a fault.
+fn sentence_of(number: u8) -> &'static str {
+    match advice_of(number) {
+        Some(told) => told.sentence,
+        None => "",
+    }
 }
 
 /// What a line says to no purpose, or what stands before the first.

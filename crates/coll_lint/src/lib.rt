@@ -37,4 +37,3 @@ pub use foreign_words::ForeignWord;
 pub use kept_texts::{MOST_TEXT_BYTES, keep_text};
 pub use lint_lines::write_lint;
 pub use linting::{lint, lint_texts};
-

@@ -1,58 +1,59 @@
 //! A table, or a delta file over a table, is linted: all that is wrong with it is told, and not only the first fault.
+//!
+//! `lint` carries the theorem of a lint (`LintRuns`). The texts are judged as a batch judges them, and its answer decides whether a
+//! fault is told, and which one first. What else is told is found by a survey, of which no clause speaks.
+
+ghost use Rattle.std.specs.Prelude.{◌≡◌, ◌∷◌, [], true, map, string_bytes, option_map, option_to_list, IfOk, IfErr, Ok};
+ghost use Rattle.coll_devices.specs.Devices.{Sends};
+ghost use Rattle.coll_bench.specs.Serving.{write_failed as failed_write};
+ghost use Rattle.coll_lint.specs.LintLines.{lint_text};
+ghost use Rattle.coll_lint.specs.Lints.{BeginsWith, JudgesTexts, LintRuns, LintsTexts, is_at_fault, is_of_no_text as of_no_text};
 
 use crate::delta_surveys::survey_delta;
 use crate::findings::Lint;
 use crate::first_faults::with_first;
-use crate::kept_texts::{keep_text, no_memory};
+use crate::kept_texts::no_memory;
 use crate::lint_lines::write_lint;
 use crate::surveyed::{Told, told_of, with_marks};
 use crate::table_surveys::survey_table;
 use coll_bench::{Fault, RunFault, read_inputs};
-use coll_devices::{Counted, Sink, Source, WriteStop};
+use coll_devices::{Counted, Sink, WriteStop};
 use coll_lex::ListBuf;
 use coll_lookups::HashKeys;
 use coll_table::load_keyed;
 use std::alloc::{AllocError, Global};
 
-/// Reads a table, and perhaps a delta file, and writes all that is wrong with them. The answer is whether they have a fault.
-pub fn lint<R: Source, W: Sink>(
-    alloc: Global,
-    keys: HashKeys,
-    table: &mut R,
-    delta: Option<&mut R>,
-    names: &[String],
-    output: &mut W,
-) -> Result<bool, RunFault> {
-    let table = keep_text(alloc, 0, table)?;
-    match delta {
-        Some(delta) => {
-            let delta = keep_text(alloc, 1, delta)?;
-            lint_kept(
-                alloc,
-                keys,
-                table.as_slice(),
-                Some(delta.as_slice()),
-                names,
-                output,
-            )
-        }
-        None => lint_kept(alloc, keys, table.as_slice(), None, names, output),
-    }
-}
-
-// Writes all that is wrong with kept texts.
-fn lint_kept<W: Sink>(
+/// Writes all that is wrong with the text of a table, and with that of a delta file where one is given. The answer is whether they have
+/// a fault.
+pub fn lint<W: Sink>(
     alloc: Global,
     keys: HashKeys,
     table: &[u8],
     delta: Option<&[u8]>,
     names: &[String],
     output: &mut W,
-) -> Result<bool, RunFault> {
-    let lint = lint_texts(alloc, keys, table, delta)?;
-    let at_fault = !lint.faults.get().is_empty();
-    match write_lint(&lint, names, output) {
-        Ok(()) => Ok(at_fault),
+) -> Result<bool, RunFault>
+    ensures { LintRuns (map string_bytes names.now) table.now (option_to_list (option_map (λ text. text.now) delta.entry))
+        (W.taken output.old) (W.taken output.new) result }
+{
+    match lint_texts(alloc, keys, table, delta) {
+        Ok(lint) => {
+            let wrote = write_told(&lint, names, output);
+            drop(lint);
+            wrote
+        }
+        Err(ended) => Err(ended),
+    }
+}
+
+// Writes what is told of texts. The answer is whether they have a fault.
+fn write_told<W: Sink>(lint: &Lint, names: &[String], output: &mut W) -> Result<bool, RunFault>
+    ensures sent { Sends (W.taken output.old) (W.taken output.new) (lint_text (map string_bytes names.now) lint.now) result }
+    ensures ok { IfOk result (λ at_fault. at_fault ≡ is_at_fault lint.now) }
+    ensures fault { IfErr result (λ ended. ended ≡ failed_write) }
+{
+    match write_lint(lint, names, output) {
+        Ok(()) => Ok(!lint.faults.get().is_empty()),
         Err(_) => Err(write_failed()),
     }
 }
@@ -66,29 +67,61 @@ pub fn lint_texts(
     keys: HashKeys,
     table: &[u8],
     delta: Option<&[u8]>,
-) -> Result<Lint, RunFault> {
+) -> Result<Lint, RunFault>
+    ensures { LintsTexts table.now (option_to_list (option_map (λ text. text.now) delta.entry)) result }
+{
     match judged(alloc, keys, table, delta) {
         Ok(()) => with_no_memory(lint_accepted(alloc, keys, table, delta)),
-        Err(first) => match first.fault.number() {
-            67 | 70 => Err(first),
-            _ => with_no_memory(lint_refused(alloc, keys, first, table, delta)),
-        },
+        Err(first) => {
+            if is_of_no_text(&first) {
+                return Err(first);
+            }
+            with_no_memory(lint_refused(alloc, keys, first, table, delta))
+        }
     }
 }
 
+// Whether a fault is none of the texts: a read failed, or memory was refused.
+fn is_of_no_text(ended: &RunFault) -> bool
+    ensures { result ≡ of_no_text ended.now }
+{
+    let number = ended.fault.number();
+    number == 67 || number == 70
+}
+
 // What a batch answers to these texts.
-fn judged(
-    alloc: Global,
-    keys: HashKeys,
-    table: &[u8],
-    delta: Option<&[u8]>,
-) -> Result<(), RunFault> {
-    let mut table = Counted::new(table);
-    let read = match delta {
-        Some(delta) => read_inputs(alloc, keys, &mut table, &mut [Counted::new(delta)]),
-        None => read_inputs(alloc, keys, &mut table, &mut []),
-    };
-    match read {
+fn judged(alloc: Global, keys: HashKeys, table: &[u8], delta: Option<&[u8]>) -> Result<(), RunFault>
+    ensures { JudgesTexts table.now (option_to_list (option_map (λ text. text.now) delta.entry)) result }
+{
+    match delta {
+        Some(delta) => judged_over(alloc, keys, table, delta),
+        None => judged_alone(alloc, keys, table),
+    }
+}
+
+// What a batch answers to a table.
+fn judged_alone(alloc: Global, keys: HashKeys, table: &[u8]) -> Result<(), RunFault>
+    ensures { JudgesTexts table.now [] result }
+{
+    match read_inputs(alloc, keys, &mut Counted::new(table), &mut []) {
+        Ok(read) => {
+            drop(read);
+            Ok(())
+        }
+        Err(first) => Err(first),
+    }
+}
+
+// What a batch answers to a table and a delta file.
+fn judged_over(alloc: Global, keys: HashKeys, table: &[u8], delta: &[u8]) -> Result<(), RunFault>
+    ensures { JudgesTexts table.now (delta.now ∷ []) result }
+{
+    match read_inputs(
+        alloc,
+        keys,
+        &mut Counted::new(table),
+        &mut [Counted::new(delta)],
+    ) {
         Ok(read) => {
             drop(read);
             Ok(())
@@ -103,7 +136,9 @@ fn lint_accepted(
     keys: HashKeys,
     table: &[u8],
     delta: Option<&[u8]>,
-) -> Result<Lint, AllocError> {
+) -> Result<Lint, AllocError>
+    ensures { IfOk result (λ lint. lint.faults ≡ []) }
+{
     let told = match delta {
         Some(delta) => survey_over(alloc, keys, table, delta)?,
         None => survey_alone(alloc, keys, table)?,
@@ -131,7 +166,9 @@ fn lint_refused(
     first: RunFault,
     table: &[u8],
     delta: Option<&[u8]>,
-) -> Result<Lint, AllocError> {
+) -> Result<Lint, AllocError>
+    ensures { IfOk result (λ lint. BeginsWith first lint.faults) }
+{
     match delta {
         Some(delta) if first.input != 0 => {
             let told = survey_over(alloc, keys, table, delta)?;
@@ -151,14 +188,16 @@ fn lint_of(
     table: &[u8],
     delta: Option<&[u8]>,
     told: Told,
-) -> Result<Lint, AllocError> {
+) -> Result<Lint, AllocError>
+    ensures { IfOk result (λ lint. BeginsWith first lint.faults) }
+{
     let Told {
         faults,
         more_faults,
         warnings,
         more_warnings,
     } = told;
-    let faults = with_first(alloc, first, faults)?;
+    let faults = with_first(first, faults)?;
     let warnings = with_marks(alloc, table, delta, warnings)?;
     Ok(Lint {
         faults: ListBuf::new(faults),
@@ -191,7 +230,10 @@ fn survey_over(
 }
 
 // Lack of memory as that of a run, which is no line's.
-fn with_no_memory(linted: Result<Lint, AllocError>) -> Result<Lint, RunFault> {
+fn with_no_memory(linted: Result<Lint, AllocError>) -> Result<Lint, RunFault>
+    ensures ok { IfOk result (λ lint. linted ≡ Ok lint) }
+    ensures err { IfErr result (λ ended. of_no_text ended ≡ true) }
+{
     match linted {
         Ok(lint) => Ok(lint),
         Err(_) => Err(no_memory(0)),
@@ -199,7 +241,9 @@ fn with_no_memory(linted: Result<Lint, AllocError>) -> Result<Lint, RunFault> {
 }
 
 // A write failed.
-fn write_failed() -> RunFault {
+fn write_failed() -> RunFault
+    ensures { result ≡ failed_write }
+{
     RunFault {
         input: 0,
         line: 0,

@@ -31,11 +31,20 @@ pub(crate) fn seek_near_names(
 
 // Gives what a fault is about the declared name that is nearest, where one is near.
 fn seek_near(alloc: Global, table: &Table, about: &mut About) -> Result<(), AllocError> {
-    let About::Id {
-        id: Id::Named(name),
-        near,
-    } = about
-    else {
+    match about {
+        About::Id { id, near } => fill_near(alloc, table, id, near),
+        About::Nothing | About::Word(_) => Ok(()),
+    }
+}
+
+// Gives an identifier the declared name that is nearest, where one is near.
+fn fill_near(
+    alloc: Global,
+    table: &Table,
+    id: &Id,
+    near: &mut Option<TextBuf>,
+) -> Result<(), AllocError> {
+    let Id::Named(name) = id else {
         return Ok(());
     };
     if let Some(found) = nearest_name(table, name.get()) {

@@ -16,8 +16,10 @@ pub(crate) struct OpenBlock {
     // Its order lines, and the number of each.
     lines: Vec<OrderLine>,
     numbers: Vec<u32>,
-    // Whether it had a line too many.
+    /// Whether it had a line too many.
     pub overfull: bool,
+    /// Whether it had a line that was refused.
+    pub spoiled: bool,
 }
 
 /// A block that has ended: its statement, and the numbers of its lines.
@@ -29,6 +31,8 @@ pub(crate) struct EndedBlock {
     pub statement: Statement,
     /// The number of each of its order lines.
     pub numbers: Vec<u32>,
+    /// Whether it had a line that was refused.
+    pub spoiled: bool,
 }
 
 impl OpenBlock {
@@ -40,6 +44,7 @@ impl OpenBlock {
             lines: Vec::new(alloc),
             numbers: Vec::new(alloc),
             overfull: false,
+            spoiled: false,
         }
     }
 
@@ -63,6 +68,7 @@ impl OpenBlock {
             lines,
             numbers,
             overfull: _,
+            spoiled,
         } = self;
         match target {
             Some(target) => Some(EndedBlock {
@@ -72,6 +78,7 @@ impl OpenBlock {
                     lines: ListBuf::new(lines),
                 },
                 numbers,
+                spoiled,
             }),
             None => {
                 drop(lines);

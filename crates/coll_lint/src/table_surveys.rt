@@ -20,7 +20,7 @@ use crate::unplaced::Declarations;
 use coll_bench::Fault;
 use coll_lex::{LexFault, Line, TextBuf};
 use coll_lookups::HashKeys;
-use coll_syntax::{OrderLine, SyntaxFault, TableLine, parse_table_line};
+use coll_syntax::{OrderLine, SyntaxFault, TableLine, is_word, parse_table_line};
 use coll_table::Table;
 use coll_texts::{LoadCause, LoadFault, TableBuilder};
 use std::alloc::{AllocError, Global};
@@ -32,6 +32,8 @@ struct TableSurvey {
     builder: TableBuilder,
     told: Collected,
     declarations: Declarations,
+    // Whether an `order_start` was accepted, and so the rules are known.
+    ruled: bool,
 }
 
 /// Surveys a table, which is input 0.
@@ -46,6 +48,7 @@ pub(crate) fn survey_table(
         builder,
         told: Collected::new(alloc, keys, 0),
         declarations: Declarations::new(alloc, keys),
+        ruled: false,
     };
     survey.take_all(text)?;
     survey.end(text)
@@ -68,10 +71,11 @@ impl TableSurvey {
             builder,
             told,
             declarations,
+            ruled,
         } = self;
         match ended_table(builder)? {
             Some(table) => {
-                let mut told = survey_weights(alloc, text, &table, told)?;
+                let mut told = survey_weights(alloc, text, &table, ruled, told)?;
                 declarations.warn_of_unplaced(&table, &mut told)?;
                 Ok(Surveyed {
                     told,
@@ -96,8 +100,10 @@ impl TableSurvey {
             self.told.warn(line.number, Warning::ScriptWithoutEffect)?;
         }
         let name = declared_name(&read)?;
+        let starts = begins_order(&read);
         match self.builder.take(line.number, without_weights(read)) {
             Ok(ended) => {
+                self.ruled = self.ruled || starts;
                 self.note(line.number, name)?;
                 Ok(ended)
             }
@@ -127,10 +133,55 @@ impl TableSurvey {
             Ok(read) => {
                 let about = table_subject(&read, fault.cause)?;
                 self.tell_load(fault, about)?;
+                if is_for_an_order(&read) {
+                    return self.take_opened(line, fault.cause, read);
+                }
                 Ok(ends_category(&read))
             }
             Err(_) => Err(AllocError),
         }
+    }
+
+    // Opens an order for a line that was refused, so that those behind it aren't refused for want of one, and puts a line to it that was
+    // refused for that alone.
+    fn take_opened(
+        &mut self,
+        line: &Line,
+        cause: LoadCause,
+        read: TableLine,
+    ) -> Result<bool, AllocError>
+        requires { IsProperTableLine read }
+    {
+        self.open();
+        if let LoadCause::OutsideOrder = cause {
+            let about = table_subject(&read, LoadCause::NotDeclared)?;
+            return match self.builder.take(line.number, without_weights(read)) {
+                Ok(ended) => Ok(ended),
+                Err(
+                    LoadFault {
+                        cause: LoadCause::OutOfMemory,
+                        ..
+                    },
+                ) => Err(AllocError),
+                Err(fault) => {
+                    self.tell_load(fault, about)?;
+                    Ok(false)
+                }
+            };
+        }
+        drop(read);
+        Ok(false)
+    }
+
+    // Opens an order, with the rules that stand, if there are any.
+    fn open(&mut self) {
+        let _ = self.builder.take(
+            0,
+            TableLine::OrderStart {
+                section: None,
+                rules: None,
+            },
+        );
     }
 }
 
@@ -141,6 +192,9 @@ impl TakesLines for TableSurvey {
             Err(SyntaxFault::OutOfMemory) => Err(AllocError),
             Err(fault) => {
                 let about = refused_subject(self.alloc, line, fault)?;
+                if begins_with_order_start(line) {
+                    self.open();
+                }
                 let fault = LoadFault {
                     line: line.number,
                     cause: LoadCause::Syntax(fault),
@@ -177,6 +231,27 @@ fn declared_name(line: &TableLine) -> Result<Option<TextBuf>, AllocError> {
             Ok(Some(name))
         }
         _ => Ok(None),
+    }
+}
+
+// Whether a line opens an order.
+fn begins_order(line: &TableLine) -> bool {
+    matches!(line, TableLine::OrderStart { .. })
+}
+
+// Whether a line opens an order, or stands in one.
+fn is_for_an_order(line: &TableLine) -> bool {
+    matches!(
+        line,
+        TableLine::OrderStart { .. } | TableLine::Section(_) | TableLine::Order(_)
+    )
+}
+
+// Whether the first token of a line is `order_start`.
+fn begins_with_order_start(line: &Line) -> bool {
+    match line.tokens.get().first() {
+        Some(first) => is_word(first, "order_start"),
+        None => false,
     }
 }
 

@@ -19,6 +19,8 @@ use std::alloc::{AllocError, Global};
 struct WeightSurvey<'a> {
     alloc: Global,
     table: &'a Table,
+    // Whether the rules of the table are known, and so how many weights a line may have.
+    ruled: bool,
     told: Collected,
 }
 
@@ -27,9 +29,15 @@ pub(crate) fn survey_weights(
     alloc: Global,
     text: &[u8],
     table: &Table,
+    ruled: bool,
     told: Collected,
 ) -> Result<Collected, AllocError> {
-    let mut survey = WeightSurvey { alloc, table, told };
+    let mut survey = WeightSurvey {
+        alloc,
+        table,
+        ruled,
+        told,
+    };
     let _ = survey_lines(alloc, text, &mut survey)?;
     let WeightSurvey { told, .. } = survey;
     Ok(told)
@@ -70,7 +78,7 @@ impl WeightSurvey<'_> {
         if is_symbol(self.table, &id) {
             return self.tell(number, LoadCause::SymbolWithWeights, id);
         }
-        if weights.get().len() > self.table.rules().len() {
+        if self.ruled && weights.get().len() > self.table.rules().len() {
             return self.tell(number, LoadCause::TooManyWeights, id);
         }
         self.judge_weights(number, weights)

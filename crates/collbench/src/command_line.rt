@@ -9,6 +9,7 @@ ghost use Rattle.collbench.specs.Tasks.{explained, subcommand_name, task_for};
 ghost use Rattle.collbench.specs.declared.command_line.Subcommand.{Subcommand};
 
 use crate::differences::LINES;
+use crate::linting::TOLD as LINTED;
 use clap::error::ErrorKind;
 use clap::{Arg, ArgMatches, Command};
 use coll_bench::Batch;
@@ -79,13 +80,14 @@ const EXAMPLES: &str = "Examples:
   collbench explain base.txt a A               the elements of both texts, each level, and less
   collbench sort base.txt < words.txt          the words, one a line, in the order of the table
   collbench review base.txt c_behind_a.txt words.txt  which neighbours among the words each statement parts and joins
+  collbench lint base.txt c_behind_a.txt       all faults of the delta file, and what has no effect in it
   collbench session base.txt < lines.txt       a reply to each line
   collbench diff base.txt other.txt            same, or a line for each difference
   collbench import iso14651_t1 > common.txt    the table of a published source
   collbench import-delta common.txt sv_SE      the delta file of a published tailoring, for that table";
 
 // The subcommands that work on a table or make one, in the order in which help tells them.
-const SUBCOMMANDS: [Subcommand; 13] = [
+const SUBCOMMANDS: [Subcommand; 14] = [
     Subcommand::Check,
     Subcommand::Print,
     Subcommand::Export,
@@ -95,6 +97,7 @@ const SUBCOMMANDS: [Subcommand; 13] = [
     Subcommand::Explain,
     Subcommand::Sort,
     Subcommand::Review,
+    Subcommand::Lint,
     Subcommand::Session,
     Subcommand::Diff,
     Subcommand::Import,
@@ -122,6 +125,8 @@ pub enum Subcommand {
     Sort,
     /// Tells what the statements of a delta file do to words.
     Review,
+    /// Tells all that is wrong with a table, or with a delta file for it.
+    Lint,
     /// Serves a session over a table.
     Session,
     /// Tells what differs between two tables.
@@ -143,6 +148,8 @@ pub enum Task {
     Sort,
     /// It is read, then words and a delta file, and what each statement does to the words is told.
     Review,
+    /// It is read, and perhaps a delta file, and all that is wrong with them is told.
+    Lint,
     /// It is read, and a session over it is served.
     Session,
     /// It is read, then another, and what differs between them is told.
@@ -292,6 +299,7 @@ fn taking<'a>(alloc: Global, subcommand: Subcommand) -> Result<Command<'a>, Allo
         Subcommand::Compare => over_two_texts(alloc, subcommand),
         Subcommand::Explain => Ok(over_two_texts(alloc, subcommand)?.after_help(EXPLAINED)),
         Subcommand::Review => over_words(alloc, subcommand),
+        Subcommand::Lint => over_one_delta(alloc, subcommand),
         Subcommand::Session => over_table(alloc, subcommand),
         Subcommand::Diff => over_two_tables(alloc, subcommand),
         Subcommand::Import => over_source(alloc, subcommand),
@@ -304,6 +312,13 @@ fn over_table<'a>(alloc: Global, subcommand: Subcommand) -> Result<Command<'a>, 
     let name: &'a str = subcommand.name();
     let about: &'a str = subcommand.about();
     Command::new(alloc, name).about(about).arg(table(alloc))
+}
+
+// A subcommand that takes a table and perhaps a delta file.
+fn over_one_delta<'a>(alloc: Global, subcommand: Subcommand) -> Result<Command<'a>, AllocError> {
+    over_table(alloc, subcommand)?
+        .after_help(LINTED)
+        .arg(perhaps_delta(alloc))
 }
 
 // A subcommand that takes a table and two texts.
@@ -389,6 +404,13 @@ fn delta<'a>(alloc: Global) -> Arg<'a> {
     Arg::new(alloc, DELTA).required(true).help(
         "The file of statements that change the table, one after another",
     )
+}
+
+// One delta file, or none.
+fn perhaps_delta<'a>(alloc: Global) -> Arg<'a> {
+    Arg::new(alloc, DELTA)
+        .required(false)
+        .help("The file of statements that change the table")
 }
 
 // Words.
@@ -501,6 +523,7 @@ fn task_of(
         (Subcommand::Compare | Subcommand::Explain, _) => return Ok(None),
         (Subcommand::Sort, _) => return Ok(Some(Task::Sort)),
         (Subcommand::Review, _) => return Ok(Some(Task::Review)),
+        (Subcommand::Lint, _) => return Ok(Some(Task::Lint)),
         (Subcommand::Session, _) => return Ok(Some(Task::Session)),
         (Subcommand::Diff, _) => return Ok(Some(Task::Differences)),
         (Subcommand::Import, _) => return Ok(Some(Task::Import(copied_texts(alloc, texts)?))),
@@ -553,6 +576,7 @@ impl Subcommand {
             Subcommand::Explain => "explain",
             Subcommand::Sort => "sort",
             Subcommand::Review => "review",
+            Subcommand::Lint => "lint",
             Subcommand::Session => "session",
             Subcommand::Diff => "diff",
             Subcommand::Import => "import",
@@ -581,6 +605,9 @@ impl Subcommand {
             }
             Subcommand::Review => {
                 "Tells what each statement of a delta file does to the order of words"
+            }
+            Subcommand::Lint => {
+                "Tells all faults of a table, or of a delta file for it, and what has no effect; the exit status is 1 where there is one"
             }
             Subcommand::Session => {
                 "Reads the lines of a session from standard input, and replies to each"
@@ -612,6 +639,7 @@ impl Subcommand {
             "explain" => Some(Subcommand::Explain),
             "sort" => Some(Subcommand::Sort),
             "review" => Some(Subcommand::Review),
+            "lint" => Some(Subcommand::Lint),
             "session" => Some(Subcommand::Session),
             "diff" => Some(Subcommand::Diff),
             "import" => Some(Subcommand::Import),

@@ -1,0 +1,64 @@
+-- How a lint ends, by what a batch answers to the texts, and by what writing answered.
+use Rattle.std.proofs.Common.{◌≡◌, inl, inr, ℕ, ◌==◌, ◌||◌, Bool, true, false, if◌then◌else◌, List, [], ◌∷◌, ◌++◌, map, Option, Some, None, Result, Ok, Err, refl, sym, ap, ◌∙◌, subst, append-nil}
+use Rattle.std.specs.Prelude.{IfErr, IfOk}
+use Rattle.std.specs.Io.KnownBytes.{Appends}
+use Rattle.coll_devices.specs.Devices.{Sends}
+use Rattle.coll_nodes.specs.Table.{Collation}
+use Rattle.coll_nodes.specs.TableLayout.{TableValue, collation}
+use Rattle.coll_bench.specs.BatchOutcome.{after_inputs}
+use Rattle.coll_bench.specs.BatchReading.{InputsFail, ReadsInputs, WritesNone}
+use Rattle.coll_bench.specs.BatchRuns.{Ending, ReadFailed, WriteFailed, Starved, Refused, ending_of}
+use Rattle.coll_bench.specs.Faults.{fault_number}
+use Rattle.coll_bench.specs.Serving.{write_failed}
+use Rattle.coll_bench.specs.declared.faults.RunFault.{RunFault}
+use Rattle.coll_lint.specs.LintLines.{lint_text}
+use Rattle.coll_lint.specs.Lints.{BeginsWith, IsLintOf, JudgesTexts, LintRuns, LintsTexts, TellsFaults, is_at_fault, is_of_no_text}
+use Rattle.coll_lint.specs.declared.findings.FoundFault.{FoundFault}
+use Rattle.coll_lint.specs.declared.findings.Lint.{Lint}
+
+-- a kind of fault that is neither of a read, of a write nor of memory
+remaining : (P : Ending → Type 0) (reads lacks writes : Bool) → (reads || lacks) ≡ false → writes ≡ false
+    → P (if reads then ReadFailed else (if writes then WriteFailed else (if lacks then Starved else Refused))) → P Refused
+remaining P true lacks writes none unwritten p = absurd cc
+remaining P false true writes none unwritten p = absurd cc
+remaining P false false true none unwritten p = absurd cc
+remaining P false false false none unwritten p = p
+
+-- what reading inputs answers is what is judged, without its table
+pub judges : (table_text : List ℕ) (delta_texts : List (List ℕ)) (left left_after : Option (List ℕ)) (lefts lefts_after : List (Option (List ℕ))) (ended : RunFault)
+    → left ≡ Some table_text → lefts ≡ map Some delta_texts → ReadsInputs left left_after lefts lefts_after (Err ended) → WritesNone ended → JudgesTexts table_text delta_texts (Err ended)
+judges table_text delta_texts left left_after lefts lefts_after ended e es reads unwritten none =
+    let n = fault_number ended.fault in
+    remaining (λ kind. InputsFail kind table_text delta_texts left_after lefts_after ended) (n == 67) (n == 70) (n == 68) none unwritten (reads table_text delta_texts e es)
+
+-- what is told of texts that give a table
+pub accepted : {E : Type 0} (table_text : List ℕ) (delta_texts : List (List ℕ)) (linted : Result Lint E) (r : Result Lint RunFault) → JudgesTexts table_text delta_texts (Ok tt)
+    → IfOk linted (λ lint. lint.faults ≡ []) → IfOk r (λ lint. linted ≡ Ok lint) → IfErr r (λ ended. is_of_no_text ended ≡ true) → LintsTexts table_text delta_texts r
+accepted table_text delta_texts linted (Ok lint) judged none same lacks =
+    subst (λ o. TellsFaults o lint.faults) (sym judged.1) (subst (λ (l : Result Lint _). IfOk l (λ lint. lint.faults ≡ [])) same none)
+accepted table_text delta_texts linted (Err ended) judged none same lacks = lacks
+
+-- what is told of texts that are refused
+pub refused : {E : Type 0} (table_text : List ℕ) (delta_texts : List (List ℕ)) (first : RunFault) (linted : Result Lint E) (r : Result Lint RunFault)
+    → JudgesTexts table_text delta_texts (Err first) → is_of_no_text first ≡ false → IfOk linted (λ lint. BeginsWith first lint.faults) → IfOk r (λ lint. linted ≡ Ok lint)
+    → IfErr r (λ ended. is_of_no_text ended ≡ true) → LintsTexts table_text delta_texts r
+refused table_text delta_texts first linted (Ok lint) judged text begins same lacks =
+    subst (λ o. TellsFaults o lint.faults) (sym (judged text)) (subst (λ (l : Result Lint _). IfOk l (λ lint. BeginsWith first lint.faults)) same begins)
+refused table_text delta_texts first linted (Err ended) judged text begins same lacks = lacks
+
+-- bytes behind those that are known
+appended : (a c : Option (List ℕ)) (before bytes : List ℕ) → a ≡ Some before → Appends a c bytes → c ≡ Some (before ++ bytes)
+appended None c before bytes e h = absurd (cc)
+appended (Some l) None before bytes e h = absurd h
+appended (Some l) (Some m) before bytes e h = let same : l ≡ before = cc in ap Some (h ∙ ap (λ l. l ++ bytes) same)
+
+module _ (names : List (List ℕ)) (table_text : List ℕ) (delta_texts : List (List ℕ)) (taken : Option (List ℕ)) where
+  -- nothing is written where there is nothing to be told
+  pub stopped_runs : (ended : RunFault) → is_of_no_text ended ≡ true → LintRuns names table_text delta_texts taken taken (Err ended)
+  stopped_runs ended none before e = ([], e ∙ ap Some (sym (append-nil before)), inl (none, refl))
+
+  -- what was written, by what writing answered
+  pub told_runs : (taken_after : Option (List ℕ)) (lint : Lint) (r : Result Bool RunFault) → IsLintOf table_text delta_texts lint → Sends taken taken_after (lint_text names lint) r
+      → IfOk r (λ at_fault. at_fault ≡ is_at_fault lint) → IfErr r (λ ended. ended ≡ write_failed) → LintRuns names table_text delta_texts taken taken_after r
+  told_runs taken_after lint (Ok at_fault) told sent ok fault before e = (lint_text names lint, appended taken taken_after before _ e sent, (lint, told, refl, ok))
+  told_runs taken_after lint (Err ended) told sent ok fault before e = (sent.0, appended taken taken_after before sent.0 e sent.3, inr (fault, lint, sent.1, told, sent.2))
