@@ -1,12 +1,11 @@
 -- How a lint ends, by what a batch answers to the texts, and by what writing answered.
-use Rattle.std.proofs.Common.{◌≡◌, inl, inr, ℕ, ◌==◌, ◌||◌, Bool, true, false, if◌then◌else◌, List, [], ◌∷◌, ◌++◌, map, Option, Some, None, Result, Ok, Err, refl, sym, ap, ◌∙◌, subst, append-nil}
+use Rattle.std.proofs.Common.{◌≡◌, inl, inr, ℕ, ◌==◌, ◌||◌, Bool, true, false, if◌then◌else◌, List, [], ◌++◌, Option, Some, None, Result, Ok, Err, refl, sym, ap, ◌∙◌, subst, append-nil}
 use Rattle.std.specs.Prelude.{IfErr, IfOk}
 use Rattle.std.specs.Io.KnownBytes.{Appends}
 use Rattle.coll_devices.specs.Devices.{Sends}
 use Rattle.coll_nodes.specs.Table.{Collation}
-use Rattle.coll_nodes.specs.TableLayout.{TableValue, collation}
 use Rattle.coll_bench.specs.BatchOutcome.{after_inputs}
-use Rattle.coll_bench.specs.BatchReading.{InputsFail, ReadsInputs, WritesNone}
+use Rattle.coll_bench.specs.BatchReading.{InputsFail, WritesNone}
 use Rattle.coll_bench.specs.BatchRuns.{Ending, ReadFailed, WriteFailed, Starved, Refused, ending_of}
 use Rattle.coll_bench.specs.Faults.{fault_number}
 use Rattle.coll_bench.specs.Serving.{write_failed}
@@ -24,12 +23,12 @@ remaining P false true writes none unwritten p = absurd cc
 remaining P false false true none unwritten p = absurd cc
 remaining P false false false none unwritten p = p
 
--- what reading inputs answers is what is judged, without its table
-pub judges : (table_text : List ℕ) (delta_texts : List (List ℕ)) (left left_after : Option (List ℕ)) (lefts lefts_after : List (Option (List ℕ))) (ended : RunFault)
-    → left ≡ Some table_text → lefts ≡ map Some delta_texts → ReadsInputs left left_after lefts lefts_after (Err ended) → WritesNone ended → JudgesTexts table_text delta_texts (Err ended)
-judges table_text delta_texts left left_after lefts lefts_after ended e es reads unwritten none =
+-- what reading inputs answers is what is judged, unless it is no fault of theirs
+pub judges : (table_text : List ℕ) (delta_texts : List (List ℕ)) (left_after : Option (List ℕ)) (lefts_after : List (Option (List ℕ))) (ended : RunFault)
+    → InputsFail (ending_of ended) table_text delta_texts left_after lefts_after ended → WritesNone ended → JudgesTexts table_text delta_texts (Err ended)
+judges table_text delta_texts left_after lefts_after ended fails unwritten none =
     let n = fault_number ended.fault in
-    remaining (λ kind. InputsFail kind table_text delta_texts left_after lefts_after ended) (n == 67) (n == 70) (n == 68) none unwritten (reads table_text delta_texts e es)
+    remaining (λ kind. InputsFail kind table_text delta_texts left_after lefts_after ended) (n == 67) (n == 70) (n == 68) none unwritten fails
 
 -- what is told of texts that give a table
 pub accepted : {E : Type 0} (table_text : List ℕ) (delta_texts : List (List ℕ)) (linted : Result Lint E) (r : Result Lint RunFault) → JudgesTexts table_text delta_texts (Ok tt)

@@ -103,7 +103,8 @@ fn judged(alloc: Global, keys: HashKeys, table: &[u8], delta: Option<&[u8]>) -> 
 fn judged_alone(alloc: Global, keys: HashKeys, table: &[u8]) -> Result<(), RunFault>
     ensures { JudgesTexts table.now [] result }
 {
-    match read_inputs(alloc, keys, &mut Counted::new(table), &mut []) {
+    let mut source = Counted::new(table);
+    match read_inputs(alloc, keys, &mut source, &mut []) {
         Ok(read) => {
             drop(read);
             Ok(())
@@ -116,12 +117,9 @@ fn judged_alone(alloc: Global, keys: HashKeys, table: &[u8]) -> Result<(), RunFa
 fn judged_over(alloc: Global, keys: HashKeys, table: &[u8], delta: &[u8]) -> Result<(), RunFault>
     ensures { JudgesTexts table.now (delta.now ∷ []) result }
 {
-    match read_inputs(
-        alloc,
-        keys,
-        &mut Counted::new(table),
-        &mut [Counted::new(delta)],
-    ) {
+    let mut source = Counted::new(table);
+    let tailoring = Counted::new(delta);
+    match read_inputs(alloc, keys, &mut source, &mut [tailoring]) {
         Ok(read) => {
             drop(read);
             Ok(())
