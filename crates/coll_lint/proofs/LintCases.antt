@@ -31,19 +31,16 @@ judges table_text delta_texts left_after lefts_after ended fails unwritten none 
     remaining (λ kind. InputsFail kind table_text delta_texts left_after lefts_after ended) (n == 67) (n == 70) (n == 68) none unwritten fails
 
 -- what is told of texts that give a table
-pub accepted : {E : Type 0} (table_text : List ℕ) (delta_texts : List (List ℕ)) (linted : Result Lint E) (r : Result Lint RunFault) → JudgesTexts table_text delta_texts (Ok tt)
-    → IfOk linted (λ lint. lint.faults ≡ []) → IfOk r (λ lint. linted ≡ Ok lint) → IfErr r (λ ended. is_of_no_text ended ≡ true) → LintsTexts table_text delta_texts r
-accepted table_text delta_texts linted (Ok lint) judged none same lacks =
-    subst (λ o. TellsFaults o lint.faults) (sym judged.1) (subst (λ (l : Result Lint _). IfOk l (λ lint. lint.faults ≡ [])) same none)
-accepted table_text delta_texts linted (Err ended) judged none same lacks = lacks
+pub accepted : (table_text : List ℕ) (delta_texts : List (List ℕ)) (r : Result Lint RunFault) → JudgesTexts table_text delta_texts (Ok tt) → IfOk r (λ lint. lint.faults ≡ [])
+    → IfErr r (λ ended. is_of_no_text ended ≡ true) → LintsTexts table_text delta_texts r
+accepted table_text delta_texts (Ok lint) judged none lacks = subst (λ o. TellsFaults o lint.faults) (sym judged.1) none
+accepted table_text delta_texts (Err ended) judged none lacks = lacks
 
 -- what is told of texts that are refused
-pub refused : {E : Type 0} (table_text : List ℕ) (delta_texts : List (List ℕ)) (first : RunFault) (linted : Result Lint E) (r : Result Lint RunFault)
-    → JudgesTexts table_text delta_texts (Err first) → is_of_no_text first ≡ false → IfOk linted (λ lint. BeginsWith first lint.faults) → IfOk r (λ lint. linted ≡ Ok lint)
-    → IfErr r (λ ended. is_of_no_text ended ≡ true) → LintsTexts table_text delta_texts r
-refused table_text delta_texts first linted (Ok lint) judged text begins same lacks =
-    subst (λ o. TellsFaults o lint.faults) (sym (judged text)) (subst (λ (l : Result Lint _). IfOk l (λ lint. BeginsWith first lint.faults)) same begins)
-refused table_text delta_texts first linted (Err ended) judged text begins same lacks = lacks
+pub refused : (table_text : List ℕ) (delta_texts : List (List ℕ)) (first : RunFault) (r : Result Lint RunFault) → JudgesTexts table_text delta_texts (Err first)
+    → IfOk r (λ lint. is_of_no_text first ≡ false) → IfOk r (λ lint. BeginsWith first lint.faults) → IfErr r (λ ended. is_of_no_text ended ≡ true) → LintsTexts table_text delta_texts r
+refused table_text delta_texts first (Ok lint) judged text begins lacks = subst (λ o. TellsFaults o lint.faults) (sym (judged text)) begins
+refused table_text delta_texts first (Err ended) judged text begins lacks = lacks
 
 -- bytes behind those that are known
 appended : (a c : Option (List ℕ)) (before bytes : List ℕ) → a ≡ Some before → Appends a c bytes → c ≡ Some (before ++ bytes)

@@ -3,7 +3,7 @@
 //! `lint` carries the theorem of a lint (`LintRuns`). The texts are judged as a batch judges them, and its answer decides whether a
 //! fault is told, and which one first. What else is told is found by a survey, of which no clause speaks.
 
-ghost use Rattle.std.specs.Prelude.{◌≡◌, ◌∷◌, [], true, map, string_bytes, option_map, option_to_list, IfOk, IfErr, Ok};
+ghost use Rattle.std.specs.Prelude.{◌≡◌, ◌∷◌, [], true, map, string_bytes, option_map, option_to_list, IfOk, IfErr, false};
 ghost use Rattle.coll_devices.specs.Devices.{Sends};
 ghost use Rattle.coll_bench.specs.Serving.{write_failed as failed_write};
 ghost use Rattle.coll_lint.specs.LintLines.{lint_text};
@@ -71,13 +71,45 @@ pub fn lint_texts(
     ensures { LintsTexts table.now (option_to_list (option_map (λ text. text.now) delta.entry)) result }
 {
     match judged(alloc, keys, table, delta) {
-        Ok(()) => with_no_memory(lint_accepted(alloc, keys, table, delta)),
-        Err(first) => {
-            if is_of_no_text(&first) {
-                return Err(first);
-            }
-            with_no_memory(lint_refused(alloc, keys, first, table, delta))
-        }
+        Ok(()) => lint_if_accepted(alloc, keys, table, delta),
+        Err(first) => lint_if_refused(alloc, keys, first, table, delta),
+    }
+}
+
+// What is told of texts that a batch accepts, unless memory is refused.
+fn lint_if_accepted(
+    alloc: Global,
+    keys: HashKeys,
+    table: &[u8],
+    delta: Option<&[u8]>,
+) -> Result<Lint, RunFault>
+    ensures none { IfOk result (λ lint. lint.faults ≡ []) }
+    ensures memory { IfErr result (λ ended. of_no_text ended ≡ true) }
+{
+    match lint_accepted(alloc, keys, table, delta) {
+        Ok(lint) => Ok(lint),
+        Err(_) => Err(no_memory(0)),
+    }
+}
+
+// What is told of texts in which a batch answers this fault first, if it is one of them.
+fn lint_if_refused(
+    alloc: Global,
+    keys: HashKeys,
+    first: RunFault,
+    table: &[u8],
+    delta: Option<&[u8]>,
+) -> Result<Lint, RunFault>
+    ensures text { IfOk result (λ lint. of_no_text first ≡ false) }
+    ensures begins { IfOk result (λ lint. BeginsWith first lint.faults) }
+    ensures memory { IfErr result (λ ended. of_no_text ended ≡ true) }
+{
+    if is_of_no_text(&first) {
+        return Err(first);
+    }
+    match lint_refused(alloc, keys, first, table, delta) {
+        Ok(lint) => Ok(lint),
+        Err(_) => Err(no_memory(0)),
     }
 }
 
@@ -224,17 +256,6 @@ fn survey_over(
             told_of(alloc, surveyed)
         }
         Err(_) => Err(AllocError),
-    }
-}
-
-// Lack of memory as that of a run, which is no line's.
-fn with_no_memory(linted: Result<Lint, AllocError>) -> Result<Lint, RunFault>
-    ensures ok { IfOk result (λ lint. linted ≡ Ok lint) }
-    ensures err { IfErr result (λ ended. of_no_text ended ≡ true) }
-{
-    match linted {
-        Ok(lint) => Ok(lint),
-        Err(_) => Err(no_memory(0)),
     }
 }
 
