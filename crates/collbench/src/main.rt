@@ -2,8 +2,9 @@
 //!
 //! The words are read by `coll_command_line`; `random_keys` draws the keys that names are looked up under, `files` opens what the
 //! words name, `importing` makes tables and delta files of sources, `explaining` tells why texts compare as they do, `words` sorts
-//! lines, `reviews` tells what statements do to words, and `differences` compares two tables. Here the runs are started, and their
-//! faults are told: a line on standard error, and the exit status, which stands also where that line can't be written.
+//! lines, `reviews` tells what statements do to words, `differences` compares two tables, and `linting` tells all that is wrong with
+//! one, with `reasons` of the system where a file can't be read. Here the runs are started, and their faults are told: a line on
+//! standard error, and the exit status, which stands also where that line can't be written.
 #![tactic(auto)]
 
 ghost use Rattle.std.specs.Prelude.{◌<◌, length, vec_len, IfOk, IfErr, ◌≡◌};
@@ -13,7 +14,9 @@ mod explaining;
 mod files;
 mod importing;
 mod laws;
+mod linting;
 mod random_keys;
+mod reasons;
 mod reviews;
 mod words;
 
@@ -28,6 +31,7 @@ use differences::{read_at, tell_differences};
 use explaining::explain_texts;
 use files::{Input, at_no_line, open_all};
 use importing::{Wanted, import};
+use linting::lint_files;
 use random_keys::random_keys;
 use reviews::review;
 use std::alloc::{AllocError, Global};
@@ -113,6 +117,7 @@ fn do_keyed(
             Ok(name) => serve(rt, keys, files, names, &[name]),
             Err(_) => tell_no_memory(rt),
         },
+        Task::Lint => lint_files(rt, keys, files, names),
         Task::Differences => match tell_differences(rt, keys, files) {
             Ok(status) => status,
             Err(fault) => tell_fault(rt, &fault, names),

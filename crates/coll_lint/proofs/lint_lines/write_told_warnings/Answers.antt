@@ -1,0 +1,21 @@
+-- The second part stands behind the first, or a prefix of the first is written.
+use Rattle.std.proofs.Common.{map, string_bytes, codes}
+use Rattle.std.specs.List.{flat_map}
+use Rattle.coll_devices.proofs.WritingLemmas.{AppendsPrefix-before, Sends-after}
+use Rattle.coll_lint.specs.LintLines.{warning_line, more_line}
+use Rattle.coll_lint.proofs.lint_lines.write_told_warnings.Goals as goal
+
+pub returns-in-Ok-clause-sent : goal.returns-in-Ok-clause-sent
+returns-in-Ok-clause-sent g c =
+    let taken = g.W.Sink.taken in
+    Sends-after (taken c.args.out.now) (taken c.write_warnings.new.out) (taken c.write_more.new.out)
+    (flat_map (warning_line (map string_bytes c.args.names.now)) c.args.lint.now.warnings)
+    (more_line (map string_bytes c.args.names.now) (codes ": more warnings aren't told\n") c.args.lint.now.more_warnings) c.write_more.result
+    c.in-Ok.ensures.sent c.write_more.ensures.sent
+
+pub returns-in-Err-clause-sent : goal.returns-in-Err-clause-sent
+returns-in-Err-clause-sent g c =
+    let taken = g.W.Sink.taken in
+    AppendsPrefix-before (taken c.args.out.now) (taken c.write_warnings.new.out)
+    (flat_map (warning_line (map string_bytes c.args.names.now)) c.args.lint.now.warnings)
+    (more_line (map string_bytes c.args.names.now) (codes ": more warnings aren't told\n") c.args.lint.now.more_warnings) c.in-Err.ensures.sent

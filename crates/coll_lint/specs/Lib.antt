@@ -1,0 +1,3 @@
+pub mod KeptTexts
+pub mod LintLines
+pub mod Lints

@@ -1,0 +1,83 @@
+-- How what a lint tells is written: a line for each fault, and behind them a line for each warning (the project's own).
+use Rattle.std.specs.Prelude.{ℕ, List, [], ◌∷◌, ◌++◌, Option, Some, None, codes, decimal}
+use Rattle.std.specs.List.{flat_map}
+use Rattle.coll_devices.specs.PhysicalLines.{line_feed}
+use Rattle.coll_syntax.specs.declared.identifiers.Id.{Id}
+use Rattle.coll_texts.specs.PrintedParts.{id_bytes, symbol_bytes}
+use Rattle.coll_bench.specs.Faults.{fault_number, fault_name}
+use Rattle.coll_bench.specs.Reports.{named}
+use Rattle.coll_lint.specs.declared.findings.About.{About}
+use Rattle.coll_lint.specs.declared.findings.About.TheVariants as about
+use Rattle.coll_lint.specs.declared.findings.FoundFault.{FoundFault}
+use Rattle.coll_lint.specs.declared.findings.Lint.{Lint}
+use Rattle.coll_lint.specs.declared.foreign_words.ForeignWord.{ForeignWord}
+use Rattle.coll_lint.specs.declared.findings.Warning.{Warning}
+use Rattle.coll_lint.specs.declared.findings.Warning.TheVariants as warning
+use Rattle.coll_lint.specs.declared.findings.WarnedLine.{WarnedLine}
+
+-- a keyword of another dialect, and what to write instead
+abbrev pub word_told : ForeignWord → List ℕ
+word_told word = codes " " ++ (word.theirs.now ++ (codes ": " ++ (word.ours.now ++ line_feed ∷ [])))
+
+-- what to do
+abbrev pub sentence_told : (sentence : List ℕ) → List ℕ
+sentence_told sentence = codes ": " ++ (sentence ++ line_feed ∷ [])
+
+-- an identifier, what to do, and a declared name that is near to it, if one is
+abbrev pub subject_told : (sentence : List ℕ) → Id → (near : Option (List ℕ)) → List ℕ
+subject_told sentence id None = codes " " ++ (id_bytes id ++ sentence_told sentence)
+subject_told sentence id (Some near) =
+    codes " " ++ (id_bytes id ++ (codes ": " ++ (sentence ++ (codes "; is " ++ (symbol_bytes near ++ codes " meant?\n")))))
+
+-- what stands behind the number and the name of a fault: the identifier that it is about, and what to do; or a keyword of another
+-- dialect, and what to write instead
+abbrev pub about_told : (sentence : List ℕ) → About → List ℕ
+about_told sentence about.Nothing = sentence_told sentence
+about_told sentence (about.Id id near) = subject_told sentence id near
+about_told sentence (about.Word word) = word_told word
+
+-- where a fault stands, its number and its name
+abbrev pub fault_head : (names : List (List ℕ)) → FoundFault → List ℕ
+fault_head names found =
+    named names found.fault.input ++ (codes ":" ++ (decimal found.line ++ (codes ": " ++ (decimal (fault_number found.fault.fault)
+    ++ (codes " " ++ fault_name found.fault.fault)))))
+
+-- the line of a fault
+abbrev pub found_line : (names : List (List ℕ)) → FoundFault → List ℕ
+found_line names found = fault_head names found ++ about_told found.sentence.now found.about
+
+-- what a warning says
+abbrev pub warning_told : Warning → List ℕ
+warning_told warning.CopyWithoutEffect =
+    codes "copy has no effect in a delta file: make one of its source by collbench import-delta\n"
+warning_told warning.ScriptWithoutEffect = codes "script has no effect: leave it out\n"
+warning_told (warning.NeverPlaced id) = id_bytes id ++ codes " is declared and never placed: place it, or drop its declaration\n"
+warning_told warning.ChangesNothing = codes "this changes nothing: the table is so already\n"
+warning_told warning.ByteOrderMark = codes "a byte order mark stands at the beginning: save the text without it\n"
+
+-- where a warning belongs
+abbrev pub warning_head : (names : List (List ℕ)) → WarnedLine → List ℕ
+warning_head names warned = named names warned.input ++ (codes ":" ++ (decimal warned.line ++ codes ": warning: "))
+
+-- the line of a warning
+abbrev pub warning_line : (names : List (List ℕ)) → WarnedLine → List ℕ
+warning_line names warned = warning_head names warned ++ warning_told warned.warning
+
+-- the line that says of an input that more isn't told, if there is more
+abbrev pub more_line : (names : List (List ℕ)) → (told : List ℕ) → Option ℕ → List ℕ
+more_line names told None = []
+more_line names told (Some input) = named names input ++ told
+
+-- the lines of faults
+abbrev pub faults_text : (names : List (List ℕ)) → Lint → List ℕ
+faults_text names lint =
+    flat_map (found_line names) lint.faults ++ more_line names (codes ": more faults aren't told\n") lint.more_faults
+
+-- the lines of warnings
+abbrev pub warnings_text : (names : List (List ℕ)) → Lint → List ℕ
+warnings_text names lint =
+    flat_map (warning_line names) lint.warnings ++ more_line names (codes ": more warnings aren't told\n") lint.more_warnings
+
+-- all that is written of what a lint tells: the faults, and then the warnings
+unfoldable pub lint_text : (names : List (List ℕ)) → Lint → List ℕ
+lint_text names lint = faults_text names lint ++ warnings_text names lint

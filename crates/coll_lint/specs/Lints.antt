@@ -1,0 +1,67 @@
+-- What is told of texts: what a batch answers to them says whether they have a fault, and which one is told first (the project's own).
+use Rattle.std.specs.Prelude.{◌≡◌, ◌⊎◌, ◌==◌, ◌||◌, ℕ, Bool, true, false, nat_lt, List, [], ◌∷◌, ◌++◌, length, Option, Some, Result, Ok, Err}
+use Rattle.coll_nodes.specs.Table.{Collation}
+use Rattle.coll_bench.specs.BatchOutcome.{after_inputs}
+use Rattle.coll_bench.specs.Faults.{fault_number}
+use Rattle.coll_bench.specs.Serving.{write_failed}
+use Rattle.coll_bench.specs.declared.faults.RunFault.{RunFault}
+use Rattle.coll_lint.specs.LintLines.{lint_text}
+use Rattle.coll_lint.specs.declared.findings.FoundFault.{FoundFault}
+use Rattle.coll_lint.specs.declared.findings.Lint.{Lint}
+
+-- this fault is told first
+abbrev pub BeginsWith : RunFault → List FoundFault → Type 0
+BeginsWith first faults = (told : FoundFault) × (later : List FoundFault) × (faults ≡ told ∷ later) × (told.fault ≡ first)
+
+-- the faults that are told where texts give a table, and there are none; or where a batch answers a fault, which is told first
+abbrev pub TellsFaults : Result Collation RunFault → List FoundFault → Type 0
+TellsFaults (Ok table) faults = faults ≡ []
+TellsFaults (Err first) faults = BeginsWith first faults
+
+-- what is told of texts
+abbrev pub IsLintOf : (table_text : List ℕ) → (delta_texts : List (List ℕ)) → Lint → Type 0
+IsLintOf table_text delta_texts lint = TellsFaults (after_inputs table_text delta_texts) lint.faults
+
+-- a fault ended a run that is none of the texts: a read failed, or memory was refused
+abbrev pub is_of_no_text : RunFault → Bool
+is_of_no_text ended = (fault_number ended.fault == 67) || (fault_number ended.fault == 70)
+
+-- there is a fault among those that are told
+abbrev pub is_at_fault : Lint → Bool
+is_at_fault lint = nat_lt 0 (length lint.faults)
+
+-- what is told of texts was written, and whether they have a fault is the answer
+abbrev pub WritesLint : (names : List (List ℕ)) → (table_text : List ℕ) → (delta_texts : List (List ℕ)) → (written : List ℕ) → Bool → Type 0
+WritesLint names table_text delta_texts written at_fault =
+    (lint : Lint) × IsLintOf table_text delta_texts lint × (written ≡ lint_text names lint) × (at_fault ≡ is_at_fault lint)
+
+-- what a run did that ended with a fault: nothing is written, and the fault is none of the texts; or a write failed, which leaves a
+-- prefix of what is told
+abbrev pub LintStops : (names : List (List ℕ)) → (table_text : List ℕ) → (delta_texts : List (List ℕ)) → (written : List ℕ) → RunFault → Type 0
+LintStops names table_text delta_texts written ended =
+    ((is_of_no_text ended ≡ true) × (written ≡ []))
+    ⊎ ((ended ≡ write_failed) × (lint : Lint) × (later : List ℕ) × IsLintOf table_text delta_texts lint
+    × (lint_text names lint ≡ written ++ later))
+
+-- what a run wrote, by its answer
+abbrev pub LintRan : (names : List (List ℕ)) → (table_text : List ℕ) → (delta_texts : List (List ℕ)) → (written : List ℕ)
+    → Result Bool RunFault → Type 0
+LintRan names table_text delta_texts written (Ok at_fault) = WritesLint names table_text delta_texts written at_fault
+LintRan names table_text delta_texts written (Err ended) = LintStops names table_text delta_texts written ended
+
+-- the theorem of a lint: whatever the sink took before, what was written and what was answered are as stated for these texts
+abbrev pub LintRuns : (names : List (List ℕ)) → (table_text : List ℕ) → (delta_texts : List (List ℕ)) → (taken taken_after : Option (List ℕ))
+    → Result Bool RunFault → Type 0
+LintRuns names table_text delta_texts taken taken_after r =
+    (before : List ℕ) → taken ≡ Some before
+    → (written : List ℕ) × (taken_after ≡ Some (before ++ written)) × LintRan names table_text delta_texts written r
+
+-- what is told of texts is the answer, or a fault that is none of them
+abbrev pub LintsTexts : (table_text : List ℕ) → (delta_texts : List (List ℕ)) → Result Lint RunFault → Type 0
+LintsTexts table_text delta_texts (Ok lint) = IsLintOf table_text delta_texts lint
+LintsTexts table_text delta_texts (Err ended) = is_of_no_text ended ≡ true
+
+-- what a batch answers to texts, unless the fault is none of them
+abbrev pub JudgesTexts : (table_text : List ℕ) → (delta_texts : List (List ℕ)) → Result (Unit {0}) RunFault → Type 0
+JudgesTexts table_text delta_texts (Ok done) = (table : Collation) × (after_inputs table_text delta_texts ≡ Ok table)
+JudgesTexts table_text delta_texts (Err ended) = is_of_no_text ended ≡ false → after_inputs table_text delta_texts ≡ Err ended

@@ -1,0 +1,61 @@
+//! The fault that a batch answers is told first.
+//!
+//! A survey finds it too, as one of many; there it has what it is about, and in a block its own line. Where a survey hasn't found it, it
+//! is told as the batch answers it.
+
+ghost use Rattle.std.specs.Prelude.{◌≡◌, ◌<◌, length, IfOk, IfSome};
+ghost use Rattle.coll_lint.specs.Lints.{BeginsWith};
+
+use crate::findings::{About, FoundFault};
+use coll_bench::RunFault;
+use std::alloc::AllocError;
+
+/// The faults of a survey with the one that a batch answers first.
+pub(crate) fn with_first(
+    first: RunFault,
+    found: Vec<FoundFault>,
+) -> Result<Vec<FoundFault>, AllocError>
+    ensures { IfOk result (λ faults. BeginsWith first faults.items) }
+{
+    let mut faults = found;
+    let told = match place_of(&first, faults.as_slice()) {
+        Some(place) => told_as(first, faults.remove(place)),
+        None => told_alone(first),
+    };
+    faults.insert(0, told)?;
+    Ok(faults)
+}
+
+// Where the first of these faults stands that has the input, the line and the number of another.
+fn place_of(fault: &RunFault, found: &[FoundFault]) -> Option<usize>
+    ensures { IfSome result (λ place. place < length found.now) }
+{
+    found.iter().position(|other| is_same(fault, &other.fault))
+}
+
+// Whether two faults have the same input, line and number.
+fn is_same(fault: &RunFault, other: &RunFault) -> bool {
+    fault.input == other.input
+        && fault.line == other.line
+        && fault.fault.number() == other.fault.number()
+}
+
+// What is told of a fault that a batch answers, and that a survey found as well.
+fn told_as(first: RunFault, found: FoundFault) -> FoundFault
+    ensures { result.fault ≡ first }
+{
+    let FoundFault {
+        fault: _,
+        line,
+        about,
+        sentence: _,
+    } = found;
+    FoundFault::new(first, line, about)
+}
+
+// What is told of a fault that a batch answers, and that no survey found.
+fn told_alone(first: RunFault) -> FoundFault
+    ensures { result.fault ≡ first }
+{
+    FoundFault::new(first, first.line, About::Nothing)
+}

@@ -1,0 +1,308 @@
+//! How what a lint tells is written, a line for each fault, and behind them a line for each warning.
+
+ghost use Rattle.std.specs.Prelude.{◌≡◌, Some, chars, map, string_bytes};
+ghost use Rattle.std.specs.List.{flat_map};
+ghost use Rattle.coll_devices.specs.Devices.{CountsErr, Sends};
+ghost use Rattle.coll_bench.specs.Reports.{named};
+ghost use Rattle.coll_lint.specs.LintLines.{about_told, fault_head, faults_text, found_line, lint_text, more_line, sentence_told};
+ghost use Rattle.coll_lint.specs.LintLines.{subject_told, warning_head, warning_line, warning_told, warnings_text, word_told};
+
+use crate::findings::{About, FoundFault, Lint, WarnedLine, Warning};
+use crate::foreign_words::ForeignWord;
+use coll_devices::{Sink, WriteStop, write_bytes};
+use coll_lex::TextBuf;
+use coll_syntax::Id;
+use coll_texts::{Piece, write_pieces};
+
+/// Writes what is told, each line with the name of its input. Where it stops, the device has taken a prefix of that.
+#[tactic(auto, unfolding(crate::specs::LintLines::lint_text))]
+pub fn write_lint<W: Sink>(lint: &Lint, names: &[String], out: &mut W) -> Result<(), WriteStop>
+    ensures sent { Sends (W.taken out.old) (W.taken out.new) (lint_text (map string_bytes names.now) lint.now) result }
+    ensures errors { CountsErr (W.failed out.old) (W.failed out.new) result }
+{
+    match write_told_faults(lint, names, out) {
+        Ok(()) => write_told_warnings(lint, names, out),
+        Err(stop) => Err(stop),
+    }
+}
+
+// Writes the faults that are told, and whether there are more.
+fn write_told_faults<W: Sink>(lint: &Lint, names: &[String], out: &mut W) -> Result<(), WriteStop>
+    ensures sent { Sends (W.taken out.old) (W.taken out.new) (faults_text (map string_bytes names.now) lint.now) result }
+    ensures errors { CountsErr (W.failed out.old) (W.failed out.new) result }
+{
+    match write_faults(lint.faults.get(), names, out) {
+        Ok(()) => write_more(lint.more_faults, names, b": more faults aren't told\n", out),
+        Err(stop) => Err(stop),
+    }
+}
+
+// Writes the warnings that are told, and whether there are more.
+fn write_told_warnings<W: Sink>(lint: &Lint, names: &[String], out: &mut W) -> Result<(), WriteStop>
+    ensures sent { Sends (W.taken out.old) (W.taken out.new) (warnings_text (map string_bytes names.now) lint.now) result }
+    ensures errors { CountsErr (W.failed out.old) (W.failed out.new) result }
+{
+    match write_warnings(lint.warnings.get(), names, out) {
+        Ok(()) => write_more(
+            lint.more_warnings,
+            names,
+            b": more warnings aren't told\n",
+            out,
+        ),
+        Err(stop) => Err(stop),
+    }
+}
+
+// Writes faults.
+fn write_faults<W: Sink>(
+    faults: &[FoundFault],
+    names: &[String],
+    out: &mut W,
+) -> Result<(), WriteStop>
+    ensures sent { Sends (W.taken out.old) (W.taken out.new) (flat_map (found_line (map string_bytes names.now)) faults.now) result }
+    ensures errors { CountsErr (W.failed out.old) (W.failed out.new) result }
+{
+    for found in faults {
+        // Not `?`: behind its conversion this exit would need a lemma.
+        if let Err(stop) = write_found(found, names, out) {
+            return Err(stop);
+        }
+    }
+    Ok(())
+}
+
+// Writes a fault.
+fn write_found<W: Sink>(found: &FoundFault, names: &[String], out: &mut W) -> Result<(), WriteStop>
+    ensures sent { Sends (W.taken out.old) (W.taken out.new) (found_line (map string_bytes names.now) found.now) result }
+    ensures errors { CountsErr (W.failed out.old) (W.failed out.new) result }
+{
+    match write_head(found, names, out) {
+        Ok(()) => write_about(found.sentence, &found.about, out),
+        Err(stop) => Err(stop),
+    }
+}
+
+// Writes where a fault stands, its number and its name.
+fn write_head<W: Sink>(found: &FoundFault, names: &[String], out: &mut W) -> Result<(), WriteStop>
+    ensures sent { Sends (W.taken out.old) (W.taken out.new) (fault_head (map string_bytes names.now) found.now) result }
+    ensures errors { CountsErr (W.failed out.old) (W.failed out.new) result }
+{
+    write_pieces(
+        out,
+        &[
+            Piece::Bytes(name_of(names, found.fault.input).as_bytes()),
+            Piece::Bytes(b":"),
+            Piece::Number(u64::from(found.line)),
+            Piece::Bytes(b": "),
+            Piece::Number(u64::from(found.fault.fault.number())),
+            Piece::Bytes(b" "),
+            Piece::Bytes(found.fault.fault.name().as_bytes()),
+        ],
+    )
+}
+
+// Writes what a fault is about, what to do, and a line feed.
+fn write_about<W: Sink>(sentence: &str, about: &About, out: &mut W) -> Result<(), WriteStop>
+    ensures sent { Sends (W.taken out.old) (W.taken out.new) (about_told sentence.now about.now) result }
+    ensures errors { CountsErr (W.failed out.old) (W.failed out.new) result }
+{
+    match about {
+        About::Nothing => write_sentence(sentence, out),
+        About::Id { id, near } => write_subject(sentence, id, near, out),
+        About::Word(word) => write_word(word, out),
+    }
+}
+
+// Writes what to do, and a line feed.
+fn write_sentence<'a, W: Sink>(sentence: &'a str, out: &mut W) -> Result<(), WriteStop>
+    ensures sent { Sends (W.taken out.old) (W.taken out.new) (sentence_told sentence.now) result }
+    ensures errors { CountsErr (W.failed out.old) (W.failed out.new) result }
+{
+    write_pieces(
+        out,
+        &[
+            Piece::Bytes(b": "),
+            Piece::Bytes(sentence.as_bytes()),
+            Piece::Bytes(b"\n"),
+        ],
+    )
+}
+
+// Writes an identifier, what to do, a name that is near, if one is, and a line feed.
+fn write_subject<'a, W: Sink>(
+    sentence: &'a str,
+    id: &'a Id,
+    near: &'a Option<TextBuf>,
+    out: &mut W,
+) -> Result<(), WriteStop>
+    ensures sent { Sends (W.taken out.old) (W.taken out.new) (subject_told sentence.now id.now near.now) result }
+    ensures errors { CountsErr (W.failed out.old) (W.failed out.new) result }
+{
+    match near {
+        Some(near) => write_with_near(sentence, id, near.get(), out),
+        None => write_pieces(
+            out,
+            &[
+                Piece::Bytes(b" "),
+                Piece::Id(id),
+                Piece::Bytes(b": "),
+                Piece::Bytes(sentence.as_bytes()),
+                Piece::Bytes(b"\n"),
+            ],
+        ),
+    }
+}
+
+// Writes an identifier, what to do, a name that is near, and a line feed.
+fn write_with_near<'a, W: Sink>(
+    sentence: &'a str,
+    id: &'a Id,
+    near: &'a str,
+    out: &mut W,
+) -> Result<(), WriteStop>
+    ensures sent { Sends (W.taken out.old) (W.taken out.new) (subject_told sentence.now id.now (Some (chars near.now))) result }
+    ensures errors { CountsErr (W.failed out.old) (W.failed out.new) result }
+{
+    write_pieces(
+        out,
+        &[
+            Piece::Bytes(b" "),
+            Piece::Id(id),
+            Piece::Bytes(b": "),
+            Piece::Bytes(sentence.as_bytes()),
+            Piece::Bytes(b"; is "),
+            Piece::Symbol(near),
+            Piece::Bytes(b" meant?\n"),
+        ],
+    )
+}
+
+// Writes a keyword of another dialect, what to write instead, and a line feed.
+fn write_word<W: Sink>(word: &ForeignWord, out: &mut W) -> Result<(), WriteStop>
+    ensures sent { Sends (W.taken out.old) (W.taken out.new) (word_told word.now) result }
+    ensures errors { CountsErr (W.failed out.old) (W.failed out.new) result }
+{
+    write_pieces(
+        out,
+        &[
+            Piece::Bytes(b" "),
+            Piece::Bytes(word.theirs.as_bytes()),
+            Piece::Bytes(b": "),
+            Piece::Bytes(word.ours.as_bytes()),
+            Piece::Bytes(b"\n"),
+        ],
+    )
+}
+
+// Writes that more of an input isn't told, if there is more.
+fn write_more<'a, W: Sink>(
+    more: Option<usize>,
+    names: &'a [String],
+    told: &'a [u8],
+    out: &mut W,
+) -> Result<(), WriteStop>
+    ensures sent { Sends (W.taken out.old) (W.taken out.new) (more_line (map string_bytes names.now) told.now more) result }
+    ensures errors { CountsErr (W.failed out.old) (W.failed out.new) result }
+{
+    match more {
+        Some(input) => write_pieces(
+            out,
+            &[
+                Piece::Bytes(name_of(names, input).as_bytes()),
+                Piece::Bytes(told),
+            ],
+        ),
+        None => Ok(()),
+    }
+}
+
+// Writes warnings.
+fn write_warnings<W: Sink>(
+    warnings: &[WarnedLine],
+    names: &[String],
+    out: &mut W,
+) -> Result<(), WriteStop>
+    ensures sent { Sends (W.taken out.old) (W.taken out.new) (flat_map (warning_line (map string_bytes names.now)) warnings.now) result }
+    ensures errors { CountsErr (W.failed out.old) (W.failed out.new) result }
+{
+    for warned in warnings {
+        // Not `?`: behind its conversion this exit would need a lemma.
+        if let Err(stop) = write_warning(warned, names, out) {
+            return Err(stop);
+        }
+    }
+    Ok(())
+}
+
+// Writes a warning.
+fn write_warning<W: Sink>(
+    warned: &WarnedLine,
+    names: &[String],
+    out: &mut W,
+) -> Result<(), WriteStop>
+    ensures sent { Sends (W.taken out.old) (W.taken out.new) (warning_line (map string_bytes names.now) warned.now) result }
+    ensures errors { CountsErr (W.failed out.old) (W.failed out.new) result }
+{
+    match write_warned_place(warned, names, out) {
+        Ok(()) => write_warned(&warned.warning, out),
+        Err(stop) => Err(stop),
+    }
+}
+
+// Writes where a warning belongs.
+fn write_warned_place<W: Sink>(
+    warned: &WarnedLine,
+    names: &[String],
+    out: &mut W,
+) -> Result<(), WriteStop>
+    ensures sent { Sends (W.taken out.old) (W.taken out.new) (warning_head (map string_bytes names.now) warned.now) result }
+    ensures errors { CountsErr (W.failed out.old) (W.failed out.new) result }
+{
+    write_pieces(
+        out,
+        &[
+            Piece::Bytes(name_of(names, warned.input).as_bytes()),
+            Piece::Bytes(b":"),
+            Piece::Number(u64::from(warned.line)),
+            Piece::Bytes(b": warning: "),
+        ],
+    )
+}
+
+// Writes what a warning says, and a line feed.
+fn write_warned<W: Sink>(warning: &Warning, out: &mut W) -> Result<(), WriteStop>
+    ensures sent { Sends (W.taken out.old) (W.taken out.new) (warning_told warning.now) result }
+    ensures errors { CountsErr (W.failed out.old) (W.failed out.new) result }
+{
+    match warning {
+        Warning::CopyWithoutEffect => write_bytes(
+            out,
+            b"copy has no effect in a delta file: make one of its source by collbench import-delta\n",
+        ),
+        Warning::ScriptWithoutEffect => write_bytes(out, b"script has no effect: leave it out\n"),
+        Warning::NeverPlaced(id) => write_pieces(
+            out,
+            &[
+                Piece::Id(id),
+                Piece::Bytes(b" is declared and never placed: place it, or drop its declaration\n"),
+            ],
+        ),
+        Warning::ChangesNothing => {
+            write_bytes(out, b"this changes nothing: the table is so already\n")
+        }
+        Warning::ByteOrderMark => write_bytes(
+            out,
+            b"a byte order mark stands at the beginning: save the text without it\n",
+        ),
+    }
+}
+
+// The name of an input, or no bytes where there is none.
+fn name_of(names: &[String], input: usize) -> &str
+    ensures { result.now ≡ named (map string_bytes names.now) input }
+{
+    match names.get(input) {
+        Some(name) => name.as_str(),
+        None => "",
+    }
+}

@@ -1,0 +1,55 @@
+//! Declared names that may be meant where a name isn't declared.
+
+use crate::findings::{About, FoundFault};
+use coll_advice::nearest_name;
+use coll_lex::TextBuf;
+use coll_syntax::Id;
+use coll_table::Table;
+use std::alloc::{AllocError, Global};
+
+// The number of the fault that is looked at.
+const NOT_DECLARED: u8 = 34;
+
+// Most faults for which a name is looked for, since each of them takes a look at all declared names.
+const MOST_SOUGHT: usize = 20;
+
+/// Gives the first faults that are about a name that isn't declared the declared name that is nearest, where one is near.
+pub(crate) fn seek_near_names(
+    alloc: Global,
+    table: &Table,
+    faults: &mut [FoundFault],
+) -> Result<(), AllocError> {
+    let mut sought = 0;
+    for found in faults.iter_mut() {
+        if sought < MOST_SOUGHT && found.fault.fault.number() == NOT_DECLARED {
+            sought += 1;
+            seek_near(alloc, table, &mut found.about)?;
+        }
+    }
+    Ok(())
+}
+
+// Gives what a fault is about the declared name that is nearest, where one is near.
+fn seek_near(alloc: Global, table: &Table, about: &mut About) -> Result<(), AllocError> {
+    match about {
+        About::Id { id, near } => fill_near(alloc, table, id, near),
+        About::Nothing | About::Word(_) => Ok(()),
+    }
+}
+
+// Gives an identifier the declared name that is nearest, where one is near.
+fn fill_near(
+    alloc: Global,
+    table: &Table,
+    id: &Id,
+    near: &mut Option<TextBuf>,
+) -> Result<(), AllocError> {
+    let Id::Named(name) = id else {
+        return Ok(());
+    };
+    if let Some(found) = nearest_name(table, name.get()) {
+        let found = TextBuf::copied(alloc, found)?;
+        drop(near.replace(found));
+    }
+    Ok(())
+}

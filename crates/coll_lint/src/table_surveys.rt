@@ -1,0 +1,318 @@
+//! A table is surveyed: each of its lines is judged, and those at fault are told and passed over.
+//!
+//! The lines are put to a builder without their weights, so that a line whose weights are at fault still places its entry, and what the
+//! weights name is looked up behind that, in the table that all lines give (`table_weights`). Where the text doesn't end its order or
+//! its category, or gives no rules, the builder is ended here.
+
+ghost use Rattle.std.specs.Prelude.{◌≡◌, true, IfOk};
+ghost use Rattle.coll_lex.specs.Names.{AreTokens};
+ghost use Rattle.coll_nodes.specs.WellFormed.{IsWellFormed};
+ghost use Rattle.coll_syntax.specs.Proper.{IsProperTableLine};
+ghost use Rattle.coll_texts.specs.BuilderStates.{table_of};
+
+use crate::collecting::Collected;
+use crate::findings::{About, Warning};
+use crate::line_surveys::{Opening, TakesLines, survey_lines};
+use crate::subjects::{refused_subject, table_subject};
+use crate::surveyed::Surveyed;
+use crate::table_weights::survey_weights;
+use crate::unplaced::Declarations;
+use coll_bench::Fault;
+use coll_lex::{LexFault, Line, TextBuf};
+use coll_lookups::HashKeys;
+use coll_syntax::{OrderLine, SyntaxFault, TableLine, is_word, parse_table_line};
+use coll_table::Table;
+use coll_texts::{LoadCause, LoadFault, TableBuilder};
+use std::alloc::{AllocError, Global};
+
+// A table that is surveyed.
+#[derive(Drop)]
+struct TableSurvey {
+    alloc: Global,
+    builder: TableBuilder,
+    told: Collected,
+    declarations: Declarations,
+    // Whether an `order_start` was accepted, and so the rules are known.
+    ruled: bool,
+}
+
+/// Surveys a table, which is input 0.
+pub(crate) fn survey_table(
+    alloc: Global,
+    keys: HashKeys,
+    text: &[u8],
+) -> Result<Surveyed, AllocError> {
+    let builder = TableBuilder::new(alloc, keys)?;
+    let mut survey = TableSurvey {
+        alloc,
+        builder,
+        told: Collected::new(alloc, keys, 0),
+        declarations: Declarations::new(alloc, keys),
+        ruled: false,
+    };
+    survey.take_all(text)?;
+    survey.end(text)
+}
+
+impl TableSurvey {
+    // Takes all lines of a text, and tells how it ends where its category doesn't.
+    fn take_all(&mut self, text: &[u8]) -> Result<(), AllocError> {
+        let alloc = self.alloc;
+        match survey_lines(alloc, text, self)? {
+            Some(end) => self.tell_load(LoadFault::from(end), About::Nothing),
+            None => Ok(()),
+        }
+    }
+
+    // Ends a survey of which all lines were taken: the weights of the lines are looked up in the table that they give.
+    fn end(self, text: &[u8]) -> Result<Surveyed, AllocError> {
+        let TableSurvey {
+            alloc,
+            builder,
+            told,
+            declarations,
+            ruled,
+        } = self;
+        match ended_table(builder)? {
+            Some(table) => {
+                let mut told = survey_weights(alloc, text, &table, ruled, told)?;
+                declarations.warn_of_unplaced(&table, &mut told)?;
+                Ok(Surveyed {
+                    told,
+                    table: Some(table),
+                })
+            }
+            None => Ok(Surveyed { told, table: None }),
+        }
+    }
+
+    // Tells a fault of the table.
+    fn tell_load(&mut self, fault: LoadFault, about: About) -> Result<(), AllocError> {
+        self.told
+            .tell(fault.line, fault.line, Fault::Load(fault), about)
+    }
+
+    // Puts a line that the grammar accepts to the builder, and answers whether it ends the category.
+    fn put(&mut self, line: &Line, read: TableLine) -> Result<bool, AllocError>
+        requires { IsProperTableLine read }
+    {
+        if let TableLine::Script = &read {
+            self.told.warn(line.number, Warning::ScriptWithoutEffect)?;
+        }
+        let name = declared_name(&read)?;
+        let starts = begins_order(&read);
+        match self.builder.take(line.number, without_weights(read)) {
+            Ok(ended) => {
+                self.ruled = self.ruled || starts;
+                self.note(line.number, name)?;
+                Ok(ended)
+            }
+            Err(fault) => {
+                drop(name);
+                self.refuse_read(line, fault)
+            }
+        }
+    }
+
+    // Notes what a line declares, if it declares a name.
+    fn note(&mut self, number: u32, name: Option<TextBuf>) -> Result<(), AllocError> {
+        match name {
+            Some(name) => self.declarations.declare(number, name),
+            None => Ok(()),
+        }
+    }
+
+    // Tells a line that the builder refuses, and answers whether it ends the category. It is read once more for what it is about.
+    fn refuse_read(&mut self, line: &Line, fault: LoadFault) -> Result<bool, AllocError>
+        requires { AreTokens line.now.tokens }
+    {
+        if let LoadCause::OutOfMemory = fault.cause {
+            return Err(AllocError);
+        }
+        match parse_table_line(self.alloc, line) {
+            Ok(read) => {
+                let about = table_subject(&read, fault.cause)?;
+                self.tell_load(fault, about)?;
+                if is_for_an_order(&read) {
+                    return self.take_opened(line, fault.cause, read);
+                }
+                Ok(ends_category(&read))
+            }
+            Err(_) => Err(AllocError),
+        }
+    }
+
+    // Opens an order for a line that was refused, so that those behind it aren't refused for want of one, and puts a line to it that was
+    // refused for that alone.
+    fn take_opened(
+        &mut self,
+        line: &Line,
+        cause: LoadCause,
+        read: TableLine,
+    ) -> Result<bool, AllocError>
+        requires { IsProperTableLine read }
+    {
+        self.open();
+        if let LoadCause::OutsideOrder = cause {
+            let about = table_subject(&read, LoadCause::NotDeclared)?;
+            return match self.builder.take(line.number, without_weights(read)) {
+                Ok(ended) => Ok(ended),
+                Err(
+                    LoadFault {
+                        cause: LoadCause::OutOfMemory,
+                        ..
+                    },
+                ) => Err(AllocError),
+                Err(fault) => {
+                    self.tell_load(fault, about)?;
+                    Ok(false)
+                }
+            };
+        }
+        drop(read);
+        Ok(false)
+    }
+
+    // Opens an order, with the rules that stand, if there are any.
+    fn open(&mut self) {
+        let _ = self.builder.take(
+            0,
+            TableLine::OrderStart {
+                section: None,
+                rules: None,
+            },
+        );
+    }
+}
+
+impl TakesLines for TableSurvey {
+    fn take(&mut self, line: &Line, _opening: Opening) -> Result<bool, AllocError> {
+        match parse_table_line(self.alloc, line) {
+            Ok(read) => self.put(line, read),
+            Err(SyntaxFault::OutOfMemory) => Err(AllocError),
+            Err(fault) => {
+                let about = refused_subject(self.alloc, line, fault)?;
+                if begins_with_order_start(line) {
+                    self.open();
+                }
+                let fault = LoadFault {
+                    line: line.number,
+                    cause: LoadCause::Syntax(fault),
+                };
+                self.tell_load(fault, about)?;
+                Ok(false)
+            }
+        }
+    }
+
+    fn refuse(
+        &mut self,
+        number: u32,
+        _opening: Opening,
+        fault: LexFault,
+    ) -> Result<(), AllocError> {
+        let fault = LoadFault {
+            line: number,
+            cause: LoadCause::from(fault),
+        };
+        self.tell_load(fault, About::Nothing)
+    }
+}
+
+// The name that a line declares, if it declares a symbol or an element, in new memory.
+fn declared_name(line: &TableLine) -> Result<Option<TextBuf>, AllocError> {
+    match line {
+        TableLine::Symbol(name) => {
+            let name = name.try_copy()?;
+            Ok(Some(name))
+        }
+        TableLine::Element { name, .. } => {
+            let name = name.try_copy()?;
+            Ok(Some(name))
+        }
+        _ => Ok(None),
+    }
+}
+
+// Whether a line opens an order.
+fn begins_order(line: &TableLine) -> bool {
+    matches!(line, TableLine::OrderStart { .. })
+}
+
+// Whether a line opens an order, or stands in one.
+fn is_for_an_order(line: &TableLine) -> bool {
+    matches!(
+        line,
+        TableLine::OrderStart { .. } | TableLine::Section(_) | TableLine::Order(_)
+    )
+}
+
+// Whether the first token of a line is `order_start`.
+fn begins_with_order_start(line: &Line) -> bool {
+    match line.tokens.get().first() {
+        Some(first) => is_word(first, "order_start"),
+        None => false,
+    }
+}
+
+// Whether a line ends the category.
+fn ends_category(line: &TableLine) -> bool {
+    matches!(line, TableLine::EndCategory)
+}
+
+// A line without the weights that it gives.
+fn without_weights(line: TableLine) -> TableLine
+    requires { IsProperTableLine line }
+    ensures { IsProperTableLine result }
+{
+    match line {
+        TableLine::Order(OrderLine { id, weights }) => {
+            drop(weights);
+            TableLine::Order(OrderLine { id, weights: None })
+        }
+        other => other,
+    }
+}
+
+// The table of a builder that has taken all lines, also where they end no order or no category, or give no rules.
+fn ended_table(mut builder: TableBuilder) -> Result<Option<Table>, AllocError> {
+    if end_builder(&mut builder)? {
+        return Ok(Some(Table::built(builder)));
+    }
+    drop(builder);
+    Ok(None)
+}
+
+// Ends a builder, and answers whether it ended: an order is closed that is open, and rules are given where there are none.
+fn end_builder(builder: &mut TableBuilder) -> Result<bool, AllocError>
+    ensures { IfOk result (λ ended. ended ≡ true → IsWellFormed (table_of builder.new)) }
+{
+    if end_category(builder)? {
+        return Ok(true);
+    }
+    let _ = builder.take(
+        0,
+        TableLine::OrderStart {
+            section: None,
+            rules: None,
+        },
+    );
+    let _ = builder.take(0, TableLine::OrderEnd);
+    end_category(builder)
+}
+
+// Ends the category of a builder, and answers whether it ended.
+fn end_category(builder: &mut TableBuilder) -> Result<bool, AllocError>
+    ensures { IfOk result (λ ended. ended ≡ true → IsWellFormed (table_of builder.new)) }
+{
+    match builder.take(0, TableLine::EndCategory) {
+        Ok(ended) => Ok(ended),
+        Err(
+            LoadFault {
+                cause: LoadCause::OutOfMemory,
+                ..
+            },
+        ) => Err(AllocError),
+        Err(_) => Ok(false),
+    }
+}

@@ -1,0 +1,74 @@
+//! Names that are declared and never placed.
+
+use crate::collecting::Collected;
+use crate::findings::Warning;
+use coll_lex::TextBuf;
+use coll_lookups::{HashKeys, IdSet};
+use coll_syntax::Id;
+use coll_table::Table;
+use std::alloc::{AllocError, Global};
+
+/// A declaration: the number of its line, and its name.
+#[derive(Drop)]
+pub(crate) struct DeclaredAt {
+    pub line: u32,
+    pub name: TextBuf,
+}
+
+/// What was declared, and what stood on order lines.
+#[derive(Drop)]
+pub(crate) struct Declarations {
+    // What was declared, in order.
+    declared: Vec<DeclaredAt>,
+    // The identifiers that order lines had, by own names, also of lines at fault.
+    mentioned: IdSet,
+}
+
+impl Declarations {
+    /// Nothing declared yet.
+    pub fn new(alloc: Global, keys: HashKeys) -> Declarations {
+        Declarations {
+            declared: Vec::new(alloc),
+            mentioned: IdSet::new(alloc, keys),
+        }
+    }
+
+    /// Notes a name that a line declares.
+    pub fn declare(&mut self, line: u32, name: TextBuf) -> Result<(), AllocError> {
+        self.declared.push(DeclaredAt { line, name })?;
+        Ok(())
+    }
+
+    /// Notes the identifier of an order line.
+    pub fn mention(&mut self, id: &Id) -> Result<(), AllocError> {
+        self.mentioned.insert(id)
+    }
+
+    /// Warns of the names that were declared and that neither have an entry nor stood on an order line.
+    pub fn warn_of_unplaced(self, table: &Table, told: &mut Collected) -> Result<(), AllocError> {
+        let Declarations {
+            declared,
+            mentioned,
+        } = self;
+        warn_of_each(declared, &mentioned, table, told)?;
+        Ok(())
+    }
+}
+
+// Warns of those names that have no entry and stood on no order line.
+fn warn_of_each(
+    declared: Vec<DeclaredAt>,
+    mentioned: &IdSet,
+    table: &Table,
+    told: &mut Collected,
+) -> Result<(), AllocError> {
+    for DeclaredAt { line, name } in declared {
+        let id = Id::Named(name);
+        if table.entry(&id).is_none() && !mentioned.contains(&id) {
+            told.warn(line, Warning::NeverPlaced(id))?;
+        } else {
+            drop(id);
+        }
+    }
+    Ok(())
+}

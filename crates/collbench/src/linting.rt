@@ -1,0 +1,147 @@
+//! All that is wrong with a table, or with a delta file for it, is told on standard output.
+//!
+//! Both files are opened before any is read, and read whole before anything is written. What ends a run before that, a device or lack of
+//! memory, is told on standard error as for the other subcommands, with the reason of the system where it gives one.
+
+ghost use Rattle.std.specs.Prelude.{◌≡◌, ◌<◌, length};
+
+use crate::files::at_no_line;
+use crate::reasons::{Reasoned, reason_words};
+use crate::{Output, standard_output};
+use coll_bench::{Fault, RunFault, exit_status};
+use coll_lex::{ReadStop, Sink, WriteStop};
+use coll_lint::{keep_text, lint};
+use coll_table::HashKeys;
+use std::fs::File;
+use std::io::ErrorKind;
+use std::process::ExitCode;
+
+// The exit status where a text has a fault.
+const AT_FAULT: u8 = 1;
+
+// What reading and writing came to: whether there is a fault, or what ended the run, and why.
+type Linted = Result<bool, Refused>;
+
+// What ended a run, with the reason of the system where it gave one.
+#[derive(Drop)]
+struct Refused {
+    fault: RunFault,
+    reason: Option<ErrorKind>,
+}
+
+/// Tells all that is wrong with the table in the first of these files, and with the delta file in the second, if there is one.
+pub(crate) fn lint_files(
+    rt: &HostRuntime,
+    keys: HashKeys,
+    files: &[&str],
+    names: &[String],
+) -> ExitCode
+    requires some { 0 < length files.now }
+    requires names { length names.now ≡ length files.now }
+{
+    match open_and_lint(rt, keys, files, names) {
+        Ok(true) => ExitCode::from(AT_FAULT),
+        Ok(false) => ExitCode::SUCCESS,
+        Err(refused) => tell_refused(rt, &refused, names),
+    }
+}
+
+// Tells what ended a run on standard error, and answers the exit status.
+fn tell_refused(rt: &HostRuntime, refused: &Refused, names: &[String]) -> ExitCode {
+    let name = match names.get(refused.fault.input) {
+        Some(name) => name.as_str(),
+        None => "-",
+    };
+    let line = refused.fault.line;
+    let fault = refused.fault.fault;
+    let _ = match refused.reason {
+        Some(reason) => {
+            let words = reason_words(reason);
+            eprintln!(rt; "{name}:{line}: {fault}: {words}")
+        }
+        None => eprintln!(rt; "{name}:{line}: {fault}"),
+    };
+    ExitCode::from(exit_status(&fault))
+}
+
+// Opens the files and reads them, and tells all that is wrong with them.
+fn open_and_lint(rt: &HostRuntime, keys: HashKeys, files: &[&str], names: &[String]) -> Linted
+    requires { 0 < length files.now }
+{
+    let mut table = open(rt, 0, files[0])?;
+    match files.get(1) {
+        Some(file) => {
+            let mut delta = open(rt, 1, *file)?;
+            let table = keep(rt, 0, &mut table)?;
+            let delta = keep(rt, 1, &mut delta)?;
+            lint_to_standard_output(rt, keys, table.as_slice(), Some(delta.as_slice()), names)
+        }
+        None => {
+            let table = keep(rt, 0, &mut table)?;
+            lint_to_standard_output(rt, keys, table.as_slice(), None, names)
+        }
+    }
+}
+
+// Opens the file of an input.
+fn open(rt: &HostRuntime, input: usize, name: &str) -> Result<Reasoned<File>, Refused> {
+    match File::open(rt, name) {
+        Ok(file) => Ok(Reasoned::new(file)),
+        Err(error) => Err(Refused {
+            fault: at_no_line(input, Fault::Read(ReadStop::ReadFault)),
+            reason: Some(error.kind()),
+        }),
+    }
+}
+
+// Reads the file of an input whole.
+fn keep(rt: &HostRuntime, input: usize, source: &mut Reasoned<File>) -> Result<Vec<u8>, Refused> {
+    match keep_text(rt.alloc(), input, source) {
+        Ok(text) => Ok(text),
+        Err(fault) => Err(Refused {
+            fault,
+            reason: source.reason(),
+        }),
+    }
+}
+
+// Tells all that is wrong with a text on standard output.
+fn lint_to_standard_output(
+    rt: &HostRuntime,
+    keys: HashKeys,
+    table: &[u8],
+    delta: Option<&[u8]>,
+    names: &[String],
+) -> Linted {
+    match standard_output(rt) {
+        Ok(mut output) => unexplained(lint_to(rt, keys, table, delta, names, &mut output)),
+        Err(fault) => unexplained(Err(fault)),
+    }
+}
+
+// Tells all that is wrong with texts. What was written has left the buffer in the end; where that fails, it is the fault.
+fn lint_to(
+    rt: &HostRuntime,
+    keys: HashKeys,
+    table: &[u8],
+    delta: Option<&[u8]>,
+    names: &[String],
+    output: &mut Output,
+) -> Result<bool, RunFault> {
+    let told = lint(rt.alloc(), keys, table, delta, names, output);
+    match output.flush() {
+        Ok(()) => told,
+        Err(_) => Err(at_no_line(0, Fault::Write(WriteStop::WriteFault))),
+    }
+}
+
+// What reading and writing came to, without a reason of the system.
+fn unexplained(told: Result<bool, RunFault>) -> Linted {
+    match told {
+        Ok(at_fault) => Ok(at_fault),
+        Err(fault) => Err(Refused {
+            fault,
+            reason: None,
+        }),
+    }
+}
