@@ -69,6 +69,19 @@ And last:
 
 A source with `copy` goes through `collbench import-delta` first: in a delta file `copy` has no effect.";
 
+// What help says last of the subcommand that serves a person.
+const EDITED: &str = "The statements of the delta files are the first of the history. Each line of a session is answered as there, on standard
+output, and what a refusal says is told on standard error. Beside them:
+  :show <U0061>       an entry with its rank, weights and section, and three neighbours on each side
+  :explain a A        why two texts compare as they do; texts without blanks need no quotes here, nor for :key and :compare
+  :delta              the statements that remain, as the text of a delta file
+  :write new.txt      the same, into a new file
+  :words words.txt    the words of a file in the order now, with * before those whose neighbours the last statement changed
+  :help, :help 34     what may be typed; the fault with a number, and what to do
+  :quit               the end
+
+A source with `copy` goes through `collbench import-delta` first: in a delta file `copy` has no effect.";
+
 const EXAMPLES: &str = "Examples:
   collbench check base.txt                     table entries 9 declared 3 sections 2 levels 4
   collbench print base.txt c_behind_a.txt      the table, in which c goes behind a
@@ -80,12 +93,13 @@ const EXAMPLES: &str = "Examples:
   collbench sort base.txt < words.txt          the words, one a line, in the order of the table
   collbench review base.txt c_behind_a.txt words.txt  which neighbours among the words each statement parts and joins
   collbench session base.txt < lines.txt       a reply to each line
+  collbench edit base.txt                      a session for a person; :help says what may be typed
   collbench diff base.txt other.txt            same, or a line for each difference
   collbench import iso14651_t1 > common.txt    the table of a published source
   collbench import-delta common.txt sv_SE      the delta file of a published tailoring, for that table";
 
 // The subcommands that work on a table or make one, in the order in which help tells them.
-const SUBCOMMANDS: [Subcommand; 13] = [
+const SUBCOMMANDS: [Subcommand; 14] = [
     Subcommand::Check,
     Subcommand::Print,
     Subcommand::Export,
@@ -96,6 +110,7 @@ const SUBCOMMANDS: [Subcommand; 13] = [
     Subcommand::Sort,
     Subcommand::Review,
     Subcommand::Session,
+    Subcommand::Edit,
     Subcommand::Diff,
     Subcommand::Import,
     Subcommand::ImportDelta,
@@ -124,6 +139,8 @@ pub enum Subcommand {
     Review,
     /// Serves a session over a table.
     Session,
+    /// Serves a person over a table.
+    Edit,
     /// Tells what differs between two tables.
     Diff,
     /// Makes a table of a published source.
@@ -145,6 +162,8 @@ pub enum Task {
     Review,
     /// It is read, and a session over it is served.
     Session,
+    /// It is read, rewritten by delta files as the first statements of a history, and a person is served over it.
+    Edit,
     /// It is read, then another, and what differs between them is told.
     Differences,
     /// A source is read, where these names are defined, and the table that is made of it is printed.
@@ -293,6 +312,9 @@ fn taking<'a>(alloc: Global, subcommand: Subcommand) -> Result<Command<'a>, Allo
         Subcommand::Explain => Ok(over_two_texts(alloc, subcommand)?.after_help(EXPLAINED)),
         Subcommand::Review => over_words(alloc, subcommand),
         Subcommand::Session => over_table(alloc, subcommand),
+        Subcommand::Edit => Ok(over_table(alloc, subcommand)?
+            .after_help(EDITED)
+            .arg(deltas(alloc))?),
         Subcommand::Diff => over_two_tables(alloc, subcommand),
         Subcommand::Import => over_source(alloc, subcommand),
         Subcommand::ImportDelta => over_table_and_source(alloc, subcommand),
@@ -502,6 +524,7 @@ fn task_of(
         (Subcommand::Sort, _) => return Ok(Some(Task::Sort)),
         (Subcommand::Review, _) => return Ok(Some(Task::Review)),
         (Subcommand::Session, _) => return Ok(Some(Task::Session)),
+        (Subcommand::Edit, _) => return Ok(Some(Task::Edit)),
         (Subcommand::Diff, _) => return Ok(Some(Task::Differences)),
         (Subcommand::Import, _) => return Ok(Some(Task::Import(copied_texts(alloc, texts)?))),
         (Subcommand::ImportDelta, _) => return Ok(Some(Task::ImportDelta(copied_texts(
@@ -554,6 +577,7 @@ impl Subcommand {
             Subcommand::Sort => "sort",
             Subcommand::Review => "review",
             Subcommand::Session => "session",
+            Subcommand::Edit => "edit",
             Subcommand::Diff => "diff",
             Subcommand::Import => "import",
             Subcommand::ImportDelta => "import-delta",
@@ -585,6 +609,7 @@ impl Subcommand {
             Subcommand::Session => {
                 "Reads the lines of a session from standard input, and replies to each"
             }
+            Subcommand::Edit => "Edits a table with a person, and replies to each line",
             Subcommand::Diff => {
                 "Tells what differs between two tables, a line each; the exit status is 1 where anything does"
             }
@@ -613,6 +638,7 @@ impl Subcommand {
             "sort" => Some(Subcommand::Sort),
             "review" => Some(Subcommand::Review),
             "session" => Some(Subcommand::Session),
+            "edit" => Some(Subcommand::Edit),
             "diff" => Some(Subcommand::Diff),
             "import" => Some(Subcommand::Import),
             "import-delta" => Some(Subcommand::ImportDelta),

@@ -2,7 +2,7 @@
 //!
 //! `command_line` reads the words, `random_keys` draws the keys that names are looked up under, `files` opens what the words name,
 //! `importing` makes tables and delta files of sources, `explaining` tells why texts compare as they do, `words` sorts lines,
-//! `reviews` tells what statements do to words, and `differences` compares two tables. Here the runs are started, and their faults
+//! `reviews` tells what statements do to words, `editing` serves a person, and `differences` compares two tables. Here the runs are started, and their faults
 //! are told: a line on standard error, and the exit status, which stands also where that line can't be written.
 #![tactic(auto)]
 
@@ -10,6 +10,7 @@ ghost use Rattle.std.specs.Prelude.{◌<◌, length, vec_len, IfOk, IfErr, ◌�
 
 mod command_line;
 mod differences;
+mod editing;
 mod explaining;
 mod files;
 mod importing;
@@ -26,6 +27,7 @@ use coll_lex::{Counted, LexFault, ReadStop, Sink, TextBuf, WriteStop};
 use coll_table::{HashKeys, Table};
 use command_line::{Request, Task, Unasked, read_words};
 use differences::{read_at, tell_differences};
+use editing::edit;
 use explaining::explain_texts;
 use files::{Input, at_no_line, open_all};
 use importing::{Wanted, import};
@@ -114,6 +116,7 @@ fn do_keyed(
             Ok(name) => serve(rt, keys, files, names, &[name]),
             Err(_) => tell_no_memory(rt),
         },
+        Task::Edit => edit(rt, keys, files, names),
         Task::Differences => match tell_differences(rt, keys, files) {
             Ok(status) => status,
             Err(fault) => tell_fault(rt, &fault, names),
