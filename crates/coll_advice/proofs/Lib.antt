@@ -1,0 +1,4 @@
+pub mod BlockLines
+pub mod FoundRefusals
+pub mod LookUps
+pub mod SectionTests

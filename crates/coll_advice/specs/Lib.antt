@@ -1,0 +1,4 @@
+pub mod AdviceLines
+pub mod FaultNumbers
+pub mod Faults
+pub mod LineFaults

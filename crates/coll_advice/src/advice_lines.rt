@@ -1,6 +1,11 @@
 //! What is written of a fault behind its number and name.
 //!
-//! The identifier that it is about, what to do, and a name that is near: ` <d-z>: declare it with collating-symbol; is <dz> meant?`.
+//! The identifier that it is about, what to do, and a name that is near: ` <d-z>: declare it with collating-symbol; is <dz> meant?`
+//! (`specs/AdviceLines.antt`). The sentence is a row of `sentences`.
+
+ghost use Rattle.std.specs.Prelude.{◌≡◌, option_copied, option_map, chars};
+ghost use Rattle.coll_devices.specs.Devices.{CountsErr, Sends};
+ghost use Rattle.coll_advice.specs.AdviceLines.{SendsAdvice, advice_line, near_bytes, sentence_bytes, subject_bytes};
 
 use crate::sentences::advice_of;
 use coll_devices::{Sink, WriteStop};
@@ -14,33 +19,63 @@ pub fn write_advice<W: Sink>(
     number: u8,
     id: Option<&Id>,
     near: Option<&str>,
-) -> Result<(), WriteStop> {
+) -> Result<(), WriteStop>
+    ensures sent { SendsAdvice (W.taken out.old) (W.taken out.new) number (option_copied id)
+        (option_map (λ name. chars name.now) near) result }
+    ensures errors { CountsErr (W.failed out.old) (W.failed out.new) result }
+{
+    match advice_of(number) {
+        Some(told) => write_told(out, Some(told.sentence), id, near),
+        None => write_told(out, None, id, near),
+    }
+}
+
+// Writes what stands behind the number and name of a fault with this sentence, if there is one.
+fn write_told<W: Sink>(
+    out: &mut W,
+    sentence: Option<&str>,
+    id: Option<&Id>,
+    near: Option<&str>,
+) -> Result<(), WriteStop>
+    ensures sent { Sends (W.taken out.old) (W.taken out.new) (advice_line (option_copied sentence) (option_copied id)
+        (option_map (λ name. chars name.now) near)) result }
+    ensures errors { CountsErr (W.failed out.old) (W.failed out.new) result }
+{
     write_subject(out, id)?;
-    write_sentence(out, number)?;
+    write_sentence(out, sentence)?;
     write_near(out, near)
 }
 
 // Writes the identifier that a fault is about, where it is about one.
-fn write_subject<W: Sink>(out: &mut W, id: Option<&Id>) -> Result<(), WriteStop> {
+fn write_subject<W: Sink>(out: &mut W, id: Option<&Id>) -> Result<(), WriteStop>
+    ensures sent { Sends (W.taken out.old) (W.taken out.new) (subject_bytes (option_copied id)) result }
+    ensures errors { CountsErr (W.failed out.old) (W.failed out.new) result }
+{
     match id {
         Some(id) => write_pieces(out, &[Piece::Bytes(b" "), Piece::Id(id)]),
-        None => Ok(()),
+        None => write_pieces(out, &[]),
     }
 }
 
-// Writes what to do, where a fault has the number.
-fn write_sentence<W: Sink>(out: &mut W, number: u8) -> Result<(), WriteStop> {
-    match advice_of(number) {
-        Some(told) => write_pieces(
+// Writes what to do, where that is told.
+fn write_sentence<W: Sink>(out: &mut W, sentence: Option<&str>) -> Result<(), WriteStop>
+    ensures sent { Sends (W.taken out.old) (W.taken out.new) (sentence_bytes (option_copied sentence)) result }
+    ensures errors { CountsErr (W.failed out.old) (W.failed out.new) result }
+{
+    match sentence {
+        Some(sentence) => write_pieces(
             out,
-            &[Piece::Bytes(b": "), Piece::Bytes(told.sentence.as_bytes())],
+            &[Piece::Bytes(b": "), Piece::Bytes(sentence.as_bytes())],
         ),
-        None => Ok(()),
+        None => write_pieces(out, &[]),
     }
 }
 
 // Writes the near name, where there is one, and a line feed.
-fn write_near<W: Sink>(out: &mut W, near: Option<&str>) -> Result<(), WriteStop> {
+fn write_near<W: Sink>(out: &mut W, near: Option<&str>) -> Result<(), WriteStop>
+    ensures sent { Sends (W.taken out.old) (W.taken out.new) (near_bytes (option_map (λ name. chars name.now) near)) result }
+    ensures errors { CountsErr (W.failed out.old) (W.failed out.new) result }
+{
     match near {
         Some(name) => write_pieces(
             out,

@@ -6,20 +6,23 @@
 //!
 //! - `found`: a fault, with its line and its identifier;
 //! - `identifiers`: identifiers by their own names, and whether they are known and placed;
-//! - `lines`: what is wrong with a line;
-//! - `statements`: all faults of a statement, and the first with a refusal;
+//! - `lines`: what is wrong with an order line (`LineFaults`);
+//! - `blocks` and `statements`: all faults of a statement, and the first with a refusal (`Faults`);
 //! - `sentences`: the name and the sentence of each number;
-//! - `near_names`: the declared name that is nearest to another;
+//! - `near_names` and `edits`: the declared name that is nearest to another;
 //! - `advice_lines`: what is written of a fault behind its number and name.
 #![tactic(auto)]
 
 mod advice_lines;
+mod blocks;
+mod edits;
 mod found;
 mod identifiers;
 mod lines;
 mod near_names;
 mod sentences;
 mod statements;
+mod texts;
 
 pub use advice_lines::write_advice;
 pub use found::Found;

@@ -1,16 +1,25 @@
 //! All faults of a statement.
 //!
-//! A statement that is no block has one at most, the refusal of the table, and it is told what that is about. A block has one for its
-//! target, one for each of its lines, and one for its length.
+//! What a table accepts has none. A statement that is no block has one, the refusal of the table, and it is told what that is about
+//! (`specs/Faults.antt`); a block has those of `blocks`. A new statement is a case of `refused_faults` first.
 
+ghost use Rattle.std.specs.Prelude.{◌≡◌, ◌≢◌, ◌↔◌, [], IsOk, IsTrue, Err, IfOk, is_some};
+ghost use Rattle.coll_lex.specs.Names.{IsName};
+ghost use Rattle.coll_syntax.specs.Identifier.{has_name};
 ghost use Rattle.coll_syntax.specs.Proper.{IsProper};
+ghost use Rattle.coll_syntax.specs.declared.statements.Statement.TheVariants as statement;
+ghost use Rattle.coll_nodes.specs.Table.{section_names};
+ghost use Rattle.coll_nodes.specs.TableLayout.{collation};
+ghost use Rattle.coll_table.specs.Delta.{delta};
+ghost use Rattle.coll_table.specs.declared.refusals.Refusal.TheVariants.{OutOfMemory};
+ghost use Rattle.coll_advice.specs.Faults.{equivalence_name, fault_named, faults, first_with, refused_faults, section_named};
+ghost use Rattle.coll_advice.specs.Faults.{listed};
+ghost use Rattle.coll_advice.specs.LineFaults.{reweight_fault};
 
+use crate::blocks::block_faults;
 use crate::found::Found;
-use crate::identifiers::{is_known, is_placed, own_id};
-use crate::lines::{block_line_fault, weights_fault};
+use crate::lines::find_at_reweight;
 use coll_lex::TextBuf;
-use coll_lookups::IdSet;
-use coll_nodes::MOST_ENTRIES;
 use coll_syntax::{Id, OrderLine, Statement};
 use coll_table::{Refusal, Table};
 use std::alloc::{AllocError, Global};
@@ -18,26 +27,46 @@ use std::alloc::{AllocError, Global};
 /// All faults of a statement over a table: of a block that of its target first, then at most one for each line, in order, and last that
 /// it has too many entries; of any other statement one at most. There is none exactly where the table accepts the statement.
 ///
-/// Of any other statement than a block the fault is the table's refusal. Of a block the first fault found is, too, but where a line has
-/// a fault in its weights, and a later line one of its own, or the block too many entries: a table looks at the weights last.
+/// What the table refuses a statement with is among them. It is the first, but of a block in which a line has a fault in its weights,
+/// and a later line one of its own, or the block too many entries: a table looks at the weights last. An identifier is told as the
+/// statement names it, and where a name that is declared already, or a string, is declared again, it is the name in the statement.
 pub fn faults_of(
     alloc: Global,
     table: &Table,
     statement: &Statement,
 ) -> Result<Vec<Found>, AllocError>
     requires proper { IsProper statement.now }
+    ensures faults { IfOk result (λ found. found.items ≡ faults (collation table.now) statement.now) }
+    ensures accepted { IfOk result (λ found. (found.items ≡ []) ↔ IsOk (delta (collation table.now) statement.now)) }
 {
-    let mut found = Vec::new(alloc);
-    match statement {
-        Statement::Block { target, lines } => {
-            find_in_block(alloc, table, target, lines.get(), &mut found)?
-        }
-        _ => find_single(alloc, table, statement, &mut found)?,
+    match table.check(statement) {
+        Ok(()) => Ok(Vec::new(alloc)),
+        Err(refusal) => faults_behind(alloc, table, statement, refusal),
     }
+}
+
+// The faults of a statement that was refused so; none are told where memory was refused.
+fn faults_behind(
+    alloc: Global,
+    table: &Table,
+    statement: &Statement,
+    refusal: Refusal,
+) -> Result<Vec<Found>, AllocError>
+    requires proper { IsProper statement.now }
+    requires refused { refusal ≢ OutOfMemory → delta (collation table.now) statement.now ≡ Err refusal }
+    ensures faults { IfOk result (λ found. found.items ≡ faults (collation table.now) statement.now) }
+    ensures accepted { IfOk result (λ found. (found.items ≡ []) ↔ IsOk (delta (collation table.now) statement.now)) }
+{
+    if refusal.number() == Refusal::OutOfMemory.number() {
+        return Err(AllocError);
+    }
+    table.lemma_well_formed();
+    let found = refused_faults(alloc, table, statement, refusal)?;
     Ok(found)
 }
 
-/// What a statement that was refused is about: the first fault found that has this refusal.
+/// What a statement that was refused is about: the first fault found that has this refusal. It is found where the refusal is that of
+/// the table.
 pub fn subject_of(
     alloc: Global,
     table: &Table,
@@ -45,203 +74,134 @@ pub fn subject_of(
     refusal: Refusal,
 ) -> Result<Option<Found>, AllocError>
     requires proper { IsProper statement.now }
+    ensures first { IfOk result (λ found. found ≡ first_with refusal (faults (collation table.now) statement.now)) }
+    ensures told { IfOk result (λ found. delta (collation table.now) statement.now ≡ Err refusal → IsTrue (is_some found)) }
 {
+    table.lemma_well_formed();
     let found = faults_of(alloc, table, statement)?;
-    let mut subject = None;
-    for fault in found {
-        if subject.is_none() && fault.refusal == refusal {
-            subject = Some(fault);
-        }
-    }
+    let copied = first_copied(found.as_slice(), refusal);
+    drop(found);
+    let subject = copied?;
     Ok(subject)
 }
 
-// Finds the faults of a block.
-fn find_in_block(
-    alloc: Global,
-    table: &Table,
-    target: &Id,
-    lines: &[OrderLine],
-    found: &mut Vec<Found>,
-) -> Result<(), AllocError> {
-    let mut all = IdSet::new(alloc, table.hash_keys());
-    insert_own(alloc, table, &mut all, target)?;
-    for line in lines {
-        insert_own(alloc, table, &mut all, &line.id)?;
-    }
-    find_at_target(alloc, table, target, found)?;
-    find_in_lines(alloc, table, target, &all, lines, found)?;
-    if added_len(alloc, table, lines)? > MOST_ENTRIES - table.len() {
-        found.push(Found {
-            line: None,
-            refusal: Refusal::Full,
-            id: None,
-        })?;
-    }
-    Ok(())
-}
-
-// The number of lines whose identifiers aren't placed yet.
-fn added_len(alloc: Global, table: &Table, lines: &[OrderLine]) -> Result<usize, AllocError> {
-    let mut added = 0;
-    for line in lines {
-        if !stands(alloc, table, &line.id)? {
-            added += 1;
+// A copy of the first of these faults that has a refusal.
+fn first_copied(found: &[Found], refusal: Refusal) -> Result<Option<Found>, AllocError>
+    ensures { IfOk result (λ copy. copy ≡ first_with refusal found.now) }
+{
+    for fault in found {
+        if fault.refusal.number() == refusal.number() {
+            let copy = fault.clone()?;
+            return Ok(Some(copy));
         }
     }
-    Ok(added)
+    Ok(None)
 }
 
-// Whether an identifier stands in a table by its own name.
-fn stands(alloc: Global, table: &Table, id: &Id) -> Result<bool, AllocError> {
-    match own_id(alloc, table, id)? {
-        Some(own) => Ok(is_placed(table, &own)),
-        None => Ok(is_placed(table, id)),
-    }
-}
-
-// Puts an identifier by its own name into a set.
-fn insert_own(alloc: Global, table: &Table, set: &mut IdSet, id: &Id) -> Result<(), AllocError> {
-    match own_id(alloc, table, id)? {
-        Some(own) => set.insert(&own),
-        None => set.insert(id),
-    }
-}
-
-// Finds the fault of a target.
-fn find_at_target(
-    alloc: Global,
-    table: &Table,
-    target: &Id,
-    found: &mut Vec<Found>,
-) -> Result<(), AllocError> {
-    if stands(alloc, table, target)? {
-        return Ok(());
-    }
-    let id = target.clone()?;
-    found.push(Found {
-        line: None,
-        refusal: Refusal::TargetNotPlaced,
-        id: Some(id),
-    })?;
-    Ok(())
-}
-
-// Finds the faults of lines of a block.
-fn find_in_lines(
-    alloc: Global,
-    table: &Table,
-    target: &Id,
-    all: &IdSet,
-    lines: &[OrderLine],
-    found: &mut Vec<Found>,
-) -> Result<(), AllocError> {
-    let mut before = IdSet::new(alloc, table.hash_keys());
-    insert_own(alloc, table, &mut before, target)?;
-    for (number, line) in lines.iter().enumerate() {
-        if let Some((refusal, id)) = block_line_fault(alloc, table, &before, all, line)? {
-            let id = id.clone()?;
-            found.push(Found {
-                line: Some(number),
-                refusal,
-                id: Some(id),
-            })?;
-        }
-        insert_own(alloc, table, &mut before, &line.id)?;
-    }
-    Ok(())
-}
-
-// Finds the fault of a statement that is no block.
-fn find_single(
+// The faults of a statement that is refused so.
+fn refused_faults(
     alloc: Global,
     table: &Table,
     statement: &Statement,
-    found: &mut Vec<Found>,
-) -> Result<(), AllocError> {
-    let Err(refusal) = table.check(statement) else {
-        return Ok(());
-    };
-    if refusal == Refusal::OutOfMemory {
-        return Err(AllocError);
+    refusal: Refusal,
+) -> Result<Vec<Found>, AllocError>
+    requires proper { IsProper statement.now }
+    ensures { IfOk result (λ found. found.items ≡ refused_faults (collation table.now) statement.now refusal) }
+{
+    match statement {
+        Statement::Symbol(name) => fault_named(alloc, refusal, name),
+        Statement::Element { name, .. } => fault_named(alloc, refusal, name),
+        Statement::Equivalence { name, symbol } => {
+            equivalence_fault(alloc, refusal, name, symbol)
+        }
+        Statement::Block { target, lines } => {
+            block_faults(alloc, table, target, lines.get(), refusal)
+        }
+        Statement::SectionAfter { moved, after } => {
+            section_fault(alloc, table, refusal, moved, after)
+        }
+        Statement::Reweight(line) => reweight_faults(alloc, table, line),
     }
-    let id = subject(alloc, table, statement, refusal)?;
+}
+
+// A fault about a name.
+fn fault_named(alloc: Global, refusal: Refusal, name: &TextBuf) -> Result<Vec<Found>, AllocError>
+    ensures { IfOk result (λ found. found.items ≡ fault_named refusal name.now) }
+{
+    let name = name.try_copy()?;
+    let mut found = Vec::new(alloc);
     found.push(Found {
         line: None,
         refusal,
-        id,
+        id: Some(Id::Named(name)),
     })?;
-    Ok(())
+    Ok(found)
 }
 
-// What a refusal of a statement that is no block is about.
-fn subject(
+// The fault of a second name.
+fn equivalence_fault(
     alloc: Global,
-    table: &Table,
-    statement: &Statement,
     refusal: Refusal,
-) -> Result<Option<Id>, AllocError> {
-    match statement {
-        Statement::Symbol(name) => named(name),
-        Statement::Element { name, .. } => named(name),
-        Statement::Equivalence { name, symbol } => match refusal {
-            Refusal::NotDeclared | Refusal::NotASymbol => named(symbol),
-            _ => named(name),
-        },
-        Statement::SectionAfter { moved, after } => {
-            section_subject(alloc, table, moved, after, refusal)
-        }
-        Statement::Reweight(line) => line_subject(alloc, table, line),
-        Statement::Block { target, .. } => {
-            let id = target.clone()?;
-            Ok(Some(id))
-        }
+    name: &TextBuf,
+    symbol: &TextBuf,
+) -> Result<Vec<Found>, AllocError>
+    ensures { IfOk result (λ found. found.items ≡ fault_named refusal (equivalence_name refusal name.now symbol.now)) }
+{
+    if refusal.number() == Refusal::NotDeclared.number() {
+        return fault_named(alloc, refusal, symbol);
     }
+    if refusal.number() == Refusal::NotASymbol.number() {
+        return fault_named(alloc, refusal, symbol);
+    }
+    fault_named(alloc, refusal, name)
 }
 
-// A name as an identifier.
-fn named(name: &TextBuf) -> Result<Option<Id>, AllocError> {
-    let name = name.try_copy()?;
-    Ok(Some(Id::Named(name)))
-}
-
-// Which section a refusal is about: the first that isn't there.
-fn section_subject(
+// The fault of a section that is to be moved.
+fn section_fault(
     alloc: Global,
     table: &Table,
+    refusal: Refusal,
     moved: &TextBuf,
     after: &TextBuf,
-    refusal: Refusal,
-) -> Result<Option<Id>, AllocError> {
-    if refusal == Refusal::NoSuchSection && has_section(table, moved)? {
-        return named(after);
-    }
-    named(moved)
-}
-
-// Whether a section has a name: then a table refuses to move it after itself.
-fn has_section(table: &Table, name: &TextBuf) -> Result<bool, AllocError> {
-    let moved = name.try_copy()?;
-    let after = name.try_copy()?;
-    let statement = Statement::SectionAfter { moved, after };
-    match table.check(&statement) {
-        Err(Refusal::SectionAfterItself) => Ok(true),
-        Err(Refusal::OutOfMemory) => Err(AllocError),
-        _ => Ok(false),
-    }
-}
-
-// Which identifier of an order line outside of a block a refusal is about: one in its weights, or its own.
-fn line_subject(alloc: Global, table: &Table, line: &OrderLine) -> Result<Option<Id>, AllocError> {
-    let none = IdSet::new(alloc, table.hash_keys());
-    let placed = stands(alloc, table, &line.id)?;
-    let _ = is_known;
-    if placed {
-        if let Some((_, id)) = weights_fault(alloc, table, &none, line)? {
-            let id = id.clone()?;
-            return Ok(Some(id));
+) -> Result<Vec<Found>, AllocError>
+    requires proper { IsProper (statement.SectionAfter moved.now after.now) }
+    ensures { IfOk result (λ found. found.items
+        ≡ fault_named refusal (section_named (collation table.now) refusal moved.now after.now)) }
+{
+    if refusal.number() == Refusal::NoSuchSection.number() {
+        if has_section(table, moved)? {
+            return fault_named(alloc, refusal, after);
         }
     }
-    let id = line.id.clone()?;
-    Ok(Some(id))
+    fault_named(alloc, refusal, moved)
+}
+
+// Whether a section has a name: then a table refuses to move it after itself, and else that it isn't there.
+fn has_section(table: &Table, name: &TextBuf) -> Result<bool, AllocError>
+    requires proper { IsName name.now }
+    ensures { IfOk result (λ has. has ≡ has_name (section_names (collation table.now).sections) name.now) }
+{
+    let moved = name.try_copy()?;
+    let after = name.try_copy()?;
+    let twice = Statement::SectionAfter { moved, after };
+    let answer = table.check(&twice);
+    drop(twice);
+    match answer {
+        Ok(()) => Ok(true),
+        Err(refusal) => Ok(refusal.number() != Refusal::NoSuchSection.number()),
+    }
+}
+
+// The fault of an order line outside of a block, as a list.
+fn reweight_faults(alloc: Global, table: &Table, line: &OrderLine) -> Result<Vec<Found>, AllocError>
+    ensures { IfOk result (λ found. found.items ≡ listed (reweight_fault (collation table.now) line.now)) }
+{
+    let mut found = Vec::new(alloc);
+    match find_at_reweight(alloc, table, line)? {
+        Some(fault) => {
+            found.push(fault)?;
+            Ok(found)
+        }
+        None => Ok(found),
+    }
 }
