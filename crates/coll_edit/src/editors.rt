@@ -28,7 +28,7 @@ ghost use Rattle.coll_edit.specs.Watching.{device_of};
 use crate::copies::copied_statement;
 use crate::devices::OpensFiles;
 use crate::help::{write_help, write_number_help};
-use crate::messages::{Origin, end_prompt, prompt, tell_line, tell_reason, tell_refusal};
+use crate::messages::{Origin, end_prompt, prompt, tell_refusal};
 use crate::own_lines::{OwnLine, own_line};
 use crate::replies::{flush, write_count, write_failed, write_refusal};
 use crate::showing::write_shown;
@@ -400,19 +400,21 @@ impl Editor {
     ) -> Result<Next, RunFault>
         ensures { IfErr result (λ ended. ended.input ≡ 0) }
     {
-        let wrote = match files.create(name.get()) {
+        match files.create(name.get()) {
             Ok(mut file) => {
                 let wrote = self.write_file(&mut file);
                 drop(file);
-                wrote
+                drop(name);
+                self.reply_written(wrote, output, messages)
             }
             Err(reason) => {
-                tell_reason(messages, name.get(), reason);
-                Err(WriteStop::WriteFault)
+                let fault = Fault::Write(WriteStop::WriteFault);
+                let origin = Origin::Unopened(name.get(), reason);
+                let replied = self.reply_fault(fault, origin, output, messages);
+                drop(name);
+                replied
             }
-        };
-        drop(name);
-        self.reply_written(wrote, output, messages)
+        }
     }
 
     // Writes the statements that remain into a file.
@@ -465,9 +467,11 @@ impl Editor {
                 self.reply_words(name, wrote, output, messages)
             }
             Err(reason) => {
-                tell_reason(messages, name.get(), reason);
+                let fault = Fault::Read(ReadStop::ReadFault);
+                let origin = Origin::Unopened(name.get(), reason);
+                let replied = self.reply_fault(fault, origin, output, messages);
                 drop(name);
-                self.reply_fault(Fault::Read(ReadStop::ReadFault), output, messages)
+                replied
             }
         }
     }
@@ -493,9 +497,10 @@ impl Editor {
                     Err(write_failed(stop))
                 }
                 fault => {
-                    tell_line(messages, name.get(), &ended);
+                    let origin = Origin::File(name.get(), ended.line);
+                    let replied = self.reply_fault(fault, origin, output, messages);
                     drop(name);
-                    self.reply_fault(fault, output, messages)
+                    replied
                 }
             },
         }
@@ -505,13 +510,14 @@ impl Editor {
     fn reply_fault<W: Sink, M: Sink>(
         &self,
         fault: Fault,
+        origin: Origin<'_>,
         output: &mut Watched<W>,
         messages: &mut M,
     ) -> Result<Next, RunFault>
         ensures { IfErr result (λ ended. ended.input ≡ 0) }
     {
         let replied = write_refusal(output, fault);
-        self.tell_told(output, messages, Origin::Here);
+        self.tell_told(output, messages, origin);
         match replied {
             Ok(()) => Ok(Next::Line),
             Err(stop) => Err(write_failed(stop)),

@@ -53,11 +53,11 @@ pub(crate) fn write_number_help<W: Sink>(out: &mut W, number: &str) -> Result<()
 }
 
 // Writes a number, the name of its fault, and a sentence.
-fn write_advised<W: Sink>(
+fn write_advised<'a, W: Sink>(
     out: &mut W,
     number: u8,
-    name: &str,
-    sentence: &str,
+    name: &'a str,
+    sentence: &'a str,
 ) -> Result<(), WriteStop> {
     write_pieces(
         out,

@@ -5,7 +5,6 @@
 
 use crate::devices::FileReason;
 use coll_advice::{Found, advice_of, nearest_name, write_advice};
-use coll_bench::RunFault;
 use coll_devices::{Sink, WriteStop};
 use coll_syntax::Id;
 use coll_table::Table;
@@ -35,6 +34,10 @@ pub(crate) enum Origin<'a> {
     Found(&'a Found),
     /// The line that was replied to, which names this.
     Id(&'a Id),
+    /// A line of a file, by the file's name and its number, or 0 for none.
+    File(&'a str, u32),
+    /// A file that can't be opened, by its name.
+    Unopened(&'a str, FileReason),
 }
 
 /// Tells what a refusal says, by its number: where it comes from, what it is about, and what to do.
@@ -67,18 +70,57 @@ fn write_told<M: Sink>(
             Piece::Bytes(advice.name.as_bytes()),
         ],
     )?;
-    let id = match origin {
-        Origin::Found(found) => found.id.as_ref(),
-        Origin::Id(id) => Some(id),
-        Origin::Here | Origin::Line(_) => None,
-    };
+    match origin {
+        Origin::Unopened(name, reason) => write_reason(messages, name, reason),
+        Origin::Found(found) => write_about(messages, table, number, found.id.as_ref()),
+        Origin::Id(id) => write_about(messages, table, number, Some(id)),
+        Origin::Here | Origin::Line(_) | Origin::File(..) => {
+            write_about(messages, table, number, None)
+        }
+    }
+}
+
+// Writes what a refusal is about, and what to do.
+fn write_about<M: Sink>(
+    messages: &mut M,
+    table: &Table,
+    number: u8,
+    id: Option<&Id>,
+) -> Result<(), WriteStop> {
     write_advice(messages, number, id, near(table, number, id))
+}
+
+// Writes why a file can't be opened.
+fn write_reason<M: Sink>(
+    messages: &mut M,
+    name: &str,
+    reason: FileReason,
+) -> Result<(), WriteStop> {
+    write_pieces(
+        messages,
+        &[
+            Piece::Bytes(b" "),
+            Piece::Bytes(name.as_bytes()),
+            Piece::Bytes(b": "),
+            Piece::Bytes(reason.words().as_bytes()),
+            Piece::Bytes(b"\n"),
+        ],
+    )
 }
 
 // Writes where a refusal comes from, if that is not the line that was replied to.
 fn write_origin<M: Sink>(messages: &mut M, origin: Origin<'_>) -> Result<(), WriteStop> {
     match origin {
-        Origin::Here | Origin::Id(_) => Ok(()),
+        Origin::Here | Origin::Id(_) | Origin::Unopened(..) | Origin::File(_, 0) => Ok(()),
+        Origin::File(name, line) => write_pieces(
+            messages,
+            &[
+                Piece::Bytes(name.as_bytes()),
+                Piece::Bytes(b":"),
+                Piece::Number(u64::from(line)),
+                Piece::Bytes(b": "),
+            ],
+        ),
         Origin::Line(line) => write_pieces(
             messages,
             &[
@@ -110,34 +152,4 @@ fn near<'a>(table: &'a Table, number: u8, id: Option<&Id>) -> Option<&'a str> {
         Some(Id::Named(name)) if number == NOT_DECLARED => nearest_name(table, name.get()),
         _ => None,
     }
-}
-
-/// Tells why a file can't be opened.
-pub(crate) fn tell_reason<M: Sink>(messages: &mut M, name: &str, reason: FileReason) {
-    let _ = write_pieces(
-        messages,
-        &[
-            Piece::Bytes(name.as_bytes()),
-            Piece::Bytes(b": "),
-            Piece::Bytes(reason.words().as_bytes()),
-            Piece::Bytes(b"\n"),
-        ],
-    );
-    let _ = messages.flush();
-}
-
-/// Tells the line of a file that is at fault.
-pub(crate) fn tell_line<M: Sink>(messages: &mut M, name: &str, ended: &RunFault) {
-    if ended.line == 0 {
-        return;
-    }
-    let _ = write_pieces(
-        messages,
-        &[
-            Piece::Bytes(name.as_bytes()),
-            Piece::Bytes(b":"),
-            Piece::Number(u64::from(ended.line)),
-            Piece::Bytes(b": "),
-        ],
-    );
 }
