@@ -1,5 +1,6 @@
 -- The lines of a block, looked at one after another, and what that says of all of them.
-use Rattle.std.proofs.Common.{◌≡◌, ℕ, zero, suc, ◌+◌, ◌<◌, ◌≤◌, ◌||◌, not, List, [], ◌∷◌, ◌++◌, Option, Some, None, length, map, get_or, take, drop, sym, ap, ap₂, ◌∙◌, refl, append_assoc, append-nil, add-one}
+use Rattle.std.proofs.Common.{◌≡◌, ℕ, zero, suc, ◌+◌, ◌<◌, ◌≤◌, ◌||◌, not, List, [], ◌∷◌, ◌++◌, Option}
+use Rattle.std.proofs.Common.{Some, None, length, map, get_or, take, drop, sym, ap, ap₂, ◌∙◌, refl, append_assoc, append-nil, add-one}
 use Rattle.std.specs.Option.{option_or}
 use Rattle.std.proofs.lemmas.List.{drop_all, map-append, take_all, take_more}
 use Rattle.std.proofs.Math.Seq.{drop-cons}
@@ -71,7 +72,8 @@ module _ (table : Collation) where
   ids_alike place more others [] same = refl
   ids_alike place more others (id ∷ ids) same =
       ap₂ option_or
-      (ap (λ b. about place id (refused_if (not (is_known table.declared (own_id table.declared id))) NotDeclared (refused_if (not (is_placed table (own_id table.declared id) || b)) WeightNotPlaced None)))
+      (ap (λ b. about place id (refused_if (not (is_known table.declared (own_id table.declared id))) NotDeclared
+      (refused_if (not (is_placed table (own_id table.declared id) || b)) WeightNotPlaced None)))
       (same (own_id table.declared id)))
       (ids_alike place more others ids same)
 

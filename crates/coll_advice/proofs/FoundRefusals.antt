@@ -1,7 +1,7 @@
 -- What a table answers is among the faults that are found.
-use Rattle.std.proofs.Common.{◌≡◌, ℕ, suc, zero, ◌-◌, Bool, true, false, not, cond, is_some, IsTrue, List, [], ◌∷◌, ◌++◌, Option, Some, None, map, flat_map, length, sym, ap, ap₂, subst, ◌∙◌, refl, eq-eqb}
+use Rattle.std.proofs.Common.{◌≡◌, ℕ, suc, zero, ◌-◌, true, false, not, cond, is_some, IsTrue, List, [], ◌∷◌, ◌++◌, Option, Some, None, map, flat_map, length, sym, ap, ap₂, subst, ◌∙◌, refl, eq-eqb}
 use Rattle.std.proofs.Common.{Result, Ok, Err, IsOk}
-use Rattle.std.specs.Prelude.{nat_eq, nat_le, ◌↔◌, ◌≢◌}
+use Rattle.std.specs.Prelude.{nat_le, ◌↔◌, ◌≢◌}
 use Rattle.std.specs.Option.{option_or, option_map}
 use Rattle.std.proofs.lemmas.Bool.{leb-true, leb-false}
 use Rattle.std.proofs.lemmas.List.{map-append}
@@ -22,13 +22,15 @@ use Rattle.coll_nodes.specs.WellFormed.{IsWellFormed}
 use Rattle.coll_statements.specs.OwnStatements.{own_line, own_lines}
 use Rattle.coll_table.proofs.DeltaJudged.{entries_refused, reweight_judged, weights_decide}
 use Rattle.coll_texts.proofs.SoundLines.{neither_found}
-use Rattle.coll_table.specs.Delta.{all_moved, block_delta, block_result, delta, ids_given, line_refusal, lines_refusal, looked_up, or_refused, own_delta, reweight_delta, reweight_refusal, reweighted, unless_refused}
+use Rattle.coll_table.specs.Delta.{all_moved, block_delta, block_result, delta, ids_given, line_refusal, lines_refusal}
+use Rattle.coll_table.specs.Delta.{looked_up, or_refused, own_delta, reweight_delta, reweight_refusal, reweighted, unless_refused}
 use Rattle.coll_table.specs.Judging.{entries_added, id_refusal, ids_refusal}
 use Rattle.coll_table.specs.OwnStatements.{own_statement}
 use Rattle.coll_table.specs.Refusals.{refusal_number}
 use Rattle.coll_table.specs.declared.refusals.Refusal.{Refusal}
 use Rattle.coll_table.specs.declared.refusals.Refusal.TheVariants.{TargetNotPlaced}
-use Rattle.coll_advice.specs.Faults.{RefusalsAreFound, answered_faults, block_faults, block_ids, block_line_faults, equivalence_name, faults, first_with, full_faults, line_faults, listed, refused_faults, same_refusal, section_named}
+use Rattle.coll_advice.specs.Faults.{RefusalsAreFound, answered_faults, block_faults, block_ids, block_line_faults, equivalence_name, faults}
+use Rattle.coll_advice.specs.Faults.{first_with, full_faults, line_faults, listed, refused_faults, same_refusal, section_named}
 use Rattle.coll_advice.specs.LineFaults.{about, ids_fault, ids_in, reweight_fault}
 use Rattle.coll_advice.specs.declared.found.Found.{Found}
 
@@ -57,7 +59,8 @@ has_behind refusal (fault ∷ before) faults has =
 has_before : (refusal : Refusal) (faults later : List Found) → Has refusal faults → Has refusal (faults ++ later)
 has_before refusal [] later has = absurd (no has)
 has_before refusal (fault ∷ faults) later has =
-    by_test (λ b. IsTrue (is_some (cond b (Some fault) (first_with refusal faults))) → IsTrue (is_some (cond b (Some fault) (first_with refusal (faults ++ later))))) (same_refusal fault.refusal refusal)
+    by_test (λ b. IsTrue (is_some (cond b (Some fault) (first_with refusal faults))) → IsTrue (is_some (cond b (Some fault) (first_with refusal (faults ++ later)))))
+    (same_refusal fault.refusal refusal)
     (λ _ _. refl) (λ _ has. has_before refusal faults later has) has
 
 -- a result that is refused so
@@ -108,7 +111,8 @@ module _ (table : Collation) where
     all [] = refl
     all (weight ∷ weights) = ap₂ (λ front back. front ++ back) (one weight) (all weights) ∙ sym (map-append (own_id table.declared) (weight_ids weight) (flat_map weight_ids weights))
 
-    given : (weights : Option (List Weight)) → flat_map weight_ids (given_weights (option_map (own_weights table.declared) weights)) ≡ map (own_id table.declared) (flat_map weight_ids (given_weights weights))
+    given : (weights : Option (List Weight)) → flat_map weight_ids (given_weights (option_map (own_weights table.declared) weights))
+        ≡ map (own_id table.declared) (flat_map weight_ids (given_weights weights))
     given None = refl
     given (Some weights) = all weights
 
@@ -128,7 +132,8 @@ module _ (table : Collation) where
         (ids_found place more ids)
 
     -- a line that isn't placed
-    lines_found : (n : ℕ) (before all : List Id) (lines : List OrderLine) → lines_refusal table before (own_lines table.declared lines) ≡ Some refusal → Has refusal (line_faults table n before all lines)
+    lines_found : (n : ℕ) (before all : List Id) (lines : List OrderLine) → lines_refusal table before (own_lines table.declared lines) ≡ Some refusal
+        → Has refusal (line_faults table n before all lines)
     lines_found n before all [] e = cc
     lines_found n before all (line ∷ lines) e =
         line_found refusal (Some n) line.id (line_refusal table before (own_line table.declared line))
@@ -165,7 +170,8 @@ module _ (table : Collation) where
 
       behind_lines : lines_refusal table (own ∷ []) owned ≡ None → Has refusal rest
       behind_lines passes =
-          by_test (λ b. nat_le (entries_added table owned) (most_entries - length (entries_of table)) ≡ b → Has refusal rest) (nat_le (entries_added table owned) (most_entries - length (entries_of table)))
+          by_test (λ b. nat_le (entries_added table owned) (most_entries - length (entries_of table)) ≡ b → Has refusal rest)
+          (nat_le (entries_added table owned) (most_entries - length (entries_of table)))
           (λ _ room.
           let decided = weights_decide table own owned there well passes (entries_added table owned) refl (block_ids table target lines) (λ _. refl) (leb-true _ _ room) in
           has_before refusal (block_line_faults table target lines) (full_faults refusal)

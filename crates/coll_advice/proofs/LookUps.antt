@@ -1,5 +1,5 @@
 -- What is found of a name or of an identifier says whether it is an own name, and whether it is placed.
-use Rattle.std.proofs.Common.{◌≡◌, ℕ, Bool, true, false, is_some, List, Option, Some, None, Bor, sym, ap, ◌∙◌, refl}
+use Rattle.std.proofs.Common.{◌≡◌, ℕ, true, false, is_some, List, Option, Some, None, Bor, sym, ap, ◌∙◌, refl}
 use Rattle.std.specs.Option.{option_map, option_copied}
 use Rattle.std.specs.Prelude.{chars, unwrap_or}
 use Rattle.coll_order.proofs.Sameness.{by_test, not_both}

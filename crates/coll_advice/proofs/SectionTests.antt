@@ -1,10 +1,9 @@
 -- Whether a section is there, told by the refusal to move it after itself.
-use Rattle.std.proofs.Common.{◌≡◌, ◌≢◌, ℕ, Bool, true, false, ◌&&◌, not, List, [], Option, Some, None, Result, Ok, Err, IsOk, sym, ap, subst, ◌∙◌, refl}
+use Rattle.std.proofs.Common.{◌≡◌, ◌≢◌, ℕ, Bool, true, false, ◌&&◌, not, List, None, Result, Err, IsOk, sym, ap, subst, ◌∙◌, refl}
 use Rattle.std.specs.Prelude.{nat_eq}
 use Rattle.std.proofs.lemmas.Bool.{false≢true}
-use Rattle.coll_order.proofs.Sameness.{by_test}
 use Rattle.coll_lookups.proofs.Sameness.{same_name_decides}
-use Rattle.coll_syntax.specs.Identifier.{has_name, same_name}
+use Rattle.coll_syntax.specs.Identifier.{has_name}
 use Rattle.coll_syntax.specs.declared.statements.Statement.TheVariants as statement
 use Rattle.coll_nodes.specs.Causes.{refused_if}
 use Rattle.coll_nodes.specs.Placement.{section_moved}

@@ -25,6 +25,7 @@ abbrev pub advice_line : (sentence : Option (List ℕ)) → Option Id → (near 
 advice_line sentence id near = subject_bytes id ++ (sentence_bytes sentence ++ near_bytes near)
 
 -- that is sent, with the sentence of the number; there is one exactly where a fault has the number
-abbrev pub SendsAdvice : {T E : Type 0} → (old new : Option (List ℕ)) → (number : ℕ) → Option Id → (near : Option (List ℕ)) → Result T E → Type 0
+abbrev pub SendsAdvice : {T E : Type 0} → (old new : Option (List ℕ)) → (number : ℕ)
+    → Option Id → (near : Option (List ℕ)) → Result T E → Type 0
 SendsAdvice old new number id near r =
     (sentence : Option (List ℕ)) × (is_some sentence ≡ is_fault_number number) × Sends old new (advice_line sentence id near) r

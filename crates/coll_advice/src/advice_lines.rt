@@ -20,8 +20,8 @@ pub fn write_advice<W: Sink>(
     id: Option<&Id>,
     near: Option<&str>,
 ) -> Result<(), WriteStop>
-    ensures sent { SendsAdvice (W.taken out.old) (W.taken out.new) number (option_copied id)
-        (option_map (λ name. chars name.now) near) result }
+    ensures sent { SendsAdvice (W.taken out.old) (W.taken out.new) number (option_copied id.entry)
+        (option_map (λ name. chars name.now) near.entry) result }
     ensures errors { CountsErr (W.failed out.old) (W.failed out.new) result }
 {
     match advice_of(number) {
@@ -37,8 +37,8 @@ fn write_told<W: Sink>(
     id: Option<&Id>,
     near: Option<&str>,
 ) -> Result<(), WriteStop>
-    ensures sent { Sends (W.taken out.old) (W.taken out.new) (advice_line (option_copied sentence) (option_copied id)
-        (option_map (λ name. chars name.now) near)) result }
+    ensures sent { Sends (W.taken out.old) (W.taken out.new) (advice_line (option_copied sentence.entry) (option_copied id.entry)
+        (option_map (λ name. chars name.now) near.entry)) result }
     ensures errors { CountsErr (W.failed out.old) (W.failed out.new) result }
 {
     write_subject(out, id)?;
@@ -48,7 +48,7 @@ fn write_told<W: Sink>(
 
 // Writes the identifier that a fault is about, where it is about one.
 fn write_subject<W: Sink>(out: &mut W, id: Option<&Id>) -> Result<(), WriteStop>
-    ensures sent { Sends (W.taken out.old) (W.taken out.new) (subject_bytes (option_copied id)) result }
+    ensures sent { Sends (W.taken out.old) (W.taken out.new) (subject_bytes (option_copied id.entry)) result }
     ensures errors { CountsErr (W.failed out.old) (W.failed out.new) result }
 {
     match id {
@@ -59,7 +59,7 @@ fn write_subject<W: Sink>(out: &mut W, id: Option<&Id>) -> Result<(), WriteStop>
 
 // Writes what to do, where that is told.
 fn write_sentence<W: Sink>(out: &mut W, sentence: Option<&str>) -> Result<(), WriteStop>
-    ensures sent { Sends (W.taken out.old) (W.taken out.new) (sentence_bytes (option_copied sentence)) result }
+    ensures sent { Sends (W.taken out.old) (W.taken out.new) (sentence_bytes (option_copied sentence.entry)) result }
     ensures errors { CountsErr (W.failed out.old) (W.failed out.new) result }
 {
     match sentence {
@@ -73,7 +73,7 @@ fn write_sentence<W: Sink>(out: &mut W, sentence: Option<&str>) -> Result<(), Wr
 
 // Writes the near name, where there is one, and a line feed.
 fn write_near<W: Sink>(out: &mut W, near: Option<&str>) -> Result<(), WriteStop>
-    ensures sent { Sends (W.taken out.old) (W.taken out.new) (near_bytes (option_map (λ name. chars name.now) near)) result }
+    ensures sent { Sends (W.taken out.old) (W.taken out.new) (near_bytes (option_map (λ name. chars name.now) near.entry)) result }
     ensures errors { CountsErr (W.failed out.old) (W.failed out.new) result }
 {
     match near {

@@ -21,5 +21,6 @@ pub returns : goal.returns
 returns c =
     let table = collation c.args.table.now in
     let i = c.loop-number.number in
-    all_found table c.args.target.now c.args.lines.now i c.loop-number-test.false (ids_before table c.args.target.now c.args.lines.now i) c.args.all.now c.loop-number.found.items c.args.found.now.items
+    all_found table c.args.target.now c.args.lines.now i c.loop-number-test.false (ids_before table c.args.target.now c.args.lines.now i) c.args.all.now
+    c.loop-number.found.items c.args.found.now.items
     c.requires.all c.loop-number.invariant.goes_on

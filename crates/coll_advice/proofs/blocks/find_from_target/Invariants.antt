@@ -1,6 +1,5 @@
 -- The lines before a place were looked at: their identifiers are kept, and what is wrong with them was found.
-use Rattle.std.proofs.Common.{◌≡◌, ◌∷◌, ◌++◌, [], zero, drop, List, ℕ}
-use Rattle.coll_syntax.specs.declared.identifiers.Id.{Id}
+use Rattle.std.proofs.Common.{◌≡◌, ◌∷◌, ◌++◌, [], zero, drop}
 use Rattle.coll_nodes.specs.OwnNames.{own_id}
 use Rattle.coll_nodes.specs.TableLayout.{collation}
 use Rattle.coll_table.specs.Judging.{HaveSame}

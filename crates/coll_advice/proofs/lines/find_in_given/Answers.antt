@@ -1,6 +1,5 @@
 -- Each turn of the loop leaves the first fault among what is left, or finds it.
-use Rattle.std.proofs.Common.{List, Option, sym, refl, ◌∙◌}
-use Rattle.coll_syntax.specs.declared.identifiers.Id.{Id}
+use Rattle.std.proofs.Common.{sym, refl, ◌∙◌}
 use Rattle.coll_nodes.specs.Entries.{weight_ids}
 use Rattle.coll_nodes.specs.OwnNames.{own_id}
 use Rattle.coll_nodes.specs.TableLayout.{collation}
