@@ -51,7 +51,7 @@ SESSIONS = [
             ("c", "block> "),
             ("reorder-end", "ok 1\n> "),
             (":show a", SHOWN + "> "),
-            (":words words.txt", "  ab\n* ac\n* c\n* b\n* d\nwords 5\n> "),
+            (":words words.txt", "* ac\n* ab\n* c\n* b\n* d\nwords 5\n> "),
             ("reorder-after <U0061>", "block> "),
             ("<BASF>", "block> "),
             ("reorder-end", "refused 34 NotDeclared\nline 1 of the block: 34 NotDeclared <BASF>: declare it with collating-symbol; is <BASE> meant?\n> "),
@@ -65,9 +65,9 @@ SESSIONS = [
     (
         ["edit", "base.txt", "c_behind_a.txt"],
         [
-            (":compare c A", "less\n> "),
+            (":compare c b", "less\n> "),
             (":undo", "undone 0\n> "),
-            (":compare c A", "greater\n> "),
+            (":compare c b", "greater\n> "),
             ("# a comment", "> "),
             ("reorder-after \\", "> "),
             ("a", "block> "),

@@ -39,6 +39,7 @@ impl<W> Watched<W> {
     pub(crate) fn forget(&mut self)
         ensures { device_of self.new ≡ device_of self.old }
     {
+        self.first = [0; KEPT];
         self.count = 0;
     }
 
