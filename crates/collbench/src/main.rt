@@ -2,14 +2,15 @@
 //!
 //! The words are read by `coll_command_line`; `random_keys` draws the keys that names are looked up under, `files` opens what the
 //! words name, `importing` makes tables and delta files of sources, `explaining` tells why texts compare as they do, `words` sorts
-//! lines, `reviews` tells what statements do to words, `differences` compares two tables, and `linting` tells all that is wrong with
-//! one, with `reasons` of the system where a file can't be read. Here the runs are started, and their faults are told: a line on
-//! standard error, and the exit status, which stands also where that line can't be written.
+//! lines, `reviews` tells what statements do to words, `editing` serves a person, `differences` compares two tables, and `linting`
+//! tells all that is wrong with one; `reasons` has why the system refuses a file. Here the runs are started, and their faults are
+//! told: a line on standard error, and the exit status, which stands also where that line can't be written.
 #![tactic(auto)]
 
 ghost use Rattle.std.specs.Prelude.{◌<◌, length, vec_len, IfOk, IfErr, ◌≡◌};
 
 mod differences;
+mod editing;
 mod explaining;
 mod files;
 mod importing;
@@ -28,6 +29,7 @@ use coll_command_line::{Request, Task, Unasked, read_words};
 use coll_lex::{Counted, LexFault, ReadStop, Sink, TextBuf, WriteStop};
 use coll_table::{HashKeys, Table};
 use differences::{read_at, tell_differences};
+use editing::edit;
 use explaining::explain_texts;
 use files::{Input, at_no_line, open_all};
 use importing::{Wanted, import};
@@ -118,6 +120,7 @@ fn do_keyed(
             Err(_) => tell_no_memory(rt),
         },
         Task::Lint => lint_files(rt, keys, files, names),
+        Task::Edit => edit(rt, keys, files, names),
         Task::Differences => match tell_differences(rt, keys, files) {
             Ok(status) => status,
             Err(fault) => tell_fault(rt, &fault, names),

@@ -1,0 +1,166 @@
+#!/usr/bin/env python3
+"""Edits tables under a pseudo-terminal, as a person does, and compares what stands on the screen.
+
+usage: checkers/edit_terminal.py [PROGRAM]
+
+PROGRAM is crates/collbench/out/collbench where none is given. Standard input, output and errors are one terminal, which shows no
+typed line again. Each step types a line, and what stands on the screen until the next prompt has to be as stated, the prompt
+included; so a reply comes before the next prompt, and what a refusal says comes behind its reply. A session ends with a line that
+asks for the end, or with the key for it.
+
+The last line is 'N passed, M failed', where a run is one session.
+"""
+
+import os
+import pty
+import select
+import shutil
+import subprocess
+import sys
+import tempfile
+import termios
+
+from run_program import PROGRAM, ROOT
+
+SECONDS = 60
+END = "\x04"
+SHOWN = """  1 <BASE>
+  2 <MIN>
+  3 <CAP>
+> 4 <U0061> <U0061>;<BASE>;<MIN>;IGNORE
+  5 <U0063> <U0063>;<BASE>;<MIN>;IGNORE
+  6 <U0041> <U0061>;<BASE>;<CAP>;IGNORE
+  7 <U0062> <U0062>;<BASE>;<MIN>;IGNORE
+shown 4
+"""
+WORDS = "b\nac\nab\nc\nd\n"
+DELTA = """comment_char %
+escape_char /
+LC_COLLATE
+reorder-after <U0061>
+<U0063>
+reorder-end
+END LC_COLLATE
+"""
+# Each session: the words behind the program, the steps, what stands on the screen at the end, and the files that are there then.
+SESSIONS = [
+    (
+        ["edit", "base.txt"],
+        [
+            ("reorder-after a", "block> "),
+            ("c", "block> "),
+            ("reorder-end", "ok 1\n> "),
+            (":show a", SHOWN + "> "),
+            (":words words.txt", "* ac\n* ab\n* c\n* b\n* d\nwords 5\n> "),
+            ("reorder-after <U0061>", "block> "),
+            ("<BASF>", "block> "),
+            ("reorder-end", "refused 34 NotDeclared\nline 1 of the block: 34 NotDeclared <BASF>: declare it with collating-symbol; is <BASE> meant?\n> "),
+            (":write new.txt", "written 1\n> "),
+            (":write new.txt", "refused 68 WriteFault\n68 WriteFault new.txt: a file with this name is there already\n> "),
+        ],
+        END,
+        "\n",
+        {"new.txt": DELTA},
+    ),
+    (
+        ["edit", "base.txt", "c_behind_a.txt"],
+        [
+            (":compare c b", "less\n> "),
+            (":undo", "undone 0\n> "),
+            (":compare c b", "greater\n> "),
+            ("# a comment", "> "),
+            ("reorder-after \\", "> "),
+            ("a", "block> "),
+            (":quit", "refused 62 BlockOpen\n62 BlockOpen: end the block by reorder-end; put the line before it or behind\nblock> "),
+            ("reorder-end", "ok 1\n> "),
+        ],
+        ":quit\n",
+        "",
+        {},
+    ),
+]
+
+
+def read_screen(screen, wanted):
+    """Returns what stands on a screen once it is as long as what is wanted, or its program has ended."""
+    shown = b""
+    while len(shown) < len(wanted):
+        if not select.select([screen], [], [], SECONDS)[0]:
+            break
+        try:
+            more = os.read(screen, 65536)
+        except OSError:
+            break
+        if not more:
+            break
+        shown += more
+    return shown
+
+
+def open_terminal():
+    """Returns both ends of a terminal that shows no typed line again, and changes no line feed."""
+    screen, terminal = pty.openpty()
+    mode = termios.tcgetattr(terminal)
+    mode[1] &= ~termios.OPOST
+    mode[3] &= ~termios.ECHO
+    termios.tcsetattr(terminal, termios.TCSANOW, mode)
+    return screen, terminal
+
+
+def differs(screen, step, wanted):
+    """Whether a screen shows something else than is wanted, which is then printed."""
+    shown = read_screen(screen, wanted.encode())
+    if shown == wanted.encode():
+        return False
+    print(f"FAILED: behind {step!r} the screen shows\n{shown.decode(errors='replace')}\nand not\n{wanted}", flush=True)
+    return True
+
+
+def run(program, session, folder):
+    """Whether a session in a folder shows what it is to show, and leaves the files that it is to leave."""
+    words, steps, end, last, files = session
+    screen, terminal = open_terminal()
+    child = subprocess.Popen([program, *words], cwd=folder, stdin=terminal, stdout=terminal, stderr=terminal, start_new_session=True)
+    os.close(terminal)
+    try:
+        if differs(screen, "the start", "> "):
+            return False
+        for typed, wanted in steps:
+            os.write(screen, typed.encode() + b"\n")
+            if differs(screen, typed, wanted):
+                return False
+        os.write(screen, end.encode())
+        if differs(screen, end, last):
+            return False
+        if child.wait(SECONDS) != 0:
+            print(f"FAILED: {words} ended with status {child.returncode}", flush=True)
+            return False
+    finally:
+        child.kill()
+        child.wait()
+        os.close(screen)
+    for name, wanted in files.items():
+        with open(f"{folder}/{name}", encoding="utf-8") as written:
+            if written.read() != wanted:
+                print(f"FAILED: {name} isn't as stated", flush=True)
+                return False
+    return True
+
+
+def run_all(program):
+    """Runs all sessions, and returns how many passed, and how many failed."""
+    passed = 0
+    for session in SESSIONS:
+        with tempfile.TemporaryDirectory() as folder:
+            for name in os.listdir(f"{ROOT}/examples"):
+                shutil.copy(f"{ROOT}/examples/{name}", folder)
+            with open(f"{folder}/words.txt", "w", encoding="utf-8") as words:
+                words.write(WORDS)
+            passed += run(program, session, folder)
+    return passed, len(SESSIONS) - passed
+
+
+if __name__ == "__main__":
+    counts = run_all(os.path.abspath(sys.argv[1] if len(sys.argv) > 1 else PROGRAM))
+    print(f"{counts[0]} passed, {counts[1]} failed")
+    sys.exit(1 if counts[1] else 0)

@@ -1,0 +1,2 @@
+pub mod EditLemmas
+mod WordLemmas

@@ -1,0 +1,24 @@
+-- While no line of `edit` was answered, what was read and written so far is that of a session; each line is one of the most lines that a
+-- text may have.
+use Rattle.std.proofs.Common.{◌≡◌, false, ℕ, ◌-◌, List, Some, None}
+use Rattle.coll_devices.specs.LineReading.{unread}
+use Rattle.coll_lex.specs.Limits.{most_lines}
+use Rattle.coll_nodes.specs.Table.{Collation}
+use Rattle.coll_bench.specs.Serving.{lexer_of}
+use Rattle.coll_bench.specs.Underway.{Underway}
+use Rattle.coll_edit.specs.EditRuns.{IsBegunEdit}
+use Rattle.coll_edit.specs.Editing.{has_answered, run_of}
+use Rattle.coll_edit.specs.Watching.{device_of}
+use Rattle.coll_edit.proofs.runs.serve_lines.Given as goal
+
+abbrev pub decreases-lines : goal.decreases-lines
+decreases-lines g l = most_lines - (lexer_of (run_of l.editor)).count
+
+abbrev pub invariant-lines : goal.invariant-lines
+invariant-lines g l =
+    record {
+      going : l.reader.stop ≡ None;
+      underway : (table : Collation) (text before : List ℕ) → IsBegunEdit l.initial.editor table → g.R.Source.left l.initial.input ≡ Some text
+          → g.W.Sink.taken (device_of l.initial.output) ≡ Some before → has_answered l.editor ≡ false
+          → Underway table text before l.reader.ended (unread l.reader (g.R.Source.left l.input)) (g.W.Sink.taken (device_of l.output)) (run_of l.editor);
+    }

@@ -1,0 +1,4 @@
+pub mod Editing
+pub mod EditRuns
+pub mod OwnLines
+pub mod Watching

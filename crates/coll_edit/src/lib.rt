@@ -1,0 +1,35 @@
+//! A session for a person: the lines of a session, and lines of its own beside them.
+//!
+//! Each physical line is first taken as the session of `coll_bench` takes it. Only where that refuses it as an unknown command or for
+//! an operand of the wrong kind is it read as a line of `edit`, which stands beside the session and never changes its history. So
+//! what is typed has the requests of the session, whatever it is, and only replies to refused ones differ. A way through the crate,
+//! each file with its definitions in `specs/`:
+//!
+//! - `own_lines`: the lines that stand beside those of a session (`OwnLines`);
+//! - `watched`: an output that knows which refusal its last reply told (`Watching`);
+//! - `devices`: files that are opened by their names;
+//! - `replies`, `showing`, `weights`, `statements`, `word_lists`, `help`: what these lines are answered (`OwnReplies`);
+//! - `messages`: prompts, and the sentence behind a refusal, for standard error;
+//! - `copies`: copies of statements, which delta files put before the first line;
+//! - `editors`: where an edit stands between two lines, and how it goes on by one (`Editing`);
+//! - `runs`: the run of a text (`EditRuns`).
+#![tactic(auto)]
+
+mod copies;
+mod devices;
+mod editors;
+mod help;
+mod messages;
+mod own_lines;
+mod replies;
+mod runs;
+mod showing;
+mod statements;
+mod watched;
+mod weights;
+mod word_lists;
+
+pub use devices::{FileReason, OpensFiles};
+pub use editors::Editor;
+pub use runs::edit_lines;
+pub use watched::Watched;

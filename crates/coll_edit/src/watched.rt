@@ -1,0 +1,104 @@
+//! An output that knows which refusal its last reply told.
+//!
+//! A refusal is told by the first words of a reply, `refused NUMBER`, wherever in a session it is written. `Watched` hands all bytes
+//! on, and keeps the first ones since it was last told to forget; so whoever explains refusals needs no second way on which they
+//! would be answered.
+
+ghost use Rattle.std.specs.Prelude.{◌≡◌};
+ghost use Rattle.coll_edit.specs.Watching.{device_of};
+
+use coll_devices::Sink;
+use std::io;
+
+// As many bytes as tell a refusal: its word, a number, and a blank.
+const KEPT: usize = 16;
+
+const REFUSED: &[u8] = b"refused ";
+
+/// A device, and the first bytes of what it took since it was told to forget.
+#[derive(Drop)]
+pub struct Watched<W> {
+    output: W,
+    first: [u8; KEPT],
+    count: usize,
+}
+
+impl<W> Watched<W> {
+    /// Watches a device.
+    pub fn new(output: W) -> Watched<W>
+        ensures { device_of result ≡ output }
+    {
+        Watched {
+            output,
+            first: [0; KEPT],
+            count: 0,
+        }
+    }
+
+    // Forgets what was kept.
+    pub(crate) fn forget(&mut self)
+        ensures { device_of self.new ≡ device_of self.old }
+    {
+        self.first = [0; KEPT];
+        self.count = 0;
+    }
+
+    // The number of the refusal that was told since it was told to forget, if one was.
+    pub(crate) fn refusal(&self) -> Option<u8> {
+        number_told(&self.first)
+    }
+
+    // Keeps the first bytes.
+    fn keep(&mut self, bytes: &[u8])
+        ensures { device_of self.new ≡ device_of self.old }
+    {
+        for byte in bytes {
+            if self.count >= KEPT {
+                return;
+            }
+            self.first[self.count] = *byte;
+            self.count += 1;
+        }
+    }
+}
+
+// The number behind the word of a refusal, if bytes begin with that.
+fn number_told(first: &[u8]) -> Option<u8> {
+    let digits = first.strip_prefix(REFUSED)?;
+    let mut number = 0u8;
+    for byte in digits {
+        match char::from(*byte).to_digit(10) {
+            Some(value) => number = number.saturating_mul(10).saturating_add(value as u8),
+            None => return Some(number),
+        }
+    }
+    Some(number)
+}
+
+impl<W: Sink> Sink for Watched<W> {
+    ghost taken = { λ w. W.taken (device_of w) };
+
+    ghost failed = { λ w. W.failed (device_of w) };
+
+    ghost flushed = { λ w. W.flushed (device_of w) };
+
+    fn write(&mut self, buf: &[u8]) -> io::Result<usize> {
+        let result = self.output.write(buf);
+        if let Ok(count) = result {
+            self.keep(&buf[..count]);
+        }
+        result
+    }
+
+    fn flush(&mut self) -> io::Result<()> {
+        self.output.flush()
+    }
+
+    fn errors(&self) -> u64 {
+        self.output.errors()
+    }
+
+    fn is_flushed(&self) -> bool {
+        self.output.is_flushed()
+    }
+}

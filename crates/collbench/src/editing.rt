@@ -1,0 +1,151 @@
+//! A table is edited by a person, over standard input and standard output.
+//!
+//! Replies go to standard output, and prompts and what refusals say to standard error. Files are those of the system: a file that is
+//! read, and a new one that is written.
+
+ghost use Rattle.std.specs.Prelude.{◌≡◌, ◌<◌, length, IfErr};
+
+use crate::files::{Input, at_no_line, open_all};
+use crate::{STANDARD_INPUT, read_first, standard_output, status, tell_fault, tell_no_memory};
+use coll_bench::{Fault, RunFault};
+use coll_edit::{Editor, FileReason, OpensFiles, Watched, edit_lines};
+use coll_lex::{Counted, LexFault};
+use coll_table::HashKeys;
+use std::fs::File;
+use std::io::{ErrorKind, IsTerminal};
+use std::process::ExitCode;
+
+// The files of the system.
+#[derive(Drop)]
+struct SystemFiles<'a> {
+    rt: &'a HostRuntime,
+}
+
+impl<'a> OpensFiles for SystemFiles<'a> {
+    type Input = Counted<File>;
+    type Output = Counted<File>;
+
+    fn open(&mut self, name: &str) -> Result<Counted<File>, FileReason> {
+        match File::open(self.rt, name) {
+            Ok(file) => Ok(Counted::new(file)),
+            Err(error) => Err(reason_of(error.kind())),
+        }
+    }
+
+    fn create(&mut self, name: &str) -> Result<Counted<File>, FileReason> {
+        match File::create_new(self.rt, name) {
+            Ok(file) => Ok(Counted::new(file)),
+            Err(error) => Err(reason_of(error.kind())),
+        }
+    }
+}
+
+// The reason that a kind of error tells.
+fn reason_of(kind: ErrorKind) -> FileReason {
+    match kind {
+        ErrorKind::NotFound => FileReason::Missing,
+        ErrorKind::PermissionDenied => FileReason::Denied,
+        ErrorKind::IsADirectory => FileReason::Folder,
+        ErrorKind::AlreadyExists => FileReason::Exists,
+        ErrorKind::OutOfMemory => FileReason::NoMemory,
+        _ => FileReason::Other,
+    }
+}
+
+/// Edits the table in the first of these files, whose history begins with the statements of the others, and answers the exit status.
+pub(crate) fn edit(
+    rt: &HostRuntime,
+    keys: HashKeys,
+    files: &[&str],
+    names: &[String],
+) -> ExitCode
+    requires some { 0 < length files.now }
+    requires names { length names.now ≡ length files.now }
+{
+    match begin(rt, keys, files) {
+        Ok(mut editor) => {
+            let ran = edit_standard_input(rt, &mut editor);
+            drop(editor);
+            match String::from_str(rt.alloc(), STANDARD_INPUT) {
+                Ok(name) => status(rt, ran, &[name]),
+                Err(_) => tell_no_memory(rt),
+            }
+        }
+        Err(fault) => tell_fault(rt, &fault, names),
+    }
+}
+
+// An edit of the table in the first of these files, behind the statements of the others.
+fn begin(rt: &HostRuntime, keys: HashKeys, files: &[&str]) -> Result<Editor, RunFault>
+    requires { 0 < length files.now }
+    ensures { IfErr result (λ fault. fault.input < length files.now) }
+{
+    match open_all(rt, files) {
+        Ok(mut inputs) => begin_opened(rt, keys, inputs.as_mut_slice()),
+        Err(fault) => Err(fault),
+    }
+}
+
+// An edit of the table in the first of these inputs, behind the statements of the others.
+fn begin_opened(
+    rt: &HostRuntime,
+    keys: HashKeys,
+    inputs: &mut [Input],
+) -> Result<Editor, RunFault>
+    requires { 0 < length inputs.old }
+    ensures { IfErr result (λ fault. fault.input < length inputs.old) }
+{
+    match read_first(rt, keys, inputs) {
+        Ok(table) => match Editor::new(rt.alloc(), table) {
+            Ok(mut editor) => match put_deltas(&mut editor, inputs) {
+                Ok(()) => Ok(editor),
+                Err(fault) => {
+                    drop(editor);
+                    Err(fault)
+                }
+            },
+            Err(_) => Err(at_no_line(0, Fault::Lex(LexFault::OutOfMemory))),
+        },
+        Err(fault) => Err(fault),
+    }
+}
+
+// Puts the statements of the inputs behind the first.
+fn put_deltas(editor: &mut Editor, inputs: &mut [Input]) -> Result<(), RunFault>
+    ensures { IfErr result (λ fault. fault.input < length inputs.old) }
+{
+    for (number, delta) in inputs.iter_mut().enumerate() {
+        if number > 0 {
+            // Not `?`: behind its conversion this exit would need a lemma.
+            if let Err(fault) = editor.put_delta(number, delta) {
+                return Err(fault);
+            }
+        }
+    }
+    Ok(())
+}
+
+// Serves the lines of standard input.
+fn edit_standard_input(rt: &HostRuntime, editor: &mut Editor) -> Result<(), RunFault>
+    ensures { IfErr result (λ fault. fault.input ≡ 0) }
+{
+    match standard_output(rt) {
+        Ok(output) => {
+            let mut output = Watched::new(output);
+            let mut lines = Counted::new(rt.stdin());
+            let mut messages = Counted::new(rt.stderr());
+            let mut files = SystemFiles { rt };
+            let prompts = rt.stdin().is_terminal();
+            edit_lines(
+                rt.alloc(),
+                editor,
+                &mut lines,
+                &mut output,
+                &mut messages,
+                &mut files,
+                prompts,
+            )
+        }
+        Err(fault) => Err(fault),
+    }
+}
