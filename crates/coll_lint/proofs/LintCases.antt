@@ -12,8 +12,8 @@ use Rattle.coll_bench.specs.Serving.{write_failed}
 use Rattle.coll_bench.specs.declared.faults.RunFault.{RunFault}
 use Rattle.coll_lint.specs.LintLines.{lint_text}
 use Rattle.coll_lint.specs.Lints.{BeginsWith, IsLintOf, JudgesTexts, LintRuns, LintsTexts, TellsFaults, is_at_fault, is_of_no_text}
-use Rattle.coll_lint.specs.declared.findings.FoundFault.{FoundFault}
-use Rattle.coll_lint.specs.declared.findings.Lint.{Lint}
+use Rattle.coll_surveys.specs.declared.findings.FoundFault.{FoundFault}
+use Rattle.coll_lint.specs.declared.lints.Lint.{Lint}
 
 -- a kind of fault that is neither of a read, of a write nor of memory
 remaining : (P : Ending → Type 0) (reads lacks writes : Bool) → (reads || lacks) ≡ false → writes ≡ false

@@ -6,14 +6,14 @@ use Rattle.coll_syntax.specs.declared.identifiers.Id.{Id}
 use Rattle.coll_texts.specs.PrintedParts.{id_bytes, symbol_bytes}
 use Rattle.coll_bench.specs.Faults.{fault_number, fault_name}
 use Rattle.coll_bench.specs.Reports.{named}
-use Rattle.coll_lint.specs.declared.findings.About.{About}
-use Rattle.coll_lint.specs.declared.findings.About.TheVariants as about
-use Rattle.coll_lint.specs.declared.findings.FoundFault.{FoundFault}
-use Rattle.coll_lint.specs.declared.findings.Lint.{Lint}
-use Rattle.coll_lint.specs.declared.foreign_words.ForeignWord.{ForeignWord}
-use Rattle.coll_lint.specs.declared.findings.Warning.{Warning}
-use Rattle.coll_lint.specs.declared.findings.Warning.TheVariants as warning
-use Rattle.coll_lint.specs.declared.findings.WarnedLine.{WarnedLine}
+use Rattle.coll_surveys.specs.declared.findings.About.{About}
+use Rattle.coll_surveys.specs.declared.findings.About.TheVariants as about
+use Rattle.coll_surveys.specs.declared.findings.FoundFault.{FoundFault}
+use Rattle.coll_lint.specs.declared.lints.Lint.{Lint}
+use Rattle.coll_surveys.specs.declared.foreign_words.ForeignWord.{ForeignWord}
+use Rattle.coll_surveys.specs.declared.findings.Warning.{Warning}
+use Rattle.coll_surveys.specs.declared.findings.Warning.TheVariants as warning
+use Rattle.coll_surveys.specs.declared.findings.WarnedLine.{WarnedLine}
 
 -- a keyword of another dialect, and what to write instead
 abbrev pub word_told : ForeignWord → List ℕ

@@ -6,8 +6,8 @@ use Rattle.coll_bench.specs.Faults.{fault_number}
 use Rattle.coll_bench.specs.Serving.{write_failed}
 use Rattle.coll_bench.specs.declared.faults.RunFault.{RunFault}
 use Rattle.coll_lint.specs.LintLines.{lint_text}
-use Rattle.coll_lint.specs.declared.findings.FoundFault.{FoundFault}
-use Rattle.coll_lint.specs.declared.findings.Lint.{Lint}
+use Rattle.coll_surveys.specs.declared.findings.FoundFault.{FoundFault}
+use Rattle.coll_lint.specs.declared.lints.Lint.{Lint}
 
 -- this fault is told first
 abbrev pub BeginsWith : RunFault → List FoundFault → Type 0

@@ -6,8 +6,8 @@
 ghost use Rattle.std.specs.Prelude.{◌≡◌, ◌<◌, length, IfOk, IfSome};
 ghost use Rattle.coll_lint.specs.Lints.{BeginsWith};
 
-use crate::findings::{About, FoundFault};
 use coll_bench::RunFault;
+use coll_surveys::{About, FoundFault};
 use std::alloc::AllocError;
 
 /// The faults of a survey with the one that a batch answers first.

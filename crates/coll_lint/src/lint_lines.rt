@@ -7,10 +7,10 @@ ghost use Rattle.coll_bench.specs.Reports.{named};
 ghost use Rattle.coll_lint.specs.LintLines.{about_told, fault_head, faults_text, found_line, lint_text, more_line, sentence_told};
 ghost use Rattle.coll_lint.specs.LintLines.{subject_told, warning_head, warning_line, warning_told, warnings_text, word_told};
 
-use crate::findings::{About, FoundFault, Lint, WarnedLine, Warning};
-use crate::foreign_words::ForeignWord;
+use crate::lints::Lint;
 use coll_devices::{Sink, WriteStop, write_bytes};
 use coll_lex::TextBuf;
+use coll_surveys::{About, ForeignWord, FoundFault, WarnedLine, Warning};
 use coll_syntax::Id;
 use coll_texts::{Piece, write_pieces};
 

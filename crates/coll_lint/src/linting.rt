@@ -9,17 +9,16 @@ ghost use Rattle.coll_bench.specs.Serving.{write_failed as failed_write};
 ghost use Rattle.coll_lint.specs.LintLines.{lint_text};
 ghost use Rattle.coll_lint.specs.Lints.{BeginsWith, JudgesTexts, LintRuns, LintsTexts, is_at_fault, is_of_no_text as of_no_text};
 
-use crate::delta_surveys::survey_delta;
-use crate::findings::Lint;
 use crate::first_faults::with_first;
 use crate::kept_texts::no_memory;
 use crate::lint_lines::write_lint;
+use crate::lints::Lint;
 use crate::surveyed::{Told, told_of, with_marks};
-use crate::table_surveys::survey_table;
 use coll_bench::{Fault, RunFault, read_inputs};
 use coll_devices::{Counted, Sink, WriteStop};
 use coll_lex::ListBuf;
 use coll_lookups::HashKeys;
+use coll_surveys::{survey_delta, survey_table};
 use coll_table::load_keyed;
 use std::alloc::{AllocError, Global};
 

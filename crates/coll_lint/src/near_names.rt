@@ -1,8 +1,8 @@
 //! Declared names that may be meant where a name isn't declared.
 
-use crate::findings::{About, FoundFault};
 use coll_advice::nearest_name;
 use coll_lex::TextBuf;
+use coll_surveys::{About, FoundFault};
 use coll_syntax::Id;
 use coll_table::Table;
 use std::alloc::{AllocError, Global};

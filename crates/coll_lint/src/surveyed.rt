@@ -1,20 +1,11 @@
 //! What a survey gives, put in order: the faults and the warnings by their lines, and names that are near.
 
-use crate::collecting::Collected;
-use crate::findings::{FoundFault, WarnedLine, Warning};
 use crate::near_names::seek_near_names;
-use coll_table::Table;
+use coll_surveys::{Collected, FoundFault, Surveyed, WarnedLine, Warning};
 use std::alloc::{AllocError, Global};
 
 // The bytes of a byte order mark, in UTF-8.
 const MARK: &[u8] = b"\xEF\xBB\xBF";
-
-/// What a survey gives: what is told, and the table that the lines without fault give, where they give one.
-#[derive(Drop)]
-pub(crate) struct Surveyed {
-    pub told: Collected,
-    pub table: Option<Table>,
-}
 
 /// What is told, by the order of the lines.
 #[derive(Drop)]
@@ -28,7 +19,7 @@ pub(crate) struct Told {
 /// What a survey tells, by the order of the lines, with names that are near to those that aren't declared.
 pub(crate) fn told_of(alloc: Global, surveyed: Surveyed) -> Result<Told, AllocError> {
     let Surveyed { told, table } = surveyed;
-    let mut told = told.ordered()?;
+    let mut told = ordered(told)?;
     match table {
         Some(table) => {
             seek_near_names(alloc, &table, told.faults.as_mut_slice())?;
@@ -39,29 +30,27 @@ pub(crate) fn told_of(alloc: Global, surveyed: Surveyed) -> Result<Told, AllocEr
     Ok(told)
 }
 
-impl Collected {
-    // What is told, by the order of the lines. Faults of a line stay in the order in which they were found.
-    fn ordered(self) -> Result<Told, AllocError> {
-        let Collected {
-            input,
-            mut faults,
-            more_faults,
-            mut warnings,
-            more_warnings,
-            undeclared,
-            unplaced,
-        } = self;
-        drop(undeclared);
-        drop(unplaced);
-        faults.sort_by(|found, other| found.line.cmp(&other.line))?;
-        warnings.sort_by(|warned, other| warned.line.cmp(&other.line))?;
-        Ok(Told {
-            faults,
-            more_faults: if_more(more_faults, input),
-            warnings,
-            more_warnings: if_more(more_warnings, input),
-        })
-    }
+// What is told, by the order of the lines. Faults of a line stay in the order in which they were found.
+fn ordered(told: Collected) -> Result<Told, AllocError> {
+    let Collected {
+        input,
+        mut faults,
+        more_faults,
+        mut warnings,
+        more_warnings,
+        undeclared,
+        unplaced,
+    } = told;
+    drop(undeclared);
+    drop(unplaced);
+    faults.sort_by(|found, other| found.line.cmp(&other.line))?;
+    warnings.sort_by(|warned, other| warned.line.cmp(&other.line))?;
+    Ok(Told {
+        faults,
+        more_faults: if_more(more_faults, input),
+        warnings,
+        more_warnings: if_more(more_warnings, input),
+    })
 }
 
 // The input of which there is more, if there is.

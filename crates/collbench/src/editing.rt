@@ -6,13 +6,14 @@
 ghost use Rattle.std.specs.Prelude.{◌≡◌, ◌<◌, length, IfErr};
 
 use crate::files::{Input, at_no_line, open_all};
+use crate::reasons::reason_of;
 use crate::{STANDARD_INPUT, read_first, standard_output, status, tell_fault, tell_no_memory};
 use coll_bench::{Fault, RunFault};
 use coll_edit::{Editor, FileReason, OpensFiles, Watched, edit_lines};
 use coll_lex::{Counted, LexFault};
 use coll_table::HashKeys;
 use std::fs::File;
-use std::io::{ErrorKind, IsTerminal};
+use std::io::IsTerminal;
 use std::process::ExitCode;
 
 // The files of the system.
@@ -37,18 +38,6 @@ impl<'a> OpensFiles for SystemFiles<'a> {
             Ok(file) => Ok(Counted::new(file)),
             Err(error) => Err(reason_of(error.kind())),
         }
-    }
-}
-
-// The reason that a kind of error tells.
-fn reason_of(kind: ErrorKind) -> FileReason {
-    match kind {
-        ErrorKind::NotFound => FileReason::Missing,
-        ErrorKind::PermissionDenied => FileReason::Denied,
-        ErrorKind::IsADirectory => FileReason::Folder,
-        ErrorKind::AlreadyExists => FileReason::Exists,
-        ErrorKind::OutOfMemory => FileReason::NoMemory,
-        _ => FileReason::Other,
     }
 }
 

@@ -5,6 +5,7 @@
 ghost use Rattle.std.specs.Prelude.{◌≡◌};
 ghost use Rattle.coll_devices.specs.Counted.{device_of, errors_of, flushed_of};
 
+use coll_edit::FileReason;
 use coll_lex::{Counted, Sink, Source};
 use std::io;
 use std::io::{ErrorKind, Read, Write};
@@ -49,15 +50,16 @@ impl<T: Read> Source for Reasoned<T> {
     }
 }
 
-/// A reason in words.
-pub(crate) fn reason_words(reason: ErrorKind) -> &'static str {
-    match reason {
-        ErrorKind::NotFound => "no such file",
-        ErrorKind::PermissionDenied => "permission denied",
-        ErrorKind::IsADirectory => "it is a directory",
-        ErrorKind::NotADirectory => "a part of its path is no directory",
-        ErrorKind::InvalidFilename => "its name is too long",
-        ErrorKind::OutOfMemory => "the system has no memory left",
-        _ => "the device refused it",
+/// The reason that a kind of error tells.
+pub(crate) fn reason_of(kind: ErrorKind) -> FileReason {
+    match kind {
+        ErrorKind::NotFound => FileReason::Missing,
+        ErrorKind::PermissionDenied => FileReason::Denied,
+        ErrorKind::IsADirectory => FileReason::Folder,
+        ErrorKind::NotADirectory => FileReason::NoFolder,
+        ErrorKind::InvalidFilename => FileReason::LongName,
+        ErrorKind::AlreadyExists => FileReason::Exists,
+        ErrorKind::OutOfMemory => FileReason::NoMemory,
+        _ => FileReason::Other,
     }
 }

@@ -1,13 +1,14 @@
-//! What a lint tells: the faults of its texts, and warnings behind them.
+//! What is told of a text: its faults, and warnings of what has no effect.
 //!
-//! All of this is plain data. A new warning is a variant of `Warning`, with its text in `lint_lines` and in `specs/LintLines.antt`.
+//! All of this is plain data. A new warning is a variant of `Warning`, with its text in `lint_lines` and `specs/LintLines.antt` of
+//! `coll_lint`.
 
 ghost use Rattle.std.specs.Prelude.{◌≡◌};
 
 use crate::foreign_words::ForeignWord;
 use coll_advice::advice_of;
 use coll_bench::RunFault;
-use coll_lex::{ListBuf, TextBuf};
+use coll_lex::TextBuf;
 use coll_syntax::Id;
 
 /// What a fault is about.
@@ -41,7 +42,7 @@ pub struct FoundFault {
 
 impl FoundFault {
     /// A fault at a line of its own, with what to do by its number.
-    pub(crate) fn new(fault: RunFault, line: u32, about: About) -> FoundFault
+    pub fn new(fault: RunFault, line: u32, about: About) -> FoundFault
         ensures { result.fault ≡ fault }
     {
         FoundFault {
@@ -85,17 +86,4 @@ pub struct WarnedLine {
     pub line: u32,
     /// What it is.
     pub warning: Warning,
-}
-
-/// What is told of a table and a delta file.
-#[derive(Drop)]
-pub struct Lint {
-    /// The faults; the first is that which a batch answers, and the others stand in the order of their lines.
-    pub faults: ListBuf<FoundFault>,
-    /// The input of which more faults aren't told, if there are more than are told.
-    pub more_faults: Option<usize>,
-    /// The warnings, in the order of their lines.
-    pub warnings: ListBuf<WarnedLine>,
-    /// The input of which more warnings aren't told, if there are more than are told.
-    pub more_warnings: Option<usize>,
 }

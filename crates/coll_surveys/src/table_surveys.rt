@@ -10,11 +10,10 @@ ghost use Rattle.coll_nodes.specs.WellFormed.{IsWellFormed};
 ghost use Rattle.coll_syntax.specs.Proper.{IsProperTableLine};
 ghost use Rattle.coll_texts.specs.BuilderStates.{table_of};
 
-use crate::collecting::Collected;
+use crate::collecting::{Collected, Surveyed};
 use crate::findings::{About, Warning};
 use crate::line_surveys::{Opening, TakesLines, survey_lines};
 use crate::subjects::{refused_subject, table_subject};
-use crate::surveyed::Surveyed;
 use crate::table_weights::survey_weights;
 use crate::unplaced::Declarations;
 use coll_bench::Fault;
@@ -37,11 +36,7 @@ struct TableSurvey {
 }
 
 /// Surveys a table, which is input 0.
-pub(crate) fn survey_table(
-    alloc: Global,
-    keys: HashKeys,
-    text: &[u8],
-) -> Result<Surveyed, AllocError> {
+pub fn survey_table(alloc: Global, keys: HashKeys, text: &[u8]) -> Result<Surveyed, AllocError> {
     let builder = TableBuilder::new(alloc, keys)?;
     let mut survey = TableSurvey {
         alloc,

@@ -6,12 +6,11 @@
 
 ghost use Rattle.coll_lex.specs.Names.{AreTokens};
 
-use crate::collecting::Collected;
+use crate::collecting::{Collected, Surveyed};
 use crate::findings::{About, Warning};
 use crate::line_surveys::{Opening, TakesLines, survey_lines};
 use crate::open_blocks::{EndedBlock, OpenBlock, line_of, mended};
 use crate::subjects::{about_given, refused_subject};
-use crate::surveyed::Surveyed;
 use crate::unchanged::changed_nothing;
 use crate::unplaced::Declarations;
 use coll_advice::{Found, faults_of};
@@ -35,7 +34,7 @@ struct DeltaSurvey {
 }
 
 /// Surveys a delta file, which is input 1, over a table.
-pub(crate) fn survey_delta(
+pub fn survey_delta(
     alloc: Global,
     keys: HashKeys,
     table: Table,

@@ -7,6 +7,7 @@ use crate::findings::{About, FoundFault, WarnedLine, Warning};
 use coll_bench::{Fault, RunFault};
 use coll_lookups::{HashKeys, IdSet};
 use coll_syntax::Id;
+use coll_table::Table;
 use std::alloc::{AllocError, Global};
 
 /// Most faults that are told, and most warnings.
@@ -19,26 +20,35 @@ const WEIGHT_NOT_PLACED: u8 = 38;
 
 /// The faults and the warnings of one input.
 #[derive(Drop)]
-pub(crate) struct Collected {
-    // Which input it is.
+pub struct Collected {
+    /// Which input it is.
     pub input: usize,
-    // The faults that are told.
+    /// The faults that are told, in the order in which they were found.
     pub faults: Vec<FoundFault>,
-    // Whether there are more.
+    /// Whether there are more.
     pub more_faults: bool,
-    // The warnings that are told.
+    /// The warnings that are told, in the order in which they were found.
     pub warnings: Vec<WarnedLine>,
-    // Whether there are more.
+    /// Whether there are more.
     pub more_warnings: bool,
-    // What was told as not declared.
+    /// What was told as not declared.
     pub undeclared: IdSet,
-    // What was told as named by a weight, and not placed.
+    /// What was told as named by a weight, and not placed.
     pub unplaced: IdSet,
+}
+
+/// What a survey gives: what is told, and the table that the lines without fault give, where they give one.
+#[derive(Drop)]
+pub struct Surveyed {
+    /// What is told.
+    pub told: Collected,
+    /// The table.
+    pub table: Option<Table>,
 }
 
 impl Collected {
     /// Nothing told of an input yet.
-    pub fn new(alloc: Global, keys: HashKeys, input: usize) -> Collected {
+    pub(crate) fn new(alloc: Global, keys: HashKeys, input: usize) -> Collected {
         Collected {
             input,
             faults: Vec::new(alloc),
@@ -51,7 +61,7 @@ impl Collected {
     }
 
     /// Tells a fault of a line, which a batch would answer at the line where its statement begins.
-    pub fn tell(
+    pub(crate) fn tell(
         &mut self,
         begins: u32,
         line: u32,
@@ -82,7 +92,7 @@ impl Collected {
     }
 
     /// Tells a warning at a line.
-    pub fn warn(&mut self, line: u32, warning: Warning) -> Result<(), AllocError> {
+    pub(crate) fn warn(&mut self, line: u32, warning: Warning) -> Result<(), AllocError> {
         if self.warnings.len() >= MOST_TOLD {
             self.more_warnings = true;
             drop(warning);

@@ -1,0 +1,30 @@
+//! What is wrong with a table or with a delta file, line by line, also behind a fault.
+//!
+//! A survey judges each line of a text by the lines before it; one that is refused is told and passed over, so that those behind it are
+//! judged by as much as possible. What it finds is for whoever tells it: no clause says that it is all, and tests show what is found. A
+//! way through the crate:
+//!
+//! - `findings`: what is told, faults and warnings, and `foreign_words`: keywords of other dialects;
+//! - `collecting`: what is told, as it is gathered; `line_surveys`: the lines of a text, handed on one after another; `subjects`: what
+//!   a fault is about; `unplaced`: what is declared and never placed;
+//! - `table_surveys`, with `table_weights`: a table, line by line;
+//! - `delta_surveys`, with `open_blocks` and `unchanged`: a delta file, statement by statement.
+#![tactic(auto)]
+
+mod collecting;
+mod delta_surveys;
+mod findings;
+mod foreign_words;
+mod line_surveys;
+mod open_blocks;
+mod subjects;
+mod table_surveys;
+mod table_weights;
+mod unchanged;
+mod unplaced;
+
+pub use collecting::{Collected, Surveyed};
+pub use delta_surveys::survey_delta;
+pub use findings::{About, FoundFault, WarnedLine, Warning};
+pub use foreign_words::ForeignWord;
+pub use table_surveys::survey_table;
