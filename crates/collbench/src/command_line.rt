@@ -70,7 +70,8 @@ And last:
 A source with `copy` goes through `collbench import-delta` first: in a delta file `copy` has no effect.";
 
 // What help says last of the subcommand that serves a person.
-const EDITED: &str = "The statements of the delta files are the first of the history. Each line of a session is answered as there, on standard
+const EDITED: &str =
+    "The statements of the delta files are the first of the history. Each line of a session is answered as there, on standard
 output, and what a refusal says is told on standard error. Beside them:
   :show <U0061>       an entry with its rank, weights and section, and three neighbours on each side
   :explain a A        why two texts compare as they do; texts without blanks need no quotes here, nor for :key and :compare
@@ -312,9 +313,11 @@ fn taking<'a>(alloc: Global, subcommand: Subcommand) -> Result<Command<'a>, Allo
         Subcommand::Explain => Ok(over_two_texts(alloc, subcommand)?.after_help(EXPLAINED)),
         Subcommand::Review => over_words(alloc, subcommand),
         Subcommand::Session => over_table(alloc, subcommand),
-        Subcommand::Edit => Ok(over_table(alloc, subcommand)?
-            .after_help(EDITED)
-            .arg(deltas(alloc))?),
+        Subcommand::Edit => Ok(
+            over_table(alloc, subcommand)?
+                .after_help(EDITED)
+                .arg(deltas(alloc))?,
+        ),
         Subcommand::Diff => over_two_tables(alloc, subcommand),
         Subcommand::Import => over_source(alloc, subcommand),
         Subcommand::ImportDelta => over_table_and_source(alloc, subcommand),

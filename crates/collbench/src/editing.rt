@@ -23,6 +23,7 @@ struct SystemFiles<'a> {
 
 impl<'a> OpensFiles for SystemFiles<'a> {
     type Input = Counted<File>;
+
     type Output = Counted<File>;
 
     fn open(&mut self, name: &str) -> Result<Counted<File>, FileReason> {
@@ -53,12 +54,7 @@ fn reason_of(kind: ErrorKind) -> FileReason {
 }
 
 /// Edits the table in the first of these files, whose history begins with the statements of the others, and answers the exit status.
-pub(crate) fn edit(
-    rt: &HostRuntime,
-    keys: HashKeys,
-    files: &[&str],
-    names: &[String],
-) -> ExitCode
+pub(crate) fn edit(rt: &HostRuntime, keys: HashKeys, files: &[&str], names: &[String]) -> ExitCode
     requires some { 0 < length files.now }
     requires names { length names.now ≡ length files.now }
 {
@@ -87,11 +83,7 @@ fn begin(rt: &HostRuntime, keys: HashKeys, files: &[&str]) -> Result<Editor, Run
 }
 
 // An edit of the table in the first of these inputs, behind the statements of the others.
-fn begin_opened(
-    rt: &HostRuntime,
-    keys: HashKeys,
-    inputs: &mut [Input],
-) -> Result<Editor, RunFault>
+fn begin_opened(rt: &HostRuntime, keys: HashKeys, inputs: &mut [Input]) -> Result<Editor, RunFault>
     requires { 0 < length inputs.old }
     ensures { IfErr result (λ fault. fault.input < length inputs.old) }
 {

@@ -2,8 +2,9 @@
 //!
 //! `command_line` reads the words, `random_keys` draws the keys that names are looked up under, `files` opens what the words name,
 //! `importing` makes tables and delta files of sources, `explaining` tells why texts compare as they do, `words` sorts lines,
-//! `reviews` tells what statements do to words, `editing` serves a person, and `differences` compares two tables. Here the runs are started, and their faults
-//! are told: a line on standard error, and the exit status, which stands also where that line can't be written.
+//! `reviews` tells what statements do to words, `editing` serves a person, and `differences` compares two tables. Here the runs are
+//! started, and their faults are told: a line on standard error, and the exit status, which stands also where that line can't be
+//! written.
 #![tactic(auto)]
 
 ghost use Rattle.std.specs.Prelude.{◌<◌, length, vec_len, IfOk, IfErr, ◌≡◌};
