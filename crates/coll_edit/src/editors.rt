@@ -552,7 +552,8 @@ impl Editor {
         output: &mut Watched<W>,
         messages: &mut M,
     ) -> RunFault
-        ensures ended { IsCutOff stop (number_of (lexer_of (run_of self.now))) (W.taken (device_of output.old)) (W.taken (device_of output.new))
+        ensures ended { IsCutOff stop (number_of (lexer_of (run_of self.now))) (W.taken (device_of output.old))
+            (W.taken (device_of output.new))
             (refused_lines (kept_last_faults (block_of (run_of self.now)) (number_of (lexer_of (run_of self.now))) too_long)) result }
         ensures input { result.input ≡ 0 }
     {

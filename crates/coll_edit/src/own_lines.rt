@@ -123,8 +123,9 @@ fn own_words(alloc: Global, word: &Token, arguments: &[Token]) -> Option<OwnLine
 
 // A line that is `edit`'s, whatever its arguments are.
 fn argued(read: Result<OwnLine, SyntaxFault>) -> Option<OwnLine>
-    ensures { (stated : Result OwnLine SyntaxFault) → IfOk read (λ line. stated ≡ Ok line) → IfErr read (λ fault. fault ≢ syntax.OutOfMemory
-        → stated ≡ Err fault) → result ≢ Some (own.Wrong syntax.OutOfMemory) → result ≡ stated_argued stated }
+    ensures { (stated : Result OwnLine SyntaxFault) → IfOk read (λ line. stated ≡ Ok line)
+        → IfErr read (λ fault. fault ≢ syntax.OutOfMemory → stated ≡ Err fault)
+        → result ≢ Some (own.Wrong syntax.OutOfMemory) → result ≡ stated_argued stated }
 {
     match read {
         Ok(line) => Some(line),
@@ -134,8 +135,9 @@ fn argued(read: Result<OwnLine, SyntaxFault>) -> Option<OwnLine>
 
 // A line that is `edit`'s where its arguments fit, and else is left to the session.
 fn if_fits(read: Result<OwnLine, SyntaxFault>) -> Option<OwnLine>
-    ensures { (stated : Result OwnLine SyntaxFault) → IfOk read (λ line. stated ≡ Ok line) → IfErr read (λ fault. fault ≢ syntax.OutOfMemory
-        → stated ≡ Err fault) → result ≢ Some (own.Wrong syntax.OutOfMemory) → result ≡ stated_fits stated }
+    ensures { (stated : Result OwnLine SyntaxFault) → IfOk read (λ line. stated ≡ Ok line)
+        → IfErr read (λ fault. fault ≢ syntax.OutOfMemory → stated ≡ Err fault)
+        → result ≢ Some (own.Wrong syntax.OutOfMemory) → result ≡ stated_fits stated }
 {
     match read {
         Ok(line) => Some(line),

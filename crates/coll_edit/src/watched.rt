@@ -35,6 +35,13 @@ impl<W> Watched<W> {
         }
     }
 
+    /// The device.
+    pub fn device(&self) -> &W
+        ensures { result.now ≡ device_of self.now }
+    {
+        &self.output
+    }
+
     // Forgets what was kept.
     pub(crate) fn forget(&mut self)
         ensures { device_of self.new ≡ device_of self.old }
@@ -45,7 +52,7 @@ impl<W> Watched<W> {
 
     // The number of the refusal that was told since it was told to forget, if one was.
     pub(crate) fn refusal(&self) -> Option<u8> {
-        number_told(&self.first)
+        number_told(self.first.get(..self.count)?)
     }
 
     // Keeps the first bytes.

@@ -6,8 +6,8 @@
 ghost use Rattle.std.specs.Prelude.{◌≡◌, ◌<◌, length, IfErr};
 
 use crate::files::{Input, at_no_line, open_all};
-use crate::reasons::reason_of;
-use crate::{STANDARD_INPUT, read_first, standard_output, status, tell_fault, tell_no_memory};
+use crate::reasons::{ReasonedOutput, reason_of, reasoned_output};
+use crate::{STANDARD_INPUT, read_first, status, tell_fault, tell_no_memory};
 use coll_bench::{Fault, RunFault};
 use coll_edit::{Editor, FileReason, OpensFiles, Watched, edit_lines};
 use coll_lex::{Counted, LexFault};
@@ -24,6 +24,7 @@ struct SystemFiles<'a> {
 
 impl<'a> OpensFiles for SystemFiles<'a> {
     type Input = Counted<File>;
+
     type Output = Counted<File>;
 
     fn open(&mut self, name: &str) -> Result<Counted<File>, FileReason> {
@@ -42,12 +43,7 @@ impl<'a> OpensFiles for SystemFiles<'a> {
 }
 
 /// Edits the table in the first of these files, whose history begins with the statements of the others, and answers the exit status.
-pub(crate) fn edit(
-    rt: &HostRuntime,
-    keys: HashKeys,
-    files: &[&str],
-    names: &[String],
-) -> ExitCode
+pub(crate) fn edit(rt: &HostRuntime, keys: HashKeys, files: &[&str], names: &[String]) -> ExitCode
     requires some { 0 < length files.now }
     requires names { length names.now ≡ length files.now }
 {
@@ -76,11 +72,7 @@ fn begin(rt: &HostRuntime, keys: HashKeys, files: &[&str]) -> Result<Editor, Run
 }
 
 // An edit of the table in the first of these inputs, behind the statements of the others.
-fn begin_opened(
-    rt: &HostRuntime,
-    keys: HashKeys,
-    inputs: &mut [Input],
-) -> Result<Editor, RunFault>
+fn begin_opened(rt: &HostRuntime, keys: HashKeys, inputs: &mut [Input]) -> Result<Editor, RunFault>
     requires { 0 < length inputs.old }
     ensures { IfErr result (λ fault. fault.input < length inputs.old) }
 {
@@ -114,27 +106,42 @@ fn put_deltas(editor: &mut Editor, inputs: &mut [Input]) -> Result<(), RunFault>
     Ok(())
 }
 
-// Serves the lines of standard input.
+// Serves the lines of standard input. Where nobody reads the replies any longer, the edit has ended.
 fn edit_standard_input(rt: &HostRuntime, editor: &mut Editor) -> Result<(), RunFault>
     ensures { IfErr result (λ fault. fault.input ≡ 0) }
 {
-    match standard_output(rt) {
+    match reasoned_output(rt) {
         Ok(output) => {
             let mut output = Watched::new(output);
-            let mut lines = Counted::new(rt.stdin());
-            let mut messages = Counted::new(rt.stderr());
-            let mut files = SystemFiles { rt };
-            let prompts = rt.stdin().is_terminal();
-            edit_lines(
-                rt.alloc(),
-                editor,
-                &mut lines,
-                &mut output,
-                &mut messages,
-                &mut files,
-                prompts,
-            )
+            let ran = edit_to(rt, editor, &mut output);
+            if output.device().is_closed() {
+                return Ok(());
+            }
+            ran
         }
         Err(fault) => Err(fault),
     }
+}
+
+// Serves the lines of standard input, and writes the replies to an output.
+fn edit_to(
+    rt: &HostRuntime,
+    editor: &mut Editor,
+    output: &mut Watched<ReasonedOutput>,
+) -> Result<(), RunFault>
+    ensures { IfErr result (λ fault. fault.input ≡ 0) }
+{
+    let mut lines = Counted::new(rt.stdin());
+    let mut messages = Counted::new(rt.stderr());
+    let mut files = SystemFiles { rt };
+    let prompts = rt.stdin().is_terminal();
+    edit_lines(
+        rt.alloc(),
+        editor,
+        &mut lines,
+        output,
+        &mut messages,
+        &mut files,
+        prompts,
+    )
 }

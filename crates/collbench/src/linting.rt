@@ -6,9 +6,9 @@
 ghost use Rattle.std.specs.Prelude.{◌≡◌, ◌<◌, length};
 
 use crate::files::at_no_line;
-use crate::reasons::{Reasoned, reason_words};
-use crate::{Output, standard_output};
+use crate::reasons::{Reasoned, ReasonedOutput, reason_of, reasoned_output};
 use coll_bench::{Fault, RunFault, exit_status};
+use coll_edit::FileReason;
 use coll_lex::{ReadStop, Sink, WriteStop};
 use coll_lint::{keep_text, lint};
 use coll_table::HashKeys;
@@ -54,14 +54,19 @@ fn tell_refused(rt: &HostRuntime, refused: &Refused, names: &[String]) -> ExitCo
     };
     let line = refused.fault.line;
     let fault = refused.fault.fault;
-    let _ = match refused.reason {
-        Some(reason) => {
-            let words = reason_words(reason);
-            eprintln!(rt; "{name}:{line}: {fault}: {words}")
-        }
+    let _ = match told_reason(refused.reason) {
+        Some(words) => eprintln!(rt; "{name}:{line}: {fault}: {words}"),
         None => eprintln!(rt; "{name}:{line}: {fault}"),
     };
     ExitCode::from(exit_status(&fault))
+}
+
+// A reason of the system in words, where it gave one that is known.
+fn told_reason(reason: Option<ErrorKind>) -> Option<&'static str> {
+    match reason_of(reason?) {
+        FileReason::Other => None,
+        reason => Some(reason.words()),
+    }
 }
 
 // Opens the files and reads them, and tells all that is wrong with them.
@@ -105,7 +110,7 @@ fn keep(rt: &HostRuntime, input: usize, source: &mut Reasoned<File>) -> Result<V
     }
 }
 
-// Tells all that is wrong with a text on standard output.
+// Tells all that is wrong with texts on standard output. Where nobody reads that any longer, all is told that is asked for.
 fn lint_to_standard_output(
     rt: &HostRuntime,
     keys: HashKeys,
@@ -113,8 +118,14 @@ fn lint_to_standard_output(
     delta: Option<&[u8]>,
     names: &[String],
 ) -> Linted {
-    match standard_output(rt) {
-        Ok(mut output) => unexplained(lint_to(rt, keys, table, delta, names, &mut output)),
+    match reasoned_output(rt) {
+        Ok(mut output) => {
+            let told = lint_to(rt, keys, table, delta, names, &mut output);
+            if output.is_closed() {
+                return Ok(false);
+            }
+            unexplained(told)
+        }
         Err(fault) => unexplained(Err(fault)),
     }
 }
@@ -126,7 +137,7 @@ fn lint_to(
     table: &[u8],
     delta: Option<&[u8]>,
     names: &[String],
-    output: &mut Output,
+    output: &mut ReasonedOutput,
 ) -> Result<bool, RunFault> {
     let told = lint(rt.alloc(), keys, table, delta, names, output);
     match output.flush() {

@@ -1,14 +1,17 @@
 //! Why the system refused to open a file, to read one, or to write.
 //!
-//! A fault of a device has a number and no more; here the reason that the system gives is kept beside it, and told in words.
+//! A fault of a device has a number and no more; here the reason that the system gives is kept beside it. It is told in words, or,
+//! where nobody reads any longer what is written, ends what serves a person quietly.
 
-ghost use Rattle.std.specs.Prelude.{◌≡◌};
+ghost use Rattle.std.specs.Prelude.{◌≡◌, IfErr};
 ghost use Rattle.coll_devices.specs.Counted.{device_of, errors_of, flushed_of};
 
+use crate::files::at_no_line;
+use coll_bench::{Fault, RunFault};
 use coll_edit::FileReason;
-use coll_lex::{Counted, Sink, Source};
+use coll_lex::{Counted, LexFault, Sink, Source};
 use std::io;
-use std::io::{ErrorKind, Read, Write};
+use std::io::{BufWriter, ErrorKind, Read, Stdout, Write};
 
 /// A device with the kind of the last error that it answered.
 #[derive(Drop)]
@@ -30,6 +33,11 @@ impl<T> Reasoned<T> {
     pub fn reason(&self) -> Option<ErrorKind> {
         self.reason
     }
+
+    /// Whether the last error told that nobody reads any longer what is written.
+    pub fn is_closed(&self) -> bool {
+        matches!(self.reason, Some(ErrorKind::BrokenPipe))
+    }
 }
 
 impl<T: Read> Source for Reasoned<T> {
@@ -47,6 +55,51 @@ impl<T: Read> Source for Reasoned<T> {
 
     fn errors(&self) -> u64 {
         Source::errors(&self.device)
+    }
+}
+
+impl<T: Write> Sink for Reasoned<T> {
+    ghost taken = { λ r. T.contents (device_of r.device) };
+
+    ghost failed = { λ r. errors_of r.device };
+
+    ghost flushed = { λ r. flushed_of r.device };
+
+    fn write(&mut self, buf: &[u8]) -> io::Result<usize> {
+        let written = self.device.write(buf);
+        if let Err(error) = &written {
+            self.reason = Some(error.kind());
+        }
+        written
+    }
+
+    fn flush(&mut self) -> io::Result<()> {
+        let flushed = self.device.flush();
+        if let Err(error) = &flushed {
+            self.reason = Some(error.kind());
+        }
+        flushed
+    }
+
+    fn errors(&self) -> u64 {
+        Sink::errors(&self.device)
+    }
+
+    fn is_flushed(&self) -> bool {
+        self.device.is_flushed()
+    }
+}
+
+/// Standard output, with a buffer, which keeps why it refuses what is written.
+pub(crate) type ReasonedOutput = Reasoned<BufWriter<Stdout>>;
+
+/// Standard output, which has refused nothing yet.
+pub(crate) fn reasoned_output(rt: &HostRuntime) -> Result<ReasonedOutput, RunFault>
+    ensures { IfErr result (λ fault. fault.input ≡ 0) }
+{
+    match BufWriter::new(rt.alloc(), rt.stdout()) {
+        Ok(buffered) => Ok(Reasoned::new(buffered)),
+        Err(_) => Err(at_no_line(0, Fault::Lex(LexFault::OutOfMemory))),
     }
 }
 
