@@ -52,7 +52,7 @@ impl<W> Watched<W> {
 
     // The number of the refusal that was told since it was told to forget, if one was.
     pub(crate) fn refusal(&self) -> Option<u8> {
-        number_told(self.first.get(..self.count)?)
+        number_told(&self.first)
     }
 
     // Keeps the first bytes.
