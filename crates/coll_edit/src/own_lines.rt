@@ -4,7 +4,7 @@
 //! is spelled as it is. A new line is a variant of `OwnLine`, a case of `own_words` and of `own_words` in `specs/OwnLines.antt`, its
 //! reply in `replies`, and a line of the help.
 
-ghost use Rattle.std.specs.Prelude.{◌≡◌, ◌≢◌, ◌∷◌, [], Ok, Err, Some, IfOk, IfErr, Result};
+ghost use Rattle.std.specs.Prelude.{◌≡◌, ◌≢◌, Ok, Err, Some, IfOk, IfErr, Result};
 ghost use Rattle.coll_lex.specs.LogicalLines.{first_state};
 ghost use Rattle.coll_syntax.specs.Operands.{only, id_in, read_as};
 ghost use Rattle.coll_syntax.specs.declared.syntax_faults.SyntaxFault.{SyntaxFault};
@@ -14,7 +14,7 @@ ghost use Rattle.coll_edit.specs.OwnLines.{argued as stated_argued, if_fits as s
 ghost use Rattle.coll_edit.specs.declared.own_lines.OwnLine.{OwnLine};
 ghost use Rattle.coll_edit.specs.declared.own_lines.OwnLine.TheVariants as own;
 
-use coll_lex::{LexFault, Lexer, TextBuf, Token};
+use coll_lex::{LexFault, Lexer, Piece, TextBuf, Token};
 use coll_syntax::{Id, SyntaxFault, characters, ended, id_of, is_word};
 use std::alloc::Global;
 
@@ -172,7 +172,8 @@ fn key(alloc: Global, arguments: &[Token]) -> Result<OwnLine, SyntaxFault>
 // `:compare`, by its arguments.
 fn compare(alloc: Global, arguments: &[Token]) -> Result<OwnLine, SyntaxFault>
     ensures ok { IfOk result (λ line. read_as (λ texts. own.Compare texts.0 texts.1) (stated_two arguments.now) ≡ Ok line) }
-    ensures err { IfErr result (λ fault. fault ≢ syntax.OutOfMemory → read_as (λ texts. own.Compare texts.0 texts.1) (stated_two arguments.now) ≡ Err fault) }
+    ensures err { IfErr result (λ fault. fault ≢ syntax.OutOfMemory
+        → read_as (λ texts. own.Compare texts.0 texts.1) (stated_two arguments.now) ≡ Err fault) }
 {
     let (first, second) = two_texts(alloc, arguments)?;
     Ok(OwnLine::Compare(first, second))
@@ -181,7 +182,8 @@ fn compare(alloc: Global, arguments: &[Token]) -> Result<OwnLine, SyntaxFault>
 // `:explain`, by its arguments.
 fn explain(alloc: Global, arguments: &[Token]) -> Result<OwnLine, SyntaxFault>
     ensures ok { IfOk result (λ line. read_as (λ texts. own.Explain texts.0 texts.1) (stated_two arguments.now) ≡ Ok line) }
-    ensures err { IfErr result (λ fault. fault ≢ syntax.OutOfMemory → read_as (λ texts. own.Explain texts.0 texts.1) (stated_two arguments.now) ≡ Err fault) }
+    ensures err { IfErr result (λ fault. fault ≢ syntax.OutOfMemory
+        → read_as (λ texts. own.Explain texts.0 texts.1) (stated_two arguments.now) ≡ Err fault) }
 {
     let (first, second) = two_texts(alloc, arguments)?;
     Ok(OwnLine::Explain(first, second))
@@ -255,17 +257,8 @@ fn text_of(alloc: Global, argument: &Token) -> Result<TextBuf, SyntaxFault>
             let text = TextBuf::copied(alloc, word.get())?;
             Ok(text)
         }
-        Token::Char(c) => one_character(alloc, *c),
+        Token::Char(c) => characters(alloc, &[Piece::Char(*c)]),
         Token::Text(pieces) => characters(alloc, pieces.get()),
         _ => Err(SyntaxFault::BadOperand),
     }
-}
-
-// The text of one character.
-fn one_character(alloc: Global, c: char) -> Result<TextBuf, SyntaxFault>
-    ensures ok { IfOk result (λ text. text ≡ c ∷ []) }
-    ensures err { IfErr result (λ fault. fault ≡ syntax.OutOfMemory) }
-{
-    let text = TextBuf::copied(alloc, c.encode_utf8(&mut [0; 4]))?;
-    Ok(text)
 }
