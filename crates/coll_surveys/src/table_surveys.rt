@@ -89,7 +89,8 @@ impl TableSurvey {
 
     // Puts a line that the grammar accepts to the builder, and answers whether it ends the category.
     fn put(&mut self, line: &Line, read: TableLine) -> Result<bool, AllocError>
-        requires { IsProperTableLine read }
+        requires tokens { AreTokens line.now.tokens }
+        requires proper { IsProperTableLine read }
     {
         if let TableLine::Script = &read {
             self.told.warn(line.number, Warning::ScriptWithoutEffect)?;

@@ -1,8 +1,11 @@
 -- The second part stands behind the first, or a prefix of the first is written.
-use Rattle.std.proofs.Common.{map, string_bytes, codes}
+use Rattle.std.proofs.Common.{List, map, string_bytes, codes, subst}
+use Rattle.std.specs.Io.KnownBytes.{Appends}
 use Rattle.std.specs.List.{flat_map}
+use Rattle.coll_devices.specs.Devices.{AppendsPrefix}
 use Rattle.coll_devices.proofs.WritingLemmas.{AppendsPrefix-before, Sends-after}
 use Rattle.coll_lint.specs.LintLines.{warning_line, more_line}
+use Rattle.coll_lint.specs.declared.findings.WarnedLine.{WarnedLine}
 use Rattle.coll_lint.proofs.lint_lines.write_told_warnings.Goals as goal
 
 pub returns-in-Ok-clause-sent : goal.returns-in-Ok-clause-sent
@@ -11,11 +14,13 @@ returns-in-Ok-clause-sent g c =
     Sends-after (taken c.args.out.now) (taken c.write_warnings.new.out) (taken c.write_more.new.out)
     (flat_map (warning_line (map string_bytes c.args.names.now)) c.args.lint.now.warnings)
     (more_line (map string_bytes c.args.names.now) (codes ": more warnings aren't told\n") c.args.lint.now.more_warnings) c.write_more.result
-    c.in-Ok.ensures.sent c.write_more.ensures.sent
+    (subst (λ (told : List WarnedLine). Appends (taken c.args.out.now) (taken c.write_warnings.new.out) (flat_map (warning_line (map string_bytes c.args.names.now)) told)) c.get.ensures c.in-Ok.ensures.sent)
+    c.write_more.ensures.sent
 
 pub returns-in-Err-clause-sent : goal.returns-in-Err-clause-sent
 returns-in-Err-clause-sent g c =
     let taken = g.W.Sink.taken in
     AppendsPrefix-before (taken c.args.out.now) (taken c.write_warnings.new.out)
     (flat_map (warning_line (map string_bytes c.args.names.now)) c.args.lint.now.warnings)
-    (more_line (map string_bytes c.args.names.now) (codes ": more warnings aren't told\n") c.args.lint.now.more_warnings) c.in-Err.ensures.sent
+    (more_line (map string_bytes c.args.names.now) (codes ": more warnings aren't told\n") c.args.lint.now.more_warnings)
+    (subst (λ (told : List WarnedLine). AppendsPrefix (taken c.args.out.now) (taken c.write_warnings.new.out) (flat_map (warning_line (map string_bytes c.args.names.now)) told)) c.get.ensures c.in-Err.ensures.sent)
