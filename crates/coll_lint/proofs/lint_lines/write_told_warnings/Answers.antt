@@ -5,7 +5,7 @@ use Rattle.std.specs.List.{flat_map}
 use Rattle.coll_devices.specs.Devices.{AppendsPrefix}
 use Rattle.coll_devices.proofs.WritingLemmas.{AppendsPrefix-before, Sends-after}
 use Rattle.coll_lint.specs.LintLines.{warning_line, more_line}
-use Rattle.coll_lint.specs.declared.findings.WarnedLine.{WarnedLine}
+use Rattle.coll_surveys.specs.declared.findings.WarnedLine.{WarnedLine}
 use Rattle.coll_lint.proofs.lint_lines.write_told_warnings.Goals as goal
 
 pub returns-in-Ok-clause-sent : goal.returns-in-Ok-clause-sent
