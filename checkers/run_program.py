@@ -14,7 +14,7 @@ tests/runs/NAME.json is one run, in a folder of its own, which has the examples 
     turns         pairs of an input and an output, in place of `input` and `output`: each input is handed in once the output of the
                   pair before was read, and then standard input is closed
     output        what the program writes to standard output, a value; empty if left out, and not looked at if null
-    output_to     the path that standard output is opened at; `output` is then not looked at
+    output_to     the path that standard output is opened at, or `|` for a pipe that nobody reads; `output` is then not looked at
     errors        what it writes to standard error, a value; empty if left out, and not looked at if null
     errors_to     the path that standard error is opened at; `errors` is then not looked at
     status        the exit status; 0 if left out
@@ -76,8 +76,12 @@ def shown(data):
 
 
 def opened(stack, path, flags):
-    """Opens a path by the system's own call, since a folder may stand there."""
-    descriptor = os.open(path, flags)
+    """Opens a path by the system's own call, since a folder may stand there; or a pipe that nobody reads."""
+    if path == "|":
+        reads, descriptor = os.pipe()
+        os.close(reads)
+    else:
+        descriptor = os.open(path, flags)
     stack.callback(os.close, descriptor)
     return descriptor
 
