@@ -35,6 +35,13 @@ impl<W> Watched<W> {
         }
     }
 
+    /// The device.
+    pub fn device(&self) -> &W
+        ensures { result.now ≡ device_of self.now }
+    {
+        &self.output
+    }
+
     // Forgets what was kept.
     pub(crate) fn forget(&mut self)
         ensures { device_of self.new ≡ device_of self.old }
