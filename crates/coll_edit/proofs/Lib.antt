@@ -1,2 +1,3 @@
 pub mod EditLemmas
+mod StatementLemmas
 mod WordLemmas

@@ -1,6 +1,7 @@
 -- A statement that is taken back and put again leaves the history.
-use Rattle.std.proofs.Common.{◌≡◌, ℕ, suc, List, [], ◌∷◌, ◌++◌, length, Result, Ok, Err, refl, sym, ap, ◌∙◌, subst}
-use Rattle.std.specs.Prelude.{◌==◌, if◌then◌else◌, IfOk, IfErr}
+use Rattle.std.proofs.Common.{◌≡◌, ℕ, List, [], ◌∷◌, ◌++◌, Result, Ok, Err, refl, sym, ap, ◌∙◌}
+use Rattle.std.specs.Prelude.{IfOk, IfErr}
+use Rattle.coll_nodes.specs.Table.{Collation}
 use Rattle.coll_syntax.specs.declared.statements.Statement.{Statement}
 use Rattle.coll_history.specs.Histories.{History, taken_back, put_again}
 use Rattle.coll_history.specs.declared.history_faults.BenchFault.{BenchFault}
@@ -12,7 +13,7 @@ last_of x [] = ([], x, refl)
 last_of x (y ∷ ys) = let (init, last, is) = last_of y ys in (x ∷ init, last, ap (λ (l : List Statement). x ∷ l) is)
 
 -- what was taken back last is put again
-again_at : (start : _) (remaining undone : List Statement) (h1 : History) → taken_back (record { start = start; remaining = remaining; undone = undone }) ≡ Ok h1
+again_at : (start : Collation) (remaining undone : List Statement) (h1 : History) → taken_back (record { start = start; remaining = remaining; undone = undone }) ≡ Ok h1
     → put_again h1 ≡ Ok (record { start = start; remaining = remaining; undone = undone })
 unfolding taken_back put_again
 again_at start [] undone h1 back = absurd cc
