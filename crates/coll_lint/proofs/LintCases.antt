@@ -3,8 +3,6 @@ use Rattle.std.proofs.Common.{◌≡◌, inl, inr, ℕ, ◌==◌, ◌||◌, Bool
 use Rattle.std.specs.Prelude.{IfErr, IfOk}
 use Rattle.std.specs.Io.KnownBytes.{Appends}
 use Rattle.coll_devices.specs.Devices.{Sends}
-use Rattle.coll_nodes.specs.Table.{Collation}
-use Rattle.coll_bench.specs.BatchOutcome.{after_inputs}
 use Rattle.coll_bench.specs.BatchReading.{InputsFail, WritesNone}
 use Rattle.coll_bench.specs.BatchRuns.{Ending, ReadFailed, WriteFailed, Starved, Refused, ending_of}
 use Rattle.coll_bench.specs.Faults.{fault_number}
@@ -12,7 +10,6 @@ use Rattle.coll_bench.specs.Serving.{write_failed}
 use Rattle.coll_bench.specs.declared.faults.RunFault.{RunFault}
 use Rattle.coll_lint.specs.LintLines.{lint_text}
 use Rattle.coll_lint.specs.Lints.{BeginsWith, IsLintOf, JudgesTexts, LintRuns, LintsTexts, TellsFaults, is_at_fault, is_of_no_text}
-use Rattle.coll_surveys.specs.declared.findings.FoundFault.{FoundFault}
 use Rattle.coll_lint.specs.declared.lints.Lint.{Lint}
 
 -- a kind of fault that is neither of a read, of a write nor of memory

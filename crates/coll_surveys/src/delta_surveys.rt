@@ -4,7 +4,7 @@
 //! and a block with faults without the lines at fault, so that what comes behind is judged by as much as possible. A line of the wrong
 //! kind in a block is told, and taken as outside of one.
 
-ghost use Rattle.coll_lex.specs.Names.{AreTokens};
+ghost use Rattle.coll_syntax.specs.Proper.{IsProper};
 
 use crate::collecting::{Collected, Surveyed};
 use crate::findings::{About, Warning};
@@ -267,6 +267,11 @@ impl DeltaSurvey {
             numbers,
             spoiled,
         } = ended;
+        if !statement.is_proper() {
+            drop(statement);
+            drop(numbers);
+            return Ok(());
+        }
         let found = faults_of(self.alloc, &self.table, &statement)?;
         if found.is_empty() {
             return self.put(begins, &statement, spoiled);
@@ -281,6 +286,9 @@ impl DeltaSurvey {
 
     // Judges a statement that is no block, and puts it to the table where it has no fault. The answer is whether it has none.
     fn judge(&mut self, number: u32, statement: &Statement) -> Result<bool, AllocError> {
+        if !statement.is_proper() {
+            return Ok(false);
+        }
         let found = faults_of(self.alloc, &self.table, statement)?;
         if found.is_empty() {
             self.put(number, statement, false)?;

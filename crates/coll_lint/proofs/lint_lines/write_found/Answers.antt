@@ -1,5 +1,5 @@
 -- The second part stands behind the first, or a prefix of the first is written.
-use Rattle.std.proofs.Common.{map, string_bytes, codes}
+use Rattle.std.proofs.Common.{map, string_bytes}
 use Rattle.coll_devices.proofs.WritingLemmas.{AppendsPrefix-before, Sends-after}
 use Rattle.coll_lint.specs.LintLines.{fault_head, about_told}
 use Rattle.coll_lint.proofs.lint_lines.write_found.Goals as goal
