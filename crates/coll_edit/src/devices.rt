@@ -11,6 +11,10 @@ pub enum FileReason {
     Denied,
     /// It is a folder.
     Folder,
+    /// A part of its path is no folder.
+    NoFolder,
+    /// Its name is too long.
+    LongName,
     /// A file with this name is there already.
     Exists,
     /// Memory was refused.
@@ -26,6 +30,8 @@ impl FileReason {
             FileReason::Missing => "there is no such file",
             FileReason::Denied => "permission is denied",
             FileReason::Folder => "it is a folder",
+            FileReason::NoFolder => "a part of its path is no folder",
+            FileReason::LongName => "its name is too long",
             FileReason::Exists => "a file with this name is there already",
             FileReason::NoMemory => "there is no memory",
             FileReason::Other => "the system refuses it",
