@@ -1,4 +1,5 @@
 pub mod Editing
 pub mod EditRuns
+pub mod Help
 pub mod OwnLines
 pub mod Watching

@@ -1,5 +1,9 @@
 //! What may be typed, and what a fault says, by its number.
 
+ghost use Rattle.std.specs.Prelude.{◌≡◌, true, OnOk};
+ghost use Rattle.coll_devices.specs.Devices.{CountsErr, Sends};
+ghost use Rattle.coll_edit.specs.Help.{SendsHelp, SendsNumberHelp, advised_line};
+
 use crate::replies::{flush, write_refusal};
 use coll_advice::advice_of;
 use coll_bench::Fault;
@@ -36,19 +40,35 @@ a TEXT or a FILE with blanks or one of ; , < # stands in quotes
 ";
 
 /// Writes what may be typed, and flushes it.
-pub(crate) fn write_help<W: Sink>(out: &mut W) -> Result<(), WriteStop> {
+pub(crate) fn write_help<W: Sink>(out: &mut W) -> Result<(), WriteStop>
+    ensures errors { CountsErr (W.failed out.old) (W.failed out.new) result }
+    ensures flushed { OnOk result (W.flushed out.new ≡ true) }
+{
     write_bytes(out, HELP)?;
     flush(out)
 }
 
 /// Writes the name of the fault with a number, and what to do, and flushes them. A number that no fault has is refused.
-pub(crate) fn write_number_help<W: Sink>(out: &mut W, number: &str) -> Result<(), WriteStop> {
+pub(crate) fn write_number_help<W: Sink>(out: &mut W, number: &str) -> Result<(), WriteStop>
+    ensures sent { SendsHelp (W.taken out.old) (W.taken out.new) number.now result }
+    ensures errors { CountsErr (W.failed out.old) (W.failed out.new) result }
+    ensures flushed { OnOk result (W.flushed out.new ≡ true) }
+{
     match number.parse::<u8>() {
-        Ok(number) => match advice_of(number) {
-            Some(advice) => write_advised(out, number, advice.name, advice.sentence),
-            None => write_refusal(out, Fault::Syntax(SyntaxFault::BadOperand)),
-        },
+        Ok(number) => write_fault_help(out, number),
         Err(_) => write_refusal(out, Fault::Syntax(SyntaxFault::BadOperand)),
+    }
+}
+
+// Writes the name of the fault with a number, and what to do, or refuses a number that no fault has.
+fn write_fault_help<W: Sink>(out: &mut W, number: u8) -> Result<(), WriteStop>
+    ensures sent { SendsNumberHelp (W.taken out.old) (W.taken out.new) number result }
+    ensures errors { CountsErr (W.failed out.old) (W.failed out.new) result }
+    ensures flushed { OnOk result (W.flushed out.new ≡ true) }
+{
+    match advice_of(number) {
+        Some(advice) => write_advised(out, number, advice.name, advice.sentence),
+        None => write_refusal(out, Fault::Syntax(SyntaxFault::BadOperand)),
     }
 }
 
@@ -58,7 +78,11 @@ fn write_advised<'a, W: Sink>(
     number: u8,
     name: &'a str,
     sentence: &'a str,
-) -> Result<(), WriteStop> {
+) -> Result<(), WriteStop>
+    ensures sent { Sends (W.taken out.old) (W.taken out.new) (advised_line number name.now sentence.now) result }
+    ensures errors { CountsErr (W.failed out.old) (W.failed out.new) result }
+    ensures flushed { OnOk result (W.flushed out.new ≡ true) }
+{
     write_pieces(
         out,
         &[

@@ -35,7 +35,7 @@ pub(crate) fn write_shown<W: Sink>(out: &mut W, table: &Table, id: &Id) -> Resul
 fn write_absent<W: Sink>(out: &mut W, table: &Table, id: &Id) -> Result<(), WriteStop> {
     let rank = match rank_of(table, &Id::Undefined) {
         Some(rank) => rank,
-        None => table.len() as u64 + 1,
+        None => (table.len() as u64).saturating_add(1),
     };
     write_around(out, table, rank)?;
     write_place(out, b"absent", Some(id), rank, section_at(table, rank))
