@@ -1,2 +1,3 @@
 pub mod EditLemmas
+pub mod PutLemmas
 mod WordLemmas
