@@ -1,6 +1,6 @@
 -- A statement that is put behind those that remain, and one that is refused.
 use Rattle.std.proofs.Common.{◌≡◌, ◌≢◌, ℕ, Bool, true, false, List, [], ◌∷◌, ◌++◌, map, Result, Ok, Err, refl, sym, ap, ◌∙◌, subst, append_assoc, length}
-use Rattle.std.specs.Prelude.{nat_le, if◌then◌else◌}
+use Rattle.std.specs.Prelude.{nat_le, if◌then◌else◌, OnOk}
 use Rattle.std.proofs.lemmas.List.{map-append}
 use Rattle.coll_syntax.specs.declared.statements.Statement.{Statement}
 use Rattle.coll_nodes.specs.Table.{Collation}
@@ -17,7 +17,10 @@ use Rattle.coll_bench.specs.BatchOutcome.{fault_in, judged_at}
 use Rattle.coll_bench.specs.BatchReading.{FailsAs}
 use Rattle.coll_bench.specs.BatchRuns.{ending_of}
 use Rattle.coll_bench.specs.declared.faults.Fault.TheVariants as fault
-use Rattle.coll_edit.specs.Editing.{PutsBehind}
+use Rattle.coll_bench.specs.Serving.{history_of}
+use Rattle.coll_bench.specs.declared.faults.RunFault.{RunFault}
+use Rattle.coll_edit.specs.Editing.{PutsBehind, run_of}
+use Rattle.coll_edit.specs.declared.editors.Editor.{Editor}
 
 replay_put : (table : Collation) (before : List Statement) (s : Statement) → replay table (before ++ s ∷ []) ≡ after_statement (replay table before) s
 unfolding replay
@@ -62,6 +65,17 @@ puts_behind first h after before at s same e behind =
           ∙ ap (λ (l : List Statement). first.remaining ++ l) (sym (map-append f before (at ∷ [])));
     }
 
+-- the same of an answer
+pub puts_ok : (input line : ℕ) (h after : History) (s t : Statement) (r : Result (Unit {0}) RunFault) → s ≡ t → OnOk r (judged h s ≡ Ok after)
+    → OnOk r (judged_at input line (delta (table_now h) t) ≡ Ok (table_now after))
+puts_ok input line h after s t (Ok done) same e = puts input line h after s t same e
+puts_ok input line h after s t (Err ended) same e = tt
+
+pub reaches_ok : (h after : History) (at : StatementAt) (s : Statement) (r : Result (Unit {0}) RunFault) → s ≡ at.statement → OnOk r (judged h s ≡ Ok after)
+    → OnOk r ((start : Editor) (before : List StatementAt) → PutsBehind (history_of (run_of start)) before h → PutsBehind (history_of (run_of start)) (before ++ at ∷ []) after)
+reaches_ok h after at s (Ok done) same e = λ start before behind. puts_behind (history_of (run_of start)) h after before at s same e behind
+reaches_ok h after at s (Err ended) same e = tt
+
 refused_by : (h : History) (s : Statement) (r : Refusal) (answer : Result Collation Refusal) → judged_by h s answer ≡ Err (Table r) → answer ≡ Err r
 refused_by h s r (Ok table) e = absurd cc
 refused_by h s r (Err reason) e = cc
@@ -94,3 +108,8 @@ put_fails input line h s refusal.SectionAfterItself refuses = refused_at input l
 put_fails input line h s refusal.NotPlaced refuses = refused_at input line h s refusal.NotPlaced (refuses (λ e. cc))
 put_fails input line h s refusal.NoWeights refuses = refused_at input line h s refusal.NoWeights (refuses (λ e. cc))
 put_fails input line h s refusal.NotASymbol refuses = refused_at input line h s refusal.NotASymbol (refuses (λ e. cc))
+
+-- the same of a fault that is that refusal
+pub put_fails_as : (input line : ℕ) (h : History) (s : Statement) (r : Refusal) (f : BenchFault) → f ≡ Table r → (f ≢ Table refusal.OutOfMemory → judged h s ≡ Err f)
+    → FailsAs (ending_of (fault_in input line (fault.Table r))) (judged_at input line (delta (table_now h) s)) (fault_in input line (fault.Table r))
+put_fails_as input line h s r f is refuses = put_fails input line h s r (subst (λ (g : BenchFault). g ≢ Table refusal.OutOfMemory → judged h s ≡ Err g) is refuses)

@@ -6,6 +6,7 @@ use Rattle.coll_devices.specs.LineReading.{ReaderState, Cuts, unread}
 use Rattle.coll_bench.proofs.RunSteps.{underway_begun, unread_begun, gives_line, gives_end, stops_now}
 use Rattle.coll_bench.proofs.RunExits.{cut_off_ended, text_ended}
 use Rattle.coll_edit.specs.Editing.{has_answered, run_of}
+use Rattle.coll_edit.specs.declared.editors.Next.TheVariants as next
 use Rattle.coll_edit.specs.Watching.{device_of}
 use Rattle.coll_edit.proofs.EditLemmas.{underway_edited, edit_ended}
 use Rattle.coll_edit.proofs.runs.serve_lines.Goals as goal
@@ -29,11 +30,11 @@ lines-preserved g c =
       going = line.stop;
       underway = λ table text before begins left_is taken_is.
           underway_edited table text before c.lines.reader.ended c.advance.new.self.ended (unread c.lines.reader (left c.lines.input)) (unread c.advance.new.self (left c.advance.new.input))
-          (taken (device_of c.lines.output)) (taken (device_of c.serve.new.output)) c.lines.editor c.serve.new.self c.line.result.now c.in-Ok-serve.field-0
+          (taken (device_of c.lines.output)) (taken (device_of c.serve.new.output)) c.lines.editor c.serve.new.self c.line.result.now c.in-Ok-Line.field-0
           (c.lines.invariant.underway table text before begins left_is taken_is) line.not_ended
           (subst (λ (l : List ℕ). Cuts c.advance.new.self.ended (unread c.lines.reader (left c.lines.input)) (unread c.advance.new.self (left c.advance.new.input)) l) (sym c.line.ensures) line.cut)
           (subst (λ (l : List ℕ). IsInLine l) (sym c.line.ensures) line.whole)
-          c.in-Ok-serve.ensures.served;
+          c.in-Ok-Line.ensures.served;
     }
 
 pub returns-in-Err-serve-clause-run : goal.returns-in-Err-serve-clause-run
@@ -68,3 +69,8 @@ returns-in-Err-clause-run g c table begins unanswered text before left_is taken_
     cut_off_ended table text before c.lines.reader c.advance.new.self (left c.lines.input) (left c.advance.new.input) (taken (device_of c.lines.output)) (taken (device_of c.cut_off.new.output))
     (failed c.lines.input) (failed c.advance.new.input)
     (run_of c.lines.editor) c.in-Err.stop c.cut_off.result stop (c.lines.invariant.underway table text before begins left_is taken_is unanswered) c.cut_off.ensures.ended
+
+pub returns-in-Ok-End-clause-run : goal.returns-in-Ok-End-clause-run
+returns-in-Ok-End-clause-run g c table begins unanswered =
+    let is : c.in-Ok-End.field-0 ≡ next.End = search in
+    absurd (false≢true (sym unanswered ∙ c.in-Ok-End.ensures.ends is))
