@@ -60,8 +60,11 @@ pub edits_taken : (old mid new : Editor) (line : List ℕ) (request : Option Req
     → lexer_of (run_of new) ≡ lexer_of (run_of mid) → block_of (run_of new) ≡ block_of (run_of mid)
     → AnswersRequest mid new request taken taken_after r → EditsLine old new line taken taken_after r
 edits_taken old mid new line request taken taken_after r takes same lexer block answers =
-    ⊎_elim (λ (a : (has_answered new ≡ has_answered mid) × Answered (run_of mid) (run_of new) request taken taken_after (without_next r)).
-    inl (a.0 ∙ same, serves (run_of old) (run_of mid) (run_of new) line request taken taken_after (without_next r) takes lexer block a.1))
+    ⊎_elim (λ (a : (has_answered new ≡ has_answered mid) × (starved : Bool)
+    × Replies taken taken_after (replies_to starved (history_of (run_of mid)) (option_to_list request)) (without_next r)
+    × (history_of (run_of new) ≡ history_after_all starved (history_of (run_of mid)) (option_to_list request))).
+    let (kept, starved, replies, history) = a in
+    inl (kept ∙ same, serves (run_of old) (run_of mid) (run_of new) line request taken taken_after (without_next r) takes lexer block (starved, replies, history)))
     (λ (a : (has_answered new ≡ true) × IsLeft request × (history_of (run_of new) ≡ history_of (run_of mid))).
     let (memory, left, l) = leaves (run_of old) (run_of mid) (run_of new) line request taken takes lexer block a.2 a.1 in inr (a.0, memory, left, l))
     answers
