@@ -1,6 +1,6 @@
 -- A line of an edit: the session serves it, or leaves it to `edit`.
 use Rattle.std.proofs.Common.{◌≡◌, ℕ, Bool, true, false, List, [], ◌∷◌, Option, Some, None, Result, Ok, Err, refl, sym, ap, ◌∙◌, ⊎_elim, inl, inr}
-use Rattle.std.specs.Prelude.{◌⊎◌, option_to_list}
+use Rattle.std.specs.Prelude.{◌⊎◌, IfOk, OnOk, option_to_list}
 use Rattle.std.proofs.lemmas.Bool.{false≢true}
 use Rattle.coll_devices.specs.PhysicalLines.{IsInLine}
 use Rattle.coll_devices.specs.LineReading.{Cuts}
@@ -21,6 +21,7 @@ use Rattle.coll_bench.proofs.ServingLemmas.{serves_taken, serves_failed}
 use Rattle.coll_edit.specs.Editing.{AnswersRequest, EditsLine, IsLeft, IsLook, LeavesLine, Replies, has_answered, run_of, without_next}
 use Rattle.coll_edit.specs.declared.editors.Editor.{Editor}
 use Rattle.coll_edit.specs.declared.editors.Next.{Next}
+use Rattle.coll_edit.specs.declared.editors.Next.TheVariants as after
 
 -- what answering a request as the session does comes to
 abbrev Answered : RunState → RunState → Option RequestAt → (taken taken_after : Option (List ℕ)) → Result (Unit {0}) RunFault → Type 0
@@ -59,10 +60,13 @@ pub edits_taken : (old mid new : Editor) (line : List ℕ) (request : Option Req
     → lexer_of (run_of new) ≡ lexer_of (run_of mid) → block_of (run_of new) ≡ block_of (run_of mid)
     → AnswersRequest mid new request taken taken_after r → EditsLine old new line taken taken_after r
 edits_taken old mid new line request taken taken_after r takes same lexer block answers =
-    ⊎_elim (λ (a : (has_answered new ≡ has_answered mid) × Answered (run_of mid) (run_of new) request taken taken_after (without_next r)).
-    inl (a.0 ∙ same, serves (run_of old) (run_of mid) (run_of new) line request taken taken_after (without_next r) takes lexer block a.1))
+    ⊎_elim (λ (a : (has_answered new ≡ has_answered mid) × (starved : Bool)
+    × Replies taken taken_after (replies_to starved (history_of (run_of mid)) (option_to_list request)) (without_next r)
+    × (history_of (run_of new) ≡ history_after_all starved (history_of (run_of mid)) (option_to_list request))).
+    let (kept, starved, replies, history) = a in
+    inl (kept ∙ same, serves (run_of old) (run_of mid) (run_of new) line request taken taken_after (without_next r) takes lexer block (starved, replies, history)))
     (λ (a : (has_answered new ≡ true) × IsLeft request × (history_of (run_of new) ≡ history_of (run_of mid))).
-    inr (a.0, leaves (run_of old) (run_of mid) (run_of new) line request taken takes lexer block a.2 a.1))
+    let (memory, left, l) = leaves (run_of old) (run_of mid) (run_of new) line request taken takes lexer block a.2 a.1 in inr (a.0, memory, left, l))
     answers
 
 -- a look at the table leaves the history
@@ -100,3 +104,13 @@ edit_ended table text before left ended0 ended1 unread0 unread1 taken0 taken1 ol
     (λ (a : (has_answered new ≡ true) × (memory : Bool) × (request : RequestAt) × LeavesLine memory (run_of old) (run_of new) line request).
     absurd (false≢true (sym unanswered ∙ a.0)))
     edits
+
+-- what holds anyway holds of an answer
+pub on_ok : {P : Type 0} (r : Result Next RunFault) → P → OnOk r P
+on_ok (Ok next) p = p
+on_ok (Err ended) p = tt
+
+-- where a line of `edit` was answered, the end may be asked for
+pub ends_answered : (b : Bool) (r : Result Next RunFault) → b ≡ true → IfOk r (λ (next : Next). next ≡ after.End → b ≡ true)
+ends_answered b (Ok next) is = λ e. is
+ends_answered b (Err ended) is = tt

@@ -1,3 +1,4 @@
 pub mod EditLemmas
+pub mod PutLemmas
 mod StatementLemmas
 mod WordLemmas

@@ -580,7 +580,9 @@ impl TakesStatements for Editor {
         }
     }
 
-    ghost stays = { λ start. search };
+    ghost stays = { λ editor. record { start = refl; remaining = sym (append-nil (history_of (run_of editor)).remaining) } };
+
+    ghost use Rattle.std.proofs.Common.{refl, sym, append-nil};
 }
 
 // Lack of memory at a line of an input.

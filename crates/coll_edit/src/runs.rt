@@ -58,9 +58,7 @@ fn serve_lines<R: Source, W: Sink, M: Sink, F: OpensFiles>(
     ensures input { IfErr result (λ ended. ended.input ≡ 0) }
 {
     'lines: loop {
-        if prompts {
-            editor.prompt(messages);
-        }
+        ask(editor, messages, prompts);
         match reader.advance(input) {
             Ok(true) => match editor.serve(reader.line(), output, messages, files) {
                 Ok(Next::Line) => {}
@@ -70,6 +68,13 @@ fn serve_lines<R: Source, W: Sink, M: Sink, F: OpensFiles>(
             Ok(false) => return editor.finish(output, messages, prompts),
             Err(stop) => return Err(editor.cut_off(stop, output, messages)),
         }
+    }
+}
+
+// Asks for a line, where prompts are wanted.
+fn ask<M: Sink>(editor: &Editor, messages: &mut M, prompts: bool) {
+    if prompts {
+        editor.prompt(messages);
     }
 }
 
