@@ -120,8 +120,8 @@ def alike(count):
 
 
 def repeated(count):
-    """Words of one character, once, twice, and so on, from the longest to the shortest."""
-    return "".join("a" * number + "\n" for number in range(count, 0, -1))
+    """Words of one character, a thousand times, and so on down to once, and again."""
+    return "".join("a" * (1_000 - number % 1_000) + "\n" for number in range(count))
 
 
 def delta(statements):
@@ -164,7 +164,7 @@ SINGLE = "".join(f"{chr(0x10000 + number)}\n" for number in range(4_000))
 # of these name, and the lines of standard input.
 FILES = {
     "sort: words alike for 1,000 characters": (10_000, lambda n: (["sort", "table"], {"table": FLAT}, alike(n))),
-    "sort: words of one character many times": (4_000, lambda n: (["sort", "table"], {"table": FLAT}, repeated(n))),
+    "sort: words of one character many times": (16_000, lambda n: (["sort", "table"], {"table": FLAT}, repeated(n))),
     "sort: words of the longest weights": (40_000, lambda n: (["sort", "table"], {"table": heavy(1)}, "a\n" * n)),
     "explain: texts of the longest weights": (60_000, lambda n: (["explain", "table", "a" * n, "a" * n], {"table": heavy(1)}, "")),
     "explain: texts that differ at the end": (60_000, lambda n: (["explain", "table", "a" * n, "a" * n + "b"], {"table": FLAT}, "")),
