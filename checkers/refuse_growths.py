@@ -25,7 +25,8 @@ its output; or else one request of a session has the reply `refused 70 OutOfMemo
     reply     its reply, a value; empty if left out
     behind    the replies of the requests behind it where this one has that reply, a value; left out where they stay as they are
 
-Each request has to be refused in some run. `spared` is how many growths can be spared.
+Each request has to be refused in some run. `spared` is how many growths can be spared. With `subcommand` it is one of that, in place of
+a session, and what stands on standard error isn't looked at.
 
 A run that names a file as `source` is repeated with each of its reads and writes refused as well. With a read refused it ends with
 fault 67, and has written nothing. With a write refused it ends with fault 68, in line 0 of this file, which is `-` where standard input
@@ -216,17 +217,18 @@ def refuse_to_session(shim, session):
     """Refuses each growth to a session. Returns how many were refused."""
     lines = b"".join(bytes_of(request["lines"]) for request in session["requests"])
     output, outputs = outputs_of(session["requests"])
-    unseen = set(outputs)
+    unseen, tells = set(outputs), "subcommand" in session
 
     def judge(ran):
-        is_whole = ran.output == output and not ran.status and not ran.errors
-        is_refused = ran.refused and ran.output in outputs and not ran.status and not ran.errors
+        is_quiet = not ran.status and (tells or not ran.errors)
+        is_whole = ran.output == output and is_quiet
+        is_refused = ran.refused and ran.output in outputs and is_quiet
         if not (is_whole or is_refused or (is_told(ran, b"") and not ran.output)):
             raise wrong(ran)
         unseen.discard(ran.output)
         return not is_whole
 
-    words = [PROGRAM, "session", session["table"]]
+    words = [PROGRAM, session.get("subcommand", "session"), session["table"]]
     refused = shim.each(words, "program", judge, session["spared"], lines)
     if unseen:
         raise Failed(f"no run has {shown(min(unseen))}")
