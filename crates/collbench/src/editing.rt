@@ -7,7 +7,7 @@ ghost use Rattle.std.specs.Prelude.{◌≡◌, ◌<◌, length, IfErr};
 
 use crate::files::{Input, at_no_line, open_all};
 use crate::reasons::{ReasonedOutput, reason_of, reasoned_output};
-use crate::{STANDARD_INPUT, read_first, status, tell_fault, tell_no_memory};
+use crate::{read_first, status, tell_fault};
 use coll_bench::{Fault, RunFault};
 use coll_edit::{Editor, FileReason, OpensFiles, Watched, edit_lines};
 use coll_lex::{Counted, LexFault};
@@ -43,18 +43,23 @@ impl<'a> OpensFiles for SystemFiles<'a> {
 }
 
 /// Edits the table in the first of these files, whose history begins with the statements of the others, and answers the exit status.
-pub(crate) fn edit(rt: &HostRuntime, keys: HashKeys, files: &[&str], names: &[String]) -> ExitCode
+/// `inputs` has the name of standard input.
+pub(crate) fn edit(
+    rt: &HostRuntime,
+    keys: HashKeys,
+    files: &[&str],
+    names: &[String],
+    inputs: &[String],
+) -> ExitCode
     requires some { 0 < length files.now }
     requires names { length names.now ≡ length files.now }
+    requires input { 0 < length inputs.now }
 {
     match begin(rt, keys, files) {
         Ok(mut editor) => {
             let ran = edit_standard_input(rt, &mut editor);
             drop(editor);
-            match String::from_str(rt.alloc(), STANDARD_INPUT) {
-                Ok(name) => status(rt, ran, &[name]),
-                Err(_) => tell_no_memory(rt),
-            }
+            status(rt, ran, inputs)
         }
         Err(fault) => tell_fault(rt, &fault, names),
     }

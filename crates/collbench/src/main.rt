@@ -120,7 +120,10 @@ fn do_keyed(
             Err(_) => tell_no_memory(rt),
         },
         Task::Lint => lint_files(rt, keys, files, names),
-        Task::Edit => edit(rt, keys, files, names),
+        Task::Edit => match String::from_str(rt.alloc(), STANDARD_INPUT) {
+            Ok(name) => edit(rt, keys, files, names, &[name]),
+            Err(_) => tell_no_memory(rt),
+        },
         Task::Differences => match tell_differences(rt, keys, files) {
             Ok(status) => status,
             Err(fault) => tell_fault(rt, &fault, names),
