@@ -8,7 +8,7 @@ typed line again. Each step types a line, and what stands on the screen until th
 included; so a reply comes before the next prompt, and what a refusal says comes behind its reply. A session ends with a line that
 asks for the end, or with the key for it.
 
-The last line is 'N passed, M failed', where a run is one session.
+The last line is 'N passed, M failed', where a run is one session. Where the system has no pseudo-terminal none is run, and that is said.
 """
 
 import os
@@ -148,7 +148,13 @@ def run(program, session, folder):
 
 
 def run_all(program):
-    """Runs all sessions, and returns how many passed, and how many failed."""
+    """Runs all sessions, and returns how many passed, and how many failed. Where the system has no pseudo-terminal, which is said, none is run."""
+    try:
+        for end in open_terminal():
+            os.close(end)
+    except OSError as error:
+        print(f"no edit at a terminal was run: {error}", flush=True)
+        return 0, 0
     passed = 0
     for session in SESSIONS:
         with tempfile.TemporaryDirectory() as folder:
