@@ -1,10 +1,10 @@
 //! What a session keeps beside its table, for keys and comparisons.
 //!
 //! The ranks of a whole table are made in one pass over its entries, and then serve each look at once. After a change they have
-//! to be made anew, which is dear where one word is looked up and the next change comes. So a look for a short text is served by
-//! the places of the entries, which are given anew in a much shorter pass, and it looks up what the text asks for and no more.
-//! Such a look costs more by itself: where those since the last change have cost as much as the ranks of a large table, the ranks
-//! are made after all. What is kept is true of one table as it stands (`specs/Ranked.antt`); whoever changes the table gives it
+//! to be made anew, which is dear where one word is looked up and the next change comes. So a look for a text that is short beside
+//! the table is served by the places of the entries, which are given anew in a much shorter pass, and it looks up what the text asks
+//! for and no more. Such a look costs more by itself: where those since the last change have together more characters than an eighth
+//! of the entries, and 64, the ranks are made after all. What is kept is true of one table as it stands (`specs/Ranked.antt`); whoever changes the table gives it
 //! up.
 
 ghost use Rattle.std.specs.Prelude.{◌≡◌, ◌≢◌, ◌||◌, true, false, chars, length, IsSome, IfOk, IfErr, OnOk};
@@ -15,22 +15,21 @@ ghost use Rattle.coll_key.specs.TextOrder.{order_of};
 ghost use Rattle.coll_key.specs.WrittenKey.{has_key_form};
 ghost use Rattle.coll_key.specs.declared.key_faults.KeyFault.TheVariants.{OutOfMemory};
 ghost use Rattle.coll_bench.specs.Ranked.{AreNumbersIf, AreRanksIfAny, CanServe, IsKeptFor, given_up};
-ghost use Rattle.coll_bench.specs.Ranked.{kept_nothing, short_work, spent_with, work_after};
+ghost use Rattle.coll_bench.specs.Ranked.{kept_nothing, looked_after, with_look};
 
 use coll_key::{KeyFault, compare, compare_texts, key, key_of_text};
 use coll_lookups::EntryNumbers;
 use coll_ranks::Ranks;
-use coll_syntax::MOST_ELEMENT_CHARS;
 use coll_table::Table;
 use std::alloc::{AllocError, Global};
 use std::cmp::Ordering;
 use std::marker::Model;
 
-// Most characters of what is looked up by itself, of two texts together: a look for so many takes some two milliseconds.
-const MOST_SHORT_LOOK: usize = 1_024;
+// How many characters are looked up by themselves between two changes, whatever the table.
+const FEW_CHARACTERS: usize = 64;
 
-// As many look-ups as take about the time of making the ranks of a large table.
-const MOST_SHORT_WORK: u64 = 131_072;
+// A table of this many entries allows a character more: it is looked up in a small part of the time that their ranks take.
+const ENTRIES_A_CHARACTER: usize = 8;
 
 /// The ranks of a table, if they were made, and the places of its entries.
 #[derive(Drop)]
@@ -41,8 +40,8 @@ pub(crate) struct KeptRanks {
     numbers: EntryNumbers,
     // Whether these are the places in the table as it stands.
     numbered: bool,
-    // What the short looks since the last change have cost, in look-ups.
-    work: u64,
+    // How many characters were looked up by themselves since the last change.
+    looked: usize,
 }
 
 impl Model for KeptRanks {
@@ -50,7 +49,7 @@ impl Model for KeptRanks {
 
     ghost Value = { KeptValue };
 
-    ghost view = { λ k. record { ranks = k.ranks; numbers = k.numbers; numbered = k.numbered; work = k.work } };
+    ghost view = { λ k. record { ranks = k.ranks; numbers = k.numbers; numbered = k.numbered; looked = k.looked } };
 }
 
 impl KeptRanks {
@@ -62,7 +61,7 @@ impl KeptRanks {
             ranks: None,
             numbers: EntryNumbers::new(alloc),
             numbered: false,
-            work: 0,
+            looked: 0,
         }
     }
 
@@ -72,7 +71,7 @@ impl KeptRanks {
     {
         keep(&mut self.ranks, None);
         self.numbered = false;
-        self.work = 0;
+        self.looked = 0;
     }
 
     /// The sort key of a text in the table that this is kept for.
@@ -87,14 +86,14 @@ impl KeptRanks {
     ) -> Result<Vec<u64>, KeyFault>
         requires { IsKeptFor self.old (collation table.now) table.now.layout }
         ensures kept { IsKeptFor self.new (collation table.now) table.now.layout }
-        ensures spares { IsSome (spent_with self.old.work (short_work (length (chars text.now)) 0)) → self.new.ranks ≡ self.old.ranks }
-        ensures work { self.new.work ≡ work_after self.old (short_work (length (chars text.now)) 0) }
+        ensures spares { IsSome (with_look (collation table.now) self.old.looked (length (chars text.now))) → self.new.ranks ≡ self.old.ranks }
+        ensures looked { self.new.looked ≡ looked_after (collation table.now) self.old (length (chars text.now)) }
         ensures ok { IfOk result (λ key. key.items ≡ key_of (collation table.now) (chars text.now)) }
         ensures form { IfOk result (λ key. has_key_form (collation table.now).rules key.items ≡ true) }
         ensures short { IfOk result (λ _. is_too_long (chars text.now) ≡ false) }
         ensures err { IfErr result (λ fault. fault ≢ OutOfMemory → is_too_long (chars text.now) ≡ true) }
     {
-        self.prepare(alloc, table, text, "")?;
+        self.prepare(alloc, table, characters_in(text))?;
         match &self.ranks {
             Some(ranks) => key(alloc, table, ranks, text),
             None => key_of_text(alloc, table, &self.numbers, text),
@@ -114,42 +113,40 @@ impl KeptRanks {
     ) -> Result<Ordering, KeyFault>
         requires { IsKeptFor self.old (collation table.now) table.now.layout }
         ensures kept { IsKeptFor self.new (collation table.now) table.now.layout }
-        ensures spares { IsSome (spent_with self.old.work (short_work (length (chars text.now)) (length (chars other.now))))
+        ensures spares { IsSome (with_look (collation table.now) self.old.looked (length (chars text.now) + length (chars other.now)))
             → self.new.ranks ≡ self.old.ranks }
-        ensures work { self.new.work ≡ work_after self.old (short_work (length (chars text.now)) (length (chars other.now))) }
+        ensures looked { self.new.looked ≡ looked_after (collation table.now) self.old (length (chars text.now) + length (chars other.now)) }
         ensures ok { IfOk result (λ order. order ≡ order_of (collation table.now) (chars text.now) (chars other.now)) }
         ensures short { IfOk result (λ _. (is_too_long (chars text.now) || is_too_long (chars other.now)) ≡ false) }
         ensures err { IfErr result (λ fault. fault ≢ OutOfMemory → (is_too_long (chars text.now) || is_too_long (chars other.now)) ≡ true) }
     {
-        self.prepare(alloc, table, text, other)?;
+        self.prepare(alloc, table, characters_in(text) + characters_in(other))?;
         match &self.ranks {
             Some(ranks) => compare(alloc, table, ranks, text, other),
             None => compare_texts(alloc, table, &self.numbers, text, other),
         }
     }
 
-    // Makes ready what serves a look for two texts, or for one and no text: the ranks where they are there, else the places for a
-    // short look, else the ranks.
+    // Makes ready what serves a look for so many characters: the ranks where they are there, else the places for a short look, else
+    // the ranks.
     fn prepare(
         &mut self,
         alloc: Global,
         table: &Table,
-        text: &str,
-        other: &str,
+        characters: usize,
     ) -> Result<(), AllocError>
         requires { IsKeptFor self.old (collation table.now) table.now.layout }
         ensures kept { IsKeptFor self.new (collation table.now) table.now.layout }
-        ensures spares { IsSome (spent_with self.old.work (short_work (length (chars text.now)) (length (chars other.now))))
-            → self.new.ranks ≡ self.old.ranks }
-        ensures work { self.new.work ≡ work_after self.old (short_work (length (chars text.now)) (length (chars other.now))) }
+        ensures spares { IsSome (with_look (collation table.now) self.old.looked characters) → self.new.ranks ≡ self.old.ranks }
+        ensures looked { self.new.looked ≡ looked_after (collation table.now) self.old characters }
         ensures serves { OnOk result (CanServe self.new.ranks self.new.numbered) }
     {
         if self.ranks.is_some() {
             return Ok(());
         }
-        match self.short_look(text, other) {
-            Some(spent) => {
-                self.work = spent;
+        match self.short_look(table, characters) {
+            Some(looked) => {
+                self.looked = looked;
                 give_numbers(table, &mut self.numbers, &mut self.numbered)?;
                 Ok(())
             }
@@ -160,33 +157,16 @@ impl KeptRanks {
         }
     }
 
-    // What the short looks have cost with a further one, if it is to be one: its texts are short, and those before it cost little.
-    fn short_look(&self, text: &str, other: &str) -> Option<u64>
-        ensures { result ≡ spent_with self.now.work (short_work (length (chars text.now)) (length (chars other.now))) }
+    // How many characters were looked up by themselves with those of a further look, if it is to be a short one.
+    fn short_look(&self, table: &Table, characters: usize) -> Option<usize>
+        ensures { result ≡ with_look (collation table.now) self.now.looked characters }
     {
-        match short_work(text, other) {
-            Some(further) => {
-                if self.work < MOST_SHORT_WORK {
-                    Some(self.work.saturating_add(further))
-                } else {
-                    None
-                }
-            }
-            None => None,
+        let looked = self.looked.saturating_add(characters);
+        if looked > FEW_CHARACTERS + table.len() / ENTRIES_A_CHARACTER {
+            return None;
         }
+        Some(looked)
     }
-}
-
-// What a short look for two texts costs, or none where they are too long for one: at each character a look-up for each length that an
-// element's string may have, and one for the character alone.
-fn short_work(text: &str, other: &str) -> Option<u64>
-    ensures { result ≡ short_work (length (chars text.now)) (length (chars other.now)) }
-{
-    let characters = characters_in(text).saturating_add(characters_in(other));
-    if characters > MOST_SHORT_LOOK {
-        return None;
-    }
-    Some((characters * MOST_ELEMENT_CHARS) as u64)
 }
 
 // How many characters a text has.

@@ -1,7 +1,7 @@
 -- The longest prefix of a text that is an element's string is that of its longest element.
 use Rattle.std.proofs.Common.{◌≡◌, ◌<◌, ◌≤◌, ◌≢◌, ℕ, zero, suc, ◌+◌, Bool, true, false, ◌||◌, cond, List, [], ◌∷◌, ◌++◌, length, take, drop}
 use Rattle.std.proofs.Common.{chars, Option, Some, None, is_some, All, sym, ap, ap₂, subst, ◌∙◌, refl, arith, length-append}
-use Rattle.std.specs.Prelude.{nat_lt}
+use Rattle.std.specs.Prelude.{min, nat_lt}
 use Rattle.std.specs.List.{flat_map, list_any}
 use Rattle.std.specs.Option.{option_or}
 use Rattle.std.proofs.Math.Seq.{take-append_seam}
@@ -22,7 +22,7 @@ use Rattle.coll_nodes.specs.declared.declarations.Declaration.TheVariants as dec
 use Rattle.coll_nodes.specs.declared.entries.Entry.{Entry}
 use Rattle.coll_lookups.proofs.Sameness.{same_name_decides}
 use Rattle.coll_elements.specs.Elements.{Element, beyond_first, begins_with, element_placed, element_text, elements_of, elements_placed, longer, longest, element_id, split}
-use Rattle.coll_elements.specs.ElementEntries.{longest_prefix, with_length, AreElementsOf, FindsPrefix, IsElementOf}
+use Rattle.coll_elements.specs.ElementEntries.{longest_prefix, with_length, AreElementsOf, FindsPrefix, HasNoLonger, IsElementOf}
 use Rattle.coll_elements.specs.declared.element_entries.FoundPrefix.{FoundPrefix}
 use Rattle.coll_elements.specs.declared.element_entries.ElementEntry.{ElementEntry}
 use Rattle.coll_elements.proofs.ElementBeginnings.{begins_so, goes_on}
@@ -258,19 +258,25 @@ one_character table well text = ap (λ e. option_or (with_length e 1) None) (no_
   one [] = omega arith
   one (c ∷ text) = omega arith
 
--- and neither are those of more than sixteen
-pub sixteen_characters : (table : Collation) → IsWellFormed table → (text : List ℕ) (most : ℕ) → 16 ≤ most → most ≤ length text
-    → longest_prefix (element_entry table) text most ≡ longest_prefix (element_entry table) text 16
-sixteen_characters table well text zero long small = absurd (omega (arith, long))
-sixteen_characters table well text (suc n) long small =
-    by_test (λ b. nat_lt n 16 ≡ b → longest_prefix (element_entry table) text (suc n) ≡ longest_prefix (element_entry table) text 16) (nat_lt n 16)
-    (λ on less. let below = (Decides-ltb n 16).0 less in let same : suc n ≡ 16 = omega (arith, long, below) in ap (longest_prefix (element_entry table) text) same)
+-- and neither is a string of more than sixteen
+pub at_most_sixteen : (table : Collation) → IsWellFormed table → (most : ℕ) → HasNoLonger table most → HasNoLonger table (min most 16)
+at_most_sixteen table well most none text long =
+    by_test (λ b. nat_lt most (length text) ≡ b → element_entry table text ≡ None) (nat_lt most (length text))
+    (λ on more. none text ((Decides-ltb most (length text)).0 more))
+    (λ off few. let small = ltb-false most (length text) few in no_entry table well text (λ two. omega (arith, long, small))) refl
+
+-- longer prefixes than the longest element are none
+pub beyond_longest : (table : Collation) (text : List ℕ) (most n : ℕ) → HasNoLonger table most → most ≤ n → n ≤ length text
+    → longest_prefix (element_entry table) text n ≡ longest_prefix (element_entry table) text most
+beyond_longest table text most zero none long small = let same : 0 ≡ most = omega (arith, long) in ap (longest_prefix (element_entry table) text) same
+beyond_longest table text most (suc n) none long small =
+    by_test (λ b. nat_lt n most ≡ b → longest_prefix (element_entry table) text (suc n) ≡ longest_prefix (element_entry table) text most) (nat_lt n most)
+    (λ on less. let below = (Decides-ltb n most).0 less in let same : suc n ≡ most = omega (arith, long, below) in ap (longest_prefix (element_entry table) text) same)
     (λ off more.
-    let above : 16 ≤ n = ltb-false n 16 more in
+    let above : most ≤ n = ltb-false n most more in
     let size : length (take (suc n) text) ≡ suc n = length-take-le (suc n) text small in
-    let none : element_entry table (take (suc n) text) ≡ None = no_entry table well (take (suc n) text) (λ two. omega (arith, size, above)) in
-    ap (λ e. option_or (with_length e (suc n)) (longest_prefix (element_entry table) text n)) none
-    ∙ sixteen_characters table well text n above (omega (arith, small))) refl
+    ap (λ e. option_or (with_length e (suc n)) (longest_prefix (element_entry table) text n)) (none (take (suc n) text) (omega (arith, size, above)))
+    ∙ beyond_longest table text most n none above (omega (arith, small))) refl
 
 -- a prefix one character longer, which is before the rest of a text
 pub next_prefix : (text before rest : List ℕ) (size : ℕ) → text ≡ before ++ rest → suc size + length rest ≡ length text → take (suc size) text ≡ before

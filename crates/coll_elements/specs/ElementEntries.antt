@@ -1,8 +1,9 @@
 -- The elements of one text, each with its entry, and how the longest element is found by the prefixes of a text.
-use Rattle.std.specs.Prelude.{◌≡◌, ◌+◌, ℕ, zero, suc, List, [], ◌∷◌, ◌++◌, Option, Some, None, chars, length, take}
+use Rattle.std.specs.Prelude.{◌≡◌, ◌<◌, ◌+◌, ℕ, zero, suc, List, [], ◌∷◌, ◌++◌, Option, Some, None, chars, length, take}
 use Rattle.std.specs.Option.{option_or}
 use Rattle.coll_syntax.specs.declared.identifiers.Id.{Id}
 use Rattle.coll_syntax.specs.declared.identifiers.Id.TheVariants.{Char}
+use Rattle.coll_nodes.specs.ElementTexts.{element_entry}
 use Rattle.coll_nodes.specs.Placement.{entry_at}
 use Rattle.coll_nodes.specs.Table.{Collation, entries_of}
 use Rattle.coll_nodes.specs.declared.entries.Entry.{Entry}
@@ -44,3 +45,7 @@ FindsPrefix text None None = Unit {0}
 FindsPrefix text None (Some found) = ⊥
 FindsPrefix text (Some prefix) None = ⊥
 FindsPrefix text (Some prefix) (Some found) = IsPrefix text prefix.0 prefix.1 found
+
+-- no placed element of a table has a string of more characters than this
+abbrev pub HasNoLonger : Collation → (most : ℕ) → Type 0
+HasNoLonger table most = (text : List ℕ) → most < length text → element_entry table text ≡ None

@@ -10,7 +10,7 @@ ghost use Rattle.coll_syntax.specs.declared.identifiers.Id.TheVariants.{Char};
 ghost use Rattle.coll_nodes.specs.ElementTexts.{element_entry};
 ghost use Rattle.coll_nodes.specs.TableLayout.{collation};
 ghost use Rattle.coll_elements.specs.Elements.{elements_of};
-ghost use Rattle.coll_elements.specs.ElementEntries.{longest_prefix, AreElementsOf, FindsPrefix, IsElementOf};
+ghost use Rattle.coll_elements.specs.ElementEntries.{longest_prefix, AreElementsOf, FindsPrefix, HasNoLonger, IsElementOf};
 
 use coll_nodes::Entry;
 use coll_syntax::{Id, MOST_ELEMENT_CHARS};
@@ -35,8 +35,9 @@ struct FoundPrefix<'a, 'b> {
 
 /// The elements of a text, in new memory: at each place the longest element that is placed, or else the character that stands there.
 ///
-/// At each place it looks up the prefixes of 2 to 16 characters of what is left, and the one character where none of them is an
-/// element. So it takes at most sixteen look-ups for each character of the text.
+/// At each place it looks up the prefixes of what is left, from two characters on up to the most that an element's string may have in
+/// this table, 16 at most, and the one character where none of them is an element. So where no element was declared it takes one
+/// look-up for each character of the text.
 pub fn split_text<'a>(
     alloc: Global,
     table: &'a Table,
@@ -45,17 +46,32 @@ pub fn split_text<'a>(
     ensures { IfOk result (λ elements.
         AreElementsOf (collation table.now) (elements_of (collation table.now) (chars text.now)) elements.items) }
 {
+    let most = most_prefix(table);
     let mut elements = Vec::new(alloc);
     let mut left = text;
-    'elements: while let Some((element, rest)) = first_element(table, left) {
+    'elements: while let Some((element, rest)) = first_element(table, most, left) {
         elements.push(element)?;
         left = rest;
     }
     Ok(elements)
 }
 
-// The element that a text begins with, and the text behind it; none where the text is empty.
-fn first_element<'a, 'b>(table: &'a Table, text: &'b str) -> Option<(ElementEntry<'a>, &'b str)>
+// A number of characters: no element that is placed has a string of more.
+fn most_prefix(table: &Table) -> usize
+    ensures { HasNoLonger (collation table.now) result }
+{
+    table.lemma_well_formed();
+    table.most_element_characters().min(MOST_ELEMENT_CHARS)
+}
+
+// The element that a text begins with, and the text behind it; none where the text is empty. No element has more than so many
+// characters.
+fn first_element<'a, 'b>(
+    table: &'a Table,
+    most: usize,
+    text: &'b str,
+) -> Option<(ElementEntry<'a>, &'b str)>
+    requires { HasNoLonger (collation table.now) most }
     ensures none { MatchOption result (chars text.now ≡ []) (λ first. length (chars first.1.now) < length (chars text.now)) }
     ensures element { IfSome result (λ first. (id : Id)
         × (elements_of (collation table.now) (chars text.now) ≡ id ∷ elements_of (collation table.now) (chars first.1.now))
@@ -64,7 +80,7 @@ fn first_element<'a, 'b>(table: &'a Table, text: &'b str) -> Option<(ElementEntr
     table.lemma_well_formed();
     let mut letters = text.chars();
     let first = letters.next()?;
-    match longest_element(table, text) {
+    match longest_element(table, most, text) {
         Some(found) => Some((ElementEntry::Placed(found.entry), found.rest)),
         None => Some((character(table, first), letters.as_str())),
     }
@@ -82,15 +98,20 @@ fn character(table: &Table, c: char) -> ElementEntry<'_>
 
 // The longest element that is placed and that a text begins with, and the text behind its string.
 //
-// A string of one character is no element's, and neither is one of more than `MOST_ELEMENT_CHARS`, so these aren't asked for.
-fn longest_element<'a, 'b>(table: &'a Table, text: &'b str) -> Option<FoundPrefix<'a, 'b>>
+// A string of one character is no element's, and neither is one of more than the most that one has, so these aren't asked for.
+fn longest_element<'a, 'b>(
+    table: &'a Table,
+    most: usize,
+    text: &'b str,
+) -> Option<FoundPrefix<'a, 'b>>
+    requires { HasNoLonger (collation table.now) most }
     ensures { FindsPrefix (chars text.now) (longest_prefix (element_entry (collation table.now)) (chars text.now) (length (chars text.now)))
         result }
 {
     table.lemma_well_formed();
     let mut longest = None;
     let mut rest = past_first(text)?;
-    'prefixes: for _size in 1..MOST_ELEMENT_CHARS {
+    'prefixes: for _size in 1..most {
         let Some(later) = past_first(rest) else {
             return longest;
         };

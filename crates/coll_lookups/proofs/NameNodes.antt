@@ -1,15 +1,16 @@
 -- Nodes by name: a name is found by its bytes.
-use Rattle.std.proofs.Common.{◌≡◌, ℕ, Bool, true, is_some, List, Option, sym, ap, ap₂, ◌∙◌}
+use Rattle.std.proofs.Common.{◌≡◌, ◌≤◌, ◌<◌, ℕ, Bool, true, false, cond, is_some, List, [], ◌∷◌, Option, None, sym, ap, ap₂, ◌∙◌, refl, length, arith}
 use Rattle.std.specs.Prelude.{chars, encode_utf8_all}
 use Rattle.std.specs.Str.{bytes_eq}
 use Rattle.std.specs.Map.{lookup, set_value}
 use Rattle.indexmap.specs.IndexMap.{insert_entry}
+use Rattle.coll_order.proofs.Sameness.{by_test}
 use Rattle.coll_order.specs.declared.places.NodeId.{NodeId}
 use Rattle.coll_syntax.proofs.Spellings.{same_spelling}
 use Rattle.coll_syntax.specs.Identifier.{same_name}
 use Rattle.coll_lookups.proofs.Sameness.{same_name_decides}
 use Rattle.coll_lookups.proofs.NodeLookUps.{found, found_node, found_key, inserted_leads, inserted_keys, inserted_good, set_leads, set_keys, set_good}
-use Rattle.coll_lookups.specs.NameKeys.{bytes_of, name_of_key, same_bytes, IsReadBack}
+use Rattle.coll_lookups.specs.NameKeys.{bytes_of, name_of_key, same_bytes, IsReadBack, IsWithin}
 use Rattle.coll_lookups.specs.NodeLookUps.{node_named, is_name_key, SetsName, AddsNameKey, KeepNameKeys}
 use Rattle.coll_lookups.specs.NodeMaps.{names_lead, AreKeys}
 use Rattle.coll_lookups.specs.declared.name_keys.NameKey.{NameKey}
@@ -52,3 +53,31 @@ set_name_keys test es node = set_keys same_name same_name_decides name_of_key Is
 
 pub set_name_good : (test : NameKey → Bool) (es : List (NameKey × Option NodeId)) (node : Option NodeId) → AreKeys IsReadBack es → AreKeys IsReadBack (set_value test es node)
 set_name_good test es node h = set_good same_name same_name_decides name_of_key IsReadBack test es node h
+
+-- Keys that are no longer than this.
+
+-- they are no longer than more
+within_more : (most more : ℕ) (es : List (NameKey × Option NodeId)) → most ≤ more → AreKeys (IsWithin most) es → AreKeys (IsWithin more) es
+within_more most more [] wide h = tt
+within_more most more (e ∷ es) wide h = (omega (arith, h.0, wide), within_more most more es wide h.1)
+
+-- and neither is one more that is put in
+pub inserted_name_within : (most more : ℕ) (es : List (NameKey × Option NodeId)) (key : NameKey) (v : Option NodeId) → most ≤ more → AreKeys (IsWithin most) es → IsWithin more key
+    → AreKeys (IsWithin more) (name_inserted es key v)
+inserted_name_within most more [] key v wide h g = (g, tt)
+inserted_name_within most more (e ∷ es) key v wide h g = by (within_more most more (e ∷ es) wide h) (inserted_name_within most more es key v wide h.1 g) (same_bytes key e.0) where
+  by : AreKeys (IsWithin more) (e ∷ es) → AreKeys (IsWithin more) (name_inserted es key v) → (b : Bool) → AreKeys (IsWithin more) (cond b ((e.0, v) ∷ es) (e ∷ name_inserted es key v))
+  by all later true = all
+  by all later false = (all.0, later)
+
+-- and none of them where one is made to lead elsewhere
+pub set_name_within : (test : NameKey → Bool) (most : ℕ) (es : List (NameKey × Option NodeId)) (node : Option NodeId) → AreKeys (IsWithin most) es → AreKeys (IsWithin most) (set_value test es node)
+set_name_within test most es node h = set_good same_name same_name_decides name_of_key (IsWithin most) test es node h
+
+-- a name that is longer than all keys leads to no node
+pub longer_leads_nowhere : (most : ℕ) (es : List (NameKey × Option NodeId)) (name : List ℕ) → AreKeys (IsWithin most) es → most < length name → node_named (names_lead es) name ≡ None
+longer_leads_nowhere most [] name h long = refl
+longer_leads_nowhere most (e ∷ es) name h long =
+    by_test (λ b. same_name name e.0.name ≡ b → cond b e.1 (node_named (names_lead es) name) ≡ None) (same_name name e.0.name)
+    (λ on t. let same = ap length ((same_name_decides name e.0.name).0 t) in absurd (omega (arith, same, h.0, long)))
+    (λ off t. longer_leads_nowhere most es name h.1 long) refl

@@ -1,5 +1,5 @@
 -- A name as a key: its characters, and the bytes by which it is compared and hashed.
-use Rattle.std.specs.Prelude.{◌≡◌, Bool, List, ℕ, chars, encode_utf8_all}
+use Rattle.std.specs.Prelude.{◌≡◌, ◌≤◌, Bool, List, ℕ, chars, encode_utf8_all, length}
 use Rattle.std.specs.Str.{bytes_eq}
 use Rattle.coll_lookups.specs.declared.name_keys.NameKey.{NameKey}
 
@@ -18,3 +18,7 @@ same_bytes a b = bytes_eq (bytes_of a) (bytes_of b)
 -- the characters of a key are read back from its bytes
 abbrev pub IsReadBack : NameKey → Type 0
 IsReadBack key = chars (bytes_of key) ≡ key.name
+
+-- a key has no more characters than this
+abbrev pub IsWithin : (most : ℕ) → NameKey → Type 0
+IsWithin most key = length key.name ≤ most

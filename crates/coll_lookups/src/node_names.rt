@@ -4,7 +4,8 @@
 //! later without taking memory. Copies share the names until one of them gets a further name. How a name is found, and in which
 //! order names are kept, may change.
 
-ghost use Rattle.std.specs.Prelude.{◌≡◌, ◌<◌, [], true, None, Some, chars, slice_index_or, vec_len, vec_capacity, IfOk, OnOk, OnErr};
+ghost use Rattle.std.specs.Prelude.{◌≡◌, ◌<◌, ℕ, List, [], true, None, Some, chars, length, slice_index_or};
+ghost use Rattle.std.specs.Prelude.{vec_len, vec_capacity, IfOk, OnOk, OnErr};
 ghost use Rattle.std.specs.List.{position_or_len};
 ghost use Rattle.indexmap.specs.IndexSet.{insert_key};
 ghost use Rattle.coll_lookups.specs.NameKeys.{same_bytes};
@@ -26,12 +27,14 @@ pub struct NodeNames {
     names: Rc<IndexSet<NameKey, HashKeys>>,
     // The node that each of them leads to, if it does.
     nodes: Vec<Option<NodeId>>,
+    // No name has more bytes. It isn't made less.
+    longest: usize,
     alloc: Global,
 }
 
 impl Model for NodeNames {
     ghost use Rattle.std.specs.Prelude.{◌≡◌, List, ℕ, length, zip};
-    ghost use Rattle.coll_lookups.specs.NameKeys.{IsReadBack};
+    ghost use Rattle.coll_lookups.specs.NameKeys.{IsReadBack, IsWithin};
     ghost use Rattle.coll_lookups.specs.NodeLookUps.{Leading};
     ghost use Rattle.coll_lookups.specs.NodeMaps.{names_lead, AreKeys};
 
@@ -40,7 +43,8 @@ impl Model for NodeNames {
     ghost view = { λ n. names_lead (zip n.names.value.keys n.nodes.items) };
 
     ghost invariant = { λ n. (length n.names.value.keys ≡ length n.nodes.items)
-        × AreKeys IsReadBack (zip n.names.value.keys n.nodes.items) };
+        × AreKeys IsReadBack (zip n.names.value.keys n.nodes.items)
+        × AreKeys (IsWithin n.longest) (zip n.names.value.keys n.nodes.items) };
 }
 
 impl NodeNames {
@@ -54,6 +58,7 @@ impl NodeNames {
         Ok(NodeNames {
             names,
             nodes: Vec::new(alloc),
+            longest: 0,
             alloc,
         })
     }
@@ -83,6 +88,13 @@ impl NodeNames {
             Some(place) => self.nodes[place],
             None => None,
         }
+    }
+
+    /// A number of characters: no name that has more leads to a node. It takes no memory.
+    pub fn most_characters(&self) -> usize
+        ensures { (name : List ℕ) → result < length name → node_named self.now name ≡ None }
+    {
+        self.longest
     }
 
     /// Makes a name a key, so that it can be `set`. It leads to where it led. Where memory is refused, nothing has changed.
@@ -116,6 +128,7 @@ impl NodeNames {
         let NodeNames {
             names,
             nodes,
+            longest,
             alloc: _,
         } = self;
         let names = names.clone()?;
@@ -123,6 +136,7 @@ impl NodeNames {
         Ok(NodeNames {
             names,
             nodes,
+            longest: *longest,
             alloc,
         })
     }
@@ -142,6 +156,7 @@ impl NodeNames {
         let key = NameKey::copied(name)?;
         self.nodes.reserve(1)?;
         let place = put_name(&mut self.names, key)?;
+        self.longest = self.longest.max(name.get().len());
         Ok(put_node(&mut self.nodes, place, node))
     }
 }

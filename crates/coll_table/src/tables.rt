@@ -4,7 +4,7 @@
 //! read it through `collation`, which is the table that the layout stands for; every table is well formed (`WellFormed` there).
 //! What is read here takes no memory. How a body holds its nodes may change without a clause here.
 
-ghost use Rattle.std.specs.Prelude.{◌≡◌, ℕ, List, chars, length, option_copied, option_map, IfOk, OnOk};
+ghost use Rattle.std.specs.Prelude.{◌≡◌, ◌<◌, ℕ, List, None, chars, length, option_copied, option_map, IfOk, OnOk};
 ghost use Rattle.coll_syntax.specs.declared.identifiers.Id.TheVariants.{Named};
 
 use coll_devices::{Sink, WriteStop};
@@ -116,6 +116,14 @@ impl Table {
             Some(name) => self.body.entry_named(name),
             None => None,
         }
+    }
+
+    /// A number of characters: no string of an element that is placed has more. It takes no memory.
+    #[tactic(auto, unfolding(coll_nodes::specs::TableLayout::collation))]
+    pub fn most_element_characters(&self) -> usize
+        ensures { (text : List ℕ) → result < length text → element_entry (collation self.now) text ≡ None }
+    {
+        self.body.most_element_characters()
     }
 
     /// Gives each entry its place among all, from 1, for `entry_number`.

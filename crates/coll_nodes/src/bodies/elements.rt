@@ -2,7 +2,7 @@
 //!
 //! What reads a text asks here for the element that a string is. Nothing here takes memory.
 
-ghost use Rattle.std.specs.Prelude.{◌≡◌, chars, option_copied};
+ghost use Rattle.std.specs.Prelude.{◌≡◌, ◌<◌, ℕ, List, None, chars, length, option_copied};
 ghost use Rattle.coll_nodes.specs.ElementTexts.{element_name_in};
 
 use super::{Body, entry_of};
@@ -36,6 +36,14 @@ impl Body {
             Some(node) => name_of_element(self.nodes.content(node)),
             None => None,
         }
+    }
+
+    /// A number of characters: no collating element has a string of more.
+    pub fn most_element_characters(&self) -> usize
+        ensures { (text : List ℕ) → result < length text → element_name (declared_at self.now.layout) text ≡ None }
+    {
+        self.lemma_layout();
+        self.keys.texts.most_characters()
     }
 
     /// The entry of a name, if it has one.

@@ -1,9 +1,9 @@
--- One prefix more is asked for, up to the sixteenth.
+-- One prefix more is asked for, up to the longest that an element may have.
 use Rattle.std.proofs.Common.{◌≡◌, ◌++◌, ◌+◌, None, suc, sym, ap, subst, ◌∙◌, append_assoc, arith, length, chars, rules}
 use Rattle.coll_nodes.specs.ElementTexts.{element_entry}
 use Rattle.coll_nodes.specs.TableLayout.{collation}
-use Rattle.coll_elements.specs.ElementEntries.{longest_prefix, FindsPrefix}
-use Rattle.coll_elements.proofs.ElementEntries.{one_character, sixteen_characters}
+use Rattle.coll_elements.specs.ElementEntries.{longest_prefix, FindsPrefix, HasNoLonger}
+use Rattle.coll_elements.proofs.ElementEntries.{one_character, beyond_longest}
 use Rattle.coll_elements.proofs.element_entries.longest_element.Goals as goal
 
 pub prefixes-init : goal.prefixes-init
@@ -40,7 +40,7 @@ pub returns : goal.returns
 returns c =
     let table = collation c.args.table.now in
     let text = chars c.args.text.now in
-    let counted = c.prefixes.invariant.counted in
-    let all : c.prefixes._size ≡ 16 = omega (arith, c.prefixes-test.false, c.prefixes.auto) in
-    let further = sixteen_characters table c.lemma_well_formed.ensures.well_formed text (length text) (omega (arith, all, counted)) (omega arith) in
-    subst (λ found. FindsPrefix text found c.prefixes.longest) (ap (longest_prefix (element_entry table) text) all ∙ sym further) c.prefixes.invariant.found
+    let asked = c.prefixes-test.false in
+    let none : HasNoLonger table c.prefixes._size = λ t long. c.requires t (omega (arith, asked, long)) in
+    let further = beyond_longest table text c.prefixes._size (length text) none (omega (arith, c.prefixes.invariant.counted)) (omega arith) in
+    subst (λ found. FindsPrefix text found c.prefixes.longest) (sym further) c.prefixes.invariant.found

@@ -1,18 +1,25 @@
 -- A key is put in where its name is, and its node beside it.
-use Rattle.std.proofs.Common.{refl, sym, ap₂, slice_index_or, None, ◌∙◌}
+use Rattle.std.proofs.Common.{refl, sym, ap, ap₂, slice_index_or, None, ◌∙◌, length, arith}
+use Rattle.std.proofs.lemmas.Str.{length-le-encodes}
 use Rattle.coll_lookups.specs.NameKeys.{same_bytes}
 use Rattle.coll_lookups.proofs.PairedNodes.{paired_found, paired_put, paired_length}
-use Rattle.coll_lookups.proofs.NameNodes.{found_name_node, inserted_name_leads, inserted_name_keys, inserted_name_good}
+use Rattle.coll_lookups.proofs.NameNodes.{found_name_node, inserted_name_leads, inserted_name_keys, inserted_name_good, inserted_name_within}
 use Rattle.coll_lookups.proofs.node_names.NodeNames.put.Goals as goal
 
 pub invariant_of-self-2 : goal.invariant_of-self-2
 invariant_of-self-2 c =
     let p = c.self.inside in
     let key = c.in_ok-key.key in
+    let spelled = length-le-encodes c.args.name.now in
+    let bytes = ap length c.get.ensures.bytes in
+    let same = ap length c.in_ok-key.ensures.name in
+    let most = c.max-self-inside.ensures in
     rw (c.put_node.ensures.put, c.in_ok-reserve.ensures.items, c.in_ok-place.ensures.ok, c.in_ok-place.ensures.place) (
       paired_length same_bytes key c.args.node p.names.value.keys p.nodes.items c.self.invariant.0,
       rw (paired_put same_bytes key c.args.node p.names.value.keys p.nodes.items c.self.invariant.0)
           (inserted_name_good _ key c.args.node c.self.invariant.1 c.in_ok-key.ensures.text),
+      rw (paired_put same_bytes key c.args.node p.names.value.keys p.nodes.items c.self.invariant.0)
+          (inserted_name_within _ _ _ key c.args.node (omega (arith, most)) c.self.invariant.2 (omega (arith, most, spelled, bytes, same))),
     )
 
 pub returns-clause-ok : goal.returns-clause-ok

@@ -4,7 +4,7 @@ use Rattle.std.proofs.lemmas.Bool.{false≢true}
 use Rattle.coll_lookups.specs.NodeLookUps.{is_name_key}
 use Rattle.coll_lookups.specs.NodeMaps.{names_lead}
 use Rattle.coll_lookups.proofs.PairedNodes.{paired_key, paired_set_at}
-use Rattle.coll_lookups.proofs.NameNodes.{found_name_key, set_name_leads, set_name_keys, set_name_good}
+use Rattle.coll_lookups.proofs.NameNodes.{found_name_key, set_name_leads, set_name_keys, set_name_good, set_name_within}
 use Rattle.coll_lookups.proofs.node_names.NodeNames.set.Goals as goal
 
 pub unreachable-requires : goal.unreachable-requires
@@ -18,7 +18,11 @@ pub invariant_of-self : goal.invariant_of-self
 invariant_of-self c =
     let p = c.self.inside in
     let written = paired_set_at _ p.names.value.keys p.nodes.items c.in-Some.place c.args.node c.self.invariant.0 (sym (rw c.deref.ensures at c.get_index_of.ensures.index) ∙ c.in-Some.is) in
-    (c.self.invariant.0 ∙ sym (length-set p.nodes.items c.in-Some.place c.args.node), rw written (set_name_good _ _ c.args.node c.self.invariant.1))
+    (
+      c.self.invariant.0 ∙ sym (length-set p.nodes.items c.in-Some.place c.args.node),
+      rw written (set_name_good _ _ c.args.node c.self.invariant.1),
+      rw written (set_name_within _ _ _ c.args.node c.self.invariant.2),
+    )
 
 pub returns-clause-set : goal.returns-clause-set
 returns-clause-set c =
