@@ -7,7 +7,7 @@
 //! of the entries, and 64, the ranks are made after all. What is kept is true of one table as it stands (`specs/Ranked.antt`); whoever changes the table gives it
 //! up.
 
-ghost use Rattle.std.specs.Prelude.{◌≡◌, ◌≢◌, ◌||◌, true, false, chars, length, IsSome, IfOk, IfErr, OnOk};
+ghost use Rattle.std.specs.Prelude.{◌≡◌, ◌≢◌, ◌+◌, ◌||◌, true, false, chars, length, IsSome, IfOk, IfErr, OnOk};
 ghost use Rattle.coll_nodes.specs.TableLayout.{collation};
 ghost use Rattle.coll_key.specs.KeyLimits.{is_too_long};
 ghost use Rattle.coll_key.specs.SortKey.{key_of};
@@ -93,7 +93,7 @@ impl KeptRanks {
         ensures short { IfOk result (λ _. is_too_long (chars text.now) ≡ false) }
         ensures err { IfErr result (λ fault. fault ≢ OutOfMemory → is_too_long (chars text.now) ≡ true) }
     {
-        self.prepare(alloc, table, characters_in(text))?;
+        self.prepare(alloc, table, characters_in(text), 0)?;
         match &self.ranks {
             Some(ranks) => key(alloc, table, ranks, text),
             None => key_of_text(alloc, table, &self.numbers, text),
@@ -120,31 +120,32 @@ impl KeptRanks {
         ensures short { IfOk result (λ _. (is_too_long (chars text.now) || is_too_long (chars other.now)) ≡ false) }
         ensures err { IfErr result (λ fault. fault ≢ OutOfMemory → (is_too_long (chars text.now) || is_too_long (chars other.now)) ≡ true) }
     {
-        self.prepare(alloc, table, characters_in(text) + characters_in(other))?;
+        self.prepare(alloc, table, characters_in(text), characters_in(other))?;
         match &self.ranks {
             Some(ranks) => compare(alloc, table, ranks, text, other),
             None => compare_texts(alloc, table, &self.numbers, text, other),
         }
     }
 
-    // Makes ready what serves a look for so many characters: the ranks where they are there, else the places for a short look, else
-    // the ranks.
+    // Makes ready what serves a look for two texts with so many characters: the ranks where they are there, else the places for a
+    // short look, else the ranks.
     fn prepare(
         &mut self,
         alloc: Global,
         table: &Table,
         characters: usize,
+        others: usize,
     ) -> Result<(), AllocError>
         requires { IsKeptFor self.old (collation table.now) table.now.layout }
         ensures kept { IsKeptFor self.new (collation table.now) table.now.layout }
-        ensures spares { IsSome (with_look (collation table.now) self.old.looked characters) → self.new.ranks ≡ self.old.ranks }
-        ensures looked { self.new.looked ≡ looked_after (collation table.now) self.old characters }
+        ensures spares { IsSome (with_look (collation table.now) self.old.looked (characters + others)) → self.new.ranks ≡ self.old.ranks }
+        ensures looked { self.new.looked ≡ looked_after (collation table.now) self.old (characters + others) }
         ensures serves { OnOk result (CanServe self.new.ranks self.new.numbered) }
     {
         if self.ranks.is_some() {
             return Ok(());
         }
-        match self.short_look(table, characters) {
+        match self.short_look(table, characters, others) {
             Some(looked) => {
                 self.looked = looked;
                 give_numbers(table, &mut self.numbers, &mut self.numbered)?;
@@ -157,11 +158,11 @@ impl KeptRanks {
         }
     }
 
-    // How many characters were looked up by themselves with those of a further look, if it is to be a short one.
-    fn short_look(&self, table: &Table, characters: usize) -> Option<usize>
-        ensures { result ≡ with_look (collation table.now) self.now.looked characters }
+    // How many characters were looked up by themselves with those of a further look for two texts, if it is to be a short one.
+    fn short_look(&self, table: &Table, characters: usize, others: usize) -> Option<usize>
+        ensures { result ≡ with_look (collation table.now) self.now.looked (characters + others) }
     {
-        let looked = self.looked.saturating_add(characters);
+        let looked = self.looked.saturating_add(characters).saturating_add(others);
         if looked > FEW_CHARACTERS + table.len() / ENTRIES_A_CHARACTER {
             return None;
         }
