@@ -6,10 +6,10 @@ use Rattle.coll_bench.specs.Ranked.{most_looked, with_look}
 
 module _ (table : Collation) (counted some looked characters others entries limit : ℕ) (part : some ≡ min (looked + characters) (2 ^ 64 - 1))
     (sum : counted ≡ min (some + others) (2 ^ 64 - 1)) (of : entries ≡ length (entries_of table))
-    (most : limit ≡ 64 + entries / 8) (few : entries < 2 ^ 64) where
+    (most : limit ≡ 64 + entries / 32) (few : entries < 2 ^ 64) where
   -- the limit of the definition
   is_most : limit ≡ most_looked table
-  is_most = most ∙ ap (λ n. 64 + n / 8) of
+  is_most = most ∙ ap (λ n. 64 + n / 32) of
 
   -- few enough
   pub few_enough : counted ≤ limit → Some counted ≡ with_look table looked (characters + others)

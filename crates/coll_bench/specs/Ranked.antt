@@ -42,9 +42,9 @@ abbrev pub CanServe : Option RanksValue → Bool → Type 0
 CanServe None numbered = numbered ≡ true
 CanServe (Some ranks) numbered = Unit {0}
 
--- the most characters that are looked up by themselves between two changes: 64, and one more for each eight entries
+-- the most characters that are looked up by themselves between two changes: 64, and one more for each 32 entries
 abbrev pub most_looked : Collation → ℕ
-most_looked table = 64 + length (entries_of table) / 8
+most_looked table = 64 + length (entries_of table) / 32
 
 -- the characters that were looked up by themselves with those of a further look, if it is to be a short one
 abbrev pub with_look : Collation → (looked further : ℕ) → Option ℕ

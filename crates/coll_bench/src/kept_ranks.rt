@@ -3,9 +3,9 @@
 //! The ranks of a whole table are made in one pass over its entries, and then serve each look at once. After a change they have
 //! to be made anew, which is dear where one word is looked up and the next change comes. So a look for a text that is short beside
 //! the table is served by the places of the entries, which are given anew in a much shorter pass, and it looks up what the text asks
-//! for and no more. Such a look costs more by itself: where those since the last change have together more characters than an eighth
-//! of the entries, and 64, the ranks are made after all. What is kept is true of one table as it stands (`specs/Ranked.antt`); whoever changes the table gives it
-//! up.
+//! for and no more. Such a look costs more by itself: where those since the last change have together more than 64 characters, and
+//! one more for each 32 entries, the ranks are made after all. What is kept is true of one table as it stands
+//! (`specs/Ranked.antt`); whoever changes the table gives it up.
 
 ghost use Rattle.std.specs.Prelude.{◌≡◌, ◌≢◌, ◌+◌, ◌||◌, true, false, chars, length, IsSome, IfOk, IfErr, OnOk};
 ghost use Rattle.coll_nodes.specs.TableLayout.{collation};
@@ -28,8 +28,8 @@ use std::marker::Model;
 // How many characters are looked up by themselves between two changes, whatever the table.
 const FEW_CHARACTERS: usize = 64;
 
-// A table of this many entries allows a character more: it is looked up in a small part of the time that their ranks take.
-const ENTRIES_A_CHARACTER: usize = 8;
+// For so many entries of the table it is one character more: it is looked up in some half of the time that their ranks take.
+const ENTRIES_A_CHARACTER: usize = 32;
 
 /// The ranks of a table, if they were made, and the places of its entries.
 #[derive(Drop)]

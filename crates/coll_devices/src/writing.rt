@@ -1,7 +1,7 @@
 //! Bytes written to a device, in as many writes as it takes.
 //!
 //! All output goes through `write_bytes`, the only loop over `write`. It takes no memory.
-ghost use Rattle.coll_devices.specs.Devices.{CountsErr, Sends};
+ghost use Rattle.coll_devices.specs.Devices.{Writes};
 
 use crate::{Sink, WriteStop};
 
@@ -9,8 +9,7 @@ use crate::{Sink, WriteStop};
 ///
 /// It stops where a write answers an error or takes no byte; then the device has taken a prefix of the bytes.
 pub fn write_bytes<W: Sink>(out: &mut W, bytes: &[u8]) -> Result<(), WriteStop>
-    ensures sent { Sends (W.taken out.old) (W.taken out.new) bytes.now result }
-    ensures errors { CountsErr (W.failed out.old) (W.failed out.new) result }
+    ensures { Writes (W.taken out.old) (W.taken out.new) (W.failed out.old) (W.failed out.new) bytes.now result }
 {
     let mut rest = bytes;
     'writes: while !rest.is_empty() {

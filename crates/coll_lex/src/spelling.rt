@@ -9,7 +9,7 @@ ghost use Rattle.arrayvec.specs.ArrayVec.{array_vec_len};
 ghost use Rattle.coll_lex.specs.Characters.{less_than, greater_than};
 ghost use Rattle.std.specs.Prelude.{◌≡◌, ◌+◌, ◌<◌, ◌≤◌, ℕ, [], ◌∷◌, ◌++◌, All, length, take, slice_index};
 ghost use Rattle.std.specs.Prelude.{chars, encode_utf8_all, IsTrue, IfNone, IfSome, true, false};
-ghost use Rattle.coll_devices.specs.Devices.{CountsErr, Sends};
+ghost use Rattle.coll_devices.specs.Devices.{Writes};
 ghost use Rattle.coll_lex.specs.ReadingBack.{NamesReadBack, NamesReadBackQuoted, CodesReadBack, CodesReadBackQuoted};
 ghost use Rattle.coll_lex.specs.Spelling.{is_escaped, spelled_char, spelled_name, spelled_symbol, spelled_code, hex_digit, hex_digits};
 
@@ -28,9 +28,8 @@ const MOST_SYMBOL_BYTES: usize = 2 * MOST_NAME_BYTES + 2;
 ///
 /// Where it stops, the device has taken a prefix of this.
 pub fn write_symbol<W: Sink>(out: &mut W, name: &str) -> Result<(), WriteStop>
-    ensures sent { Sends (W.taken out.old) (W.taken out.new)
+    ensures { Writes (W.taken out.old) (W.taken out.new) (W.failed out.old) (W.failed out.new)
         (encode_utf8_all (spelled_symbol (chars name.now) [])) result }
-    ensures errors { CountsErr (W.failed out.old) (W.failed out.new) result }
 {
     if name.len() > MOST_NAME_BYTES {
         return write_long_symbol(out, name);
@@ -43,9 +42,8 @@ pub fn write_symbol<W: Sink>(out: &mut W, name: &str) -> Result<(), WriteStop>
 ///
 /// Where it stops, the device has taken a prefix of this.
 pub fn write_char<W: Sink>(out: &mut W, c: char) -> Result<(), WriteStop>
-    ensures sent { Sends (W.taken out.old) (W.taken out.new)
+    ensures { Writes (W.taken out.old) (W.taken out.new) (W.failed out.old) (W.failed out.new)
         (encode_utf8_all (spelled_code c [])) result }
-    ensures errors { CountsErr (W.failed out.old) (W.failed out.new) result }
 {
     let code = c as u32;
     let d = upper_hex(code);
@@ -100,9 +98,8 @@ fn push_spelled(bytes: &mut ArrayVec<u8, MOST_SYMBOL_BYTES>, byte: u8)
 
 // Writes a symbol in parts, whatever its length.
 fn write_long_symbol<W: Sink>(out: &mut W, name: &str) -> Result<(), WriteStop>
-    ensures sent { Sends (W.taken out.old) (W.taken out.new)
+    ensures { Writes (W.taken out.old) (W.taken out.new) (W.failed out.old) (W.failed out.new)
         (encode_utf8_all (spelled_symbol (chars name.now) [])) result }
-    ensures errors { CountsErr (W.failed out.old) (W.failed out.new) result }
 {
     write_bytes(out, b"<")?;
     write_name(out, name.as_bytes())?;
@@ -111,8 +108,7 @@ fn write_long_symbol<W: Sink>(out: &mut W, name: &str) -> Result<(), WriteStop>
 
 // Writes the bytes of a name, with `/` before each `>` and `/`.
 fn write_name<W: Sink>(out: &mut W, name: &[u8]) -> Result<(), WriteStop>
-    ensures sent { Sends (W.taken out.old) (W.taken out.new) (spelled_name name.now []) result }
-    ensures errors { CountsErr (W.failed out.old) (W.failed out.new) result }
+    ensures { Writes (W.taken out.old) (W.taken out.new) (W.failed out.old) (W.failed out.new) (spelled_name name.now []) result }
 {
     let mut rest = name;
     'escapes: while let Some(at) = find_escaped(rest) {
