@@ -33,7 +33,7 @@ from withdrawals import timed
 
 WORDS = 4_000
 TIMES = 25
-LONG = 1_025
+LONG = 4_000
 LOOKS = 200
 FIRST_LOOKS = 50
 UNITS = {"s": 1, "ms": 1e-3, "microseconds": 1e-6, "ns": 1e-9}

@@ -6,7 +6,8 @@ Run by hand, after `make`, which builds the program; no gate runs it:
     bench/looks.py [PROGRAM [OTHER]]
 
 The tables are those of load_table.py, with 1,000 and with 105,000 entries. A session is a block of one line, a look, `:undo` and a look,
-1,000 times, where a look is the `:key` of a word of ten letters; and the same a hundred times with texts of 64, 300 and 1,000 letters.
+1,000 times, where a look is the `:key` of a word of ten letters; and the same a hundred times with texts of 64, 300, 1,000 and 3,000
+letters.
 Printed is its processor time beyond the same session without looks, per look, the least of ten runs. OTHER is a second program, which
 runs in turns with the first.
 """
@@ -23,7 +24,7 @@ PROGRAM = os.path.join(ROOT, "crates", "collbench", "out", "collbench")
 RUNS = 10
 TURNS = 1_000
 LETTERS = 10
-LONGER, FEWER_TURNS = (64, 300, 1_000), 100
+LONGER, FEWER_TURNS = (64, 300, 1_000, 3_000), 100
 
 
 def word(number, entries, letters):

@@ -162,7 +162,10 @@ impl KeptRanks {
     fn short_look(&self, table: &Table, characters: usize, others: usize) -> Option<usize>
         ensures { result ≡ with_look (collation table.now) self.now.looked (characters + others) }
     {
-        let looked = self.looked.saturating_add(characters).saturating_add(others);
+        let looked = self
+            .looked
+            .saturating_add(characters)
+            .saturating_add(others);
         if looked > FEW_CHARACTERS + table.len() / ENTRIES_A_CHARACTER {
             return None;
         }

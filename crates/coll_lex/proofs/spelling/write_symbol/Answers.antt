@@ -8,9 +8,9 @@ pub returns : goal.returns
 returns g c =
     record {
       sent = let name = c.args.name.now in
-        let whole : encode_utf8_all (spelled_symbol (chars name) []) ≡ 60 ∷ (spelled_name name [] ++ 62 ∷ []) =
-        encodes-spelled_symbol (chars name) ∙ ap (λ l. 60 ∷ (spelled_name l [] ++ 62 ∷ [])) (encodes-chars name c.utf8.name) in
-        let sent = rw (c.as_slice.ensures.value, c.symbol_bytes.ensures, c.as_bytes.ensures.value) at c.write_bytes.ensures.sent in
-        rw whole sent;
+          let whole : encode_utf8_all (spelled_symbol (chars name) []) ≡ 60 ∷ (spelled_name name [] ++ 62 ∷ []) =
+          encodes-spelled_symbol (chars name) ∙ ap (λ l. 60 ∷ (spelled_name l [] ++ 62 ∷ [])) (encodes-chars name c.utf8.name) in
+          let sent = rw (c.as_slice.ensures.value, c.symbol_bytes.ensures, c.as_bytes.ensures.value) at c.write_bytes.ensures.sent in
+          rw whole sent;
       errors = search rules;
     }

@@ -17,8 +17,7 @@ unreachable-requires c =
 pub invariant_of-self : goal.invariant_of-self
 invariant_of-self c =
     let p = c.self.inside in
-    let written = paired_set_at _ p.names.value.keys p.nodes.items c.in-Some.place c.args.node c.self.invariant.0 (sym (rw c.deref.ensures at c.get_index_of.ensures.index) ∙ c.in-Some.is) in
-    (
+    let written = paired_set_at _ p.names.value.keys p.nodes.items c.in-Some.place c.args.node c.self.invariant.0 (sym (rw c.deref.ensures at c.get_index_of.ensures.index) ∙ c.in-Some.is) in (
       c.self.invariant.0 ∙ sym (length-set p.nodes.items c.in-Some.place c.args.node),
       rw written (set_name_good _ _ c.args.node c.self.invariant.1),
       rw written (set_name_within _ _ _ c.args.node c.self.invariant.2),
