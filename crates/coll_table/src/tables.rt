@@ -43,7 +43,7 @@ impl Model for Table {
 }
 
 impl Table {
-    ghost use Rattle.coll_devices.specs.Devices.{CountsErr, Sends};
+    ghost use Rattle.coll_devices.specs.Devices.{Writes};
     ghost use Rattle.coll_nodes.specs.ElementTexts.{element_entry};
     ghost use Rattle.coll_lookups.specs.NamePlaces.{place_named};
     ghost use Rattle.coll_nodes.specs.NodeNumbers.{AreNumbersOf};
@@ -201,8 +201,7 @@ impl Table {
     ///
     /// Where it stops, the device has taken a prefix of the text.
     pub fn print<W: Sink>(&self, out: &mut W) -> Result<(), WriteStop>
-        ensures sent { Sends (W.taken out.old) (W.taken out.new) (text (collation self.now)) result }
-        ensures errors { CountsErr (W.failed out.old) (W.failed out.new) result }
+        ensures { Writes (W.taken out.old) (W.taken out.new) (W.failed out.old) (W.failed out.new) (text (collation self.now)) result }
     {
         write_table(out, self.rules(), self.declared(), self.walk())
     }
@@ -211,8 +210,8 @@ impl Table {
     ///
     /// It is read as the same table. Where it stops, the device has taken a prefix of the text.
     pub fn export<W: Sink>(&self, out: &mut W) -> Result<(), WriteStop>
-        ensures sent { Sends (W.taken out.old) (W.taken out.new) (exported_text (collation self.now)) result }
-        ensures errors { CountsErr (W.failed out.old) (W.failed out.new) result }
+        ensures { Writes (W.taken out.old) (W.taken out.new) (W.failed out.old) (W.failed out.new)
+            (exported_text (collation self.now)) result }
     {
         self.lemma_well_formed();
         write_exported(out, self.rules(), self.declared(), self.walk(), self.walk())

@@ -5,7 +5,7 @@
 
 ghost use Rattle.std.specs.Prelude.{◌++◌};
 ghost use Rattle.std.specs.List.{flat_map};
-ghost use Rattle.coll_devices.specs.Devices.{CountsErr, Sends};
+ghost use Rattle.coll_devices.specs.Devices.{Writes};
 ghost use Rattle.coll_texts.specs.CanonicalText.{PrintedTablesAreReadBack};
 ghost use Rattle.coll_texts.specs.PrintedParts.{declaration_bytes, opening_bytes, table_bytes, visited_bytes};
 
@@ -23,8 +23,8 @@ pub fn write_table<W: Sink>(
     declared: Declared<'_>,
     walk: Walk<'_>,
 ) -> Result<(), WriteStop>
-    ensures sent { Sends (W.taken out.old) (W.taken out.new) (table_bytes rules.now declared.entry walk.entry) result }
-    ensures errors { CountsErr (W.failed out.old) (W.failed out.new) result }
+    ensures { Writes (W.taken out.old) (W.taken out.new) (W.failed out.old) (W.failed out.new)
+        (table_bytes rules.now declared.entry walk.entry) result }
 {
     write_opening(out, declared)?;
     write_rules_line(out, rules)?;
@@ -34,8 +34,7 @@ pub fn write_table<W: Sink>(
 
 /// Writes the lines before the order: those that open the category, and one for each declaration.
 pub(crate) fn write_opening<W: Sink>(out: &mut W, declared: Declared<'_>) -> Result<(), WriteStop>
-    ensures sent { Sends (W.taken out.old) (W.taken out.new) (opening_bytes declared.entry) result }
-    ensures errors { CountsErr (W.failed out.old) (W.failed out.new) result }
+    ensures { Writes (W.taken out.old) (W.taken out.new) (W.failed out.old) (W.failed out.new) (opening_bytes declared.entry) result }
 {
     write_bytes(out, b"comment_char %\nescape_char /\nLC_COLLATE\n")?;
     write_declarations(out, declared)
@@ -43,8 +42,8 @@ pub(crate) fn write_opening<W: Sink>(out: &mut W, declared: Declared<'_>) -> Res
 
 // Writes a line for each declaration.
 fn write_declarations<W: Sink>(out: &mut W, declared: Declared<'_>) -> Result<(), WriteStop>
-    ensures sent { Sends (W.taken out.old) (W.taken out.new) (flat_map declaration_bytes declared.entry) result }
-    ensures errors { CountsErr (W.failed out.old) (W.failed out.new) result }
+    ensures { Writes (W.taken out.old) (W.taken out.new) (W.failed out.old) (W.failed out.new)
+        (flat_map declaration_bytes declared.entry) result }
 {
     let mut left = declared;
     'declared: while let Some(item) = left.next() {
@@ -58,8 +57,7 @@ fn write_declarations<W: Sink>(out: &mut W, declared: Declared<'_>) -> Result<()
 
 // Writes a line for each section with a name, and for each entry.
 fn write_walk<W: Sink>(out: &mut W, walk: Walk<'_>) -> Result<(), WriteStop>
-    ensures sent { Sends (W.taken out.old) (W.taken out.new) (flat_map visited_bytes walk.entry) result }
-    ensures errors { CountsErr (W.failed out.old) (W.failed out.new) result }
+    ensures { Writes (W.taken out.old) (W.taken out.new) (W.failed out.old) (W.failed out.new) (flat_map visited_bytes walk.entry) result }
 {
     let mut left = walk;
     'walk: while let Some(item) = left.next() {

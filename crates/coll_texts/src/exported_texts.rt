@@ -5,7 +5,7 @@
 
 ghost use Rattle.std.specs.Prelude.{chars};
 ghost use Rattle.std.specs.List.{flat_map};
-ghost use Rattle.coll_devices.specs.Devices.{CountsErr, Sends};
+ghost use Rattle.coll_devices.specs.Devices.{Writes};
 ghost use Rattle.coll_nodes.specs.WalkItems.{visited_by};
 ghost use Rattle.coll_texts.specs.ExportedText.{ExportedTablesAreReadBack};
 ghost use Rattle.coll_texts.specs.ExportedParts.{exported_bytes, next_bytes, noted_bytes, start_bytes, walked_bytes};
@@ -29,8 +29,8 @@ pub fn write_exported<W: Sink>(
     names: Walk<'_>,
     walk: Walk<'_>,
 ) -> Result<(), WriteStop>
-    ensures sent { Sends (W.taken out.old) (W.taken out.new) (exported_bytes rules.now declared.entry names.entry walk.entry) result }
-    ensures errors { CountsErr (W.failed out.old) (W.failed out.new) result }
+    ensures { Writes (W.taken out.old) (W.taken out.new) (W.failed out.old) (W.failed out.new)
+        (exported_bytes rules.now declared.entry names.entry walk.entry) result }
 {
     write_opening(out, declared)?;
     write_names(out, names)?;
@@ -41,8 +41,7 @@ pub fn write_exported<W: Sink>(
 
 // Writes a line for the name of each section that has one.
 fn write_names<W: Sink>(out: &mut W, names: Walk<'_>) -> Result<(), WriteStop>
-    ensures sent { Sends (W.taken out.old) (W.taken out.new) (flat_map noted_bytes names.entry) result }
-    ensures errors { CountsErr (W.failed out.old) (W.failed out.new) result }
+    ensures { Writes (W.taken out.old) (W.taken out.new) (W.failed out.old) (W.failed out.new) (flat_map noted_bytes names.entry) result }
 {
     let mut left = names;
     'names: while let Some(item) = left.next() {
@@ -56,8 +55,8 @@ fn write_names<W: Sink>(out: &mut W, names: Walk<'_>) -> Result<(), WriteStop>
 
 // Writes the line of a section's name. An entry has none.
 fn write_noted<W: Sink>(out: &mut W, item: WalkItem<'_>) -> Result<(), WriteStop>
-    ensures sent { Sends (W.taken out.old) (W.taken out.new) (noted_bytes (visited_by item.entry)) result }
-    ensures errors { CountsErr (W.failed out.old) (W.failed out.new) result }
+    ensures { Writes (W.taken out.old) (W.taken out.new) (W.failed out.old) (W.failed out.new)
+        (noted_bytes (visited_by item.entry)) result }
 {
     match item {
         WalkItem::Section(name) => write_named(out, b"script ", name),
@@ -67,8 +66,8 @@ fn write_noted<W: Sink>(out: &mut W, item: WalkItem<'_>) -> Result<(), WriteStop
 
 // Writes each entry, and between the sections the end of one and the line that begins the next.
 fn write_sections<W: Sink>(out: &mut W, rules: &[Rule], walk: Walk<'_>) -> Result<(), WriteStop>
-    ensures sent { Sends (W.taken out.old) (W.taken out.new) (flat_map (walked_bytes rules.now) walk.entry) result }
-    ensures errors { CountsErr (W.failed out.old) (W.failed out.new) result }
+    ensures { Writes (W.taken out.old) (W.taken out.new) (W.failed out.old) (W.failed out.new)
+        (flat_map (walked_bytes rules.now) walk.entry) result }
 {
     let mut left = walk;
     'sections: while let Some(item) = left.next() {
@@ -81,8 +80,8 @@ fn write_sections<W: Sink>(out: &mut W, rules: &[Rule], walk: Walk<'_>) -> Resul
 
 // Writes the lines of what a walk visits.
 fn write_walked<W: Sink>(out: &mut W, rules: &[Rule], item: WalkItem<'_>) -> Result<(), WriteStop>
-    ensures sent { Sends (W.taken out.old) (W.taken out.new) (walked_bytes rules.now (visited_by item.entry)) result }
-    ensures errors { CountsErr (W.failed out.old) (W.failed out.new) result }
+    ensures { Writes (W.taken out.old) (W.taken out.new) (W.failed out.old) (W.failed out.new)
+        (walked_bytes rules.now (visited_by item.entry)) result }
 {
     match item {
         WalkItem::Section(name) => write_next(out, rules, name),
@@ -92,8 +91,8 @@ fn write_walked<W: Sink>(out: &mut W, rules: &[Rule], item: WalkItem<'_>) -> Res
 
 // Ends a section, and writes the line that begins the next.
 fn write_next<'a, W: Sink>(out: &mut W, rules: &[Rule], name: &'a str) -> Result<(), WriteStop>
-    ensures sent { Sends (W.taken out.old) (W.taken out.new) (next_bytes rules.now (chars name.now)) result }
-    ensures errors { CountsErr (W.failed out.old) (W.failed out.new) result }
+    ensures { Writes (W.taken out.old) (W.taken out.new) (W.failed out.old) (W.failed out.new)
+        (next_bytes rules.now (chars name.now)) result }
 {
     write_start(out, name)?;
     write_rules_ended(out, rules)
@@ -101,8 +100,7 @@ fn write_next<'a, W: Sink>(out: &mut W, rules: &[Rule], name: &'a str) -> Result
 
 // Ends a section, and begins the line of the next, up to its rules.
 fn write_start<'a, W: Sink>(out: &mut W, name: &'a str) -> Result<(), WriteStop>
-    ensures sent { Sends (W.taken out.old) (W.taken out.new) (start_bytes (chars name.now)) result }
-    ensures errors { CountsErr (W.failed out.old) (W.failed out.new) result }
+    ensures { Writes (W.taken out.old) (W.taken out.new) (W.failed out.old) (W.failed out.new) (start_bytes (chars name.now)) result }
 {
     write_pieces(
         out,

@@ -6,7 +6,7 @@
 
 ghost use Rattle.std.specs.Prelude.{decimal};
 ghost use Rattle.std.specs.List.{flat_map};
-ghost use Rattle.coll_devices.specs.Devices.{CountsErr, Sends};
+ghost use Rattle.coll_devices.specs.Devices.{Writes};
 ghost use Rattle.coll_texts.specs.Pieces.{piece_bytes};
 
 use crate::spelled_entries::write_id;
@@ -35,8 +35,7 @@ pub enum Piece<'a> {
 
 /// Writes pieces, one behind another. Where it stops, the device has taken a prefix of them.
 pub fn write_pieces<W: Sink>(out: &mut W, pieces: &[Piece<'_>]) -> Result<(), WriteStop>
-    ensures sent { Sends (W.taken out.old) (W.taken out.new) (flat_map piece_bytes pieces.now) result }
-    ensures errors { CountsErr (W.failed out.old) (W.failed out.new) result }
+    ensures { Writes (W.taken out.old) (W.taken out.new) (W.failed out.old) (W.failed out.new) (flat_map piece_bytes pieces.now) result }
 {
     for piece in pieces {
         // Not `?`: behind its conversion this exit would need a lemma.
@@ -49,8 +48,7 @@ pub fn write_pieces<W: Sink>(out: &mut W, pieces: &[Piece<'_>]) -> Result<(), Wr
 
 // Writes a piece.
 fn write_piece<W: Sink>(out: &mut W, piece: Piece<'_>) -> Result<(), WriteStop>
-    ensures sent { Sends (W.taken out.old) (W.taken out.new) (piece_bytes piece.entry) result }
-    ensures errors { CountsErr (W.failed out.old) (W.failed out.new) result }
+    ensures { Writes (W.taken out.old) (W.taken out.new) (W.failed out.old) (W.failed out.new) (piece_bytes piece.entry) result }
 {
     match piece {
         Piece::Bytes(bytes) => write_bytes(out, bytes),
@@ -64,8 +62,7 @@ fn write_piece<W: Sink>(out: &mut W, piece: Piece<'_>) -> Result<(), WriteStop>
 
 /// Writes a number in decimal digits. Where it stops, the device has taken a prefix of them.
 pub fn write_number<W: Sink>(out: &mut W, number: u64) -> Result<(), WriteStop>
-    ensures sent { Sends (W.taken out.old) (W.taken out.new) (decimal number) result }
-    ensures errors { CountsErr (W.failed out.old) (W.failed out.new) result }
+    ensures { Writes (W.taken out.old) (W.taken out.new) (W.failed out.old) (W.failed out.new) (decimal number) result }
 {
     let mut digits = Buffer::new();
     write_bytes(out, digits.format(number).as_bytes())

@@ -5,7 +5,7 @@
 
 ghost use Rattle.std.specs.Prelude.{◌≡◌, [], encode_utf8_all};
 ghost use Rattle.std.specs.List.{flat_map, list_all};
-ghost use Rattle.coll_devices.specs.Devices.{CountsErr, Sends};
+ghost use Rattle.coll_devices.specs.Devices.{Writes};
 ghost use Rattle.coll_syntax.specs.Weights.{is_own};
 ghost use Rattle.coll_texts.specs.CanonicalText.{spelled_string, spelled_own, spelled_names, spelled_weight};
 ghost use Rattle.coll_texts.specs.CanonicalText.{spelled_joined, weights_behind, entry_line, line_bytes};
@@ -18,8 +18,7 @@ use coll_syntax::{Id, Weight};
 
 /// Writes the line of an entry.
 pub(crate) fn write_entry<W: Sink>(out: &mut W, entry: &Entry) -> Result<(), WriteStop>
-    ensures sent { Sends (W.taken out.old) (W.taken out.new) (line_bytes (entry_line entry.now)) result }
-    ensures errors { CountsErr (W.failed out.old) (W.failed out.new) result }
+    ensures { Writes (W.taken out.old) (W.taken out.new) (W.failed out.old) (W.failed out.new) (line_bytes (entry_line entry.now)) result }
 {
     let id = entry.id();
     write_id(out, id)?;
@@ -33,8 +32,8 @@ fn write_weights_behind_id<W: Sink>(
     owner: &Id,
     weights: &[Weight],
 ) -> Result<(), WriteStop>
-    ensures sent { Sends (W.taken out.old) (W.taken out.new) (encode_utf8_all (weights_behind owner.now weights.now)) result }
-    ensures errors { CountsErr (W.failed out.old) (W.failed out.new) result }
+    ensures { Writes (W.taken out.old) (W.taken out.new) (W.failed out.old) (W.failed out.new)
+        (encode_utf8_all (weights_behind owner.now weights.now)) result }
 {
     if are_own(weights) {
         return Ok(());
@@ -56,9 +55,8 @@ pub(crate) fn write_weights<W: Sink>(
     owner: &Id,
     weights: &[Weight],
 ) -> Result<(), WriteStop>
-    ensures sent { Sends (W.taken out.old) (W.taken out.new) (encode_utf8_all (spelled_joined (spelled_weight owner.now) weights.now []))
-        result }
-    ensures errors { CountsErr (W.failed out.old) (W.failed out.new) result }
+    ensures { Writes (W.taken out.old) (W.taken out.new) (W.failed out.old) (W.failed out.new)
+        (encode_utf8_all (spelled_joined (spelled_weight owner.now) weights.now [])) result }
 {
     let Some((first, later)) = weights.split_first() else {
         return Ok(());
@@ -73,8 +71,8 @@ fn write_later_weights<W: Sink>(
     owner: &Id,
     weights: &[Weight],
 ) -> Result<(), WriteStop>
-    ensures sent { Sends (W.taken out.old) (W.taken out.new) (flat_map (behind_bytes (spelled_weight owner.now)) weights.now) result }
-    ensures errors { CountsErr (W.failed out.old) (W.failed out.new) result }
+    ensures { Writes (W.taken out.old) (W.taken out.new) (W.failed out.old) (W.failed out.new)
+        (flat_map (behind_bytes (spelled_weight owner.now)) weights.now) result }
 {
     for weight in weights {
         // Not `?`: behind its conversion this exit would need a lemma.
@@ -87,8 +85,8 @@ fn write_later_weights<W: Sink>(
 
 // Writes a semicolon and a weight.
 fn write_weight_behind<W: Sink>(out: &mut W, owner: &Id, weight: &Weight) -> Result<(), WriteStop>
-    ensures sent { Sends (W.taken out.old) (W.taken out.new) (behind_bytes (spelled_weight owner.now) weight.now) result }
-    ensures errors { CountsErr (W.failed out.old) (W.failed out.new) result }
+    ensures { Writes (W.taken out.old) (W.taken out.new) (W.failed out.old) (W.failed out.new)
+        (behind_bytes (spelled_weight owner.now) weight.now) result }
 {
     write_bytes(out, b";")?;
     write_weight(out, owner, weight)
@@ -96,8 +94,8 @@ fn write_weight_behind<W: Sink>(out: &mut W, owner: &Id, weight: &Weight) -> Res
 
 // Writes a weight of the entry of this identifier.
 fn write_weight<W: Sink>(out: &mut W, owner: &Id, weight: &Weight) -> Result<(), WriteStop>
-    ensures sent { Sends (W.taken out.old) (W.taken out.new) (encode_utf8_all (spelled_weight owner.now weight.now [])) result }
-    ensures errors { CountsErr (W.failed out.old) (W.failed out.new) result }
+    ensures { Writes (W.taken out.old) (W.taken out.new) (W.failed out.old) (W.failed out.new)
+        (encode_utf8_all (spelled_weight owner.now weight.now [])) result }
 {
     match weight {
         Weight::Ignore => write_bytes(out, b"IGNORE"),
@@ -108,8 +106,8 @@ fn write_weight<W: Sink>(out: &mut W, owner: &Id, weight: &Weight) -> Result<(),
 
 // Writes an entry's own weight, which is nothing for `UNDEFINED`.
 fn write_own<W: Sink>(out: &mut W, owner: &Id) -> Result<(), WriteStop>
-    ensures sent { Sends (W.taken out.old) (W.taken out.new) (encode_utf8_all (spelled_own owner.now [])) result }
-    ensures errors { CountsErr (W.failed out.old) (W.failed out.new) result }
+    ensures { Writes (W.taken out.old) (W.taken out.new) (W.failed out.old) (W.failed out.new)
+        (encode_utf8_all (spelled_own owner.now [])) result }
 {
     match owner {
         Id::Char(c) => write_char(out, *c),
@@ -120,8 +118,8 @@ fn write_own<W: Sink>(out: &mut W, owner: &Id) -> Result<(), WriteStop>
 
 // Writes a weight that is a list.
 fn write_names<W: Sink>(out: &mut W, ids: &[Id]) -> Result<(), WriteStop>
-    ensures sent { Sends (W.taken out.old) (W.taken out.new) (encode_utf8_all (spelled_names ids.now [])) result }
-    ensures errors { CountsErr (W.failed out.old) (W.failed out.new) result }
+    ensures { Writes (W.taken out.old) (W.taken out.new) (W.failed out.old) (W.failed out.new)
+        (encode_utf8_all (spelled_names ids.now [])) result }
 {
     match ids {
         [only] => write_id(out, only),
@@ -131,8 +129,8 @@ fn write_names<W: Sink>(out: &mut W, ids: &[Id]) -> Result<(), WriteStop>
 
 // Writes a string of identifiers.
 fn write_string<W: Sink>(out: &mut W, ids: &[Id]) -> Result<(), WriteStop>
-    ensures sent { Sends (W.taken out.old) (W.taken out.new) (encode_utf8_all (spelled_string ids.now [])) result }
-    ensures errors { CountsErr (W.failed out.old) (W.failed out.new) result }
+    ensures { Writes (W.taken out.old) (W.taken out.new) (W.failed out.old) (W.failed out.new)
+        (encode_utf8_all (spelled_string ids.now [])) result }
 {
     write_bytes(out, b"\"")?;
     write_ids(out, ids)?;
@@ -141,8 +139,7 @@ fn write_string<W: Sink>(out: &mut W, ids: &[Id]) -> Result<(), WriteStop>
 
 // Writes identifiers one behind another.
 fn write_ids<W: Sink>(out: &mut W, ids: &[Id]) -> Result<(), WriteStop>
-    ensures sent { Sends (W.taken out.old) (W.taken out.new) (flat_map id_bytes ids.now) result }
-    ensures errors { CountsErr (W.failed out.old) (W.failed out.new) result }
+    ensures { Writes (W.taken out.old) (W.taken out.new) (W.failed out.old) (W.failed out.new) (flat_map id_bytes ids.now) result }
 {
     for id in ids {
         if let Err(stop) = write_id(out, id) {
@@ -156,8 +153,7 @@ fn write_ids<W: Sink>(out: &mut W, ids: &[Id]) -> Result<(), WriteStop>
 ///
 /// Where it stops, the device has taken a prefix of this.
 pub(crate) fn write_id<W: Sink>(out: &mut W, id: &Id) -> Result<(), WriteStop>
-    ensures sent { Sends (W.taken out.old) (W.taken out.new) (id_bytes id.now) result }
-    ensures errors { CountsErr (W.failed out.old) (W.failed out.new) result }
+    ensures { Writes (W.taken out.old) (W.taken out.new) (W.failed out.old) (W.failed out.new) (id_bytes id.now) result }
 {
     match id {
         Id::Char(c) => write_char(out, *c),

@@ -5,7 +5,7 @@
 
 ghost use Rattle.std.specs.Prelude.{[], ◌∷◌, ◌++◌, chars, encode_utf8_all, codes};
 ghost use Rattle.std.specs.List.{flat_map};
-ghost use Rattle.coll_devices.specs.Devices.{CountsErr, Sends};
+ghost use Rattle.coll_devices.specs.Devices.{Writes};
 ghost use Rattle.coll_devices.specs.PhysicalLines.{line_feed};
 ghost use Rattle.coll_texts.specs.CanonicalText.{spelled_rule, spelled_joined, rules_line, line_bytes};
 ghost use Rattle.coll_texts.specs.PrintedParts.{char_bytes, behind_bytes, declaration_bytes, rules_bytes, visited_bytes};
@@ -24,8 +24,8 @@ pub(crate) fn write_declaration<W: Sink>(
     out: &mut W,
     item: DeclaredItem<'_>,
 ) -> Result<(), WriteStop>
-    ensures sent { Sends (W.taken out.old) (W.taken out.new) (declaration_bytes (declared_by item.entry)) result }
-    ensures errors { CountsErr (W.failed out.old) (W.failed out.new) result }
+    ensures { Writes (W.taken out.old) (W.taken out.new) (W.failed out.old) (W.failed out.new)
+        (declaration_bytes (declared_by item.entry)) result }
 {
     match item {
         DeclaredItem::Symbol(name) => write_named(out, b"collating-symbol ", name),
@@ -38,8 +38,8 @@ pub(crate) fn write_declaration<W: Sink>(
 
 /// Writes the line of what a walk visits: that which begins a section, or that of an entry.
 pub(crate) fn write_visited<W: Sink>(out: &mut W, item: WalkItem<'_>) -> Result<(), WriteStop>
-    ensures sent { Sends (W.taken out.old) (W.taken out.new) (visited_bytes (visited_by item.entry)) result }
-    ensures errors { CountsErr (W.failed out.old) (W.failed out.new) result }
+    ensures { Writes (W.taken out.old) (W.taken out.new) (W.failed out.old) (W.failed out.new)
+        (visited_bytes (visited_by item.entry)) result }
 {
     match item {
         WalkItem::Section(name) => write_named(out, b"section ", name),
@@ -53,8 +53,8 @@ pub(crate) fn write_named<'a, W: Sink>(
     word: &'a [u8],
     name: &'a str,
 ) -> Result<(), WriteStop>
-    ensures sent { Sends (W.taken out.old) (W.taken out.new) (word.now ++ (symbol_bytes (chars name.now) ++ line_feed ∷ [])) result }
-    ensures errors { CountsErr (W.failed out.old) (W.failed out.new) result }
+    ensures { Writes (W.taken out.old) (W.taken out.new) (W.failed out.old) (W.failed out.new)
+        (word.now ++ (symbol_bytes (chars name.now) ++ line_feed ∷ [])) result }
 {
     write_pieces(
         out,
@@ -64,9 +64,8 @@ pub(crate) fn write_named<'a, W: Sink>(
 
 // Writes the line of a collating element.
 fn write_element<'a, W: Sink>(out: &mut W, name: &'a str, text: &'a str) -> Result<(), WriteStop>
-    ensures sent { Sends (W.taken out.old) (W.taken out.new) (codes "collating-element " ++ element_bytes (chars name.now) (chars text.now))
-        result }
-    ensures errors { CountsErr (W.failed out.old) (W.failed out.new) result }
+    ensures { Writes (W.taken out.old) (W.taken out.new) (W.failed out.old) (W.failed out.new)
+        (codes "collating-element " ++ element_bytes (chars name.now) (chars text.now)) result }
 {
     write_pieces(
         out,
@@ -87,8 +86,8 @@ pub(crate) fn write_two_names<'a, W: Sink>(
     first: &'a str,
     second: &'a str,
 ) -> Result<(), WriteStop>
-    ensures sent { Sends (W.taken out.old) (W.taken out.new) (word.now ++ names_bytes (chars first.now) (chars second.now)) result }
-    ensures errors { CountsErr (W.failed out.old) (W.failed out.new) result }
+    ensures { Writes (W.taken out.old) (W.taken out.new) (W.failed out.old) (W.failed out.new)
+        (word.now ++ names_bytes (chars first.now) (chars second.now)) result }
 {
     write_pieces(
         out,
@@ -104,8 +103,8 @@ pub(crate) fn write_two_names<'a, W: Sink>(
 
 /// Writes each character of a text by its code point.
 pub fn write_text<W: Sink>(out: &mut W, text: &str) -> Result<(), WriteStop>
-    ensures sent { Sends (W.taken out.old) (W.taken out.new) (flat_map char_bytes (chars text.now)) result }
-    ensures errors { CountsErr (W.failed out.old) (W.failed out.new) result }
+    ensures { Writes (W.taken out.old) (W.taken out.new) (W.failed out.old) (W.failed out.new)
+        (flat_map char_bytes (chars text.now)) result }
 {
     for c in text.chars() {
         // Not `?`: behind its conversion this exit would need a lemma.
@@ -118,8 +117,7 @@ pub fn write_text<W: Sink>(out: &mut W, text: &str) -> Result<(), WriteStop>
 
 /// Writes the line of the rules.
 pub(crate) fn write_rules_line<W: Sink>(out: &mut W, rules: &[Rule]) -> Result<(), WriteStop>
-    ensures sent { Sends (W.taken out.old) (W.taken out.new) (line_bytes (rules_line rules.now)) result }
-    ensures errors { CountsErr (W.failed out.old) (W.failed out.new) result }
+    ensures { Writes (W.taken out.old) (W.taken out.new) (W.failed out.old) (W.failed out.new) (line_bytes (rules_line rules.now)) result }
 {
     write_bytes(out, b"order_start ")?;
     write_rules_ended(out, rules)
@@ -127,8 +125,7 @@ pub(crate) fn write_rules_line<W: Sink>(out: &mut W, rules: &[Rule]) -> Result<(
 
 /// Writes rules with a semicolon between them, and the line's end.
 pub(crate) fn write_rules_ended<W: Sink>(out: &mut W, rules: &[Rule]) -> Result<(), WriteStop>
-    ensures sent { Sends (W.taken out.old) (W.taken out.new) (rules_bytes rules.now) result }
-    ensures errors { CountsErr (W.failed out.old) (W.failed out.new) result }
+    ensures { Writes (W.taken out.old) (W.taken out.new) (W.failed out.old) (W.failed out.new) (rules_bytes rules.now) result }
 {
     write_rules(out, rules)?;
     write_bytes(out, b"\n")
@@ -136,8 +133,8 @@ pub(crate) fn write_rules_ended<W: Sink>(out: &mut W, rules: &[Rule]) -> Result<
 
 // Writes rules with a semicolon between them.
 fn write_rules<W: Sink>(out: &mut W, rules: &[Rule]) -> Result<(), WriteStop>
-    ensures sent { Sends (W.taken out.old) (W.taken out.new) (encode_utf8_all (spelled_joined spelled_rule rules.now [])) result }
-    ensures errors { CountsErr (W.failed out.old) (W.failed out.new) result }
+    ensures { Writes (W.taken out.old) (W.taken out.new) (W.failed out.old) (W.failed out.new)
+        (encode_utf8_all (spelled_joined spelled_rule rules.now [])) result }
 {
     let Some((first, later)) = rules.split_first() else {
         return Ok(());
@@ -148,8 +145,8 @@ fn write_rules<W: Sink>(out: &mut W, rules: &[Rule]) -> Result<(), WriteStop>
 
 // Writes rules with a semicolon before each.
 fn write_later_rules<W: Sink>(out: &mut W, rules: &[Rule]) -> Result<(), WriteStop>
-    ensures sent { Sends (W.taken out.old) (W.taken out.new) (flat_map (behind_bytes spelled_rule) rules.now) result }
-    ensures errors { CountsErr (W.failed out.old) (W.failed out.new) result }
+    ensures { Writes (W.taken out.old) (W.taken out.new) (W.failed out.old) (W.failed out.new)
+        (flat_map (behind_bytes spelled_rule) rules.now) result }
 {
     for rule in rules {
         if let Err(stop) = write_rule_behind(out, *rule) {
@@ -161,8 +158,7 @@ fn write_later_rules<W: Sink>(out: &mut W, rules: &[Rule]) -> Result<(), WriteSt
 
 // Writes a semicolon and a rule.
 fn write_rule_behind<W: Sink>(out: &mut W, rule: Rule) -> Result<(), WriteStop>
-    ensures sent { Sends (W.taken out.old) (W.taken out.new) (behind_bytes spelled_rule rule) result }
-    ensures errors { CountsErr (W.failed out.old) (W.failed out.new) result }
+    ensures { Writes (W.taken out.old) (W.taken out.new) (W.failed out.old) (W.failed out.new) (behind_bytes spelled_rule rule) result }
 {
     write_bytes(out, b";")?;
     write_rule(out, rule)
@@ -170,8 +166,8 @@ fn write_rule_behind<W: Sink>(out: &mut W, rule: Rule) -> Result<(), WriteStop>
 
 /// Writes a rule: its direction, and `position` where it has that.
 pub(crate) fn write_rule<W: Sink>(out: &mut W, rule: Rule) -> Result<(), WriteStop>
-    ensures sent { Sends (W.taken out.old) (W.taken out.new) (encode_utf8_all (spelled_rule rule [])) result }
-    ensures errors { CountsErr (W.failed out.old) (W.failed out.new) result }
+    ensures { Writes (W.taken out.old) (W.taken out.new) (W.failed out.old) (W.failed out.new)
+        (encode_utf8_all (spelled_rule rule [])) result }
 {
     match (rule.backward, rule.position) {
         (false, false) => write_bytes(out, b"forward"),

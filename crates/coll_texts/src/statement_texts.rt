@@ -5,7 +5,7 @@
 
 ghost use Rattle.std.specs.Prelude.{encode_utf8_all};
 ghost use Rattle.std.specs.List.{flat_map};
-ghost use Rattle.coll_devices.specs.Devices.{CountsErr, Sends};
+ghost use Rattle.coll_devices.specs.Devices.{Writes};
 ghost use Rattle.coll_texts.specs.CanonicalText.{line_bytes};
 ghost use Rattle.coll_texts.specs.StatementText.{given_behind, block_lines, statement_bytes, order_bytes};
 
@@ -21,8 +21,7 @@ use coll_syntax::{Id, OrderLine, Statement, Weight};
 ///
 /// Where it stops, the device has taken a prefix of them.
 pub fn write_statement<W: Sink>(out: &mut W, statement: &Statement) -> Result<(), WriteStop>
-    ensures sent { Sends (W.taken out.old) (W.taken out.new) (statement_bytes statement.now) result }
-    ensures errors { CountsErr (W.failed out.old) (W.failed out.new) result }
+    ensures { Writes (W.taken out.old) (W.taken out.new) (W.failed out.old) (W.failed out.new) (statement_bytes statement.now) result }
 {
     match statement {
         Statement::Symbol(name) => write_declaration(out, DeclaredItem::Symbol(name.get())),
@@ -42,8 +41,8 @@ pub fn write_statement<W: Sink>(out: &mut W, statement: &Statement) -> Result<()
 
 // Writes the lines of a block.
 fn write_block<W: Sink>(out: &mut W, target: &Id, lines: &[OrderLine]) -> Result<(), WriteStop>
-    ensures sent { Sends (W.taken out.old) (W.taken out.new) (flat_map line_bytes (block_lines target.now lines.now)) result }
-    ensures errors { CountsErr (W.failed out.old) (W.failed out.new) result }
+    ensures { Writes (W.taken out.old) (W.taken out.new) (W.failed out.old) (W.failed out.new)
+        (flat_map line_bytes (block_lines target.now lines.now)) result }
 {
     write_pieces(
         out,
@@ -59,8 +58,7 @@ fn write_block<W: Sink>(out: &mut W, target: &Id, lines: &[OrderLine]) -> Result
 
 // Writes order lines.
 fn write_order_lines<W: Sink>(out: &mut W, lines: &[OrderLine]) -> Result<(), WriteStop>
-    ensures sent { Sends (W.taken out.old) (W.taken out.new) (flat_map order_bytes lines.now) result }
-    ensures errors { CountsErr (W.failed out.old) (W.failed out.new) result }
+    ensures { Writes (W.taken out.old) (W.taken out.new) (W.failed out.old) (W.failed out.new) (flat_map order_bytes lines.now) result }
 {
     for line in lines {
         // Not `?`: behind its conversion this exit would need a lemma.
@@ -73,8 +71,7 @@ fn write_order_lines<W: Sink>(out: &mut W, lines: &[OrderLine]) -> Result<(), Wr
 
 // Writes an order line.
 fn write_order_line<W: Sink>(out: &mut W, line: &OrderLine) -> Result<(), WriteStop>
-    ensures sent { Sends (W.taken out.old) (W.taken out.new) (order_bytes line.now) result }
-    ensures errors { CountsErr (W.failed out.old) (W.failed out.new) result }
+    ensures { Writes (W.taken out.old) (W.taken out.new) (W.failed out.old) (W.failed out.new) (order_bytes line.now) result }
 {
     write_id(out, &line.id)?;
     write_given(out, &line.weights)?;
@@ -83,8 +80,8 @@ fn write_order_line<W: Sink>(out: &mut W, line: &OrderLine) -> Result<(), WriteS
 
 // Writes the weights behind an identifier, if any are given: an entry's own as that of `UNDEFINED`, which is an empty operand.
 fn write_given<W: Sink>(out: &mut W, weights: &Option<ListBuf<Weight>>) -> Result<(), WriteStop>
-    ensures sent { Sends (W.taken out.old) (W.taken out.new) (encode_utf8_all (given_behind weights.now)) result }
-    ensures errors { CountsErr (W.failed out.old) (W.failed out.new) result }
+    ensures { Writes (W.taken out.old) (W.taken out.new) (W.failed out.old) (W.failed out.new)
+        (encode_utf8_all (given_behind weights.now)) result }
 {
     let Some(weights) = weights else {
         return Ok(());

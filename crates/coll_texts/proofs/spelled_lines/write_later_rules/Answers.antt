@@ -1,5 +1,5 @@
 -- Each rule is one part.
-use Rattle.std.proofs.Common.{◌+◌, drop, get_or, false, ◌∙◌}
+use Rattle.std.proofs.Common.{◌+◌, drop, get_or, false, ◌∙◌, rules}
 use Rattle.std.proofs.lemmas.List.{drop_more}
 use Rattle.coll_syntax.specs.declared.rules.Rule.{Rule}
 use Rattle.coll_texts.specs.CanonicalText.{spelled_rule}
@@ -7,23 +7,27 @@ use Rattle.coll_texts.specs.PrintedParts.{behind_bytes}
 use Rattle.coll_texts.proofs.PrintedParts.{written_prefix, written_more}
 use Rattle.coll_texts.proofs.spelled_lines.write_later_rules.Goals as goal
 
-pub returns-in-Err-clause-sent : goal.returns-in-Err-clause-sent
-returns-in-Err-clause-sent g c =
+pub returns-in-Err : goal.returns-in-Err
+returns-in-Err g c =
     let taken = g.W.Sink.taken in
-    let rules = c.args.rules.now in
+    let later = c.args.rules.now in
     let i = c.loop-rule.rule-index in
     let none : Rule = record { backward = false; position = false } in
-    written_prefix (behind_bytes spelled_rule) rules (drop i rules) (drop (i + 1) rules) (get_or rules i none) (taken c.args.out.now) (taken c.loop-rule.out) (taken c.write_rule_behind.new.out)
-    (drop_more rules i none c.loop-rule-test.true) c.loop-rule.invariant.sent c.in-Err.ensures.sent
+    record {
+      sent = written_prefix (behind_bytes spelled_rule) later (drop i later) (drop (i + 1) later) (get_or later i none) (taken c.args.out.now) (taken c.loop-rule.out)
+          (taken c.write_rule_behind.new.out)
+          (drop_more later i none c.loop-rule-test.true) c.loop-rule.invariant.sent c.in-Err.ensures.sent;
+      errors = search rules;
+    }
 
 pub loop-rule-preserved : goal.loop-rule-preserved
 loop-rule-preserved g c =
     let taken = g.W.Sink.taken in
-    let rules = c.args.rules.now in
+    let later = c.args.rules.now in
     let i = c.loop-rule.rule-index in
     let none : Rule = record { backward = false; position = false } in
     record {
-      sent = written_more (behind_bytes spelled_rule) rules (drop i rules) (drop (i + 1) rules) (get_or rules i none) (taken c.args.out.now) (taken c.loop-rule.out) (taken c.write_rule_behind.new.out)
-          (drop_more rules i none c.loop-rule-test.true) c.loop-rule.invariant.sent c.in_default.ensures.sent;
+      sent = written_more (behind_bytes spelled_rule) later (drop i later) (drop (i + 1) later) (get_or later i none) (taken c.args.out.now) (taken c.loop-rule.out) (taken c.write_rule_behind.new.out)
+          (drop_more later i none c.loop-rule-test.true) c.loop-rule.invariant.sent c.in_default.ensures.sent;
       count = c.in_default.ensures.errors ∙ c.loop-rule.invariant.count;
     }
