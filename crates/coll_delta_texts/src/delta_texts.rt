@@ -5,7 +5,7 @@
 
 ghost use Rattle.std.specs.Prelude.{chars};
 ghost use Rattle.std.specs.List.{flat_map};
-ghost use Rattle.coll_devices.specs.Devices.{CountsErr, Sends};
+ghost use Rattle.coll_devices.specs.Devices.{Writes};
 ghost use Rattle.coll_texts.specs.StatementText.{statement_bytes};
 ghost use Rattle.coll_delta_texts.specs.DeltaText.{delta_text, string_char_bytes, copy_bytes};
 ghost use Rattle.coll_delta_texts.specs.ReadBack.{WrittenDeltasAreReadBack};
@@ -23,8 +23,8 @@ pub fn write_delta<W: Sink>(
     copies: &[TextBuf],
     statements: &[Statement],
 ) -> Result<(), WriteStop>
-    ensures sent { Sends (W.taken out.old) (W.taken out.new) (delta_text copies.now statements.now) result }
-    ensures errors { CountsErr (W.failed out.old) (W.failed out.new) result }
+    ensures { Writes (W.taken out.old) (W.taken out.new) (W.failed out.old) (W.failed out.new)
+        (delta_text copies.now statements.now) result }
 {
     write_bytes(out, b"comment_char %\nescape_char /\nLC_COLLATE\n")?;
     write_copies(out, copies)?;
@@ -34,8 +34,7 @@ pub fn write_delta<W: Sink>(
 
 // Writes a line for each copy.
 fn write_copies<W: Sink>(out: &mut W, copies: &[TextBuf]) -> Result<(), WriteStop>
-    ensures sent { Sends (W.taken out.old) (W.taken out.new) (flat_map copy_bytes copies.now) result }
-    ensures errors { CountsErr (W.failed out.old) (W.failed out.new) result }
+    ensures { Writes (W.taken out.old) (W.taken out.new) (W.failed out.old) (W.failed out.new) (flat_map copy_bytes copies.now) result }
 {
     for name in copies {
         // Not `?`: behind its conversion this exit would need a lemma.
@@ -48,8 +47,7 @@ fn write_copies<W: Sink>(out: &mut W, copies: &[TextBuf]) -> Result<(), WriteSto
 
 // Writes the line of a copy.
 fn write_copy<W: Sink>(out: &mut W, name: &str) -> Result<(), WriteStop>
-    ensures sent { Sends (W.taken out.old) (W.taken out.new) (copy_bytes (chars name.now)) result }
-    ensures errors { CountsErr (W.failed out.old) (W.failed out.new) result }
+    ensures { Writes (W.taken out.old) (W.taken out.new) (W.failed out.old) (W.failed out.new) (copy_bytes (chars name.now)) result }
 {
     write_bytes(out, b"copy \"")?;
     write_chars(out, name)?;
@@ -58,8 +56,8 @@ fn write_copy<W: Sink>(out: &mut W, name: &str) -> Result<(), WriteStop>
 
 // Writes the characters of a string as they are, with `/` before some.
 fn write_chars<W: Sink>(out: &mut W, text: &str) -> Result<(), WriteStop>
-    ensures sent { Sends (W.taken out.old) (W.taken out.new) (flat_map string_char_bytes (chars text.now)) result }
-    ensures errors { CountsErr (W.failed out.old) (W.failed out.new) result }
+    ensures { Writes (W.taken out.old) (W.taken out.new) (W.failed out.old) (W.failed out.new)
+        (flat_map string_char_bytes (chars text.now)) result }
 {
     for c in text.chars() {
         if let Err(stop) = write_literally(out, c) {
@@ -71,8 +69,7 @@ fn write_chars<W: Sink>(out: &mut W, text: &str) -> Result<(), WriteStop>
 
 // Writes a character of a string as it is, with `/` before it where it would end the string, begin a symbol or be an escape.
 fn write_literally<W: Sink>(out: &mut W, c: char) -> Result<(), WriteStop>
-    ensures sent { Sends (W.taken out.old) (W.taken out.new) (string_char_bytes c) result }
-    ensures errors { CountsErr (W.failed out.old) (W.failed out.new) result }
+    ensures { Writes (W.taken out.old) (W.taken out.new) (W.failed out.old) (W.failed out.new) (string_char_bytes c) result }
 {
     match c {
         '"' => write_bytes(out, b"/\""),
@@ -84,8 +81,8 @@ fn write_literally<W: Sink>(out: &mut W, c: char) -> Result<(), WriteStop>
 
 // Writes the lines of each statement.
 fn write_statements<W: Sink>(out: &mut W, statements: &[Statement]) -> Result<(), WriteStop>
-    ensures sent { Sends (W.taken out.old) (W.taken out.new) (flat_map statement_bytes statements.now) result }
-    ensures errors { CountsErr (W.failed out.old) (W.failed out.new) result }
+    ensures { Writes (W.taken out.old) (W.taken out.new) (W.failed out.old) (W.failed out.new)
+        (flat_map statement_bytes statements.now) result }
 {
     for statement in statements {
         if let Err(stop) = write_statement(out, statement) {
