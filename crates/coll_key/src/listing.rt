@@ -5,7 +5,7 @@
 
 ghost use Rattle.std.specs.Prelude.{◌≡◌, ◌<◌, ◌≤◌, ◌+◌, ◌++◌, All, chars, codes, length, IfOk};
 ghost use Rattle.std.specs.List.{flat_map};
-ghost use Rattle.coll_devices.specs.Devices.{CountsErr, Sends};
+ghost use Rattle.coll_devices.specs.Devices.{Writes};
 ghost use Rattle.coll_nodes.specs.Table.{is_placed};
 ghost use Rattle.coll_nodes.specs.TableLayout.{collation};
 ghost use Rattle.coll_nodes.specs.WalkItems.{visited_by};
@@ -30,8 +30,8 @@ use coll_texts::{Piece, write_number, write_pieces, write_text};
 /// of the table as it stands: after an `apply` or a `flip` that changes it, they are to be made anew.
 pub fn write_compiled<W: Sink>(table: &Table, ranks: &Ranks, out: &mut W) -> Result<(), WriteStop>
     requires { AreRanksOf ranks.now (collation table.now) }
-    ensures sent { Sends (W.taken out.old) (W.taken out.new) (compiled_listing (collation table.now)) result }
-    ensures errors { CountsErr (W.failed out.old) (W.failed out.new) result }
+    ensures { Writes (W.taken out.old) (W.taken out.new) (W.failed out.old) (W.failed out.new)
+        (compiled_listing (collation table.now)) result }
 {
     write_head(out, table)?;
     write_body(out, table, ranks)
@@ -40,9 +40,8 @@ pub fn write_compiled<W: Sink>(table: &Table, ranks: &Ranks, out: &mut W) -> Res
 // Writes the lines behind the first.
 fn write_body<W: Sink>(out: &mut W, table: &Table, ranks: &Ranks) -> Result<(), WriteStop>
     requires { AreRanksOf ranks.now (collation table.now) }
-    ensures sent { Sends (W.taken out.old) (W.taken out.new)
+    ensures { Writes (W.taken out.old) (W.taken out.new) (W.failed out.old) (W.failed out.new)
         (flat_map listed_rule (collation table.now).rules ++ entries_part (collation table.now)) result }
-    ensures errors { CountsErr (W.failed out.old) (W.failed out.new) result }
 {
     write_rules(out, table.rules())?;
     write_entries(out, table, ranks)
@@ -51,8 +50,7 @@ fn write_body<W: Sink>(out: &mut W, table: &Table, ranks: &Ranks) -> Result<(), 
 // Writes the lines behind the rules.
 fn write_entries<W: Sink>(out: &mut W, table: &Table, ranks: &Ranks) -> Result<(), WriteStop>
     requires { AreRanksOf ranks.now (collation table.now) }
-    ensures sent { Sends (W.taken out.old) (W.taken out.new) (entries_part (collation table.now)) result }
-    ensures errors { CountsErr (W.failed out.old) (W.failed out.new) result }
+    ensures { Writes (W.taken out.old) (W.taken out.new) (W.failed out.old) (W.failed out.new) (entries_part (collation table.now)) result }
 {
     table.lemma_well_formed();
     write_walk(out, ranks, table.walk())?;
@@ -62,8 +60,8 @@ fn write_entries<W: Sink>(out: &mut W, table: &Table, ranks: &Ranks) -> Result<(
 // Writes the line of `UNDEFINED` where it isn't placed, and the last line.
 fn write_end<W: Sink>(out: &mut W, table: &Table, ranks: &Ranks) -> Result<(), WriteStop>
     requires { AreRanksOf ranks.now (collation table.now) }
-    ensures sent { Sends (W.taken out.old) (W.taken out.new) (listed_undefined (collation table.now) ++ codes "end\n") result }
-    ensures errors { CountsErr (W.failed out.old) (W.failed out.new) result }
+    ensures { Writes (W.taken out.old) (W.taken out.new) (W.failed out.old) (W.failed out.new)
+        (listed_undefined (collation table.now) ++ codes "end\n") result }
 {
     write_unplaced(out, table, ranks)?;
     write_bytes(out, b"end\n")
@@ -72,8 +70,8 @@ fn write_end<W: Sink>(out: &mut W, table: &Table, ranks: &Ranks) -> Result<(), W
 // Writes the line of `UNDEFINED`, where it isn't placed: it stands for itself at each level.
 fn write_unplaced<W: Sink>(out: &mut W, table: &Table, ranks: &Ranks) -> Result<(), WriteStop>
     requires { AreRanksOf ranks.now (collation table.now) }
-    ensures sent { Sends (W.taken out.old) (W.taken out.new) (listed_undefined (collation table.now)) result }
-    ensures errors { CountsErr (W.failed out.old) (W.failed out.new) result }
+    ensures { Writes (W.taken out.old) (W.taken out.new) (W.failed out.old) (W.failed out.new)
+        (listed_undefined (collation table.now)) result }
 {
     table.lemma_well_formed();
     if is_undefined_placed(table) {
@@ -102,8 +100,8 @@ fn is_undefined_placed(table: &Table) -> bool
 fn write_walk<W: Sink>(out: &mut W, ranks: &Ranks, walk: Walk<'_>) -> Result<(), WriteStop>
     requires fit { All (HasFewWeights ranks.now.compiled.levels) (entries_visited walk) }
     requires few { length (entries_visited walk) < 1_000_000 }
-    ensures sent { Sends (W.taken out.old) (W.taken out.new) (ranked_lines ranks.now 1 (entries_visited walk.entry)) result }
-    ensures errors { CountsErr (W.failed out.old) (W.failed out.new) result }
+    ensures { Writes (W.taken out.old) (W.taken out.new) (W.failed out.old) (W.failed out.new)
+        (ranked_lines ranks.now 1 (entries_visited walk.entry)) result }
 {
     let mut left = walk;
     let mut rank = 1;
@@ -122,8 +120,8 @@ fn write_visited<W: Sink>(
 ) -> Result<u32, WriteStop>
     requires fit { All (HasFewWeights ranks.now.compiled.levels) (entry_visited (visited_by item)) }
     requires few { rank ≤ 1_000_000 }
-    ensures sent { Sends (W.taken out.old) (W.taken out.new) (visited_line ranks.now rank (visited_by item.entry)) result }
-    ensures errors { CountsErr (W.failed out.old) (W.failed out.new) result }
+    ensures writes { Writes (W.taken out.old) (W.taken out.new) (W.failed out.old) (W.failed out.new)
+        (visited_line ranks.now rank (visited_by item.entry)) result }
     ensures next { IfOk result (λ next. next ≡ rank + length (entry_visited (visited_by item.entry))) }
 {
     match item {
@@ -143,8 +141,8 @@ fn write_entry<W: Sink>(
     entry: &Entry,
 ) -> Result<(), WriteStop>
     requires fit { HasFewWeights ranks.now.compiled.levels entry.now }
-    ensures sent { Sends (W.taken out.old) (W.taken out.new) (line_if_weighted ranks.now rank entry.now.id entry.now.weights) result }
-    ensures errors { CountsErr (W.failed out.old) (W.failed out.new) result }
+    ensures { Writes (W.taken out.old) (W.taken out.new) (W.failed out.old) (W.failed out.new)
+        (line_if_weighted ranks.now rank entry.now.id entry.now.weights) result }
 {
     if entry.weights().is_empty() {
         return Ok(());
@@ -161,8 +159,8 @@ fn write_line<W: Sink>(
     weights: &[Weight],
 ) -> Result<(), WriteStop>
     requires fit { length weights.now ≤ ranks.now.compiled.levels }
-    ensures sent { Sends (W.taken out.old) (W.taken out.new) (ranked_line ranks.now rank id.now weights.now) result }
-    ensures errors { CountsErr (W.failed out.old) (W.failed out.new) result }
+    ensures { Writes (W.taken out.old) (W.taken out.new) (W.failed out.old) (W.failed out.new)
+        (ranked_line ranks.now rank id.now weights.now) result }
 {
     write_number(out, u64::from(rank))?;
     write_bytes(out, b" ")?;
@@ -179,8 +177,8 @@ fn write_levels<W: Sink>(
     weights: &[Weight],
 ) -> Result<(), WriteStop>
     requires fit { length weights.now ≤ ranks.now.compiled.levels }
-    ensures sent { Sends (W.taken out.old) (W.taken out.new) (levels_ended ranks.now rank owner.now weights.now) result }
-    ensures errors { CountsErr (W.failed out.old) (W.failed out.new) result }
+    ensures { Writes (W.taken out.old) (W.taken out.new) (W.failed out.old) (W.failed out.new)
+        (levels_ended ranks.now rank owner.now weights.now) result }
 {
     for (level, weight) in weights.iter().enumerate() {
         // Not `?`: behind its conversion this exit would need a lemma.
@@ -193,8 +191,7 @@ fn write_levels<W: Sink>(
 
 // Writes the spelling of an identifier: a character by its code point, an element by those of its string.
 fn write_id<W: Sink>(out: &mut W, ranks: &Ranks, id: &Id) -> Result<(), WriteStop>
-    ensures sent { Sends (W.taken out.old) (W.taken out.new) (spelled_with ranks.now id.now) result }
-    ensures errors { CountsErr (W.failed out.old) (W.failed out.new) result }
+    ensures { Writes (W.taken out.old) (W.taken out.new) (W.failed out.old) (W.failed out.new) (spelled_with ranks.now id.now) result }
 {
     match id {
         Id::Char(c) => write_char(out, *c),
@@ -205,8 +202,8 @@ fn write_id<W: Sink>(out: &mut W, ranks: &Ranks, id: &Id) -> Result<(), WriteSto
 
 // Writes the string of the element of a name, each character by its code point.
 fn write_string<W: Sink>(out: &mut W, ranks: &Ranks, name: &str) -> Result<(), WriteStop>
-    ensures sent { Sends (W.taken out.old) (W.taken out.new) (spelled_with ranks.now (Named (chars name.now))) result }
-    ensures errors { CountsErr (W.failed out.old) (W.failed out.new) result }
+    ensures { Writes (W.taken out.old) (W.taken out.new) (W.failed out.old) (W.failed out.new)
+        (spelled_with ranks.now (Named (chars name.now))) result }
 {
     match ranks.string(name) {
         Some(text) => write_text(out, text.get()),
@@ -216,8 +213,7 @@ fn write_string<W: Sink>(out: &mut W, ranks: &Ranks, name: &str) -> Result<(), W
 
 // Writes the first line: the version, the number of levels and that of entries.
 fn write_head<W: Sink>(out: &mut W, table: &Table) -> Result<(), WriteStop>
-    ensures sent { Sends (W.taken out.old) (W.taken out.new) (listing_head (collation table.now)) result }
-    ensures errors { CountsErr (W.failed out.old) (W.failed out.new) result }
+    ensures { Writes (W.taken out.old) (W.taken out.new) (W.failed out.old) (W.failed out.new) (listing_head (collation table.now)) result }
 {
     write_pieces(
         out,
@@ -233,8 +229,7 @@ fn write_head<W: Sink>(out: &mut W, table: &Table) -> Result<(), WriteStop>
 
 // Writes a line for each rule.
 fn write_rules<W: Sink>(out: &mut W, rules: &[Rule]) -> Result<(), WriteStop>
-    ensures sent { Sends (W.taken out.old) (W.taken out.new) (flat_map listed_rule rules.now) result }
-    ensures errors { CountsErr (W.failed out.old) (W.failed out.new) result }
+    ensures { Writes (W.taken out.old) (W.taken out.new) (W.failed out.old) (W.failed out.new) (flat_map listed_rule rules.now) result }
 {
     for rule in rules {
         if let Err(stop) = write_rule_line(out, *rule) {
@@ -246,8 +241,7 @@ fn write_rules<W: Sink>(out: &mut W, rules: &[Rule]) -> Result<(), WriteStop>
 
 // Writes the line of a rule.
 fn write_rule_line<W: Sink>(out: &mut W, rule: Rule) -> Result<(), WriteStop>
-    ensures sent { Sends (W.taken out.old) (W.taken out.new) (listed_rule rule) result }
-    ensures errors { CountsErr (W.failed out.old) (W.failed out.new) result }
+    ensures { Writes (W.taken out.old) (W.taken out.new) (W.failed out.old) (W.failed out.new) (listed_rule rule) result }
 {
     write_pieces(
         out,
@@ -266,8 +260,8 @@ fn write_level<W: Sink>(
     weight: &Weight,
     compiled: &[u32],
 ) -> Result<(), WriteStop>
-    ensures sent { Sends (W.taken out.old) (W.taken out.new) (level_bytes (is_star owner.now weight.now) compiled.now) result }
-    ensures errors { CountsErr (W.failed out.old) (W.failed out.new) result }
+    ensures { Writes (W.taken out.old) (W.taken out.new) (W.failed out.old) (W.failed out.new)
+        (level_bytes (is_star owner.now weight.now) compiled.now) result }
 {
     write_weight(out, owner, weight, compiled)?;
     write_bytes(out, b" |")
@@ -280,8 +274,8 @@ fn write_weight<W: Sink>(
     weight: &Weight,
     compiled: &[u32],
 ) -> Result<(), WriteStop>
-    ensures sent { Sends (W.taken out.old) (W.taken out.new) (weight_bytes (is_star owner.now weight.now) compiled.now) result }
-    ensures errors { CountsErr (W.failed out.old) (W.failed out.new) result }
+    ensures { Writes (W.taken out.old) (W.taken out.new) (W.failed out.old) (W.failed out.new)
+        (weight_bytes (is_star owner.now weight.now) compiled.now) result }
 {
     match (owner, weight) {
         (Id::Undefined, Weight::Own) => write_bytes(out, b" *"),
@@ -291,8 +285,7 @@ fn write_weight<W: Sink>(
 
 // Writes numbers, each with a space before it.
 fn write_numbers<W: Sink>(out: &mut W, numbers: &[u32]) -> Result<(), WriteStop>
-    ensures sent { Sends (W.taken out.old) (W.taken out.new) (flat_map spaced_number numbers.now) result }
-    ensures errors { CountsErr (W.failed out.old) (W.failed out.new) result }
+    ensures { Writes (W.taken out.old) (W.taken out.new) (W.failed out.old) (W.failed out.new) (flat_map spaced_number numbers.now) result }
 {
     for number in numbers {
         if let Err(stop) = write_spaced_number(out, u64::from(*number)) {
@@ -304,8 +297,7 @@ fn write_numbers<W: Sink>(out: &mut W, numbers: &[u32]) -> Result<(), WriteStop>
 
 // Writes a space and a number.
 fn write_spaced_number<W: Sink>(out: &mut W, number: u64) -> Result<(), WriteStop>
-    ensures sent { Sends (W.taken out.old) (W.taken out.new) (spaced_number number) result }
-    ensures errors { CountsErr (W.failed out.old) (W.failed out.new) result }
+    ensures { Writes (W.taken out.old) (W.taken out.new) (W.failed out.old) (W.failed out.new) (spaced_number number) result }
 {
     write_bytes(out, b" ")?;
     write_number(out, number)

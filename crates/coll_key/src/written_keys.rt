@@ -5,7 +5,7 @@
 ghost use Rattle.std.specs.Prelude.{◌≡◌, ◌++◌, ◌∷◌, [], ◌&&◌, not, true, codes, decimal};
 ghost use Rattle.std.specs.List.{flat_map};
 ghost use Rattle.coll_lex.specs.Characters.{space};
-ghost use Rattle.coll_devices.specs.Devices.{CountsErr, Sends};
+ghost use Rattle.coll_devices.specs.Devices.{Writes};
 ghost use Rattle.coll_key.specs.WrittenKey.{behind_space, joined_by_spaces, before_space, level_words, position_word, number_word};
 ghost use Rattle.coll_key.specs.WrittenKey.{word_of, words_of, key_words, first_level, later_levels, written_key, has_key_form};
 
@@ -21,8 +21,7 @@ use coll_texts::{Piece, write_pieces};
 #[tactic(auto, unfolding(crate::specs::WrittenKey::written_key))]
 pub fn write_key<W: Sink>(rules: &[Rule], key: &[u64], out: &mut W) -> Result<(), WriteStop>
     requires { has_key_form rules.now key.now ≡ true }
-    ensures sent { Sends (W.taken out.old) (W.taken out.new) (written_key rules.now key.now) result }
-    ensures errors { CountsErr (W.failed out.old) (W.failed out.new) result }
+    ensures { Writes (W.taken out.old) (W.taken out.new) (W.failed out.old) (W.failed out.new) (written_key rules.now key.now) result }
 {
     let Some((first, later)) = rules.split_first() else {
         return Ok(());
@@ -34,8 +33,8 @@ pub fn write_key<W: Sink>(rules: &[Rule], key: &[u64], out: &mut W) -> Result<()
 
 // Writes levels with a space before each.
 fn write_later_levels<W: Sink>(out: &mut W, rules: &[Rule], key: &[u64]) -> Result<(), WriteStop>
-    ensures sent { Sends (W.taken out.old) (W.taken out.new) (flat_map behind_space (key_words rules.now key.now)) result }
-    ensures errors { CountsErr (W.failed out.old) (W.failed out.new) result }
+    ensures { Writes (W.taken out.old) (W.taken out.new) (W.failed out.old) (W.failed out.new)
+        (flat_map behind_space (key_words rules.now key.now)) result }
 {
     let mut left = key;
     for rule in rules {
@@ -51,8 +50,8 @@ fn write_later_levels<W: Sink>(out: &mut W, rules: &[Rule], key: &[u64]) -> Resu
 
 // Writes a space and a level.
 fn write_level_behind<W: Sink>(out: &mut W, position: bool, level: &[u64]) -> Result<(), WriteStop>
-    ensures sent { Sends (W.taken out.old) (W.taken out.new) (space ∷ joined_by_spaces (level_words position level.now)) result }
-    ensures errors { CountsErr (W.failed out.old) (W.failed out.new) result }
+    ensures { Writes (W.taken out.old) (W.taken out.new) (W.failed out.old) (W.failed out.new)
+        (space ∷ joined_by_spaces (level_words position level.now)) result }
 {
     write_bytes(out, b" ")?;
     write_level(out, position, level)
@@ -60,8 +59,8 @@ fn write_level_behind<W: Sink>(out: &mut W, position: bool, level: &[u64]) -> Re
 
 // Writes the numbers of a level, and its end.
 fn write_level<W: Sink>(out: &mut W, position: bool, level: &[u64]) -> Result<(), WriteStop>
-    ensures sent { Sends (W.taken out.old) (W.taken out.new) (joined_by_spaces (level_words position level.now)) result }
-    ensures errors { CountsErr (W.failed out.old) (W.failed out.new) result }
+    ensures { Writes (W.taken out.old) (W.taken out.new) (W.failed out.old) (W.failed out.new)
+        (joined_by_spaces (level_words position level.now)) result }
 {
     write_numbers(out, position, level)?;
     write_bytes(out, b"|")
@@ -69,8 +68,8 @@ fn write_level<W: Sink>(out: &mut W, position: bool, level: &[u64]) -> Result<()
 
 // Writes numbers with a space behind each; with `position` every other one, from the first on, is a position.
 fn write_numbers<W: Sink>(out: &mut W, position: bool, numbers: &[u64]) -> Result<(), WriteStop>
-    ensures sent { Sends (W.taken out.old) (W.taken out.new) (flat_map before_space (words_of position position numbers.now)) result }
-    ensures errors { CountsErr (W.failed out.old) (W.failed out.new) result }
+    ensures { Writes (W.taken out.old) (W.taken out.new) (W.failed out.old) (W.failed out.new)
+        (flat_map before_space (words_of position position numbers.now)) result }
 {
     let mut at_position = position;
     for number in numbers {
@@ -91,8 +90,8 @@ fn is_next_position(position: bool, at_position: bool) -> bool
 
 // Writes a position or a number, and a space behind it.
 fn write_word<W: Sink>(out: &mut W, at_position: bool, number: u64) -> Result<(), WriteStop>
-    ensures sent { Sends (W.taken out.old) (W.taken out.new) (before_space (word_of at_position number)) result }
-    ensures errors { CountsErr (W.failed out.old) (W.failed out.new) result }
+    ensures { Writes (W.taken out.old) (W.taken out.new) (W.failed out.old) (W.failed out.new)
+        (before_space (word_of at_position number)) result }
 {
     if at_position {
         write_position(out, number)
@@ -103,8 +102,8 @@ fn write_word<W: Sink>(out: &mut W, at_position: bool, number: u64) -> Result<()
 
 // Writes a position, and a space behind it.
 fn write_position<W: Sink>(out: &mut W, position: u64) -> Result<(), WriteStop>
-    ensures sent { Sends (W.taken out.old) (W.taken out.new) (before_space (position_word position)) result }
-    ensures errors { CountsErr (W.failed out.old) (W.failed out.new) result }
+    ensures { Writes (W.taken out.old) (W.taken out.new) (W.failed out.old) (W.failed out.new)
+        (before_space (position_word position)) result }
 {
     write_pieces(
         out,
@@ -118,8 +117,7 @@ fn write_position<W: Sink>(out: &mut W, position: u64) -> Result<(), WriteStop>
 
 // Writes a number as its rank and what was added, if something was, and a space behind it.
 fn write_ranked<W: Sink>(out: &mut W, number: u64) -> Result<(), WriteStop>
-    ensures sent { Sends (W.taken out.old) (W.taken out.new) (before_space (number_word number)) result }
-    ensures errors { CountsErr (W.failed out.old) (W.failed out.new) result }
+    ensures { Writes (W.taken out.old) (W.taken out.new) (W.failed out.old) (W.failed out.new) (before_space (number_word number)) result }
 {
     let rank = number / RANK_STEP;
     match number % RANK_STEP {
@@ -130,8 +128,8 @@ fn write_ranked<W: Sink>(out: &mut W, number: u64) -> Result<(), WriteStop>
 
 // Writes a rank and what was added to its number, and a space behind them.
 fn write_added<W: Sink>(out: &mut W, rank: u64, added: u64) -> Result<(), WriteStop>
-    ensures sent { Sends (W.taken out.old) (W.taken out.new) (before_space (decimal rank ++ (codes "+" ++ decimal added))) result }
-    ensures errors { CountsErr (W.failed out.old) (W.failed out.new) result }
+    ensures { Writes (W.taken out.old) (W.taken out.new) (W.failed out.old) (W.failed out.new)
+        (before_space (decimal rank ++ (codes "+" ++ decimal added))) result }
 {
     write_pieces(
         out,

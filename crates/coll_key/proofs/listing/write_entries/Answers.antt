@@ -1,5 +1,5 @@
 -- The entries, and what stands behind them.
-use Rattle.std.proofs.Common.{List, ℕ, ◌++◌, codes, ap}
+use Rattle.std.proofs.Common.{List, ℕ, ◌++◌, codes, ap, rules}
 use Rattle.coll_nodes.specs.TableLayout.{collation}
 use Rattle.coll_nodes.specs.Walks.{entries_visited}
 use Rattle.coll_texts.proofs.PrintedParts.{stops_first, writes_rest}
@@ -15,21 +15,28 @@ write_walk-requires-clause-fit g c = fit_visited (collation c.args.table.now) c.
 pub write_walk-requires-clause-few : goal.write_walk-requires-clause-few
 write_walk-requires-clause-few g c = few_visited (collation c.args.table.now) c.walk.result c.lemma_well_formed.ensures.well_formed c.walk.ensures
 
-pub returns-in_err-write_walk-clause-sent : goal.returns-in_err-write_walk-clause-sent
-returns-in_err-write_walk-clause-sent g c =
+pub returns-in_err-write_walk : goal.returns-in_err-write_walk
+returns-in_err-write_walk g c =
     let taken = g.W.Sink.taken in
     let table = collation c.args.table.now in
     let rest = listed_undefined table ++ codes "end\n" in
-    stops_first (taken c.args.out.now) (taken c.write_walk.new.out) (entries_part table) (ranked_lines c.args.ranks.now 1 (entries_visited c.walk.result)) rest c.from_residual.result
-    (ap (λ (lines : List ℕ). lines ++ rest) (lines_are_listed c.args.ranks.now table c.requires c.lemma_well_formed.ensures.well_formed c.walk.result c.walk.ensures)) c.from_residual.ensures.0
-    c.in_err-write_walk.ensures.sent
+    record {
+      sent = stops_first (taken c.args.out.now) (taken c.write_walk.new.out) (entries_part table) (ranked_lines c.args.ranks.now 1 (entries_visited c.walk.result)) rest c.from_residual.result
+          (ap (λ (lines : List ℕ). lines ++ rest) (lines_are_listed c.args.ranks.now table c.requires c.lemma_well_formed.ensures.well_formed c.walk.result c.walk.ensures)) c.from_residual.ensures.0
+          c.in_err-write_walk.ensures.sent;
+      errors = search rules;
+    }
 
-pub returns-clause-sent : goal.returns-clause-sent
-returns-clause-sent g c =
+pub returns : goal.returns
+returns g c =
     let taken = g.W.Sink.taken in
     let table = collation c.args.table.now in
     let rest = listed_undefined table ++ codes "end\n" in
-    writes_rest (taken c.args.out.now) (taken c.write_walk.new.out) (taken c.write_end.new.out) (entries_part table) (ranked_lines c.args.ranks.now 1 (entries_visited c.walk.result)) rest
-    c.write_end.result
-    (ap (λ (lines : List ℕ). lines ++ rest) (lines_are_listed c.args.ranks.now table c.requires c.lemma_well_formed.ensures.well_formed c.walk.result c.walk.ensures)) c.in_ok-write_walk.ensures.sent
-    c.write_end.ensures.sent
+    record {
+      sent = writes_rest (taken c.args.out.now) (taken c.write_walk.new.out) (taken c.write_end.new.out) (entries_part table) (ranked_lines c.args.ranks.now 1 (entries_visited c.walk.result)) rest
+          c.write_end.result
+          (ap (λ (lines : List ℕ). lines ++ rest) (lines_are_listed c.args.ranks.now table c.requires c.lemma_well_formed.ensures.well_formed c.walk.result c.walk.ensures))
+          c.in_ok-write_walk.ensures.sent
+          c.write_end.ensures.sent;
+      errors = search rules;
+    }

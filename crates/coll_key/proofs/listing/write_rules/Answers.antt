@@ -1,19 +1,22 @@
 -- Each rule is one part.
-use Rattle.std.proofs.Common.{◌+◌, drop, get_or, false, ◌∙◌}
+use Rattle.std.proofs.Common.{◌+◌, drop, get_or, false, ◌∙◌, rules}
 use Rattle.std.proofs.lemmas.List.{drop_more}
 use Rattle.coll_key.specs.CompiledListing.{listed_rule}
 use Rattle.coll_syntax.specs.declared.rules.Rule.{Rule}
 use Rattle.coll_texts.proofs.PrintedParts.{written_prefix, written_more}
 use Rattle.coll_key.proofs.listing.write_rules.Goals as goal
 
-pub returns-in-Err-clause-sent : goal.returns-in-Err-clause-sent
-returns-in-Err-clause-sent g c =
+pub returns-in-Err : goal.returns-in-Err
+returns-in-Err g c =
     let taken = g.W.Sink.taken in
     let all = c.args.rules.now in
     let i = c.loop-rule.rule-index in
     let none : Rule = record { backward = false; position = false } in
-    written_prefix listed_rule all (drop i all) (drop (i + 1) all) (get_or all i none) (taken c.args.out.now) (taken c.loop-rule.out) (taken c.write_rule_line.new.out)
-    (drop_more all i none c.loop-rule-test.true) c.loop-rule.invariant.sent c.in-Err.ensures.sent
+    record {
+      sent = written_prefix listed_rule all (drop i all) (drop (i + 1) all) (get_or all i none) (taken c.args.out.now) (taken c.loop-rule.out) (taken c.write_rule_line.new.out)
+          (drop_more all i none c.loop-rule-test.true) c.loop-rule.invariant.sent c.in-Err.ensures.sent;
+      errors = search rules;
+    }
 
 pub loop-rule-preserved : goal.loop-rule-preserved
 loop-rule-preserved g c =

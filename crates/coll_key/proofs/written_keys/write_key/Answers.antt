@@ -1,11 +1,12 @@
+use Rattle.std.proofs.Common.{rules}
 use Rattle.std.specs.List.{flat_map}
 use Rattle.coll_key.specs.WrittenKey.{behind_space, joined_by_spaces, key_words, level_words, written_key}
 use Rattle.coll_key.proofs.WritingSteps.{stops_first, writes_rest}
 use Rattle.coll_key.proofs.WrittenKeys.{key_parts}
 use Rattle.coll_key.proofs.written_keys.write_key.Goals as goal
 
-pub returns-in_err-write_level-clause-sent : goal.returns-in_err-write_level-clause-sent
-returns-in_err-write_level-clause-sent g c =
+pub returns-in_err-write_level : goal.returns-in_err-write_level
+returns-in_err-write_level g c =
     let taken = g.W.Sink.taken in
     let level = c.split_level.result.0.now in
     let left = c.split_level.result.1.now in
@@ -15,10 +16,13 @@ returns-in_err-write_level-clause-sent g c =
     let begins = joined_by_spaces (level_words first.position level) in
     let rest = flat_map behind_space (key_words later left) in
     let parts = key_parts c.args.rules.now later first c.args.key.now level left c.in-Some.ensures.cases.0 c.split_level.ensures.level c.split_level.ensures.later in
-    stops_first (taken c.args.out.now) (taken c.write_level.new.out) whole begins rest c.from_residual.result parts c.from_residual.ensures.0 c.in_err-write_level.ensures.sent
+    record {
+      sent = stops_first (taken c.args.out.now) (taken c.write_level.new.out) whole begins rest c.from_residual.result parts c.from_residual.ensures.0 c.in_err-write_level.ensures.sent;
+      errors = search rules;
+    }
 
-pub returns-clause-sent : goal.returns-clause-sent
-returns-clause-sent g c =
+pub returns : goal.returns
+returns g c =
     let taken = g.W.Sink.taken in
     let level = c.split_level.result.0.now in
     let left = c.split_level.result.1.now in
@@ -28,5 +32,8 @@ returns-clause-sent g c =
     let begins = joined_by_spaces (level_words first.position level) in
     let rest = flat_map behind_space (key_words later left) in
     let parts = key_parts c.args.rules.now later first c.args.key.now level left c.in-Some.ensures.cases.0 c.split_level.ensures.level c.split_level.ensures.later in
-    writes_rest (taken c.args.out.now) (taken c.write_level.new.out) (taken c.write_later_levels.new.out) whole begins rest c.write_later_levels.result parts c.in_ok-write_level.ensures.sent
-    c.write_later_levels.ensures.sent
+    record {
+      sent = writes_rest (taken c.args.out.now) (taken c.write_level.new.out) (taken c.write_later_levels.new.out) whole begins rest c.write_later_levels.result parts c.in_ok-write_level.ensures.sent
+          c.write_later_levels.ensures.sent;
+      errors = search rules;
+    }

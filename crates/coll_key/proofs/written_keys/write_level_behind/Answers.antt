@@ -1,18 +1,24 @@
-use Rattle.std.proofs.Common.{codes, ◌∷◌, refl}
+use Rattle.std.proofs.Common.{codes, ◌∷◌, refl, rules}
 use Rattle.coll_lex.specs.Characters.{space}
 use Rattle.coll_key.specs.WrittenKey.{joined_by_spaces, level_words}
 use Rattle.coll_key.proofs.WritingSteps.{stops_first, writes_rest}
 use Rattle.coll_key.proofs.written_keys.write_level_behind.Goals as goal
 
-pub returns-in_err-write_bytes-clause-sent : goal.returns-in_err-write_bytes-clause-sent
-returns-in_err-write_bytes-clause-sent g c =
+pub returns-in_err-write_bytes : goal.returns-in_err-write_bytes
+returns-in_err-write_bytes g c =
     let taken = g.W.Sink.taken in
     let level = joined_by_spaces (level_words c.args.position c.args.level.now) in
-    stops_first (taken c.args.out.now) (taken c.write_bytes.new.out) (space ∷ level) (codes " ") level c.from_residual.result refl c.from_residual.ensures.0 c.in_err-write_bytes.ensures.sent
+    record {
+      sent = stops_first (taken c.args.out.now) (taken c.write_bytes.new.out) (space ∷ level) (codes " ") level c.from_residual.result refl c.from_residual.ensures.0 c.in_err-write_bytes.ensures.sent;
+      errors = search rules;
+    }
 
-pub returns-clause-sent : goal.returns-clause-sent
-returns-clause-sent g c =
+pub returns : goal.returns
+returns g c =
     let taken = g.W.Sink.taken in
     let level = joined_by_spaces (level_words c.args.position c.args.level.now) in
-    writes_rest (taken c.args.out.now) (taken c.write_bytes.new.out) (taken c.write_level.new.out) (space ∷ level) (codes " ") level c.write_level.result refl c.in_ok-write_bytes.ensures.sent
-    c.write_level.ensures.sent
+    record {
+      sent = writes_rest (taken c.args.out.now) (taken c.write_bytes.new.out) (taken c.write_level.new.out) (space ∷ level) (codes " ") level c.write_level.result refl c.in_ok-write_bytes.ensures.sent
+          c.write_level.ensures.sent;
+      errors = search rules;
+    }
