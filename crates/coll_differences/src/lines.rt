@@ -5,7 +5,7 @@
 
 ghost use Rattle.std.specs.Prelude.{◌≡◌, ◌++◌, chars, codes, count_by, length, map, encode_utf8_all};
 ghost use Rattle.std.specs.List.{flat_map};
-ghost use Rattle.coll_devices.specs.Devices.{CountsErr, Sends};
+ghost use Rattle.coll_devices.specs.Devices.{Writes};
 ghost use Rattle.coll_nodes.specs.WalkItems.{declared_by};
 ghost use Rattle.coll_texts.specs.Pieces.{piece_bytes};
 ghost use Rattle.coll_nodes.specs.declared.declarations.Declaration.TheVariants.{Element, Equivalence};
@@ -31,8 +31,7 @@ pub fn write_difference<W: Sink>(
     out: &mut W,
     told: &Option<Differences<'_>>,
 ) -> Result<(), WriteStop>
-    ensures sent { Sends (W.taken out.old) (W.taken out.new) (difference_told told.now) result }
-    ensures errors { CountsErr (W.failed out.old) (W.failed out.new) result }
+    ensures { Writes (W.taken out.old) (W.taken out.new) (W.failed out.old) (W.failed out.new) (difference_told told.now) result }
 {
     match told {
         None => write_bytes(out, b"same\n"),
@@ -42,8 +41,7 @@ pub fn write_difference<W: Sink>(
 
 // Writes a line for each difference, and a line of counts.
 fn write_differences<W: Sink>(out: &mut W, told: &Differences<'_>) -> Result<(), WriteStop>
-    ensures sent { Sends (W.taken out.old) (W.taken out.new) (differences_told told.now) result }
-    ensures errors { CountsErr (W.failed out.old) (W.failed out.new) result }
+    ensures { Writes (W.taken out.old) (W.taken out.new) (W.failed out.old) (W.failed out.new) (differences_told told.now) result }
 {
     write_rules(out, told.rules)?;
     write_changes(out, told.declarations.as_slice())?;
@@ -54,8 +52,7 @@ fn write_differences<W: Sink>(out: &mut W, told: &Differences<'_>) -> Result<(),
 
 // Writes the line of rules, where they are others.
 fn write_rules<W: Sink>(out: &mut W, told: Option<&[Rule]>) -> Result<(), WriteStop>
-    ensures sent { Sends (W.taken out.old) (W.taken out.new) (rules_told told.entry) result }
-    ensures errors { CountsErr (W.failed out.old) (W.failed out.new) result }
+    ensures { Writes (W.taken out.old) (W.taken out.new) (W.failed out.old) (W.failed out.new) (rules_told told.entry) result }
 {
     let Some(rules) = told else {
         return Ok(());
@@ -67,8 +64,7 @@ fn write_rules<W: Sink>(out: &mut W, told: Option<&[Rule]>) -> Result<(), WriteS
 
 // Writes rules, with a space before each.
 fn write_rule_words<W: Sink>(out: &mut W, rules: &[Rule]) -> Result<(), WriteStop>
-    ensures sent { Sends (W.taken out.old) (W.taken out.new) (flat_map rule_word rules.now) result }
-    ensures errors { CountsErr (W.failed out.old) (W.failed out.new) result }
+    ensures { Writes (W.taken out.old) (W.taken out.new) (W.failed out.old) (W.failed out.new) (flat_map rule_word rules.now) result }
 {
     for rule in rules {
         // Not `?`: behind its conversion this exit would need a lemma.
@@ -81,16 +77,14 @@ fn write_rule_words<W: Sink>(out: &mut W, rules: &[Rule]) -> Result<(), WriteSto
 
 // Writes a rule, with a space before it.
 fn write_rule_word<W: Sink>(out: &mut W, rule: Rule) -> Result<(), WriteStop>
-    ensures sent { Sends (W.taken out.old) (W.taken out.new) (rule_word rule) result }
-    ensures errors { CountsErr (W.failed out.old) (W.failed out.new) result }
+    ensures { Writes (W.taken out.old) (W.taken out.new) (W.failed out.old) (W.failed out.new) (rule_word rule) result }
 {
     write_pieces(out, &[Piece::Bytes(b" "), Piece::Rule(rule)])
 }
 
 // Writes a line for each change.
 fn write_changes<W: Sink>(out: &mut W, changes: &[Change<'_>]) -> Result<(), WriteStop>
-    ensures sent { Sends (W.taken out.old) (W.taken out.new) (flat_map change_told changes.now) result }
-    ensures errors { CountsErr (W.failed out.old) (W.failed out.new) result }
+    ensures { Writes (W.taken out.old) (W.taken out.new) (W.failed out.old) (W.failed out.new) (flat_map change_told changes.now) result }
 {
     for change in changes {
         if let Err(stop) = write_change(out, *change) {
@@ -102,8 +96,7 @@ fn write_changes<W: Sink>(out: &mut W, changes: &[Change<'_>]) -> Result<(), Wri
 
 // Writes the line of a change.
 fn write_change<W: Sink>(out: &mut W, change: Change<'_>) -> Result<(), WriteStop>
-    ensures sent { Sends (W.taken out.old) (W.taken out.new) (change_told change.entry) result }
-    ensures errors { CountsErr (W.failed out.old) (W.failed out.new) result }
+    ensures { Writes (W.taken out.old) (W.taken out.new) (W.failed out.old) (W.failed out.new) (change_told change.entry) result }
 {
     match change {
         Change::Removed(point) => write_ended(out, b"removed ", point),
@@ -119,8 +112,8 @@ fn write_placed<W: Sink>(
     point: Point<'_>,
     behind: Option<Point<'_>>,
 ) -> Result<(), WriteStop>
-    ensures sent { Sends (W.taken out.old) (W.taken out.new) (worded word.now (mark_of point.entry) ++ behind_told behind.entry) result }
-    ensures errors { CountsErr (W.failed out.old) (W.failed out.new) result }
+    ensures { Writes (W.taken out.old) (W.taken out.new) (W.failed out.old) (W.failed out.new)
+        (worded word.now (mark_of point.entry) ++ behind_told behind.entry) result }
 {
     write_worded(out, word, point)?;
     write_behind(out, behind)
@@ -128,8 +121,7 @@ fn write_placed<W: Sink>(
 
 // Writes what a point stands behind, and the end of the line.
 fn write_behind<W: Sink>(out: &mut W, behind: Option<Point<'_>>) -> Result<(), WriteStop>
-    ensures sent { Sends (W.taken out.old) (W.taken out.new) (behind_told behind.entry) result }
-    ensures errors { CountsErr (W.failed out.old) (W.failed out.new) result }
+    ensures { Writes (W.taken out.old) (W.taken out.new) (W.failed out.old) (W.failed out.new) (behind_told behind.entry) result }
 {
     match behind {
         None => write_bytes(out, b" first\n"),
@@ -139,8 +131,8 @@ fn write_behind<W: Sink>(out: &mut W, behind: Option<Point<'_>>) -> Result<(), W
 
 // Writes a point behind a word, and the end of the line.
 fn write_ended<W: Sink>(out: &mut W, word: &[u8], point: Point<'_>) -> Result<(), WriteStop>
-    ensures sent { Sends (W.taken out.old) (W.taken out.new) (worded word.now (mark_of point.entry) ++ line_end) result }
-    ensures errors { CountsErr (W.failed out.old) (W.failed out.new) result }
+    ensures { Writes (W.taken out.old) (W.taken out.new) (W.failed out.old) (W.failed out.new)
+        (worded word.now (mark_of point.entry) ++ line_end) result }
 {
     write_worded(out, word, point)?;
     write_bytes(out, b"\n")
@@ -148,8 +140,8 @@ fn write_ended<W: Sink>(out: &mut W, word: &[u8], point: Point<'_>) -> Result<()
 
 // Writes a point behind a word.
 fn write_worded<W: Sink>(out: &mut W, word: &[u8], point: Point<'_>) -> Result<(), WriteStop>
-    ensures sent { Sends (W.taken out.old) (W.taken out.new) (worded word.now (mark_of point.entry)) result }
-    ensures errors { CountsErr (W.failed out.old) (W.failed out.new) result }
+    ensures { Writes (W.taken out.old) (W.taken out.new) (W.failed out.old) (W.failed out.new)
+        (worded word.now (mark_of point.entry)) result }
 {
     write_bytes(out, word)?;
     write_point(out, point)
@@ -157,8 +149,7 @@ fn write_worded<W: Sink>(out: &mut W, word: &[u8], point: Point<'_>) -> Result<(
 
 // Writes a point: a declaration, the beginning of a section by its name, or the identifier of an entry.
 fn write_point<W: Sink>(out: &mut W, point: Point<'_>) -> Result<(), WriteStop>
-    ensures sent { Sends (W.taken out.old) (W.taken out.new) (mark_told (mark_of point.entry)) result }
-    ensures errors { CountsErr (W.failed out.old) (W.failed out.new) result }
+    ensures { Writes (W.taken out.old) (W.taken out.new) (W.failed out.old) (W.failed out.new) (mark_told (mark_of point.entry)) result }
 {
     match point {
         Point::Declared(item) => write_declaration(out, item),
@@ -169,8 +160,8 @@ fn write_point<W: Sink>(out: &mut W, point: Point<'_>) -> Result<(), WriteStop>
 
 // Writes a declaration, as its line in a table.
 fn write_declaration<W: Sink>(out: &mut W, item: DeclaredItem<'_>) -> Result<(), WriteStop>
-    ensures sent { Sends (W.taken out.old) (W.taken out.new) (declaration_told (declared_by item.entry)) result }
-    ensures errors { CountsErr (W.failed out.old) (W.failed out.new) result }
+    ensures { Writes (W.taken out.old) (W.taken out.new) (W.failed out.old) (W.failed out.new)
+        (declaration_told (declared_by item.entry)) result }
 {
     match item {
         DeclaredItem::Symbol(name) => write_named(out, b"collating-symbol ", name),
@@ -181,16 +172,16 @@ fn write_declaration<W: Sink>(out: &mut W, item: DeclaredItem<'_>) -> Result<(),
 
 // Writes a name between its brackets, behind a word.
 fn write_named<'a, W: Sink>(out: &mut W, word: &'a [u8], name: &'a str) -> Result<(), WriteStop>
-    ensures sent { Sends (W.taken out.old) (W.taken out.new) (word.now ++ symbol_bytes (chars name.now)) result }
-    ensures errors { CountsErr (W.failed out.old) (W.failed out.new) result }
+    ensures { Writes (W.taken out.old) (W.taken out.new) (W.failed out.old) (W.failed out.new)
+        (word.now ++ symbol_bytes (chars name.now)) result }
 {
     write_pieces(out, &[Piece::Bytes(word), Piece::Symbol(name)])
 }
 
 // Writes the declaration of a collating element.
 fn write_element<'a, W: Sink>(out: &mut W, name: &'a str, text: &'a str) -> Result<(), WriteStop>
-    ensures sent { Sends (W.taken out.old) (W.taken out.new) (declaration_told (Element (chars name.now) (chars text.now))) result }
-    ensures errors { CountsErr (W.failed out.old) (W.failed out.new) result }
+    ensures { Writes (W.taken out.old) (W.taken out.new) (W.failed out.old) (W.failed out.new)
+        (declaration_told (Element (chars name.now) (chars text.now))) result }
 {
     write_pieces(
         out,
@@ -210,8 +201,8 @@ fn write_second_name<'a, W: Sink>(
     name: &'a str,
     symbol: &'a str,
 ) -> Result<(), WriteStop>
-    ensures sent { Sends (W.taken out.old) (W.taken out.new) (declaration_told (Equivalence (chars name.now) (chars symbol.now))) result }
-    ensures errors { CountsErr (W.failed out.old) (W.failed out.new) result }
+    ensures { Writes (W.taken out.old) (W.taken out.new) (W.failed out.old) (W.failed out.new)
+        (declaration_told (Equivalence (chars name.now) (chars symbol.now))) result }
 {
     write_pieces(
         out,
@@ -226,8 +217,8 @@ fn write_second_name<'a, W: Sink>(
 
 // Writes a line for each entry with other weights.
 fn write_all_weights<W: Sink>(out: &mut W, entries: &[&Entry]) -> Result<(), WriteStop>
-    ensures sent { Sends (W.taken out.old) (W.taken out.new) (flat_map lent_weights_told entries.now) result }
-    ensures errors { CountsErr (W.failed out.old) (W.failed out.new) result }
+    ensures { Writes (W.taken out.old) (W.taken out.new) (W.failed out.old) (W.failed out.new)
+        (flat_map lent_weights_told entries.now) result }
 {
     for entry in entries {
         if let Err(stop) = write_reweighted(out, entry) {
@@ -239,8 +230,7 @@ fn write_all_weights<W: Sink>(out: &mut W, entries: &[&Entry]) -> Result<(), Wri
 
 // Writes the line of an entry with other weights.
 fn write_reweighted<W: Sink>(out: &mut W, entry: &Entry) -> Result<(), WriteStop>
-    ensures sent { Sends (W.taken out.old) (W.taken out.new) (weights_told entry.now) result }
-    ensures errors { CountsErr (W.failed out.old) (W.failed out.new) result }
+    ensures { Writes (W.taken out.old) (W.taken out.new) (W.failed out.old) (W.failed out.new) (weights_told entry.now) result }
 {
     let id = entry.id();
     write_bytes(out, b"weights ")?;
@@ -251,8 +241,7 @@ fn write_reweighted<W: Sink>(out: &mut W, entry: &Entry) -> Result<(), WriteStop
 
 // Writes weights, an own one by the identifier of the entry, with a space before the first.
 fn write_weights<W: Sink>(out: &mut W, owner: &Id, weights: &[Weight]) -> Result<(), WriteStop>
-    ensures sent { Sends (W.taken out.old) (W.taken out.new) (all_weights owner.now weights.now) result }
-    ensures errors { CountsErr (W.failed out.old) (W.failed out.new) result }
+    ensures { Writes (W.taken out.old) (W.taken out.new) (W.failed out.old) (W.failed out.new) (all_weights owner.now weights.now) result }
 {
     let Some((first, later)) = weights.split_first() else {
         return Ok(());
@@ -267,8 +256,8 @@ fn write_later_weights<W: Sink>(
     owner: &Id,
     weights: &[Weight],
 ) -> Result<(), WriteStop>
-    ensures sent { Sends (W.taken out.old) (W.taken out.new) (flat_map (weight_told (codes ";") owner.now) weights.now) result }
-    ensures errors { CountsErr (W.failed out.old) (W.failed out.new) result }
+    ensures { Writes (W.taken out.old) (W.taken out.new) (W.failed out.old) (W.failed out.new)
+        (flat_map (weight_told (codes ";") owner.now) weights.now) result }
 {
     for weight in weights {
         if let Err(stop) = write_weight(out, b";", owner, weight) {
@@ -285,8 +274,8 @@ fn write_weight<'a, W: Sink>(
     owner: &'a Id,
     weight: &'a Weight,
 ) -> Result<(), WriteStop>
-    ensures sent { Sends (W.taken out.old) (W.taken out.new) (weight_told mark.now owner.now weight.now) result }
-    ensures errors { CountsErr (W.failed out.old) (W.failed out.new) result }
+    ensures { Writes (W.taken out.old) (W.taken out.new) (W.failed out.old) (W.failed out.new)
+        (weight_told mark.now owner.now weight.now) result }
 {
     match weight {
         Weight::Ignore => write_pieces(out, &[Piece::Bytes(mark), Piece::Bytes(b"IGNORE")]),
@@ -297,8 +286,7 @@ fn write_weight<'a, W: Sink>(
 
 // Writes a list of identifiers behind a mark.
 fn write_names<'a, W: Sink>(out: &mut W, mark: &'a [u8], ids: &'a [Id]) -> Result<(), WriteStop>
-    ensures sent { Sends (W.taken out.old) (W.taken out.new) (names_told mark.now ids.now) result }
-    ensures errors { CountsErr (W.failed out.old) (W.failed out.new) result }
+    ensures { Writes (W.taken out.old) (W.taken out.new) (W.failed out.old) (W.failed out.new) (names_told mark.now ids.now) result }
 {
     match ids {
         [] => write_pieces(out, &[Piece::Bytes(mark), Piece::Bytes(b"\"\"")]),
@@ -309,17 +297,15 @@ fn write_names<'a, W: Sink>(out: &mut W, mark: &'a [u8], ids: &'a [Id]) -> Resul
 
 // Writes an identifier behind a mark.
 fn write_marked<'a, W: Sink>(out: &mut W, mark: &'a [u8], id: &'a Id) -> Result<(), WriteStop>
-    ensures sent { Sends (W.taken out.old) (W.taken out.new) (mark.now ++ id_bytes id.now) result }
-    ensures errors { CountsErr (W.failed out.old) (W.failed out.new) result }
+    ensures { Writes (W.taken out.old) (W.taken out.new) (W.failed out.old) (W.failed out.new) (mark.now ++ id_bytes id.now) result }
 {
     write_pieces(out, &[Piece::Bytes(mark), Piece::Id(id)])
 }
 
 // Writes identifiers between quotation marks, behind a mark.
 fn write_string<W: Sink>(out: &mut W, mark: &[u8], ids: &[Id]) -> Result<(), WriteStop>
-    ensures sent { Sends (W.taken out.old) (W.taken out.new)
+    ensures { Writes (W.taken out.old) (W.taken out.new) (W.failed out.old) (W.failed out.new)
         (mark.now ++ (codes "\"" ++ (flat_map id_bytes ids.now ++ codes "\""))) result }
-    ensures errors { CountsErr (W.failed out.old) (W.failed out.new) result }
 {
     write_bytes(out, mark)?;
     write_bytes(out, b"\"")?;
@@ -329,8 +315,7 @@ fn write_string<W: Sink>(out: &mut W, mark: &[u8], ids: &[Id]) -> Result<(), Wri
 
 // Writes identifiers one behind another.
 fn write_ids<W: Sink>(out: &mut W, ids: &[Id]) -> Result<(), WriteStop>
-    ensures sent { Sends (W.taken out.old) (W.taken out.new) (flat_map id_bytes ids.now) result }
-    ensures errors { CountsErr (W.failed out.old) (W.failed out.new) result }
+    ensures { Writes (W.taken out.old) (W.taken out.new) (W.failed out.old) (W.failed out.new) (flat_map id_bytes ids.now) result }
 {
     for id in ids {
         if let Err(stop) = write_id(out, id) {
@@ -342,16 +327,14 @@ fn write_ids<W: Sink>(out: &mut W, ids: &[Id]) -> Result<(), WriteStop>
 
 // Writes an identifier.
 fn write_id<W: Sink>(out: &mut W, id: &Id) -> Result<(), WriteStop>
-    ensures sent { Sends (W.taken out.old) (W.taken out.new) (id_bytes id.now) result }
-    ensures errors { CountsErr (W.failed out.old) (W.failed out.new) result }
+    ensures { Writes (W.taken out.old) (W.taken out.new) (W.failed out.old) (W.failed out.new) (id_bytes id.now) result }
 {
     write_pieces(out, &[Piece::Id(id)])
 }
 
 // Writes the line of counts.
 fn write_counts<W: Sink>(out: &mut W, told: &Differences<'_>) -> Result<(), WriteStop>
-    ensures sent { Sends (W.taken out.old) (W.taken out.new) (counts_told told.now) result }
-    ensures errors { CountsErr (W.failed out.old) (W.failed out.new) result }
+    ensures { Writes (W.taken out.old) (W.taken out.new) (W.failed out.old) (W.failed out.new) (counts_told told.now) result }
 {
     let rules = count_one(told.rules.is_some());
     let changes = told.changes.as_slice();
