@@ -9,6 +9,10 @@ use Rattle.coll_bench.specs.Faults.{fault_number}
 use Rattle.coll_bench.specs.declared.faults.Fault.TheVariants as fault
 use Rattle.coll_bench.specs.declared.faults.RunFault.{RunFault}
 
+-- most bytes of a text that is kept
+abbrev pub most_text_bytes : ℕ
+most_text_bytes = 268_435_456
+
 -- the text that the device had is kept
 abbrev pub IsTextOf : (left : Option (List ℕ)) → (kept : List ℕ) → Type 0
 IsTextOf left kept = (text : List ℕ) → left ≡ Some text → kept ≡ text

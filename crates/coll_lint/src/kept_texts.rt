@@ -1,9 +1,9 @@
 //! A text is read whole, and kept in memory.
 
-ghost use Rattle.std.specs.Prelude.{◌≡◌, ◌<◌, ◌++◌, [], false, vec_len, length, IfOk, IfErr, OnOk};
+ghost use Rattle.std.specs.Prelude.{◌≡◌, ◌<◌, ◌≤◌, ◌++◌, [], false, vec_len, length, IfOk, IfErr, OnOk};
 ghost use Rattle.std.specs.Io.KnownBytes.{IsAtEnd};
 ghost use Rattle.coll_bench.specs.BatchReading.{starved_in};
-ghost use Rattle.coll_lint.specs.KeptTexts.{CountsReads, IsTextOf, KeepsPart, StopsReading, read_failed as failed_read};
+ghost use Rattle.coll_lint.specs.KeptTexts.{CountsReads, IsTextOf, KeepsPart, StopsReading, most_text_bytes, read_failed as failed_read};
 
 use coll_bench::{Fault, RunFault};
 use coll_lex::{LexFault, ReadStop, Source};
@@ -15,18 +15,19 @@ pub const MOST_TEXT_BYTES: usize = 268_435_456;
 // Bytes that are read at once.
 const BUFFER_BYTES: usize = 65_536;
 
-// Most reads of a text: a device may give one byte at a time.
-const MOST_READS: usize = MOST_TEXT_BYTES;
+// Most reads of a text: a device may give one byte at a time, and the last read finds the end.
+const MOST_READS: usize = MOST_TEXT_BYTES + 1;
 
 /// Reads the text of an input whole.
 ///
-/// A read that fails is the answer, and so is lack of memory; both come from no line.
+/// A read that fails is the answer, and so is lack of memory, or a text that is longer; both come from no line.
 pub fn keep_text<R: Source>(
     alloc: Global,
     input: usize,
     source: &mut R,
 ) -> Result<Vec<u8>, RunFault>
     ensures text { IfOk result (λ kept. IsTextOf (R.left source.old) kept.items) }
+    ensures most { IfOk result (λ kept. length kept.items ≤ most_text_bytes) }
     ensures fault { IfErr result (λ ended. StopsReading input ended) }
     ensures reads { CountsReads (R.failed source.old) (R.failed source.new) result }
 {
@@ -49,6 +50,7 @@ fn keep_by<R: Source>(
 ) -> Result<Vec<u8>, RunFault>
     requires { 0 < length buffer.old }
     ensures text { IfOk result (λ kept. IsTextOf (R.left source.old) kept.items) }
+    ensures most { IfOk result (λ kept. length kept.items ≤ most_text_bytes) }
     ensures fault { IfErr result (λ ended. StopsReading input ended) }
     ensures reads { CountsReads (R.failed source.old) (R.failed source.new) result }
 {
@@ -72,6 +74,7 @@ fn keep_all<R: Source>(
     requires room { 0 < length buffer.old }
     requires none { kept.old.items ≡ [] }
     ensures text { OnOk result (IsTextOf (R.left source.old) kept.new.items) }
+    ensures most { OnOk result (length kept.new.items ≤ most_text_bytes) }
     ensures fault { IfErr result (λ ended. StopsReading input ended) }
     ensures reads { CountsReads (R.failed source.old) (R.failed source.new) result }
 {
@@ -94,6 +97,7 @@ fn read_part<R: Source>(
 ) -> Result<bool, RunFault>
     requires room { 0 < length buffer.old }
     ensures part { IfOk result (λ more. KeepsPart (R.left source.old) (R.left source.new) kept.old.items kept.new.items) }
+    ensures most { OnOk result (length kept.old.items ≤ most_text_bytes → length kept.new.items ≤ most_text_bytes) }
     ensures end { IfOk result (λ more. more ≡ false → IsAtEnd (R.left source.new)) }
     ensures fault { IfErr result (λ ended. StopsReading input ended) }
     ensures reads { CountsReads (R.failed source.old) (R.failed source.new) result }
@@ -111,9 +115,10 @@ fn read_part<R: Source>(
 // Puts bytes behind those that are kept, unless they would be too many.
 fn keep_part(input: usize, part: &[u8], kept: &mut Vec<u8>) -> Result<(), RunFault>
     ensures kept { OnOk result (kept.new.items ≡ kept.old.items ++ part.now) }
+    ensures most { OnOk result (length kept.new.items ≤ most_text_bytes) }
     ensures fault { IfErr result (λ ended. ended ≡ starved_in input) }
 {
-    if kept.len() > MOST_TEXT_BYTES {
+    if kept.len() > MOST_TEXT_BYTES || part.len() > MOST_TEXT_BYTES - kept.len() {
         return Err(no_memory(input));
     }
     match kept.extend_from_slice(part) {

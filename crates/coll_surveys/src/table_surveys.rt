@@ -33,6 +33,8 @@ struct TableSurvey {
     declarations: Declarations,
     // Whether an `order_start` was accepted, and so the rules are known.
     ruled: bool,
+    // Whether an order was opened here for a line that stood outside of one.
+    opened: bool,
 }
 
 /// Surveys a table, which is input 0.
@@ -44,6 +46,7 @@ pub fn survey_table(alloc: Global, keys: HashKeys, text: &[u8]) -> Result<Survey
         told: Collected::new(alloc, keys, 0),
         declarations: Declarations::new(alloc, keys),
         ruled: false,
+        opened: false,
     };
     survey.take_all(text)?;
     survey.end(text)
@@ -67,6 +70,7 @@ impl TableSurvey {
             told,
             declarations,
             ruled,
+            ..
         } = self;
         match ended_table(builder)? {
             Some(table) => {
@@ -97,6 +101,9 @@ impl TableSurvey {
         }
         let name = declared_name(&read)?;
         let starts = begins_order(&read);
+        if starts || ends_category(&read) {
+            self.close_opened();
+        }
         match self.builder.take(line.number, without_weights(read)) {
             Ok(ended) => {
                 self.ruled = self.ruled || starts;
@@ -150,6 +157,7 @@ impl TableSurvey {
     {
         self.open();
         if let LoadCause::OutsideOrder = cause {
+            self.opened = true;
             let about = table_subject(&read, LoadCause::NotDeclared)?;
             return match self.builder.take(line.number, without_weights(read)) {
                 Ok(ended) => Ok(ended),
@@ -167,6 +175,15 @@ impl TableSurvey {
         }
         drop(read);
         Ok(false)
+    }
+
+    // Closes an order that was opened for a line outside of one, so that it isn't told once more where the next one opens, or the
+    // category ends.
+    fn close_opened(&mut self) {
+        if self.opened {
+            self.opened = false;
+            let _ = self.builder.take(0, TableLine::OrderEnd);
+        }
     }
 
     // Opens an order, with the rules that stand, if there are any.

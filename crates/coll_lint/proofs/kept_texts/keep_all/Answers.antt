@@ -1,5 +1,5 @@
 -- Each read keeps what it gave, and at the end all is kept.
-use Rattle.std.proofs.Common.{List, ℕ, sym, subst, refl, ◌∙◌}
+use Rattle.std.proofs.Common.{List, ℕ, sym, ap, subst, refl, ◌∙◌, length, arith}
 use Rattle.std.specs.Io.KnownBytes.{Consumes}
 use Rattle.std.proofs.KnownBytes.{Consumes-nil}
 use Rattle.coll_lint.proofs.KeptLemmas.{all_kept, keeps_more}
@@ -11,6 +11,7 @@ reads-init g c =
     record {
       kept = subst (λ (kept : List ℕ). Consumes left left kept) (sym c.requires.none) (Consumes-nil left);
       errors = refl;
+      most = let few = ap length c.requires.none in omega (arith, few);
     }
 
 pub reads-preserved : goal.reads-preserved
@@ -19,6 +20,7 @@ reads-preserved g c =
     record {
       kept = keeps_more (left c.args.source.now) (left c.reads.source) (left c.read_part.new.source) c.reads.kept.items c.read_part.new.kept.items c.reads.invariant.kept c.in-Ok-true.ensures.part;
       errors = c.in-Ok-true.ensures.reads ∙ c.reads.invariant.errors;
+      most = c.in-Ok-true.ensures.most c.reads.invariant.most;
     }
 
 pub returns-in-Ok-false-clause-text : goal.returns-in-Ok-false-clause-text
