@@ -5,7 +5,7 @@
 //! (`ToldLists`, `Sources`); the laws say so (`ExplanationLaws`).
 
 ghost use Rattle.std.specs.Prelude.{◌≡◌, ◌<◌, ◌≤◌, ◌∷◌, [], chars, false, length, map, option_map, IfOk, IfErr};
-ghost use Rattle.coll_devices.specs.Devices.{CountsErr, Sends};
+ghost use Rattle.coll_devices.specs.Devices.{Sends, Writes};
 ghost use Rattle.coll_nodes.specs.TableLayout.{collation};
 ghost use Rattle.coll_elements.specs.Elements.{elements_of};
 ghost use Rattle.coll_ranks.specs.Ranks.{AreRanksOf};
@@ -212,9 +212,8 @@ fn write_explanation<'a, W: Sink>(
     requires rules { rules.now ≡ weighing.now.rules }
     requires few { length compared.now.elements.items ≤ 65_536 }
     requires few_others { length compared.now.others.items ≤ 65_536 }
-    ensures sent { Sends (W.taken out.old) (W.taken out.new) (explanation_of weighing.now compared.now.elements.items
-        compared.now.others.items compared.now.order) result }
-    ensures errors { CountsErr (W.failed out.old) (W.failed out.new) result }
+    ensures { Writes (W.taken out.old) (W.taken out.new) (W.failed out.old) (W.failed out.new)
+        (explanation_of weighing.now compared.now.elements.items compared.now.others.items compared.now.order) result }
 {
     write_elements(out, b"A", &compared.elements)?;
     write_elements(out, b"B", &compared.others)?;
@@ -233,8 +232,8 @@ fn write_levels<'a, W: Sink>(
     requires rules { rules.now ≡ weighing.now.rules }
     requires few { length elements.now ≤ 65_536 }
     requires few_others { length others.now ≤ 65_536 }
-    ensures sent { Sends (W.taken out.old) (W.taken out.new) (level_lines weighing.now 0 rules.now elements.now others.now) result }
-    ensures errors { CountsErr (W.failed out.old) (W.failed out.new) result }
+    ensures { Writes (W.taken out.old) (W.taken out.new) (W.failed out.old) (W.failed out.new)
+        (level_lines weighing.now 0 rules.now elements.now others.now) result }
 {
     for (level, rule) in rules.iter().enumerate() {
         let difference = level_difference(weighing, level, *rule, elements, others);

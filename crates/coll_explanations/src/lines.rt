@@ -4,7 +4,7 @@
 
 ghost use Rattle.std.specs.Prelude.{◌≡◌, ◌++◌, ◌∷◌, [], Some, option_map};
 ghost use Rattle.std.specs.List.{flat_map};
-ghost use Rattle.coll_devices.specs.Devices.{CountsErr, Sends};
+ghost use Rattle.coll_devices.specs.Devices.{Writes};
 ghost use Rattle.coll_devices.specs.PhysicalLines.{line_feed};
 ghost use Rattle.coll_texts.specs.Pieces.{piece_bytes};
 ghost use Rattle.coll_key.specs.WrittenKey.{added_word};
@@ -27,8 +27,8 @@ pub(crate) fn write_elements<W: Sink>(
     letter: &[u8],
     elements: &[Id],
 ) -> Result<(), WriteStop>
-    ensures sent { Sends (W.taken out.old) (W.taken out.new) (elements_line letter.now elements.now) result }
-    ensures errors { CountsErr (W.failed out.old) (W.failed out.new) result }
+    ensures { Writes (W.taken out.old) (W.taken out.new) (W.failed out.old) (W.failed out.new)
+        (elements_line letter.now elements.now) result }
 {
     write_bytes(out, letter)?;
     write_each(out, elements)?;
@@ -37,8 +37,7 @@ pub(crate) fn write_elements<W: Sink>(
 
 // Writes elements, with a space before each.
 fn write_each<W: Sink>(out: &mut W, elements: &[Id]) -> Result<(), WriteStop>
-    ensures sent { Sends (W.taken out.old) (W.taken out.new) (flat_map element_word elements.now) result }
-    ensures errors { CountsErr (W.failed out.old) (W.failed out.new) result }
+    ensures { Writes (W.taken out.old) (W.taken out.new) (W.failed out.old) (W.failed out.new) (flat_map element_word elements.now) result }
 {
     for element in elements {
         // Not `?`: behind its conversion this exit would need a lemma.
@@ -51,8 +50,7 @@ fn write_each<W: Sink>(out: &mut W, elements: &[Id]) -> Result<(), WriteStop>
 
 // Writes an element, with a space before it.
 fn write_element<W: Sink>(out: &mut W, element: &Id) -> Result<(), WriteStop>
-    ensures sent { Sends (W.taken out.old) (W.taken out.new) (element_word element.now) result }
-    ensures errors { CountsErr (W.failed out.old) (W.failed out.new) result }
+    ensures { Writes (W.taken out.old) (W.taken out.new) (W.failed out.old) (W.failed out.new) (element_word element.now) result }
 {
     write_pieces(out, &[Piece::Bytes(b" "), Piece::Id(element)])
 }
@@ -64,8 +62,8 @@ pub(crate) fn write_level<W: Sink>(
     rule: Rule,
     difference: Option<Difference<'_>>,
 ) -> Result<(), WriteStop>
-    ensures sent { Sends (W.taken out.old) (W.taken out.new) (level_line number rule (option_map apart_of difference.entry)) result }
-    ensures errors { CountsErr (W.failed out.old) (W.failed out.new) result }
+    ensures { Writes (W.taken out.old) (W.taken out.new) (W.failed out.old) (W.failed out.new)
+        (level_line number rule (option_map apart_of difference.entry)) result }
 {
     write_pieces(
         out,
@@ -85,8 +83,8 @@ fn write_difference<W: Sink>(
     out: &mut W,
     difference: Option<Difference<'_>>,
 ) -> Result<(), WriteStop>
-    ensures sent { Sends (W.taken out.old) (W.taken out.new) (difference_words (option_map apart_of difference.entry)) result }
-    ensures errors { CountsErr (W.failed out.old) (W.failed out.new) result }
+    ensures { Writes (W.taken out.old) (W.taken out.new) (W.failed out.old) (W.failed out.new)
+        (difference_words (option_map apart_of difference.entry)) result }
 {
     match difference {
         None => write_bytes(out, b"equal\n"),
@@ -96,8 +94,8 @@ fn write_difference<W: Sink>(
 
 // Writes where two lists differ first, and what stands there in either.
 fn write_apart<W: Sink>(out: &mut W, difference: Difference<'_>) -> Result<(), WriteStop>
-    ensures sent { Sends (W.taken out.old) (W.taken out.new) (difference_words (Some (apart_of difference.entry))) result }
-    ensures errors { CountsErr (W.failed out.old) (W.failed out.new) result }
+    ensures { Writes (W.taken out.old) (W.taken out.new) (W.failed out.old) (W.failed out.new)
+        (difference_words (Some (apart_of difference.entry))) result }
 {
     write_pieces(
         out,
@@ -118,8 +116,8 @@ fn write_words<'a, W: Sink>(
     step: Option<Step<'a>>,
     tail: &'a [u8],
 ) -> Result<(), WriteStop>
-    ensures sent { Sends (W.taken out.old) (W.taken out.new) (step_words at_position step.entry ++ tail.now) result }
-    ensures errors { CountsErr (W.failed out.old) (W.failed out.new) result }
+    ensures { Writes (W.taken out.old) (W.taken out.new) (W.failed out.old) (W.failed out.new)
+        (step_words at_position step.entry ++ tail.now) result }
 {
     match (step, at_position) {
         (None, _) => write_pieces(out, &[Piece::Bytes(b"end"), Piece::Bytes(tail)]),
@@ -130,8 +128,8 @@ fn write_words<'a, W: Sink>(
 
 // Writes the words of a position, and what stands behind them.
 fn write_position<'a, W: Sink>(out: &mut W, step: Step<'a>, tail: &'a [u8]) -> Result<(), WriteStop>
-    ensures sent { Sends (W.taken out.old) (W.taken out.new) (gap_words step.entry.position step.entry.element.now ++ tail.now) result }
-    ensures errors { CountsErr (W.failed out.old) (W.failed out.new) result }
+    ensures { Writes (W.taken out.old) (W.taken out.new) (W.failed out.old) (W.failed out.new)
+        (gap_words step.entry.position step.entry.element.now ++ tail.now) result }
 {
     write_pieces(
         out,
@@ -147,9 +145,8 @@ fn write_position<'a, W: Sink>(out: &mut W, step: Step<'a>, tail: &'a [u8]) -> R
 
 // Writes the words of a number, and what stands behind them.
 fn write_number<'a, W: Sink>(out: &mut W, step: Step<'a>, tail: &'a [u8]) -> Result<(), WriteStop>
-    ensures sent { Sends (W.taken out.old) (W.taken out.new)
+    ensures { Writes (W.taken out.old) (W.taken out.new) (W.failed out.old) (W.failed out.new)
         (number_words step.entry.number step.entry.id.now step.entry.element.now ++ tail.now) result }
-    ensures errors { CountsErr (W.failed out.old) (W.failed out.new) result }
 {
     let (plus, added) = added_pieces(step.number % RANK_STEP);
     write_pieces(
@@ -180,8 +177,7 @@ fn added_pieces<'a>(added: u64) -> (Piece<'a>, Piece<'a>)
 
 /// Writes the order of two texts.
 pub(crate) fn write_order<W: Sink>(out: &mut W, order: Ordering) -> Result<(), WriteStop>
-    ensures sent { Sends (W.taken out.old) (W.taken out.new) (order_word order ++ line_feed ∷ []) result }
-    ensures errors { CountsErr (W.failed out.old) (W.failed out.new) result }
+    ensures { Writes (W.taken out.old) (W.taken out.new) (W.failed out.old) (W.failed out.new) (order_word order ++ line_feed ∷ []) result }
 {
     write_bytes(
         out,

@@ -1,5 +1,5 @@
 -- Each part, one behind another.
-use Rattle.std.proofs.Common.{◌++◌, ◌∷◌, [], codes, refl}
+use Rattle.std.proofs.Common.{◌++◌, ◌∷◌, [], codes, refl, rules}
 use Rattle.coll_devices.specs.PhysicalLines.{line_feed}
 use Rattle.coll_devices.proofs.WritingLemmas.{Sends-after}
 use Rattle.coll_bench.specs.Replies.{order_word}
@@ -7,8 +7,8 @@ use Rattle.coll_texts.proofs.PrintedParts.{stops_first}
 use Rattle.coll_explanations.specs.Explanations.{elements_line, level_lines}
 use Rattle.coll_explanations.proofs.explaining.write_explanation.Goals as goal
 
-pub returns-in_err-write_elements-clause-sent : goal.returns-in_err-write_elements-clause-sent
-returns-in_err-write_elements-clause-sent g c =
+pub returns-in_err-write_elements : goal.returns-in_err-write_elements
+returns-in_err-write_elements g c =
     let taken = g.W.Sink.taken in
     let made = c.args.compared.now in
     let table = c.args.weighing.now in
@@ -17,10 +17,13 @@ returns-in_err-write_elements-clause-sent g c =
     let levels = level_lines table 0 table.rules made.elements.items made.others.items in
     let order = order_word made.order ++ line_feed ∷ [] in
     let part1 = rw c.deref.ensures.value at c.in_err-write_elements.ensures.sent in
-    stops_first (taken c.args.out.now) (taken c.write_elements.new.out) _ a (b ++ (levels ++ order)) c.from_residual.result refl c.from_residual.ensures.0 part1
+    record {
+      sent = stops_first (taken c.args.out.now) (taken c.write_elements.new.out) _ a (b ++ (levels ++ order)) c.from_residual.result refl c.from_residual.ensures.0 part1;
+      errors = search rules;
+    }
 
-pub returns-in_err-write_elements-2-clause-sent : goal.returns-in_err-write_elements-2-clause-sent
-returns-in_err-write_elements-2-clause-sent g c =
+pub returns-in_err-write_elements-2 : goal.returns-in_err-write_elements-2
+returns-in_err-write_elements-2 g c =
     let taken = g.W.Sink.taken in
     let made = c.args.compared.now in
     let table = c.args.weighing.now in
@@ -30,12 +33,15 @@ returns-in_err-write_elements-2-clause-sent g c =
     let order = order_word made.order ++ line_feed ∷ [] in
     let part1 = rw c.deref.ensures.value at c.in_ok-write_elements.ensures.sent in
     let part2 = rw c.deref-2.ensures.value at c.in_err-write_elements-2.ensures.sent in
-    Sends-after (taken c.args.out.now) (taken c.write_elements.new.out) (taken c.write_elements-2.new.out) a (b ++ (levels ++ order)) c.from_residual-in_err-write_elements-2.result part1
-    (stops_first (taken c.write_elements.new.out) (taken c.write_elements-2.new.out) _ b (levels ++ order) c.from_residual-in_err-write_elements-2.result refl
-    c.from_residual-in_err-write_elements-2.ensures.0 part2)
+    record {
+      sent = Sends-after (taken c.args.out.now) (taken c.write_elements.new.out) (taken c.write_elements-2.new.out) a (b ++ (levels ++ order)) c.from_residual-in_err-write_elements-2.result part1
+          (stops_first (taken c.write_elements.new.out) (taken c.write_elements-2.new.out) _ b (levels ++ order) c.from_residual-in_err-write_elements-2.result refl
+          c.from_residual-in_err-write_elements-2.ensures.0 part2);
+      errors = search rules;
+    }
 
-pub returns-in_err-write_levels-clause-sent : goal.returns-in_err-write_levels-clause-sent
-returns-in_err-write_levels-clause-sent g c =
+pub returns-in_err-write_levels : goal.returns-in_err-write_levels
+returns-in_err-write_levels g c =
     let taken = g.W.Sink.taken in
     let made = c.args.compared.now in
     let table = c.args.weighing.now in
@@ -46,13 +52,16 @@ returns-in_err-write_levels-clause-sent g c =
     let part1 = rw c.deref.ensures.value at c.in_ok-write_elements.ensures.sent in
     let part2 = rw c.deref-2.ensures.value at c.in_ok-write_elements-2.ensures.sent in
     let part3 = rw (c.deref-3.ensures.value, c.deref-4.ensures.value, c.requires.rules) at c.in_err-write_levels.ensures.sent in
-    Sends-after (taken c.args.out.now) (taken c.write_elements.new.out) (taken c.write_levels.new.out) a (b ++ (levels ++ order)) c.from_residual-in_err-write_levels.result part1
-    (Sends-after (taken c.write_elements.new.out) (taken c.write_elements-2.new.out) (taken c.write_levels.new.out) b (levels ++ order) c.from_residual-in_err-write_levels.result part2
-    (stops_first (taken c.write_elements-2.new.out) (taken c.write_levels.new.out) _ levels order c.from_residual-in_err-write_levels.result refl
-    c.from_residual-in_err-write_levels.ensures.0 part3))
+    record {
+      sent = Sends-after (taken c.args.out.now) (taken c.write_elements.new.out) (taken c.write_levels.new.out) a (b ++ (levels ++ order)) c.from_residual-in_err-write_levels.result part1
+          (Sends-after (taken c.write_elements.new.out) (taken c.write_elements-2.new.out) (taken c.write_levels.new.out) b (levels ++ order) c.from_residual-in_err-write_levels.result part2
+          (stops_first (taken c.write_elements-2.new.out) (taken c.write_levels.new.out) _ levels order c.from_residual-in_err-write_levels.result refl
+          c.from_residual-in_err-write_levels.ensures.0 part3));
+      errors = search rules;
+    }
 
-pub returns-clause-sent : goal.returns-clause-sent
-returns-clause-sent g c =
+pub returns : goal.returns
+returns g c =
     let taken = g.W.Sink.taken in
     let made = c.args.compared.now in
     let table = c.args.weighing.now in
@@ -63,6 +72,9 @@ returns-clause-sent g c =
     let part1 = rw c.deref.ensures.value at c.in_ok-write_elements.ensures.sent in
     let part2 = rw c.deref-2.ensures.value at c.in_ok-write_elements-2.ensures.sent in
     let part3 = rw (c.deref-3.ensures.value, c.deref-4.ensures.value, c.requires.rules) at c.in_ok-write_levels.ensures.sent in
-    Sends-after (taken c.args.out.now) (taken c.write_elements.new.out) (taken c.write_order.new.out) a (b ++ (levels ++ order)) c.write_order.result part1
-    (Sends-after (taken c.write_elements.new.out) (taken c.write_elements-2.new.out) (taken c.write_order.new.out) b (levels ++ order) c.write_order.result part2
-    (Sends-after (taken c.write_elements-2.new.out) (taken c.write_levels.new.out) (taken c.write_order.new.out) levels order c.write_order.result part3 c.write_order.ensures.sent))
+    record {
+      sent = Sends-after (taken c.args.out.now) (taken c.write_elements.new.out) (taken c.write_order.new.out) a (b ++ (levels ++ order)) c.write_order.result part1
+          (Sends-after (taken c.write_elements.new.out) (taken c.write_elements-2.new.out) (taken c.write_order.new.out) b (levels ++ order) c.write_order.result part2
+          (Sends-after (taken c.write_elements-2.new.out) (taken c.write_levels.new.out) (taken c.write_order.new.out) levels order c.write_order.result part3 c.write_order.ensures.sent));
+      errors = search rules;
+    }

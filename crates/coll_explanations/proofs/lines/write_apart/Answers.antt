@@ -1,5 +1,5 @@
 -- The place, and what stands there in either list.
-use Rattle.std.proofs.Common.{◌++◌, codes, refl, Some}
+use Rattle.std.proofs.Common.{◌++◌, codes, refl, Some, rules}
 use Rattle.coll_devices.proofs.WritingLemmas.{Sends-after}
 use Rattle.coll_texts.proofs.PrintedParts.{stops_first, writes_rest}
 use Rattle.coll_explanations.specs.Explanations.{difference_words}
@@ -7,27 +7,37 @@ use Rattle.coll_explanations.specs.ToldSteps.{apart_of}
 use Rattle.coll_explanations.proofs.ExplanationParts.{place_parts, place_start}
 use Rattle.coll_explanations.proofs.lines.write_apart.Goals as goal
 
-pub returns-in_err-write_pieces-clause-sent : goal.returns-in_err-write_pieces-clause-sent
-returns-in_err-write_pieces-clause-sent g c =
+pub returns-in_err-write_pieces : goal.returns-in_err-write_pieces
+returns-in_err-write_pieces g c =
     let taken = g.W.Sink.taken in
     let apart = apart_of c.args.difference in
-    stops_first (taken c.args.out.now) (taken c.write_pieces.new.out) (difference_words (Some apart)) (place_start apart.place) ((apart.words ++ codes ", ") ++ (apart.other_words ++ codes "\n"))
-    c.from_residual.result (place_parts apart) c.from_residual.ensures.0 c.in_err-write_pieces.ensures.sent
+    record {
+      sent = stops_first (taken c.args.out.now) (taken c.write_pieces.new.out) (difference_words (Some apart)) (place_start apart.place) ((apart.words ++ codes ", ") ++
+          (apart.other_words ++ codes "\n"))
+          c.from_residual.result (place_parts apart) c.from_residual.ensures.0 c.in_err-write_pieces.ensures.sent;
+      errors = search rules;
+    }
 
-pub returns-in_err-write_words-clause-sent : goal.returns-in_err-write_words-clause-sent
-returns-in_err-write_words-clause-sent g c =
+pub returns-in_err-write_words : goal.returns-in_err-write_words
+returns-in_err-write_words g c =
     let taken = g.W.Sink.taken in
     let apart = apart_of c.args.difference in
-    writes_rest (taken c.args.out.now) (taken c.write_pieces.new.out) (taken c.write_words.new.out) (difference_words (Some apart)) (place_start apart.place)
-    ((apart.words ++ codes ", ") ++ (apart.other_words ++ codes "\n")) c.from_residual-in_err-write_words.result (place_parts apart) c.in_ok-write_pieces.ensures.sent
-    (stops_first (taken c.write_pieces.new.out) (taken c.write_words.new.out) _ (apart.words ++ codes ", ") (apart.other_words ++ codes "\n") c.from_residual-in_err-write_words.result refl
-    c.from_residual-in_err-write_words.ensures.0 c.in_err-write_words.ensures.sent)
+    record {
+      sent = writes_rest (taken c.args.out.now) (taken c.write_pieces.new.out) (taken c.write_words.new.out) (difference_words (Some apart)) (place_start apart.place)
+          ((apart.words ++ codes ", ") ++ (apart.other_words ++ codes "\n")) c.from_residual-in_err-write_words.result (place_parts apart) c.in_ok-write_pieces.ensures.sent
+          (stops_first (taken c.write_pieces.new.out) (taken c.write_words.new.out) _ (apart.words ++ codes ", ") (apart.other_words ++ codes "\n") c.from_residual-in_err-write_words.result refl
+          c.from_residual-in_err-write_words.ensures.0 c.in_err-write_words.ensures.sent);
+      errors = search rules;
+    }
 
-pub returns-clause-sent : goal.returns-clause-sent
-returns-clause-sent g c =
+pub returns : goal.returns
+returns g c =
     let taken = g.W.Sink.taken in
     let apart = apart_of c.args.difference in
-    writes_rest (taken c.args.out.now) (taken c.write_pieces.new.out) (taken c.write_words-2.new.out) (difference_words (Some apart)) (place_start apart.place)
-    ((apart.words ++ codes ", ") ++ (apart.other_words ++ codes "\n")) c.write_words-2.result (place_parts apart) c.in_ok-write_pieces.ensures.sent
-    (Sends-after (taken c.write_pieces.new.out) (taken c.write_words.new.out) (taken c.write_words-2.new.out) (apart.words ++ codes ", ") (apart.other_words ++ codes "\n") c.write_words-2.result
-    c.in_ok-write_words.ensures.sent c.write_words-2.ensures.sent)
+    record {
+      sent = writes_rest (taken c.args.out.now) (taken c.write_pieces.new.out) (taken c.write_words-2.new.out) (difference_words (Some apart)) (place_start apart.place)
+          ((apart.words ++ codes ", ") ++ (apart.other_words ++ codes "\n")) c.write_words-2.result (place_parts apart) c.in_ok-write_pieces.ensures.sent
+          (Sends-after (taken c.write_pieces.new.out) (taken c.write_words.new.out) (taken c.write_words-2.new.out) (apart.words ++ codes ", ") (apart.other_words ++ codes "\n") c.write_words-2.result
+          c.in_ok-write_words.ensures.sent c.write_words-2.ensures.sent);
+      errors = search rules;
+    }
