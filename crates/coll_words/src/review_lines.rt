@@ -2,7 +2,7 @@
 
 ghost use Rattle.std.specs.Prelude.{◌≡◌, ◌++◌, codes, chars, length, take, encode_utf8_all};
 ghost use Rattle.std.specs.List.{flat_map};
-ghost use Rattle.coll_devices.specs.Devices.{CountsErr, Sends};
+ghost use Rattle.coll_devices.specs.Devices.{Writes};
 ghost use Rattle.coll_bench.specs.Replies.{history_line};
 ghost use Rattle.coll_words.specs.ListedWords.{newly_beside, numbered_of};
 ghost use Rattle.coll_words.specs.ReviewLines.{is_plain as stands_for_itself, joined_line, most_told, parted_line};
@@ -25,9 +25,9 @@ pub(crate) fn write_told<W: Sink>(
     statement: &Statement,
     list: &[ListedWord],
 ) -> Result<(), WriteStop>
-    ensures sent { Sends (W.taken out.old) (W.taken out.new) (history_line number statement.now
+    ensures { Writes (W.taken out.old) (W.taken out.new) (W.failed out.old) (W.failed out.new)
+        (history_line number statement.now
         ++ (parted_line (length (newly_beside list.now)) ++ flat_map joined_line (take most_told (newly_beside list.now)))) result }
-    ensures errors { CountsErr (W.failed out.old) (W.failed out.new) result }
 {
     write_history_line(out, number, statement)?;
     write_parted(out, new_pairs(list))?;
@@ -40,8 +40,8 @@ pub(crate) fn write_unmoved<W: Sink>(
     number: u32,
     statement: &Statement,
 ) -> Result<(), WriteStop>
-    ensures sent { Sends (W.taken out.old) (W.taken out.new) (history_line number statement.now ++ parted_line 0) result }
-    ensures errors { CountsErr (W.failed out.old) (W.failed out.new) result }
+    ensures { Writes (W.taken out.old) (W.taken out.new) (W.failed out.old) (W.failed out.new)
+        (history_line number statement.now ++ parted_line 0) result }
 {
     write_history_line(out, number, statement)?;
     write_parted(out, 0)
@@ -53,8 +53,7 @@ pub(crate) fn write_counts<W: Sink>(
     statements: u32,
     words: usize,
 ) -> Result<(), WriteStop>
-    ensures sent { Sends (W.taken out.old) (W.taken out.new) (review_line statements words) result }
-    ensures errors { CountsErr (W.failed out.old) (W.failed out.new) result }
+    ensures { Writes (W.taken out.old) (W.taken out.new) (W.failed out.old) (W.failed out.new) (review_line statements words) result }
 {
     write_pieces(
         out,
@@ -85,8 +84,7 @@ fn new_pairs(list: &[ListedWord]) -> usize
 
 // Writes how many pairs are neighbours no longer.
 fn write_parted<W: Sink>(out: &mut W, count: usize) -> Result<(), WriteStop>
-    ensures sent { Sends (W.taken out.old) (W.taken out.new) (parted_line count) result }
-    ensures errors { CountsErr (W.failed out.old) (W.failed out.new) result }
+    ensures { Writes (W.taken out.old) (W.taken out.new) (W.failed out.old) (W.failed out.new) (parted_line count) result }
 {
     write_pieces(
         out,
@@ -100,8 +98,8 @@ fn write_parted<W: Sink>(out: &mut W, count: usize) -> Result<(), WriteStop>
 
 // Writes the first of the pairs that are new.
 fn write_joined<W: Sink>(out: &mut W, list: &[ListedWord]) -> Result<(), WriteStop>
-    ensures sent { Sends (W.taken out.old) (W.taken out.new) (flat_map joined_line (take most_told (newly_beside list.now))) result }
-    ensures errors { CountsErr (W.failed out.old) (W.failed out.new) result }
+    ensures { Writes (W.taken out.old) (W.taken out.new) (W.failed out.old) (W.failed out.new)
+        (flat_map joined_line (take most_told (newly_beside list.now))) result }
 {
     let mut left = MOST_TOLD;
     for place in 1..list.len() {
@@ -127,8 +125,8 @@ fn write_pair<W: Sink>(
     first: &ListedWord,
     second: &ListedWord,
 ) -> Result<(), WriteStop>
-    ensures sent { Sends (W.taken out.old) (W.taken out.new) (joined_line (numbered_of first.now, numbered_of second.now)) result }
-    ensures errors { CountsErr (W.failed out.old) (W.failed out.new) result }
+    ensures { Writes (W.taken out.old) (W.taken out.new) (W.failed out.old) (W.failed out.new)
+        (joined_line (numbered_of first.now, numbered_of second.now)) result }
 {
     write_bytes(out, b"joined \"")?;
     write_quoted(out, first.word.text())?;
@@ -139,8 +137,8 @@ fn write_pair<W: Sink>(
 
 // Writes the characters of a word as those of a string.
 fn write_quoted<W: Sink>(out: &mut W, text: &str) -> Result<(), WriteStop>
-    ensures sent { Sends (W.taken out.old) (W.taken out.new) (flat_map quoted_char (chars text.now)) result }
-    ensures errors { CountsErr (W.failed out.old) (W.failed out.new) result }
+    ensures { Writes (W.taken out.old) (W.taken out.new) (W.failed out.old) (W.failed out.new)
+        (flat_map quoted_char (chars text.now)) result }
 {
     for c in text.chars() {
         // Not `?`: behind its conversion this exit would need a lemma.
@@ -153,8 +151,7 @@ fn write_quoted<W: Sink>(out: &mut W, text: &str) -> Result<(), WriteStop>
 
 // Writes a character of a string: itself where it is plain, and else its code point.
 fn write_quoted_char<W: Sink>(out: &mut W, c: char) -> Result<(), WriteStop>
-    ensures sent { Sends (W.taken out.old) (W.taken out.new) (quoted_char c) result }
-    ensures errors { CountsErr (W.failed out.old) (W.failed out.new) result }
+    ensures { Writes (W.taken out.old) (W.taken out.new) (W.failed out.old) (W.failed out.new) (quoted_char c) result }
 {
     if is_plain(c) {
         let mut buffer = [0u8; 4];

@@ -1,7 +1,7 @@
 //! A review, statement by statement: the table, the words in its order, and what was told so far.
 
 ghost use Rattle.std.specs.Prelude.{◌≡◌, ◌∷◌, ◌++◌, [], length, zero};
-ghost use Rattle.coll_devices.specs.Devices.{Sends};
+ghost use Rattle.coll_devices.specs.Devices.{Writes};
 ghost use Rattle.coll_nodes.specs.TableLayout.{collation};
 ghost use Rattle.coll_bench.specs.BatchOutcome.{fault_in};
 ghost use Rattle.coll_bench.specs.declared.faults.Fault.TheVariants.{Lex};
@@ -9,7 +9,6 @@ ghost use Rattle.coll_lex.specs.declared.faults.LexFault.TheVariants.{OutOfMemor
 ghost use Rattle.coll_words.specs.Declaring.{declares_alone as gives_a_name_alone};
 ghost use Rattle.coll_words.specs.ListedWords.{all_numbered};
 ghost use Rattle.coll_words.specs.ReviewLines.{review_line};
-ghost use Rattle.coll_devices.specs.Devices.{CountsErr};
 
 use crate::kept_bytes::KeptBytes;
 use crate::listed_words::{ListedWord, sort_anew};
@@ -61,9 +60,8 @@ impl Review {
 
     /// Writes what is told of the statements, and last a line of counts.
     pub fn write<W: Sink>(&self, out: &mut W) -> Result<(), WriteStop>
-        ensures sent { Sends (W.taken out.old) (W.taken out.new)
+        ensures { Writes (W.taken out.old) (W.taken out.new) (W.failed out.old) (W.failed out.new)
             (self.now.told.bytes.items ++ review_line self.now.count (length self.now.list.items)) result }
-        ensures errors { CountsErr (W.failed out.old) (W.failed out.new) result }
     {
         write_bytes(out, self.told.bytes())?;
         write_counts(out, self.count, self.list.len())

@@ -1,7 +1,7 @@
 //! Words with their sort keys, which are sorted by these.
 
 ghost use Rattle.std.specs.Prelude.{◌≡◌, slice_index_or, OnOk, OnErr};
-ghost use Rattle.coll_devices.specs.Devices.{CountsErr, Sends};
+ghost use Rattle.coll_devices.specs.Devices.{Writes};
 ghost use Rattle.coll_nodes.specs.Table.{Collation};
 ghost use Rattle.coll_words.specs.KeyedWords.{AreKeyed, texts_of};
 ghost use Rattle.coll_words.specs.LedWords.{lead_of};
@@ -123,8 +123,7 @@ pub fn sort_by_keys(words: &mut Vec<Word>) -> Result<(), AllocError>
 
 /// Writes words, one a line. Where a write fails, the device has taken a prefix of them.
 pub fn write_words<W: Sink>(words: &[Word], out: &mut W) -> Result<(), WriteStop>
-    ensures sent { Sends (W.taken out.old) (W.taken out.new) (written_words (texts_of words.now)) result }
-    ensures errors { CountsErr (W.failed out.old) (W.failed out.new) result }
+    ensures { Writes (W.taken out.old) (W.taken out.new) (W.failed out.old) (W.failed out.new) (written_words (texts_of words.now)) result }
 {
     for word in words {
         // Not `?`: behind its conversion this exit would need a lemma.
@@ -137,8 +136,7 @@ pub fn write_words<W: Sink>(words: &[Word], out: &mut W) -> Result<(), WriteStop
 
 // Writes a word, and a line feed.
 fn write_word<W: Sink>(word: &Word, out: &mut W) -> Result<(), WriteStop>
-    ensures sent { Sends (W.taken out.old) (W.taken out.new) (written_word word.now.text) result }
-    ensures errors { CountsErr (W.failed out.old) (W.failed out.new) result }
+    ensures { Writes (W.taken out.old) (W.taken out.new) (W.failed out.old) (W.failed out.new) (written_word word.now.text) result }
 {
     write_pieces(
         out,

@@ -1,5 +1,5 @@
 -- The first pairs that are new, up to five, or to the last.
-use Rattle.std.proofs.Common.{◌-◌, ap, arith, take, drop, ◌∙◌, ℕ}
+use Rattle.std.proofs.Common.{◌-◌, ap, arith, take, drop, ◌∙◌, ℕ, rules}
 use Rattle.coll_texts.proofs.PrintedParts.{written_all}
 use Rattle.coll_words.specs.ListedWords.{newly_beside}
 use Rattle.coll_words.specs.ReviewLines.{joined_line, most_told}
@@ -7,12 +7,15 @@ use Rattle.coll_words.proofs.ListedLemmas.{joined_new, joined_old, joined_stops,
 use Rattle.coll_words.proofs.review_lines.write_joined.Goals as goal
 use Rattle.coll_words.proofs.review_lines.write_joined.Goals.{then-first-second+in_default, else-first-second}
 
-pub returns-in-Err-clause-sent : goal.returns-in-Err-clause-sent
-returns-in-Err-clause-sent g c =
+pub returns-in-Err : goal.returns-in-Err
+returns-in-Err g c =
     let taken = g.W.Sink.taken in
-    joined_stops c.args.list.now c.loop-place.place c.index-list-place.result c.index-list-place-in-loop-place.result c.loop-place.invariant.above c.loop-place-test.true c.index-list-place.is
-    c.index-list-place-in-loop-place.is (take most_told (newly_beside c.args.list.now)) c.loop-place.left (taken c.args.out.now) (taken c.loop-place.out) (taken c.write_pair.new.out)
-    c.if-left-eq0.false c.if-first-second.true c.loop-place.invariant.sent c.in-Err.ensures.sent
+    record {
+      sent = joined_stops c.args.list.now c.loop-place.place c.index-list-place.result c.index-list-place-in-loop-place.result c.loop-place.invariant.above c.loop-place-test.true c.index-list-place.is
+          c.index-list-place-in-loop-place.is (take most_told (newly_beside c.args.list.now)) c.loop-place.left (taken c.args.out.now) (taken c.loop-place.out) (taken c.write_pair.new.out)
+          c.if-left-eq0.false c.if-first-second.true c.loop-place.invariant.sent c.in-Err.ensures.sent;
+      errors = search rules;
+    }
 
 pub loop-place-preserved : goal.loop-place-preserved
 loop-place-preserved g c =
@@ -39,15 +42,21 @@ loop-place-preserved g c =
       }
     ]
 
-pub returns-clause-sent : goal.returns-clause-sent
-returns-clause-sent g c =
+pub returns : goal.returns
+returns g c =
     let taken = g.W.Sink.taken in
     let none = pairs_end c.args.list.now c.loop-place.place c.loop-place-test.false in
-    written_all joined_line (take most_told (newly_beside c.args.list.now)) (take c.loop-place.left (newly_beside (drop (c.loop-place.place - 1) c.args.list.now))) (taken c.args.out.now)
-    (taken c.loop-place.out) (ap (take c.loop-place.left) none ∙ take_nothing c.loop-place.left) c.loop-place.invariant.sent
+    record {
+      sent = written_all joined_line (take most_told (newly_beside c.args.list.now)) (take c.loop-place.left (newly_beside (drop (c.loop-place.place - 1) c.args.list.now))) (taken c.args.out.now)
+          (taken c.loop-place.out) (ap (take c.loop-place.left) none ∙ take_nothing c.loop-place.left) c.loop-place.invariant.sent;
+      errors = search rules;
+    }
 
-pub returns-then-left-eq0-clause-sent : goal.returns-then-left-eq0-clause-sent
-returns-then-left-eq0-clause-sent g c =
+pub returns-then-left-eq0 : goal.returns-then-left-eq0
+returns-then-left-eq0 g c =
     let taken = g.W.Sink.taken in
-    written_all joined_line (take most_told (newly_beside c.args.list.now)) (take c.loop-place.left (newly_beside (drop (c.loop-place.place - 1) c.args.list.now))) (taken c.args.out.now)
-    (taken c.loop-place.out) (ap (λ (n : ℕ). take n (newly_beside (drop (c.loop-place.place - 1) c.args.list.now))) c.if-left-eq0.true) c.loop-place.invariant.sent
+    record {
+      sent = written_all joined_line (take most_told (newly_beside c.args.list.now)) (take c.loop-place.left (newly_beside (drop (c.loop-place.place - 1) c.args.list.now))) (taken c.args.out.now)
+          (taken c.loop-place.out) (ap (λ (n : ℕ). take n (newly_beside (drop (c.loop-place.place - 1) c.args.list.now))) c.if-left-eq0.true) c.loop-place.invariant.sent;
+      errors = search rules;
+    }
