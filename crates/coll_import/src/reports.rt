@@ -4,7 +4,7 @@
 
 ghost use Rattle.std.specs.Prelude.{◌≡◌, map, string_bytes};
 ghost use Rattle.std.specs.List.{flat_map};
-ghost use Rattle.coll_devices.specs.Devices.{CountsErr, Sends};
+ghost use Rattle.coll_devices.specs.Devices.{Writes};
 ghost use Rattle.coll_texts.specs.Pieces.{piece_bytes};
 ghost use Rattle.coll_import.specs.ReportText.{name_told, adjusted_line, told_of, lost_bytes, dropped_line, report_text, fault_line};
 
@@ -21,8 +21,8 @@ pub fn write_report<W: Sink>(
     report: &Report,
     names: &[String],
 ) -> Result<(), WriteStop>
-    ensures sent { Sends (W.taken out.old) (W.taken out.new) (report_text (map string_bytes names.now) report.now) result }
-    ensures errors { CountsErr (W.failed out.old) (W.failed out.new) result }
+    ensures { Writes (W.taken out.old) (W.taken out.new) (W.failed out.old) (W.failed out.new)
+        (report_text (map string_bytes names.now) report.now) result }
 {
     write_tallies(out, report, &all_adjustments(), names)?;
     write_losses(out, report.losses(), names)
@@ -34,8 +34,8 @@ pub fn write_source_fault<W: Sink>(
     fault: &SourceFault,
     names: &[String],
 ) -> Result<(), WriteStop>
-    ensures sent { Sends (W.taken out.old) (W.taken out.new) (fault_line (map string_bytes names.now) fault.now) result }
-    ensures errors { CountsErr (W.failed out.old) (W.failed out.new) result }
+    ensures { Writes (W.taken out.old) (W.taken out.new) (W.failed out.old) (W.failed out.new)
+        (fault_line (map string_bytes names.now) fault.now) result }
 {
     write_pieces(
         out,
@@ -59,9 +59,8 @@ fn write_tallies<W: Sink>(
     kinds: &[Adjustment],
     names: &[String],
 ) -> Result<(), WriteStop>
-    ensures sent { Sends (W.taken out.old) (W.taken out.new) (flat_map (told_of (map string_bytes names.now) report.now.tallies) kinds.now)
-        result }
-    ensures errors { CountsErr (W.failed out.old) (W.failed out.new) result }
+    ensures { Writes (W.taken out.old) (W.taken out.new) (W.failed out.old) (W.failed out.new)
+        (flat_map (told_of (map string_bytes names.now) report.now.tallies) kinds.now) result }
 {
     for kind in kinds {
         // Not `?`: behind its conversion this exit would need a lemma.
@@ -79,8 +78,8 @@ fn write_if_made<W: Sink>(
     kind: Adjustment,
     names: &[String],
 ) -> Result<(), WriteStop>
-    ensures sent { Sends (W.taken out.old) (W.taken out.new) (told_of (map string_bytes names.now) report.now.tallies kind) result }
-    ensures errors { CountsErr (W.failed out.old) (W.failed out.new) result }
+    ensures { Writes (W.taken out.old) (W.taken out.new) (W.failed out.old) (W.failed out.new)
+        (told_of (map string_bytes names.now) report.now.tallies kind) result }
 {
     match report.tally(kind) {
         Some(tally) => write_tally(out, &tally, names),
@@ -90,8 +89,8 @@ fn write_if_made<W: Sink>(
 
 // Writes the line of a kind of change.
 fn write_tally<W: Sink>(out: &mut W, tally: &Tally, names: &[String]) -> Result<(), WriteStop>
-    ensures sent { Sends (W.taken out.old) (W.taken out.new) (adjusted_line (map string_bytes names.now) tally.now) result }
-    ensures errors { CountsErr (W.failed out.old) (W.failed out.new) result }
+    ensures { Writes (W.taken out.old) (W.taken out.new) (W.failed out.old) (W.failed out.new)
+        (adjusted_line (map string_bytes names.now) tally.now) result }
 {
     write_pieces(
         out,
@@ -110,8 +109,8 @@ fn write_tally<W: Sink>(out: &mut W, tally: &Tally, names: &[String]) -> Result<
 
 // Writes the lines of what is lost.
 fn write_losses<W: Sink>(out: &mut W, losses: &[Loss], names: &[String]) -> Result<(), WriteStop>
-    ensures sent { Sends (W.taken out.old) (W.taken out.new) (flat_map (dropped_line (map string_bytes names.now)) losses.now) result }
-    ensures errors { CountsErr (W.failed out.old) (W.failed out.new) result }
+    ensures { Writes (W.taken out.old) (W.taken out.new) (W.failed out.old) (W.failed out.new)
+        (flat_map (dropped_line (map string_bytes names.now)) losses.now) result }
 {
     for loss in losses {
         // Not `?`: behind its conversion this exit would need a lemma.
@@ -128,8 +127,8 @@ fn write_loss<'a, W: Sink>(
     loss: &'a Loss,
     names: &'a [String],
 ) -> Result<(), WriteStop>
-    ensures sent { Sends (W.taken out.old) (W.taken out.new) (dropped_line (map string_bytes names.now) loss.now) result }
-    ensures errors { CountsErr (W.failed out.old) (W.failed out.new) result }
+    ensures { Writes (W.taken out.old) (W.taken out.new) (W.failed out.old) (W.failed out.new)
+        (dropped_line (map string_bytes names.now) loss.now) result }
 {
     write_pieces(
         out,

@@ -1,26 +1,32 @@
 -- The kinds of change that were made, and then what was lost.
-use Rattle.std.proofs.Common.{map, string_bytes, refl}
+use Rattle.std.proofs.Common.{map, string_bytes, refl, rules}
 use Rattle.std.specs.List.{flat_map}
 use Rattle.coll_sources.specs.Adjustments.{all_kinds}
 use Rattle.coll_import.specs.ReportText.{told_of, dropped_line, report_text}
 use Rattle.coll_texts.proofs.PrintedParts.{stops_first, writes_rest}
 use Rattle.coll_import.proofs.reports.write_report.Goals as goal
 
-pub returns-in_err-write_tallies-clause-sent : goal.returns-in_err-write_tallies-clause-sent
+pub returns-in_err-write_tallies : goal.returns-in_err-write_tallies
 unfolding report_text
-returns-in_err-write_tallies-clause-sent g c =
+returns-in_err-write_tallies g c =
     let names = map string_bytes c.args.names.now in
     let report = c.args.report.now in
     let sent = rw (c.all_adjustments.ensures.listed) at c.in_err-write_tallies.ensures.sent in
-    stops_first _ _ (report_text names report) (flat_map (told_of names report.tallies) all_kinds) (flat_map (dropped_line names) report.losses) c.from_residual.result
-    refl c.from_residual.ensures.0 sent
+    record {
+      sent = stops_first _ _ (report_text names report) (flat_map (told_of names report.tallies) all_kinds) (flat_map (dropped_line names) report.losses) c.from_residual.result
+          refl c.from_residual.ensures.0 sent;
+      errors = search rules;
+    }
 
-pub returns-clause-sent : goal.returns-clause-sent
+pub returns : goal.returns
 unfolding report_text
-returns-clause-sent g c =
+returns g c =
     let names = map string_bytes c.args.names.now in
     let report = c.args.report.now in
     let first = rw (c.all_adjustments.ensures.listed) at c.in_ok-write_tallies.ensures.sent in
     let last = rw (c.losses.ensures) at c.write_losses.ensures.sent in
-    writes_rest _ _ _ (report_text names report) (flat_map (told_of names report.tallies) all_kinds) (flat_map (dropped_line names) report.losses) c.write_losses.result
-    refl first last
+    record {
+      sent = writes_rest _ _ _ (report_text names report) (flat_map (told_of names report.tallies) all_kinds) (flat_map (dropped_line names) report.losses) c.write_losses.result
+          refl first last;
+      errors = search rules;
+    }
