@@ -4,7 +4,7 @@
 //! (`specs/AdviceLines.antt`). The sentence is a row of `sentences`.
 
 ghost use Rattle.std.specs.Prelude.{◌≡◌, option_copied, option_map, chars};
-ghost use Rattle.coll_devices.specs.Devices.{CountsErr, Sends};
+ghost use Rattle.coll_devices.specs.Devices.{CountsErr, Writes};
 ghost use Rattle.coll_advice.specs.AdviceLines.{SendsAdvice, advice_line, near_bytes, sentence_bytes, subject_bytes};
 
 use crate::sentences::advice_of;
@@ -37,9 +37,8 @@ fn write_told<W: Sink>(
     id: Option<&Id>,
     near: Option<&str>,
 ) -> Result<(), WriteStop>
-    ensures sent { Sends (W.taken out.old) (W.taken out.new) (advice_line (option_copied sentence.entry) (option_copied id.entry)
-        (option_map (λ name. chars name.now) near.entry)) result }
-    ensures errors { CountsErr (W.failed out.old) (W.failed out.new) result }
+    ensures { Writes (W.taken out.old) (W.taken out.new) (W.failed out.old) (W.failed out.new)
+        (advice_line (option_copied sentence.entry) (option_copied id.entry) (option_map (λ name. chars name.now) near.entry)) result }
 {
     write_subject(out, id)?;
     write_sentence(out, sentence)?;
@@ -48,8 +47,8 @@ fn write_told<W: Sink>(
 
 // Writes the identifier that a fault is about, where it is about one.
 fn write_subject<W: Sink>(out: &mut W, id: Option<&Id>) -> Result<(), WriteStop>
-    ensures sent { Sends (W.taken out.old) (W.taken out.new) (subject_bytes (option_copied id.entry)) result }
-    ensures errors { CountsErr (W.failed out.old) (W.failed out.new) result }
+    ensures { Writes (W.taken out.old) (W.taken out.new) (W.failed out.old) (W.failed out.new)
+        (subject_bytes (option_copied id.entry)) result }
 {
     match id {
         Some(id) => write_pieces(out, &[Piece::Bytes(b" "), Piece::Id(id)]),
@@ -59,8 +58,8 @@ fn write_subject<W: Sink>(out: &mut W, id: Option<&Id>) -> Result<(), WriteStop>
 
 // Writes what to do, where that is told.
 fn write_sentence<W: Sink>(out: &mut W, sentence: Option<&str>) -> Result<(), WriteStop>
-    ensures sent { Sends (W.taken out.old) (W.taken out.new) (sentence_bytes (option_copied sentence.entry)) result }
-    ensures errors { CountsErr (W.failed out.old) (W.failed out.new) result }
+    ensures { Writes (W.taken out.old) (W.taken out.new) (W.failed out.old) (W.failed out.new)
+        (sentence_bytes (option_copied sentence.entry)) result }
 {
     match sentence {
         Some(sentence) => write_pieces(
@@ -73,8 +72,8 @@ fn write_sentence<W: Sink>(out: &mut W, sentence: Option<&str>) -> Result<(), Wr
 
 // Writes the near name, where there is one, and a line feed.
 fn write_near<W: Sink>(out: &mut W, near: Option<&str>) -> Result<(), WriteStop>
-    ensures sent { Sends (W.taken out.old) (W.taken out.new) (near_bytes (option_map (λ name. chars name.now) near.entry)) result }
-    ensures errors { CountsErr (W.failed out.old) (W.failed out.new) result }
+    ensures { Writes (W.taken out.old) (W.taken out.new) (W.failed out.old) (W.failed out.new)
+        (near_bytes (option_map (λ name. chars name.now) near.entry)) result }
 {
     match near {
         Some(name) => write_pieces(
