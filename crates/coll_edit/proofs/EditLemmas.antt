@@ -1,6 +1,6 @@
 -- A line of an edit: the session serves it, or leaves it to `edit`.
 use Rattle.std.proofs.Common.{◌≡◌, ℕ, Bool, true, false, List, [], ◌∷◌, Option, Some, None, Result, Ok, Err, refl, sym, ap, ◌∙◌, ⊎_elim, inl, inr}
-use Rattle.std.specs.Prelude.{◌⊎◌, IfOk, OnOk, option_to_list}
+use Rattle.std.specs.Prelude.{IfOk, OnOk, option_to_list}
 use Rattle.std.proofs.lemmas.Bool.{false≢true}
 use Rattle.coll_devices.specs.PhysicalLines.{IsInLine}
 use Rattle.coll_devices.specs.LineReading.{Cuts}

@@ -1,3 +1,4 @@
+pub mod AskedLemmas
 pub mod EditLemmas
 pub mod PutLemmas
 mod StatementLemmas

@@ -1,10 +1,11 @@
 //! The run of an edit: the lines of a source are served one by one, and their replies go to a sink.
 
-ghost use Rattle.std.specs.Prelude.{◌≡◌, IfErr};
+ghost use Rattle.std.specs.Prelude.{◌≡◌, true, IfErr};
 ghost use Rattle.coll_devices.specs.LineReading.{no_line};
 ghost use Rattle.coll_nodes.specs.Table.{Collation};
 ghost use Rattle.coll_bench.specs.Serving.{never_ran};
-ghost use Rattle.coll_edit.specs.EditRuns.{IsBegunEdit, RunsUnanswered};
+ghost use Rattle.coll_edit.specs.EditRuns.{IsBegunEdit, IsUnserved, LeavesSome, RunsAsSession, RunsUnanswered};
+ghost use Rattle.coll_edit.specs.Editing.{has_answered};
 ghost use Rattle.coll_edit.specs.Watching.{device_of};
 
 use crate::devices::OpensFiles;
@@ -29,6 +30,8 @@ pub fn edit_lines<R: Source, W: Sink, M: Sink, F: OpensFiles>(
     ensures run { (table : Collation) → IsBegunEdit editor.old table
         → RunsUnanswered editor.new table (R.left input.old) (R.left input.new) (W.taken (device_of output.old))
         (W.taken (device_of output.new)) result }
+    ensures session { (table : Collation) → IsBegunEdit editor.old table
+        → RunsAsSession table (R.left input.old) (R.left input.new) (W.taken (device_of output.old)) (W.taken (device_of output.new)) result }
     ensures input { IfErr result (λ ended. ended.input ≡ 0) }
 {
     match LineReader::new(alloc) {
@@ -55,6 +58,7 @@ fn serve_lines<R: Source, W: Sink, M: Sink, F: OpensFiles>(
     ensures run { (table : Collation) → IsBegunEdit editor.old table
         → RunsUnanswered editor.new table (R.left input.old) (R.left input.new) (W.taken (device_of output.old))
         (W.taken (device_of output.new)) result }
+    ensures left { IsUnserved editor.old → has_answered editor.new ≡ true → LeavesSome (R.left input.old) }
     ensures input { IfErr result (λ ended. ended.input ≡ 0) }
 {
     'lines: loop {

@@ -1,13 +1,14 @@
 -- A run goes on by a line, and ends in one of the ways in which a run can.
-use Rattle.std.proofs.Common.{◌≡◌, false, ap, sym, ◌∙◌, subst, ℕ, List}
+use Rattle.std.proofs.Common.{◌≡◌, ap, sym, ◌∙◌, subst, ℕ, List, Ok, Err}
 use Rattle.std.proofs.lemmas.Bool.{false≢true}
 use Rattle.coll_devices.specs.PhysicalLines.{IsInLine}
 use Rattle.coll_devices.specs.LineReading.{ReaderState, Cuts, unread}
 use Rattle.coll_bench.proofs.RunSteps.{underway_begun, unread_begun, gives_line, gives_end, stops_now}
 use Rattle.coll_bench.proofs.RunExits.{cut_off_ended, text_ended}
-use Rattle.coll_edit.specs.Editing.{has_answered, run_of}
+use Rattle.coll_edit.specs.Editing.{run_of}
 use Rattle.coll_edit.specs.declared.editors.Next.TheVariants as next
 use Rattle.coll_edit.specs.Watching.{device_of}
+use Rattle.coll_edit.proofs.AskedLemmas.{asked_begun, asked_leaves, asked_on, line_leaves}
 use Rattle.coll_edit.proofs.EditLemmas.{underway_edited, edit_ended}
 use Rattle.coll_edit.proofs.runs.serve_lines.Goals as goal
 
@@ -18,6 +19,8 @@ lines-init g c = record {
       underway_begun table text before c.args.reader.now.ended (unread c.args.reader.now (g.R.Source.left c.args.input.now)) (g.W.Sink.taken (device_of c.args.output.now)) (run_of c.args.editor.now)
       begins.session
       (ap (λ (r : ReaderState). r.ended) c.requires) (unread_begun c.args.reader.now (g.R.Source.left c.args.input.now) text c.requires left_is) taken_is;
+  asked = λ text unserved left_is.
+      asked_begun text (unread c.args.reader.now (g.R.Source.left c.args.input.now)) c.args.editor.now unserved (unread_begun c.args.reader.now (g.R.Source.left c.args.input.now) text c.requires left_is);
 }
 
 pub lines-preserved : goal.lines-preserved
@@ -32,6 +35,13 @@ lines-preserved g c =
           underway_edited table text before c.lines.reader.ended c.advance.new.self.ended (unread c.lines.reader (left c.lines.input)) (unread c.advance.new.self (left c.advance.new.input))
           (taken (device_of c.lines.output)) (taken (device_of c.serve.new.output)) c.lines.editor c.serve.new.self c.line.result.now c.in-Ok-Line.field-0
           (c.lines.invariant.underway table text before begins left_is taken_is) line.not_ended
+          (subst (λ (l : List ℕ). Cuts c.advance.new.self.ended (unread c.lines.reader (left c.lines.input)) (unread c.advance.new.self (left c.advance.new.input)) l) (sym c.line.ensures) line.cut)
+          (subst (λ (l : List ℕ). IsInLine l) (sym c.line.ensures) line.whole)
+          c.in-Ok-Line.ensures.served;
+      asked = λ text unserved left_is.
+          asked_on text c.advance.new.self.ended (unread c.lines.reader (left c.lines.input)) (unread c.advance.new.self (left c.advance.new.input))
+          (taken (device_of c.lines.output)) (taken (device_of c.serve.new.output)) c.lines.editor c.serve.new.self c.line.result.now c.in-Ok-Line.field-0
+          (c.lines.invariant.asked text unserved left_is)
           (subst (λ (l : List ℕ). Cuts c.advance.new.self.ended (unread c.lines.reader (left c.lines.input)) (unread c.advance.new.self (left c.advance.new.input)) l) (sym c.line.ensures) line.cut)
           (subst (λ (l : List ℕ). IsInLine l) (sym c.line.ensures) line.whole)
           c.in-Ok-Line.ensures.served;
@@ -74,3 +84,33 @@ pub returns-in-Ok-End-clause-run : goal.returns-in-Ok-End-clause-run
 returns-in-Ok-End-clause-run g c table begins unanswered =
     let is : c.in-Ok-End.field-0 ≡ next.End = search in
     absurd (false≢true (sym unanswered ∙ c.in-Ok-End.ensures.ends is))
+
+pub returns-in-Err-serve-clause-left : goal.returns-in-Err-serve-clause-left
+returns-in-Err-serve-clause-left g c unserved answered text left_is =
+    let left = g.R.Source.left in
+    let taken = g.W.Sink.taken in
+    let line = gives_line c.lines.reader c.advance.new.self (left c.lines.input) (left c.advance.new.input) (g.R.Source.failed c.lines.input) (g.R.Source.failed c.advance.new.input)
+    c.in-Ok-true.field-0 c.in-Ok-true.ensures c.in-Ok-true.field-0-test in
+    line_leaves text c.advance.new.self.ended (unread c.lines.reader (left c.lines.input)) (unread c.advance.new.self (left c.advance.new.input))
+    (taken (device_of c.lines.output)) (taken (device_of c.serve.new.output)) c.lines.editor c.serve.new.self c.line.result.now (Err c.in-Err-serve.ended) (c.lines.invariant.asked text unserved left_is)
+    (subst (λ (l : List ℕ). Cuts c.advance.new.self.ended (unread c.lines.reader (left c.lines.input)) (unread c.advance.new.self (left c.advance.new.input)) l) (sym c.line.ensures) line.cut)
+    (subst (λ (l : List ℕ). IsInLine l) (sym c.line.ensures) line.whole) c.in-Err-serve.ensures.served answered
+
+pub returns-in-Ok-End-clause-left : goal.returns-in-Ok-End-clause-left
+returns-in-Ok-End-clause-left g c unserved answered text left_is =
+    let left = g.R.Source.left in
+    let taken = g.W.Sink.taken in
+    let line = gives_line c.lines.reader c.advance.new.self (left c.lines.input) (left c.advance.new.input) (g.R.Source.failed c.lines.input) (g.R.Source.failed c.advance.new.input)
+    c.in-Ok-true.field-0 c.in-Ok-true.ensures c.in-Ok-true.field-0-test in
+    line_leaves text c.advance.new.self.ended (unread c.lines.reader (left c.lines.input)) (unread c.advance.new.self (left c.advance.new.input))
+    (taken (device_of c.lines.output)) (taken (device_of c.serve.new.output)) c.lines.editor c.serve.new.self c.line.result.now (Ok c.in-Ok-End.field-0) (c.lines.invariant.asked text unserved left_is)
+    (subst (λ (l : List ℕ). Cuts c.advance.new.self.ended (unread c.lines.reader (left c.lines.input)) (unread c.advance.new.self (left c.advance.new.input)) l) (sym c.line.ensures) line.cut)
+    (subst (λ (l : List ℕ). IsInLine l) (sym c.line.ensures) line.whole) c.in-Ok-End.ensures.served answered
+
+pub returns-in-Ok-false-clause-left : goal.returns-in-Ok-false-clause-left
+returns-in-Ok-false-clause-left g c unserved answered text left_is =
+    asked_leaves text (unread c.lines.reader (g.R.Source.left c.lines.input)) c.lines.editor (c.lines.invariant.asked text unserved left_is) (sym c.finish.ensures.answered ∙ answered)
+
+pub returns-in-Err-clause-left : goal.returns-in-Err-clause-left
+returns-in-Err-clause-left g c unserved answered text left_is =
+    asked_leaves text (unread c.lines.reader (g.R.Source.left c.lines.input)) c.lines.editor (c.lines.invariant.asked text unserved left_is) answered

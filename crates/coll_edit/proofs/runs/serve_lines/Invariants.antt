@@ -1,14 +1,15 @@
--- While no line of `edit` was answered, what was read and written so far is that of a session; each line is one of the most lines that a
--- text may have.
+-- While no line of `edit` was answered, what was read and written so far is that of a session; where one was, a request so far is left to
+-- it; each line is one of the most lines that a text may have.
 use Rattle.std.proofs.Common.{◌≡◌, false, ℕ, ◌-◌, List, Some, None}
 use Rattle.coll_devices.specs.LineReading.{unread}
 use Rattle.coll_lex.specs.Limits.{most_lines}
 use Rattle.coll_nodes.specs.Table.{Collation}
 use Rattle.coll_bench.specs.Serving.{lexer_of}
 use Rattle.coll_bench.specs.Underway.{Underway}
-use Rattle.coll_edit.specs.EditRuns.{IsBegunEdit}
+use Rattle.coll_edit.specs.EditRuns.{IsBegunEdit, IsUnserved}
 use Rattle.coll_edit.specs.Editing.{has_answered, run_of}
 use Rattle.coll_edit.specs.Watching.{device_of}
+use Rattle.coll_edit.proofs.AskedLemmas.{Asked}
 use Rattle.coll_edit.proofs.runs.serve_lines.Given as goal
 
 abbrev pub decreases-lines : goal.decreases-lines
@@ -21,4 +22,5 @@ invariant-lines g l =
       underway : (table : Collation) (text before : List ℕ) → IsBegunEdit l.initial.editor table → g.R.Source.left l.initial.input ≡ Some text
           → g.W.Sink.taken (device_of l.initial.output) ≡ Some before → has_answered l.editor ≡ false
           → Underway table text before l.reader.ended (unread l.reader (g.R.Source.left l.input)) (g.W.Sink.taken (device_of l.output)) (run_of l.editor);
+      asked : (text : List ℕ) → IsUnserved l.initial.editor → g.R.Source.left l.initial.input ≡ Some text → Asked text (unread l.reader (g.R.Source.left l.input)) l.editor;
     }

@@ -1,5 +1,5 @@
 -- A line ends the session, or its request is served.
-use Rattle.std.proofs.Common.{◌≡◌, ℕ, List, Option, refl, sym, ap, ◌∙◌, inl, subst, Err}
+use Rattle.std.proofs.Common.{ℕ, List, Option, refl, ap, ◌∙◌, inl, subst, Err}
 use Rattle.coll_lex.specs.LogicalLines.{LexerState}
 use Rattle.coll_bench.specs.Serving.{TakesLine}
 use Rattle.coll_edit.specs.Editing.{EditsLine}
