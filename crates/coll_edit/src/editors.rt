@@ -3,7 +3,7 @@
 //! An `Editor` is a session, and beside it whether a line of `edit` was answered. The session takes each line; the request that it
 //! completes is answered by the session, or, where that refuses it and the line is one of `edit`, by that line.
 
-ghost use Rattle.std.specs.Prelude.{◌≡◌, ◌+◌, ◌<◌, Bool, true, IfErr, IfOk, IfSome, Ok, OnOk, Option, option_to_list};
+ghost use Rattle.std.specs.Prelude.{◌≡◌, ◌+◌, ◌<◌, ℕ, Bool, true, IfErr, IfOk, IfSome, List, Ok, OnOk, Option, Some, option_to_list};
 ghost use Rattle.coll_devices.specs.Devices.{Sends};
 ghost use Rattle.coll_lex.specs.Limits.{most_lines};
 ghost use Rattle.coll_lex.specs.LogicalLines.{number_of, pending};
@@ -17,11 +17,11 @@ ghost use Rattle.coll_bench.specs.Serving.{block_of, history_of, lexer_of, write
 ghost use Rattle.coll_history.specs.Histories.{judged, table_now};
 ghost use Rattle.coll_table.specs.Delta.{delta as delta_of};
 ghost use Rattle.coll_lex.specs.declared.faults.LexFault.TheVariants.{OutOfMemory};
-ghost use Rattle.coll_bench.specs.BatchOutcome.{fault_in, judged_at};
+ghost use Rattle.coll_bench.specs.BatchOutcome.{after_delta, fault_in, judged_at, statements_of};
 ghost use Rattle.coll_bench.specs.BatchReading.{FailsAs};
 ghost use Rattle.coll_bench.specs.BatchRuns.{ending_of};
 ghost use Rattle.coll_bench.specs.declared.faults.Fault.TheVariants as lex_fault;
-ghost use Rattle.coll_edit.specs.Editing.{AnswersRequest, EditsLine, IsLeft, IsLook, has_answered as answered_by, run_of};
+ghost use Rattle.coll_edit.specs.Editing.{AnswersRequest, EditsLine, IsLeft, IsLook, PutsBehind, has_answered as answered_by, run_of};
 ghost use Rattle.coll_edit.specs.EditRuns.{IsBegunEdit};
 ghost use Rattle.coll_edit.specs.Watching.{device_of};
 
@@ -87,7 +87,11 @@ impl Editor {
     /// The first fault met is the answer, with its line, and then the statements before it remain. Where 65,535 remain, the next one is
     /// refused with `HistoryFull`.
     pub fn put_delta<R: Source>(&mut self, input: usize, delta: &mut R) -> Result<(), RunFault>
-        ensures { IfErr result (λ ended. ended.input ≡ input) }
+        ensures put { OnOk result ((text : List ℕ) → R.left delta.old ≡ Some text
+            → PutsBehind (history_of (run_of self.old)) (statements_of text) (history_of (run_of self.new))) }
+        ensures file { OnOk result ((text : List ℕ) → R.left delta.old ≡ Some text
+            → after_delta input (table_now (history_of (run_of self.old))) text ≡ Ok (table_now (history_of (run_of self.new)))) }
+        ensures input { IfErr result (λ ended. ended.input ≡ input) }
     {
         match read_delta(self.alloc, input, self, delta) {
             Ok(()) => Ok(()),

@@ -31,7 +31,8 @@ pub fn edit_lines<R: Source, W: Sink, M: Sink, F: OpensFiles>(
         → RunsUnanswered editor.new table (R.left input.old) (R.left input.new) (W.taken (device_of output.old))
         (W.taken (device_of output.new)) result }
     ensures session { (table : Collation) → IsBegunEdit editor.old table
-        → RunsAsSession table (R.left input.old) (R.left input.new) (W.taken (device_of output.old)) (W.taken (device_of output.new)) result }
+        → RunsAsSession table (R.left input.old) (R.left input.new) (W.taken (device_of output.old))
+        (W.taken (device_of output.new)) result }
     ensures input { IfErr result (λ ended. ended.input ≡ 0) }
 {
     match LineReader::new(alloc) {
