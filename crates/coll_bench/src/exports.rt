@@ -5,7 +5,7 @@
 
 ghost use Rattle.std.specs.Prelude.{◌≡◌};
 ghost use Rattle.std.specs.List.{flat_map};
-ghost use Rattle.coll_devices.specs.Devices.{CountsErr, Sends};
+ghost use Rattle.coll_devices.specs.Devices.{Writes};
 ghost use Rattle.coll_nodes.specs.TableLayout.{collation};
 ghost use Rattle.coll_nodes.specs.WalkItems.{visited_by};
 ghost use Rattle.coll_bench.specs.Exports.{behind_character as stated_behind, behind_line, export_told, if_symbol, visited_told};
@@ -26,8 +26,8 @@ pub fn write_symbols_behind<W: Sink>(
     file: &str,
     out: &mut W,
 ) -> Result<(), WriteStop>
-    ensures sent { Sends (W.taken out.old) (W.taken out.new) (export_told file.now (collation table.now)) result }
-    ensures errors { CountsErr (W.failed out.old) (W.failed out.new) result }
+    ensures { Writes (W.taken out.old) (W.taken out.new) (W.failed out.old) (W.failed out.new)
+        (export_told file.now (collation table.now)) result }
 {
     write_symbols(table, file, behind_character(table.walk()), out)
 }
@@ -73,9 +73,8 @@ fn write_symbols<W: Sink>(
     walk: Walk<'_>,
     out: &mut W,
 ) -> Result<(), WriteStop>
-    ensures sent { Sends (W.taken out.old) (W.taken out.new) (flat_map (visited_told file.now (collation table.now).declared) walk.entry)
-        result }
-    ensures errors { CountsErr (W.failed out.old) (W.failed out.new) result }
+    ensures { Writes (W.taken out.old) (W.taken out.new) (W.failed out.old) (W.failed out.new)
+        (flat_map (visited_told file.now (collation table.now).declared) walk.entry) result }
 {
     let mut left = walk;
     'symbols: while let Some(item) = left.next() {
@@ -94,9 +93,8 @@ fn write_if_visited<W: Sink>(
     item: WalkItem<'_>,
     out: &mut W,
 ) -> Result<(), WriteStop>
-    ensures sent { Sends (W.taken out.old) (W.taken out.new) (visited_told file.now (collation table.now).declared (visited_by item.entry))
-        result }
-    ensures errors { CountsErr (W.failed out.old) (W.failed out.new) result }
+    ensures { Writes (W.taken out.old) (W.taken out.new) (W.failed out.old) (W.failed out.new)
+        (visited_told file.now (collation table.now).declared (visited_by item.entry)) result }
 {
     match item {
         WalkItem::Section(_) => Ok(()),
@@ -111,9 +109,8 @@ fn write_if_symbol<W: Sink>(
     id: &Id,
     out: &mut W,
 ) -> Result<(), WriteStop>
-    ensures sent { Sends (W.taken out.old) (W.taken out.new)
+    ensures { Writes (W.taken out.old) (W.taken out.new) (W.failed out.old) (W.failed out.new)
         (flat_map (behind_line file.now) (if_symbol (collation table.now).declared id.now)) result }
-    ensures errors { CountsErr (W.failed out.old) (W.failed out.new) result }
 {
     if table.is_symbol(id) {
         write_behind(file, id, out)
@@ -124,8 +121,7 @@ fn write_if_symbol<W: Sink>(
 
 // Writes the line of a collating symbol.
 fn write_behind<'a, W: Sink>(file: &'a str, id: &'a Id, out: &mut W) -> Result<(), WriteStop>
-    ensures sent { Sends (W.taken out.old) (W.taken out.new) (behind_line file.now id.now) result }
-    ensures errors { CountsErr (W.failed out.old) (W.failed out.new) result }
+    ensures { Writes (W.taken out.old) (W.taken out.new) (W.failed out.old) (W.failed out.new) (behind_line file.now id.now) result }
 {
     write_pieces(
         out,

@@ -6,7 +6,7 @@
 
 ghost use Rattle.std.specs.Prelude.{◌≡◌, ◌≤◌, Bool, true, chars, codes, IfOk, OnOk};
 ghost use Rattle.std.specs.Io.KnownBytes.{Keeps};
-ghost use Rattle.coll_devices.specs.Devices.{CountsErr, Sends};
+ghost use Rattle.coll_devices.specs.Devices.{CountsErr, Sends, Writes};
 ghost use Rattle.coll_nodes.specs.TableLayout.{collation};
 ghost use Rattle.coll_requests.specs.ProperLines.{IsProperRequest};
 ghost use Rattle.coll_nodes.specs.WalkItems.{visited_by};
@@ -124,8 +124,7 @@ fn write_outcome<W: Sink>(
     word: &[u8],
     outcome: Result<u32, BenchFault>,
 ) -> Result<(), WriteStop>
-    ensures sent { Sends (W.taken out.old) (W.taken out.new) (outcome_line word.now outcome) result }
-    ensures errors { CountsErr (W.failed out.old) (W.failed out.new) result }
+    ensures { Writes (W.taken out.old) (W.taken out.new) (W.failed out.old) (W.failed out.new) (outcome_line word.now outcome) result }
 {
     match outcome {
         Ok(count) => write_counted(out, word, u64::from(count)),
@@ -136,8 +135,7 @@ fn write_outcome<W: Sink>(
 // Writes the sections of a table with their entries in order, and how many entries there are.
 #[tactic(auto, unfolding(crate::specs::Replies::listing))]
 fn write_listing<W: Sink>(out: &mut W, table: &Table) -> Result<(), WriteStop>
-    ensures sent { Sends (W.taken out.old) (W.taken out.new) (listing (collation table.now)) result }
-    ensures errors { CountsErr (W.failed out.old) (W.failed out.new) result }
+    ensures { Writes (W.taken out.old) (W.taken out.new) (W.failed out.old) (W.failed out.new) (listing (collation table.now)) result }
 {
     write_walk(out, table)?;
     write_counted(out, b"listed", table.len() as u64)
@@ -146,8 +144,7 @@ fn write_listing<W: Sink>(out: &mut W, table: &Table) -> Result<(), WriteStop>
 /// Writes how many entries, declarations, sections and levels a table has. Where a write fails, the device has taken a prefix of it.
 #[tactic(auto, unfolding(crate::specs::Replies::checked_line))]
 pub(crate) fn write_checked<W: Sink>(out: &mut W, table: &Table) -> Result<(), WriteStop>
-    ensures sent { Sends (W.taken out.old) (W.taken out.new) (checked_line (collation table.now)) result }
-    ensures errors { CountsErr (W.failed out.old) (W.failed out.new) result }
+    ensures { Writes (W.taken out.old) (W.taken out.new) (W.failed out.old) (W.failed out.new) (checked_line (collation table.now)) result }
 {
     write_pieces(
         out,
@@ -167,8 +164,8 @@ pub(crate) fn write_checked<W: Sink>(out: &mut W, table: &Table) -> Result<(), W
 
 // Writes a line for each named section and each entry that a walk visits.
 fn write_walk<W: Sink>(out: &mut W, table: &Table) -> Result<(), WriteStop>
-    ensures sent { Sends (W.taken out.old) (W.taken out.new) (listed_sections 1 (collation table.now).sections) result }
-    ensures errors { CountsErr (W.failed out.old) (W.failed out.new) result }
+    ensures { Writes (W.taken out.old) (W.taken out.new) (W.failed out.old) (W.failed out.new)
+        (listed_sections 1 (collation table.now).sections) result }
 {
     table.lemma_well_formed();
     let mut rank = 1u64;
@@ -203,8 +200,7 @@ fn write_visited<W: Sink>(out: &mut W, rank: u64, item: &WalkItem<'_>) -> Result
 // Writes the line before the entries of a section.
 #[tactic(auto, unfolding(crate::specs::Replies::section_line))]
 fn write_section<W: Sink>(out: &mut W, name: &str) -> Result<(), WriteStop>
-    ensures sent { Sends (W.taken out.old) (W.taken out.new) (section_line (chars name.now)) result }
-    ensures errors { CountsErr (W.failed out.old) (W.failed out.new) result }
+    ensures { Writes (W.taken out.old) (W.taken out.new) (W.failed out.old) (W.failed out.new) (section_line (chars name.now)) result }
 {
     write_pieces(
         out,
@@ -219,8 +215,7 @@ fn write_section<W: Sink>(out: &mut W, name: &str) -> Result<(), WriteStop>
 // Writes the line of one entry.
 #[tactic(auto, unfolding(crate::specs::Replies::listed_line))]
 fn write_listed<W: Sink>(out: &mut W, rank: u64, entry: &Entry) -> Result<(), WriteStop>
-    ensures sent { Sends (W.taken out.old) (W.taken out.new) (listed_line rank entry.now) result }
-    ensures errors { CountsErr (W.failed out.old) (W.failed out.new) result }
+    ensures { Writes (W.taken out.old) (W.taken out.new) (W.failed out.old) (W.failed out.new) (listed_line rank entry.now) result }
 {
     write_pieces(
         out,
@@ -236,8 +231,7 @@ fn write_listed<W: Sink>(out: &mut W, rank: u64, entry: &Entry) -> Result<(), Wr
 // Writes the reply to what is refused.
 #[tactic(auto, unfolding(crate::specs::Replies::refused_line))]
 fn write_refused<W: Sink>(out: &mut W, fault: Fault) -> Result<(), WriteStop>
-    ensures sent { Sends (W.taken out.old) (W.taken out.new) (refused_line fault) result }
-    ensures errors { CountsErr (W.failed out.old) (W.failed out.new) result }
+    ensures { Writes (W.taken out.old) (W.taken out.new) (W.failed out.old) (W.failed out.new) (refused_line fault) result }
 {
     match fault {
         Fault::Bench(refused) => write_bench_refused(out, refused),
@@ -248,8 +242,7 @@ fn write_refused<W: Sink>(out: &mut W, fault: Fault) -> Result<(), WriteStop>
 // Writes the reply to what the history refused.
 #[tactic(auto, unfolding(crate::specs::Replies::refused_line))]
 fn write_bench_refused<W: Sink>(out: &mut W, refused: BenchFault) -> Result<(), WriteStop>
-    ensures sent { Sends (W.taken out.old) (W.taken out.new) (refused_line (Bench refused)) result }
-    ensures errors { CountsErr (W.failed out.old) (W.failed out.new) result }
+    ensures { Writes (W.taken out.old) (W.taken out.new) (W.failed out.old) (W.failed out.new) (refused_line (Bench refused)) result }
 {
     match refused {
         BenchFault::StillNeeded { statement, refusal } => {
@@ -265,8 +258,8 @@ fn write_still_needed<W: Sink>(
     statement: u32,
     refusal: Refusal,
 ) -> Result<(), WriteStop>
-    ensures sent { Sends (W.taken out.old) (W.taken out.new) (still_needed_line statement refusal) result }
-    ensures errors { CountsErr (W.failed out.old) (W.failed out.new) result }
+    ensures { Writes (W.taken out.old) (W.taken out.new) (W.failed out.old) (W.failed out.new)
+        (still_needed_line statement refusal) result }
 {
     write_pieces(
         out,
@@ -284,8 +277,7 @@ fn write_still_needed<W: Sink>(
 
 // Writes the reply to what is refused and told by its number and its name.
 fn write_told<W: Sink>(out: &mut W, fault: Fault) -> Result<(), WriteStop>
-    ensures sent { Sends (W.taken out.old) (W.taken out.new) (told_line (codes "refused ") fault) result }
-    ensures errors { CountsErr (W.failed out.old) (W.failed out.new) result }
+    ensures { Writes (W.taken out.old) (W.taken out.new) (W.failed out.old) (W.failed out.new) (told_line (codes "refused ") fault) result }
 {
     write_pieces(
         out,
@@ -302,8 +294,7 @@ fn write_told<W: Sink>(out: &mut W, fault: Fault) -> Result<(), WriteStop>
 // Writes a word and a number, and the line's end.
 #[tactic(auto, unfolding(crate::specs::Replies::counted_line))]
 fn write_counted<W: Sink>(out: &mut W, word: &[u8], count: u64) -> Result<(), WriteStop>
-    ensures sent { Sends (W.taken out.old) (W.taken out.new) (counted_line word.now count) result }
-    ensures errors { CountsErr (W.failed out.old) (W.failed out.new) result }
+    ensures { Writes (W.taken out.old) (W.taken out.new) (W.failed out.old) (W.failed out.new) (counted_line word.now count) result }
 {
     write_pieces(
         out,

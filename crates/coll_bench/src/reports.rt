@@ -3,7 +3,7 @@
 //! None of this takes memory, so that lack of memory can be told as well.
 
 ghost use Rattle.std.specs.Prelude.{◌≡◌, ◌<◌, ◌++◌, length, map, string_bytes, IfErr};
-ghost use Rattle.coll_devices.specs.Devices.{CountsErr, Sends};
+ghost use Rattle.coll_devices.specs.Devices.{CountsErr, Sends, Writes};
 ghost use Rattle.coll_bench.specs.Reports.{fault_line, behind_name, exit_status as stated_status, write_refused};
 
 use crate::faults::{Fault, RunFault};
@@ -28,8 +28,7 @@ pub fn write_fault<W: Sink>(fault: &RunFault, names: &[String], out: &mut W) -> 
 
 // Writes the line of a fault, with the name of its input.
 fn write_named<W: Sink>(fault: &RunFault, name: &str, out: &mut W) -> Result<(), WriteStop>
-    ensures sent { Sends (W.taken out.old) (W.taken out.new) (name.now ++ behind_name fault.now) result }
-    ensures errors { CountsErr (W.failed out.old) (W.failed out.new) result }
+    ensures { Writes (W.taken out.old) (W.taken out.new) (W.failed out.old) (W.failed out.new) (name.now ++ behind_name fault.now) result }
 {
     write_pieces(
         out,

@@ -167,6 +167,7 @@ impl RunState {
     /// exactly where no statement remains, and then changes nothing. It takes no memory.
     pub fn undo(&mut self) -> Result<u32, BenchFault>
         ensures undone { IfOk result (λ _. taken_back (history_of self.old) ≡ Ok (history_of self.new)) }
+        ensures count { IfOk result (λ count. count ≡ length (history_of self.new).remaining) }
         ensures refused { IfErr result (λ fault. taken_back (history_of self.old) ≡ Err fault) }
         ensures unchanged { OnErr result (self.new ≡ self.old) }
         ensures block { block_of self.new ≡ block_of self.old }
@@ -179,6 +180,7 @@ impl RunState {
     /// `NothingToRedo` exactly where nothing was taken back, and then changes nothing. It takes no memory.
     pub fn redo(&mut self) -> Result<u32, BenchFault>
         ensures redone { IfOk result (λ _. put_again (history_of self.old) ≡ Ok (history_of self.new)) }
+        ensures count { IfOk result (λ count. count ≡ length (history_of self.new).remaining) }
         ensures refused { IfErr result (λ fault. put_again (history_of self.old) ≡ Err fault) }
         ensures unchanged { OnErr result (self.new ≡ self.old) }
         ensures block { block_of self.new ≡ block_of self.old }

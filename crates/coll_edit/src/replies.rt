@@ -2,7 +2,7 @@
 
 ghost use Rattle.std.specs.Prelude.{◌≡◌, true, codes, OnOk};
 ghost use Rattle.std.specs.Io.KnownBytes.{Keeps};
-ghost use Rattle.coll_devices.specs.Devices.{CountsErr, Sends};
+ghost use Rattle.coll_devices.specs.Devices.{CountsErr, Sends, Writes};
 ghost use Rattle.coll_bench.specs.Replies.{counted_line, told_line};
 ghost use Rattle.coll_bench.specs.Serving.{write_failed as failed_write};
 
@@ -22,8 +22,7 @@ pub(crate) fn write_refusal<W: Sink>(out: &mut W, fault: Fault) -> Result<(), Wr
 
 // Writes the reply to what is refused: the number and the name of the fault.
 fn write_told<W: Sink>(out: &mut W, fault: Fault) -> Result<(), WriteStop>
-    ensures sent { Sends (W.taken out.old) (W.taken out.new) (told_line (codes "refused ") fault) result }
-    ensures errors { CountsErr (W.failed out.old) (W.failed out.new) result }
+    ensures { Writes (W.taken out.old) (W.taken out.new) (W.failed out.old) (W.failed out.new) (told_line (codes "refused ") fault) result }
 {
     write_pieces(
         out,

@@ -2,7 +2,7 @@
 
 ghost use Rattle.std.specs.Prelude.{◌≡◌, []};
 ghost use Rattle.std.specs.List.{flat_map};
-ghost use Rattle.coll_devices.specs.Devices.{CountsErr, Sends};
+ghost use Rattle.coll_devices.specs.Devices.{Writes};
 ghost use Rattle.coll_texts.specs.StatementText.{statement_bytes};
 ghost use Rattle.coll_delta_texts.specs.DeltaText.{delta_text};
 
@@ -14,8 +14,8 @@ use coll_texts::write_statement;
 ///
 /// Where it stops, the device has taken a prefix of the text.
 pub(crate) fn write_statements<W: Sink>(out: &mut W, session: &Session) -> Result<(), WriteStop>
-    ensures sent { Sends (W.taken out.old) (W.taken out.new) (delta_text [] session.now.history.remaining) result }
-    ensures errors { CountsErr (W.failed out.old) (W.failed out.new) result }
+    ensures { Writes (W.taken out.old) (W.taken out.new) (W.failed out.old) (W.failed out.new)
+        (delta_text [] session.now.history.remaining) result }
 {
     write_bytes(out, b"comment_char %\nescape_char /\nLC_COLLATE\n")?;
     write_remaining(out, session)?;
@@ -24,8 +24,8 @@ pub(crate) fn write_statements<W: Sink>(out: &mut W, session: &Session) -> Resul
 
 // Writes the lines of each statement that remains.
 fn write_remaining<W: Sink>(out: &mut W, session: &Session) -> Result<(), WriteStop>
-    ensures sent { Sends (W.taken out.old) (W.taken out.new) (flat_map statement_bytes session.now.history.remaining) result }
-    ensures errors { CountsErr (W.failed out.old) (W.failed out.new) result }
+    ensures { Writes (W.taken out.old) (W.taken out.new) (W.failed out.old) (W.failed out.new)
+        (flat_map statement_bytes session.now.history.remaining) result }
 {
     let count = session.remaining_len();
     let mut number = 0u32;

@@ -3,7 +3,7 @@
 //! A new statement is a case of `write_history_line`, and of `statement_words` of `specs/Replies.antt`.
 
 ghost use Rattle.std.specs.Prelude.{◌++◌, ◌∷◌, [], codes, decimal};
-ghost use Rattle.coll_devices.specs.Devices.{CountsErr, Sends};
+ghost use Rattle.coll_devices.specs.Devices.{Writes};
 ghost use Rattle.coll_texts.specs.Pieces.{words_line};
 ghost use Rattle.coll_texts.specs.PrintedParts.{id_bytes, symbol_bytes};
 ghost use Rattle.coll_bench.specs.Replies.{history_count, history_line, history_lines, history_listing};
@@ -17,8 +17,8 @@ use coll_texts::{Piece, write_pieces};
 /// Writes the statements that remain, from the first, and how many there are, and were taken back.
 #[tactic(auto, unfolding(crate::specs::Replies::history_listing))]
 pub(crate) fn write_history<W: Sink>(out: &mut W, session: &Session) -> Result<(), WriteStop>
-    ensures sent { Sends (W.taken out.old) (W.taken out.new) (history_listing session.now.history) result }
-    ensures errors { CountsErr (W.failed out.old) (W.failed out.new) result }
+    ensures { Writes (W.taken out.old) (W.taken out.new) (W.failed out.old) (W.failed out.new)
+        (history_listing session.now.history) result }
 {
     write_remaining(out, session)?;
     write_count(out, session)
@@ -26,8 +26,8 @@ pub(crate) fn write_history<W: Sink>(out: &mut W, session: &Session) -> Result<(
 
 // Writes a line for each statement that remains.
 fn write_remaining<W: Sink>(out: &mut W, session: &Session) -> Result<(), WriteStop>
-    ensures sent { Sends (W.taken out.old) (W.taken out.new) (history_lines 1 session.now.history.remaining) result }
-    ensures errors { CountsErr (W.failed out.old) (W.failed out.new) result }
+    ensures { Writes (W.taken out.old) (W.taken out.new) (W.failed out.old) (W.failed out.new)
+        (history_lines 1 session.now.history.remaining) result }
 {
     let count = session.remaining_len();
     let mut number = 0u32;
@@ -52,8 +52,7 @@ pub fn write_history_line<W: Sink>(
     number: u32,
     statement: &Statement,
 ) -> Result<(), WriteStop>
-    ensures sent { Sends (W.taken out.old) (W.taken out.new) (history_line number statement.now) result }
-    ensures errors { CountsErr (W.failed out.old) (W.failed out.new) result }
+    ensures { Writes (W.taken out.old) (W.taken out.new) (W.failed out.old) (W.failed out.new) (history_line number statement.now) result }
 {
     match statement {
         Statement::Symbol(name) => write_name(out, number, b" symbol ", name),
@@ -78,9 +77,8 @@ fn write_name<'a, W: Sink>(
     word: &'a [u8],
     name: &'a TextBuf,
 ) -> Result<(), WriteStop>
-    ensures sent { Sends (W.taken out.old) (W.taken out.new) (decimal number ++ (word.now ++ words_line (symbol_bytes name.now ∷ [])))
-        result }
-    ensures errors { CountsErr (W.failed out.old) (W.failed out.new) result }
+    ensures { Writes (W.taken out.old) (W.taken out.new) (W.failed out.old) (W.failed out.new)
+        (decimal number ++ (word.now ++ words_line (symbol_bytes name.now ∷ []))) result }
 {
     write_pieces(
         out,
@@ -101,9 +99,8 @@ fn write_names<'a, W: Sink>(
     first: &'a TextBuf,
     second: &'a TextBuf,
 ) -> Result<(), WriteStop>
-    ensures sent { Sends (W.taken out.old) (W.taken out.new)
+    ensures { Writes (W.taken out.old) (W.taken out.new) (W.failed out.old) (W.failed out.new)
         (decimal number ++ (word.now ++ words_line (symbol_bytes first.now ∷ symbol_bytes second.now ∷ []))) result }
-    ensures errors { CountsErr (W.failed out.old) (W.failed out.new) result }
 {
     write_pieces(
         out,
@@ -125,9 +122,8 @@ fn write_block<W: Sink>(
     target: &Id,
     lines: usize,
 ) -> Result<(), WriteStop>
-    ensures sent { Sends (W.taken out.old) (W.taken out.new)
+    ensures { Writes (W.taken out.old) (W.taken out.new) (W.failed out.old) (W.failed out.new)
         (words_line (decimal number ∷ codes "block" ∷ id_bytes target.now ∷ decimal lines ∷ [])) result }
-    ensures errors { CountsErr (W.failed out.old) (W.failed out.new) result }
 {
     write_pieces(
         out,
@@ -144,9 +140,8 @@ fn write_block<W: Sink>(
 
 // Writes the line of a statement that replaces weights: a number, and whose weights they are.
 fn write_reweight<W: Sink>(out: &mut W, number: u32, id: &Id) -> Result<(), WriteStop>
-    ensures sent { Sends (W.taken out.old) (W.taken out.new) (words_line (decimal number ∷ codes "reweight" ∷ id_bytes id.now ∷ []))
-        result }
-    ensures errors { CountsErr (W.failed out.old) (W.failed out.new) result }
+    ensures { Writes (W.taken out.old) (W.taken out.new) (W.failed out.old) (W.failed out.new)
+        (words_line (decimal number ∷ codes "reweight" ∷ id_bytes id.now ∷ [])) result }
 {
     write_pieces(
         out,
@@ -162,8 +157,7 @@ fn write_reweight<W: Sink>(out: &mut W, number: u32, id: &Id) -> Result<(), Writ
 // Writes how many statements remain, and how many were taken back.
 #[tactic(auto, unfolding(crate::specs::Replies::history_count))]
 fn write_count<W: Sink>(out: &mut W, session: &Session) -> Result<(), WriteStop>
-    ensures sent { Sends (W.taken out.old) (W.taken out.new) (history_count session.now.history) result }
-    ensures errors { CountsErr (W.failed out.old) (W.failed out.new) result }
+    ensures { Writes (W.taken out.old) (W.taken out.new) (W.failed out.old) (W.failed out.new) (history_count session.now.history) result }
 {
     write_pieces(
         out,

@@ -1,7 +1,7 @@
 //! The replies to `:key` and `:compare`: the whole answer is formed before the first byte is written.
 
 ghost use Rattle.std.specs.Prelude.{◌≡◌, ◌++◌, ◌∷◌, [], Bool, true};
-ghost use Rattle.coll_devices.specs.Devices.{CountsErr, Sends};
+ghost use Rattle.coll_devices.specs.Devices.{CountsErr, Sends, Writes};
 ghost use Rattle.coll_key.specs.WrittenKey.{has_key_form, written_key};
 ghost use Rattle.coll_bench.specs.Replies.{order_word, reply_if};
 ghost use Rattle.coll_requests.specs.declared.session_lines.Command.TheVariants.{Key, Compare};
@@ -46,8 +46,8 @@ pub(crate) fn write_key_ended<W: Sink>(
     key: &[u64],
 ) -> Result<(), WriteStop>
     requires { has_key_form rules.now key.now ≡ true }
-    ensures sent { Sends (W.taken out.old) (W.taken out.new) (written_key rules.now key.now ++ 10 ∷ []) result }
-    ensures errors { CountsErr (W.failed out.old) (W.failed out.new) result }
+    ensures { Writes (W.taken out.old) (W.taken out.new) (W.failed out.old) (W.failed out.new)
+        (written_key rules.now key.now ++ 10 ∷ []) result }
 {
     write_key(rules, key, out)?;
     write_bytes(out, b"\n")
@@ -74,8 +74,7 @@ pub(crate) fn answer_compare<W: Sink>(
 
 /// Writes the word of an order, and the line's end. Where a write fails, the device has taken a prefix of it.
 pub(crate) fn write_order<W: Sink>(out: &mut W, order: Ordering) -> Result<(), WriteStop>
-    ensures sent { Sends (W.taken out.old) (W.taken out.new) (order_word order ++ 10 ∷ []) result }
-    ensures errors { CountsErr (W.failed out.old) (W.failed out.new) result }
+    ensures { Writes (W.taken out.old) (W.taken out.new) (W.failed out.old) (W.failed out.new) (order_word order ++ 10 ∷ []) result }
 {
     match order {
         Ordering::Less => write_bytes(out, b"less\n"),

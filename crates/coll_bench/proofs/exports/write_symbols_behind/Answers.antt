@@ -1,9 +1,13 @@
 -- The lines are those of what a walk visits behind the first character.
+use Rattle.std.proofs.Common.{rules}
 use Rattle.coll_nodes.specs.TableLayout.{collation}
 use Rattle.coll_bench.proofs.ExportLemmas.{told_visited}
 use Rattle.coll_bench.proofs.exports.write_symbols_behind.Goals as goal
 
-pub returns-clause-sent : goal.returns-clause-sent
-returns-clause-sent g c =
-    let sent = rw (c.behind_character.ensures, c.walk.ensures) at c.write_symbols.ensures.sent in
-    rw (told_visited c.args.file.now (collation c.args.table.now)) sent
+pub returns : goal.returns
+returns g c =
+    record {
+      sent = let sent = rw (c.behind_character.ensures, c.walk.ensures) at c.write_symbols.ensures.sent in
+          rw (told_visited c.args.file.now (collation c.args.table.now)) sent;
+      errors = search rules;
+    }

@@ -1,5 +1,5 @@
 -- What was written so far and the lines of what is still to be met are the whole listing.
-use Rattle.std.proofs.Common.{◌≡◌, ◌≤◌, ◌+◌, ◌++◌, [], ℕ, List, length, refl, sym, ap, ◌∙◌, subst, append_assoc, append-nil, arith}
+use Rattle.std.proofs.Common.{◌≡◌, ◌≤◌, ◌+◌, ◌++◌, [], ℕ, List, length, refl, sym, ap, ◌∙◌, subst, append_assoc, append-nil, arith, rules}
 use Rattle.std.proofs.KnownBytes.{Appends-nil, Appends-trans}
 use Rattle.coll_devices.proofs.WritingLemmas.{AppendsPrefix-after, AppendsPrefix-before}
 use Rattle.coll_devices.specs.Devices.{AppendsPrefix}
@@ -43,23 +43,29 @@ loop-item-preserved g c =
       bound = omega (arith, c.loop-item.invariant.bound, ap (λ (ms : List Visited). length ms) c.in-Some.ensures.steps, c.in-Ok.ensures.rank, rank-after c.loop-item.rank first);
     }
 
-pub returns-in-Err-clause-sent : goal.returns-in-Err-clause-sent
-returns-in-Err-clause-sent g c =
-    let taken = g.W.Sink.taken in
-    let done = c.loop-item.invariant.sent in
-    let first = visited_by c.in-Some.item in
-    let line = visited_line c.loop-item.rank first in
-    let later = listed_visited (rank_after c.loop-item.rank first) c.next.new.self in
-    let whole = done.1 ∙ ap (λ (l : List ℕ). done.0 ++ l)
-    (visited_more c.loop-item.rank (rank_after c.loop-item.rank first) first c.loop-item.item-iterator c.next.new.self c.in-Some.ensures.steps refl) in
-    subst (AppendsPrefix (taken c.args.out.now) (taken c.write_visited.new.out)) (sym whole)
-    (AppendsPrefix-after (taken c.args.out.now) (taken c.loop-item.out) (taken c.write_visited.new.out) done.0 (line ++ later) done.2
-    (AppendsPrefix-before (taken c.loop-item.out) (taken c.write_visited.new.out) line later c.in-Err.ensures.sent))
+pub returns-in-Err : goal.returns-in-Err
+returns-in-Err g c =
+    record {
+      sent = let taken = g.W.Sink.taken in
+          let done = c.loop-item.invariant.sent in
+          let first = visited_by c.in-Some.item in
+          let line = visited_line c.loop-item.rank first in
+          let later = listed_visited (rank_after c.loop-item.rank first) c.next.new.self in
+          let whole = done.1 ∙ ap (λ (l : List ℕ). done.0 ++ l)
+          (visited_more c.loop-item.rank (rank_after c.loop-item.rank first) first c.loop-item.item-iterator c.next.new.self c.in-Some.ensures.steps refl) in
+          subst (AppendsPrefix (taken c.args.out.now) (taken c.write_visited.new.out)) (sym whole)
+          (AppendsPrefix-after (taken c.args.out.now) (taken c.loop-item.out) (taken c.write_visited.new.out) done.0 (line ++ later) done.2
+          (AppendsPrefix-before (taken c.loop-item.out) (taken c.write_visited.new.out) line later c.in-Err.ensures.sent));
+      errors = search rules;
+    }
 
-pub returns-clause-sent : goal.returns-clause-sent
-returns-clause-sent g c =
-    let taken = g.W.Sink.taken in
-    let done = c.loop-item.invariant.sent in
-    let whole : listed_sections 1 (collation c.args.table.now).sections ≡ done.0 =
-    done.1 ∙ ap (λ (l : List ℕ). done.0 ++ l) (visited_none c.loop-item.rank c.loop-item.item-iterator c.in-None.ensures.steps.0) ∙ append-nil done.0 in
-    rw whole done.2
+pub returns : goal.returns
+returns g c =
+    record {
+      sent = let taken = g.W.Sink.taken in
+          let done = c.loop-item.invariant.sent in
+          let whole : listed_sections 1 (collation c.args.table.now).sections ≡ done.0 =
+          done.1 ∙ ap (λ (l : List ℕ). done.0 ++ l) (visited_none c.loop-item.rank c.loop-item.item-iterator c.in-None.ensures.steps.0) ∙ append-nil done.0 in
+          rw whole done.2;
+      errors = search rules;
+    }

@@ -1,5 +1,5 @@
 -- The head, the statements and the end are the text.
-use Rattle.std.proofs.Common.{[], ◌++◌, codes, refl, List, ℕ}
+use Rattle.std.proofs.Common.{[], ◌++◌, codes, refl, List, ℕ, rules}
 use Rattle.std.specs.List.{flat_map}
 use Rattle.coll_syntax.specs.declared.statements.Statement.{Statement}
 use Rattle.coll_texts.specs.StatementText.{statement_bytes}
@@ -18,21 +18,30 @@ end = codes "END LC_COLLATE\n"
 abbrev stated : List Statement → List ℕ
 stated statements = flat_map statement_bytes statements ++ end
 
-pub returns-in_err-write_bytes-clause-sent : goal.returns-in_err-write_bytes-clause-sent
-returns-in_err-write_bytes-clause-sent g c =
-    let statements = c.args.session.now.history.remaining in
-    stops_first _ _ (delta_text [] statements) head (stated statements) c.from_residual.result (delta_parts [] statements) c.from_residual.ensures.0 c.in_err-write_bytes.ensures.sent
+pub returns-in_err-write_bytes : goal.returns-in_err-write_bytes
+returns-in_err-write_bytes g c =
+    record {
+      sent = let statements = c.args.session.now.history.remaining in
+          stops_first _ _ (delta_text [] statements) head (stated statements) c.from_residual.result (delta_parts [] statements) c.from_residual.ensures.0 c.in_err-write_bytes.ensures.sent;
+      errors = search rules;
+    }
 
-pub returns-in_err-write_remaining-clause-sent : goal.returns-in_err-write_remaining-clause-sent
-returns-in_err-write_remaining-clause-sent g c =
-    let statements = c.args.session.now.history.remaining in
-    let result = c.from_residual-in_err-write_remaining.result in
-    writes_rest _ _ _ (delta_text [] statements) head (stated statements) result (delta_parts [] statements) c.in_ok-write_bytes.ensures.sent
-    (stops_first _ _ (stated statements) (flat_map statement_bytes statements) end result refl c.from_residual-in_err-write_remaining.ensures.0 c.in_err-write_remaining.ensures.sent)
+pub returns-in_err-write_remaining : goal.returns-in_err-write_remaining
+returns-in_err-write_remaining g c =
+    record {
+      sent = let statements = c.args.session.now.history.remaining in
+          let result = c.from_residual-in_err-write_remaining.result in
+          writes_rest _ _ _ (delta_text [] statements) head (stated statements) result (delta_parts [] statements) c.in_ok-write_bytes.ensures.sent
+          (stops_first _ _ (stated statements) (flat_map statement_bytes statements) end result refl c.from_residual-in_err-write_remaining.ensures.0 c.in_err-write_remaining.ensures.sent);
+      errors = search rules;
+    }
 
-pub returns-clause-sent : goal.returns-clause-sent
-returns-clause-sent g c =
-    let statements = c.args.session.now.history.remaining in
-    let result = c.write_bytes-2.result in
-    writes_rest _ _ _ (delta_text [] statements) head (stated statements) result (delta_parts [] statements) c.in_ok-write_bytes.ensures.sent
-    (writes_rest _ _ _ (stated statements) (flat_map statement_bytes statements) end result refl c.in_ok-write_remaining.ensures.sent c.write_bytes-2.ensures.sent)
+pub returns : goal.returns
+returns g c =
+    record {
+      sent = let statements = c.args.session.now.history.remaining in
+          let result = c.write_bytes-2.result in
+          writes_rest _ _ _ (delta_text [] statements) head (stated statements) result (delta_parts [] statements) c.in_ok-write_bytes.ensures.sent
+          (writes_rest _ _ _ (stated statements) (flat_map statement_bytes statements) end result refl c.in_ok-write_remaining.ensures.sent c.write_bytes-2.ensures.sent);
+      errors = search rules;
+    }

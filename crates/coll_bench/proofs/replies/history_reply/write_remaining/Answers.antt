@@ -1,5 +1,5 @@
 -- What was written so far and the lines of the statements that are left are the lines of all that remain.
-use Rattle.std.proofs.Common.{◌≡◌, ◌≤◌, ◌+◌, ◌++◌, [], ℕ, List, drop, length, refl, sym, ap, ◌∙◌, subst, append_assoc, append-nil, arith}
+use Rattle.std.proofs.Common.{◌≡◌, ◌≤◌, ◌+◌, ◌++◌, [], ℕ, List, drop, length, refl, sym, ap, ◌∙◌, subst, append_assoc, append-nil, arith, rules}
 use Rattle.std.proofs.KnownBytes.{Appends-nil, Appends-trans}
 use Rattle.coll_devices.specs.Devices.{raised}
 use Rattle.coll_bench.specs.Replies.{history_line, history_lines}
@@ -14,15 +14,15 @@ loop-number-init g c = record {
   count = c.remaining_len-count.ensures;
 }
 
-pub returns-in-Err-clause-sent : goal.returns-in-Err-clause-sent
-returns-in-Err-clause-sent g c =
-    let taken = g.W.Sink.taken in
-    let done = c.loop-number.invariant.sent in
-    past_stopped (taken c.args.out.now) (taken c.loop-number.out) (taken c.write_history_line.new.out) c.loop-number.number c.args.session.now.history.remaining c.in-Some.statement.now done.0 _
-    c.in-Some.ensures done.1 done.2 c.in-Err.ensures.sent
-
-pub returns-in-Err-clause-errors : goal.returns-in-Err-clause-errors
-returns-in-Err-clause-errors g c = subst (λ (failed : ℕ). g.W.Sink.failed c.write_history_line.new.out ≡ raised failed) c.loop-number.invariant.errors c.in-Err.ensures.errors
+pub returns-in-Err : goal.returns-in-Err
+returns-in-Err g c =
+    record {
+      sent = let taken = g.W.Sink.taken in
+          let done = c.loop-number.invariant.sent in
+          past_stopped (taken c.args.out.now) (taken c.loop-number.out) (taken c.write_history_line.new.out) c.loop-number.number c.args.session.now.history.remaining c.in-Some.statement.now done.0 _
+          c.in-Some.ensures done.1 done.2 c.in-Err.ensures.sent;
+      errors = subst (λ (failed : ℕ). g.W.Sink.failed c.write_history_line.new.out ≡ raised failed) c.loop-number.invariant.errors c.in-Err.ensures.errors;
+    }
 
 pub loop-number-preserved : goal.loop-number-preserved
 loop-number-preserved g c =
@@ -42,11 +42,14 @@ loop-number-preserved g c =
       count = c.loop-number.invariant.count;
     }
 
-pub returns-clause-sent : goal.returns-clause-sent
-returns-clause-sent g c =
-    let statements = c.args.session.now.history.remaining in
-    let n = c.loop-number.number in
-    let done = c.loop-number.invariant.sent in
-    let past : length statements ≤ n = omega (arith, c.loop-number-test.false, c.loop-number.invariant.count) in
-    let whole = done.1 ∙ ap (λ (l : List ℕ). done.0 ++ l) (past_end n statements past) ∙ append-nil done.0 in
-    rw whole done.2
+pub returns : goal.returns
+returns g c =
+    record {
+      sent = let statements = c.args.session.now.history.remaining in
+          let n = c.loop-number.number in
+          let done = c.loop-number.invariant.sent in
+          let past : length statements ≤ n = omega (arith, c.loop-number-test.false, c.loop-number.invariant.count) in
+          let whole = done.1 ∙ ap (λ (l : List ℕ). done.0 ++ l) (past_end n statements past) ∙ append-nil done.0 in
+          rw whole done.2;
+      errors = search rules;
+    }
