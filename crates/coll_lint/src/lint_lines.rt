@@ -2,7 +2,7 @@
 
 ghost use Rattle.std.specs.Prelude.{◌≡◌, Some, chars, map, string_bytes};
 ghost use Rattle.std.specs.List.{flat_map};
-ghost use Rattle.coll_devices.specs.Devices.{CountsErr, Sends};
+ghost use Rattle.coll_devices.specs.Devices.{Writes};
 ghost use Rattle.coll_bench.specs.Reports.{named};
 ghost use Rattle.coll_lint.specs.LintLines.{about_told, fault_head, faults_text, found_line, lint_text, more_line, sentence_told};
 ghost use Rattle.coll_lint.specs.LintLines.{subject_told, warning_head, warning_line, warning_told, warnings_text, word_told};
@@ -17,8 +17,8 @@ use coll_texts::{Piece, write_pieces};
 /// Writes what is told, each line with the name of its input. Where it stops, the device has taken a prefix of that.
 #[tactic(auto, unfolding(crate::specs::LintLines::lint_text))]
 pub fn write_lint<W: Sink>(lint: &Lint, names: &[String], out: &mut W) -> Result<(), WriteStop>
-    ensures sent { Sends (W.taken out.old) (W.taken out.new) (lint_text (map string_bytes names.now) lint.now) result }
-    ensures errors { CountsErr (W.failed out.old) (W.failed out.new) result }
+    ensures { Writes (W.taken out.old) (W.taken out.new) (W.failed out.old) (W.failed out.new)
+        (lint_text (map string_bytes names.now) lint.now) result }
 {
     match write_told_faults(lint, names, out) {
         Ok(()) => write_told_warnings(lint, names, out),
@@ -28,8 +28,8 @@ pub fn write_lint<W: Sink>(lint: &Lint, names: &[String], out: &mut W) -> Result
 
 // Writes the faults that are told, and whether there are more.
 fn write_told_faults<W: Sink>(lint: &Lint, names: &[String], out: &mut W) -> Result<(), WriteStop>
-    ensures sent { Sends (W.taken out.old) (W.taken out.new) (faults_text (map string_bytes names.now) lint.now) result }
-    ensures errors { CountsErr (W.failed out.old) (W.failed out.new) result }
+    ensures { Writes (W.taken out.old) (W.taken out.new) (W.failed out.old) (W.failed out.new)
+        (faults_text (map string_bytes names.now) lint.now) result }
 {
     match write_faults(lint.faults.get(), names, out) {
         Ok(()) => write_more(lint.more_faults, names, b": more faults aren't told\n", out),
@@ -39,8 +39,8 @@ fn write_told_faults<W: Sink>(lint: &Lint, names: &[String], out: &mut W) -> Res
 
 // Writes the warnings that are told, and whether there are more.
 fn write_told_warnings<W: Sink>(lint: &Lint, names: &[String], out: &mut W) -> Result<(), WriteStop>
-    ensures sent { Sends (W.taken out.old) (W.taken out.new) (warnings_text (map string_bytes names.now) lint.now) result }
-    ensures errors { CountsErr (W.failed out.old) (W.failed out.new) result }
+    ensures { Writes (W.taken out.old) (W.taken out.new) (W.failed out.old) (W.failed out.new)
+        (warnings_text (map string_bytes names.now) lint.now) result }
 {
     match write_warnings(lint.warnings.get(), names, out) {
         Ok(()) => write_more(
@@ -59,8 +59,8 @@ fn write_faults<W: Sink>(
     names: &[String],
     out: &mut W,
 ) -> Result<(), WriteStop>
-    ensures sent { Sends (W.taken out.old) (W.taken out.new) (flat_map (found_line (map string_bytes names.now)) faults.now) result }
-    ensures errors { CountsErr (W.failed out.old) (W.failed out.new) result }
+    ensures { Writes (W.taken out.old) (W.taken out.new) (W.failed out.old) (W.failed out.new)
+        (flat_map (found_line (map string_bytes names.now)) faults.now) result }
 {
     for found in faults {
         // Not `?`: behind its conversion this exit would need a lemma.
@@ -73,8 +73,8 @@ fn write_faults<W: Sink>(
 
 // Writes a fault.
 fn write_found<W: Sink>(found: &FoundFault, names: &[String], out: &mut W) -> Result<(), WriteStop>
-    ensures sent { Sends (W.taken out.old) (W.taken out.new) (found_line (map string_bytes names.now) found.now) result }
-    ensures errors { CountsErr (W.failed out.old) (W.failed out.new) result }
+    ensures { Writes (W.taken out.old) (W.taken out.new) (W.failed out.old) (W.failed out.new)
+        (found_line (map string_bytes names.now) found.now) result }
 {
     match write_head(found, names, out) {
         Ok(()) => write_about(found.sentence, &found.about, out),
@@ -84,8 +84,8 @@ fn write_found<W: Sink>(found: &FoundFault, names: &[String], out: &mut W) -> Re
 
 // Writes where a fault stands, its number and its name.
 fn write_head<W: Sink>(found: &FoundFault, names: &[String], out: &mut W) -> Result<(), WriteStop>
-    ensures sent { Sends (W.taken out.old) (W.taken out.new) (fault_head (map string_bytes names.now) found.now) result }
-    ensures errors { CountsErr (W.failed out.old) (W.failed out.new) result }
+    ensures { Writes (W.taken out.old) (W.taken out.new) (W.failed out.old) (W.failed out.new)
+        (fault_head (map string_bytes names.now) found.now) result }
 {
     write_pieces(
         out,
@@ -103,8 +103,7 @@ fn write_head<W: Sink>(found: &FoundFault, names: &[String], out: &mut W) -> Res
 
 // Writes what a fault is about, what to do, and a line feed.
 fn write_about<W: Sink>(sentence: &str, about: &About, out: &mut W) -> Result<(), WriteStop>
-    ensures sent { Sends (W.taken out.old) (W.taken out.new) (about_told sentence.now about.now) result }
-    ensures errors { CountsErr (W.failed out.old) (W.failed out.new) result }
+    ensures { Writes (W.taken out.old) (W.taken out.new) (W.failed out.old) (W.failed out.new) (about_told sentence.now about.now) result }
 {
     match about {
         About::Nothing => write_sentence(sentence, out),
@@ -115,8 +114,7 @@ fn write_about<W: Sink>(sentence: &str, about: &About, out: &mut W) -> Result<()
 
 // Writes what to do, and a line feed.
 fn write_sentence<'a, W: Sink>(sentence: &'a str, out: &mut W) -> Result<(), WriteStop>
-    ensures sent { Sends (W.taken out.old) (W.taken out.new) (sentence_told sentence.now) result }
-    ensures errors { CountsErr (W.failed out.old) (W.failed out.new) result }
+    ensures { Writes (W.taken out.old) (W.taken out.new) (W.failed out.old) (W.failed out.new) (sentence_told sentence.now) result }
 {
     write_pieces(
         out,
@@ -135,8 +133,8 @@ fn write_subject<'a, W: Sink>(
     near: &'a Option<TextBuf>,
     out: &mut W,
 ) -> Result<(), WriteStop>
-    ensures sent { Sends (W.taken out.old) (W.taken out.new) (subject_told sentence.now id.now near.now) result }
-    ensures errors { CountsErr (W.failed out.old) (W.failed out.new) result }
+    ensures { Writes (W.taken out.old) (W.taken out.new) (W.failed out.old) (W.failed out.new)
+        (subject_told sentence.now id.now near.now) result }
 {
     match near {
         Some(near) => write_with_near(sentence, id, near.get(), out),
@@ -160,8 +158,8 @@ fn write_with_near<'a, W: Sink>(
     near: &'a str,
     out: &mut W,
 ) -> Result<(), WriteStop>
-    ensures sent { Sends (W.taken out.old) (W.taken out.new) (subject_told sentence.now id.now (Some (chars near.now))) result }
-    ensures errors { CountsErr (W.failed out.old) (W.failed out.new) result }
+    ensures { Writes (W.taken out.old) (W.taken out.new) (W.failed out.old) (W.failed out.new)
+        (subject_told sentence.now id.now (Some (chars near.now))) result }
 {
     write_pieces(
         out,
@@ -179,8 +177,7 @@ fn write_with_near<'a, W: Sink>(
 
 // Writes a keyword of another dialect, what to write instead, and a line feed.
 fn write_word<W: Sink>(word: &ForeignWord, out: &mut W) -> Result<(), WriteStop>
-    ensures sent { Sends (W.taken out.old) (W.taken out.new) (word_told word.now) result }
-    ensures errors { CountsErr (W.failed out.old) (W.failed out.new) result }
+    ensures { Writes (W.taken out.old) (W.taken out.new) (W.failed out.old) (W.failed out.new) (word_told word.now) result }
 {
     write_pieces(
         out,
@@ -201,8 +198,8 @@ fn write_more<'a, W: Sink>(
     told: &'a [u8],
     out: &mut W,
 ) -> Result<(), WriteStop>
-    ensures sent { Sends (W.taken out.old) (W.taken out.new) (more_line (map string_bytes names.now) told.now more) result }
-    ensures errors { CountsErr (W.failed out.old) (W.failed out.new) result }
+    ensures { Writes (W.taken out.old) (W.taken out.new) (W.failed out.old) (W.failed out.new)
+        (more_line (map string_bytes names.now) told.now more) result }
 {
     match more {
         Some(input) => write_pieces(
@@ -222,8 +219,8 @@ fn write_warnings<W: Sink>(
     names: &[String],
     out: &mut W,
 ) -> Result<(), WriteStop>
-    ensures sent { Sends (W.taken out.old) (W.taken out.new) (flat_map (warning_line (map string_bytes names.now)) warnings.now) result }
-    ensures errors { CountsErr (W.failed out.old) (W.failed out.new) result }
+    ensures { Writes (W.taken out.old) (W.taken out.new) (W.failed out.old) (W.failed out.new)
+        (flat_map (warning_line (map string_bytes names.now)) warnings.now) result }
 {
     for warned in warnings {
         // Not `?`: behind its conversion this exit would need a lemma.
@@ -240,8 +237,8 @@ fn write_warning<W: Sink>(
     names: &[String],
     out: &mut W,
 ) -> Result<(), WriteStop>
-    ensures sent { Sends (W.taken out.old) (W.taken out.new) (warning_line (map string_bytes names.now) warned.now) result }
-    ensures errors { CountsErr (W.failed out.old) (W.failed out.new) result }
+    ensures { Writes (W.taken out.old) (W.taken out.new) (W.failed out.old) (W.failed out.new)
+        (warning_line (map string_bytes names.now) warned.now) result }
 {
     match write_warned_place(warned, names, out) {
         Ok(()) => write_warned(&warned.warning, out),
@@ -255,8 +252,8 @@ fn write_warned_place<W: Sink>(
     names: &[String],
     out: &mut W,
 ) -> Result<(), WriteStop>
-    ensures sent { Sends (W.taken out.old) (W.taken out.new) (warning_head (map string_bytes names.now) warned.now) result }
-    ensures errors { CountsErr (W.failed out.old) (W.failed out.new) result }
+    ensures { Writes (W.taken out.old) (W.taken out.new) (W.failed out.old) (W.failed out.new)
+        (warning_head (map string_bytes names.now) warned.now) result }
 {
     write_pieces(
         out,
@@ -271,8 +268,7 @@ fn write_warned_place<W: Sink>(
 
 // Writes what a warning says, and a line feed.
 fn write_warned<W: Sink>(warning: &Warning, out: &mut W) -> Result<(), WriteStop>
-    ensures sent { Sends (W.taken out.old) (W.taken out.new) (warning_told warning.now) result }
-    ensures errors { CountsErr (W.failed out.old) (W.failed out.new) result }
+    ensures { Writes (W.taken out.old) (W.taken out.new) (W.failed out.old) (W.failed out.new) (warning_told warning.now) result }
 {
     match warning {
         Warning::CopyWithoutEffect => write_bytes(

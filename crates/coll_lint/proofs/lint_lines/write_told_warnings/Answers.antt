@@ -1,5 +1,5 @@
 -- The second part stands behind the first, or a prefix of the first is written.
-use Rattle.std.proofs.Common.{List, map, string_bytes, codes, subst}
+use Rattle.std.proofs.Common.{List, map, string_bytes, codes, subst, rules}
 use Rattle.std.specs.Io.KnownBytes.{Appends}
 use Rattle.std.specs.List.{flat_map}
 use Rattle.coll_devices.specs.Devices.{AppendsPrefix}
@@ -8,19 +8,25 @@ use Rattle.coll_lint.specs.LintLines.{warning_line, more_line}
 use Rattle.coll_surveys.specs.declared.findings.WarnedLine.{WarnedLine}
 use Rattle.coll_lint.proofs.lint_lines.write_told_warnings.Goals as goal
 
-pub returns-in-Ok-clause-sent : goal.returns-in-Ok-clause-sent
-returns-in-Ok-clause-sent g c =
-    let taken = g.W.Sink.taken in
-    Sends-after (taken c.args.out.now) (taken c.write_warnings.new.out) (taken c.write_more.new.out)
-    (flat_map (warning_line (map string_bytes c.args.names.now)) c.args.lint.now.warnings)
-    (more_line (map string_bytes c.args.names.now) (codes ": more warnings aren't told\n") c.args.lint.now.more_warnings) c.write_more.result
-    (subst (λ (told : List WarnedLine). Appends (taken c.args.out.now) (taken c.write_warnings.new.out) (flat_map (warning_line (map string_bytes c.args.names.now)) told)) c.get.ensures c.in-Ok.ensures.sent)
-    c.write_more.ensures.sent
+pub returns-in-Ok : goal.returns-in-Ok
+returns-in-Ok g c =
+    record {
+      sent = let taken = g.W.Sink.taken in
+          Sends-after (taken c.args.out.now) (taken c.write_warnings.new.out) (taken c.write_more.new.out)
+          (flat_map (warning_line (map string_bytes c.args.names.now)) c.args.lint.now.warnings)
+          (more_line (map string_bytes c.args.names.now) (codes ": more warnings aren't told\n") c.args.lint.now.more_warnings) c.write_more.result
+          (subst (λ (told : List WarnedLine). Appends (taken c.args.out.now) (taken c.write_warnings.new.out) (flat_map (warning_line (map string_bytes c.args.names.now)) told)) c.get.ensures c.in-Ok.ensures.sent)
+          c.write_more.ensures.sent;
+      errors = search rules;
+    }
 
-pub returns-in-Err-clause-sent : goal.returns-in-Err-clause-sent
-returns-in-Err-clause-sent g c =
-    let taken = g.W.Sink.taken in
-    AppendsPrefix-before (taken c.args.out.now) (taken c.write_warnings.new.out)
-    (flat_map (warning_line (map string_bytes c.args.names.now)) c.args.lint.now.warnings)
-    (more_line (map string_bytes c.args.names.now) (codes ": more warnings aren't told\n") c.args.lint.now.more_warnings)
-    (subst (λ (told : List WarnedLine). AppendsPrefix (taken c.args.out.now) (taken c.write_warnings.new.out) (flat_map (warning_line (map string_bytes c.args.names.now)) told)) c.get.ensures c.in-Err.ensures.sent)
+pub returns-in-Err : goal.returns-in-Err
+returns-in-Err g c =
+    record {
+      sent = let taken = g.W.Sink.taken in
+          AppendsPrefix-before (taken c.args.out.now) (taken c.write_warnings.new.out)
+          (flat_map (warning_line (map string_bytes c.args.names.now)) c.args.lint.now.warnings)
+          (more_line (map string_bytes c.args.names.now) (codes ": more warnings aren't told\n") c.args.lint.now.more_warnings)
+          (subst (λ (told : List WarnedLine). AppendsPrefix (taken c.args.out.now) (taken c.write_warnings.new.out) (flat_map (warning_line (map string_bytes c.args.names.now)) told)) c.get.ensures c.in-Err.ensures.sent);
+      errors = search rules;
+    }
