@@ -28,9 +28,10 @@ its output; or else one request of a session has the reply `refused 70 OutOfMemo
 Each request has to be refused in some run. `spared` is how many growths can be spared. With `subcommand` it is one of that, in place of
 a session, and what stands on standard error isn't looked at.
 
-A run that names a file as `source` is repeated with each of its reads and writes refused as well. With a read refused it ends with
-fault 67, and has written nothing. With a write refused it ends with fault 68, in line 0 of this file, which is `-` where standard input
-is meant, and has written a prefix of its output; or, where standard error was refused, as any other run.
+A session, and a run that names a file as `source`, is repeated with each of its reads and writes refused as well. With a read refused
+it ends with fault 67, and has written nothing, or, as a session, a prefix of its output; or one request of an edit, which reads a file,
+has the reply `refused 67 ReadFault`. With a write refused it ends with fault 68, in line 0 of this file, which is `-` where standard
+input is meant, as in a session, and has written a prefix of its output; or, where standard error was refused, as any other run.
 
 The last line is 'N passed, M failed', and the one before it counts the growths, reads and writes.
 """
@@ -52,8 +53,12 @@ GROWTHS = f"{ROOT}/tests/growths"
 SECONDS = 60
 SAID = b"a growth was refused\n"
 REFUSED = b"refused 70 OutOfMemory\n"
+UNREAD_REPLY = b"refused 67 ReadFault\n"
 FAULT = re.compile(rb"(-|[^:]+\.txt):(\d+): 70 OutOfMemory\n")
 UNREAD = re.compile(rb"(-|[^:]+\.txt):0: 67 ReadFault\n")
+# The same behind whatever a session has told before it.
+UNREAD_LAST = re.compile(rb"^(-|[^:\n]+\.txt):\d+: 67 ReadFault\n\Z", re.MULTILINE)
+UNWRITTEN = b"-:0: 68 WriteFault\n"
 # Each test, and how many of its growths can be spared.
 SPARED = {
     "growths::a_table_is_loaded_with_no_growth_refused": 5,
@@ -195,27 +200,65 @@ def refuse_to_devices(shim, batch):
             raise wrong(ran)
         return True
 
-    words, given = [PROGRAM, *batch["words"]], bytes_of(batch.get("input", ""))
-    reads = shim.each(words, "program", judge_read, 0, given, refuses="reads")
-    writes = shim.each(words, "program", judge_write, 0, given, refuses="writes")
+    return reads_and_writes(shim, batch["words"], bytes_of(batch.get("input", "")), judge_read, judge_write)
+
+
+def reads_and_writes(shim, words, given, judge_read, judge_write):
+    """Refuses each read and each write to a run of the program. Returns how many were refused."""
+    reads = shim.each([PROGRAM, *words], "program", judge_read, 0, given, refuses="reads")
+    writes = shim.each([PROGRAM, *words], "program", judge_write, 0, given, refuses="writes")
     if not (reads and writes):
         raise Failed(f"{reads} reads and {writes} writes were refused")
     return reads + writes
 
 
-def outputs_of(requests):
-    """Returns the output of a session, and for each of its requests the one with its reply refused."""
+def outputs_of(requests, refusal=REFUSED):
+    """Returns the output of a session, and for each of its requests the one in which its reply is this refusal."""
     replies = [bytes_of(request.get("reply", "")) for request in requests]
     refused = []
     for at, request in enumerate(requests):
         behind = bytes_of(request["behind"]) if "behind" in request else b"".join(replies[at + 1 :])
-        refused.append(b"".join(replies[:at]) + REFUSED + behind)
+        refused.append(b"".join(replies[:at]) + refusal + behind)
     return b"".join(replies), refused
+
+
+def words_of(session):
+    """Returns the words of a session, and its lines."""
+    words = [session.get("subcommand", "session"), session["table"]]
+    return words, b"".join(bytes_of(request["lines"]) for request in session["requests"])
+
+
+def refuse_to_served(shim, session):
+    """Refuses each read and each write to a session. Returns how many were refused."""
+    output, unread = outputs_of(session["requests"], UNREAD_REPLY)
+    tells = "subcommand" in session
+
+    def is_whole(ran):
+        return not ran.status and ran.output == output and (tells or not ran.errors)
+
+    def is_answered(ran):
+        return tells and not ran.status and ran.output in unread
+
+    def ends_by(ran, is_told):
+        return ran.status == 2 and output.startswith(ran.output) and is_told
+
+    def judge_read(ran):
+        is_told = is_answered(ran) or ends_by(ran, UNREAD_LAST.search(ran.errors))
+        if not (is_told if ran.refused else is_whole(ran)):
+            raise wrong(ran)
+        return True
+
+    def judge_write(ran):
+        if not (is_whole(ran) or ran.refused and ends_by(ran, ran.errors.endswith(UNWRITTEN))):
+            raise wrong(ran)
+        return True
+
+    return reads_and_writes(shim, *words_of(session), judge_read, judge_write)
 
 
 def refuse_to_session(shim, session):
     """Refuses each growth to a session. Returns how many were refused."""
-    lines = b"".join(bytes_of(request["lines"]) for request in session["requests"])
+    words, lines = words_of(session)
     output, outputs = outputs_of(session["requests"])
     unseen, tells = set(outputs), "subcommand" in session
 
@@ -228,8 +271,7 @@ def refuse_to_session(shim, session):
         unseen.discard(ran.output)
         return not is_whole
 
-    words = [PROGRAM, session.get("subcommand", "session"), session["table"]]
-    refused = shim.each(words, "program", judge, session["spared"], lines)
+    refused = shim.each([PROGRAM, *words], "program", judge, session["spared"], lines)
     if unseen:
         raise Failed(f"no run has {shown(min(unseen))}")
     return refused
@@ -244,6 +286,7 @@ def all_runs():
             found = json.load(text)
         if "requests" in found:
             runs.append((file, refuse_to_session, found))
+            runs.append((f"{file}, reads and writes", refuse_to_served, found))
         for row in found.get("rows", []):
             name = f"{file}, {' '.join(row['words'])}"
             runs.append((name, refuse_to_batch, row))
