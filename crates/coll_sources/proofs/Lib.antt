@@ -2,4 +2,5 @@ mod AnyLemmas
 mod DefinedNames
 mod DigitLemmas
 mod KindLemmas
+mod ReadTexts
 mod TallyLemmas

@@ -1,5 +1,5 @@
 -- What a reader has read, and what the next physical line of a text comes to.
-use Rattle.std.specs.Prelude.{ℕ, Bool, List}
+use Rattle.std.specs.Prelude.{◌≡◌, ℕ, Bool, List, [], Option, None, Some, ⊤}
 use Rattle.std.specs.List.{list_any}
 use Rattle.std.specs.Str.{bytes_eq}
 use Rattle.coll_lex.specs.Names.{AreTokens}
@@ -26,3 +26,8 @@ abbrev pub HasTokens : Next → Type 0
 HasTokens Ended = Unit {0}
 HasTokens Nothing = Unit {0}
 HasTokens (Whole line) = AreTokens line.tokens
+
+-- a device was read to its end, if its bytes were known
+abbrev pub ReadsAll : Option (List ℕ) → Option (List ℕ) → Type 0
+ReadsAll None left = ⊤
+ReadsAll (Some text) left = left ≡ Some []

@@ -164,10 +164,11 @@ impl Model for SourceReader {
 }
 
 impl SourceReader {
-    ghost use Rattle.std.specs.Prelude.{◌≡◌, ◌∷◌, ℕ, List, [], length, IfOk, option_map, slice_get};
+    ghost use Rattle.std.specs.Prelude.{◌≡◌, ◌∷◌, ℕ, List, [], IfOk, OnOk, option_map, slice_get};
     ghost use Rattle.std.specs.List.{list_any};
     ghost use Rattle.std.specs.Str.{bytes_eq};
-    ghost use Rattle.coll_sources.specs.Readers.{is_defined};
+    ghost use Rattle.coll_devices.specs.LineReading.{no_line};
+    ghost use Rattle.coll_sources.specs.Readers.{ReadsAll, is_defined};
     ghost use Rattle.coll_sources.specs.declared.source_faults.SourceCause.TheVariants.{Load};
     ghost use Rattle.coll_texts.specs.declared.load_faults.LoadCause.TheVariants.{ReadFault};
 
@@ -235,7 +236,9 @@ impl SourceReader {
 
     /// Reads the text that is wanted from a device, to its end, and reads on: to the end of the source, or to where another text is
     /// wanted.
-    pub fn take_text<R: Source>(&mut self, input: &mut R) -> Result<(), SourceFault> {
+    pub fn take_text<R: Source>(&mut self, input: &mut R) -> Result<(), SourceFault>
+        ensures { OnOk result (ReadsAll (R.left input.old) (R.left input.new)) }
+    {
         let mut lines = LineReader::new(self.alloc)?;
         let read = self.read_whole(&mut lines, input);
         drop(lines);
@@ -250,15 +253,20 @@ impl SourceReader {
         &mut self,
         lines: &mut LineReader,
         input: &mut R,
-    ) -> Result<(), SourceFault> {
-        for number in 1..=MOST_LINES + 1 {
+    ) -> Result<(), SourceFault>
+        ensures { OnOk result (lines.old ≡ no_line → ReadsAll (R.left input.old) (R.left input.new)) }
+    {
+        'reads: for number in 1..=MOST_LINES + 1 {
             match lines.advance(input) {
                 Ok(true) => self.line(number, lines.line())?,
                 Ok(false) => return Ok(()),
                 Err(stop) => return Err(self.stopped(number, stop)),
             }
         }
-        Ok(())
+        Err(
+            self.wanted_at(MOST_LINES + 1)
+                .lex_fault(LexFault::TooManyLines),
+        )
     }
 
     // A line of the text that is wanted.
